@@ -7,3 +7,6 @@ pub mod Severities
 pub mod OxcEq
 pub mod LendingInner
 pub mod LendingList
+pub mod Faults
+pub mod Sink
+pub mod MemorySink

@@ -1,0 +1,4 @@
+pub mod Report
+pub mod Drawable
+pub mod Drawing
+pub mod Answer

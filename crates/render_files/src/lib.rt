@@ -1,0 +1,15 @@
+//! Reports whose labels are given by row and column, drawn and sent to a sink.
+//!
+//! What is drawn today is the first and thinnest drawing: one label under its row, in the plain theme
+//! ([`render_plain`]). Which reports that is, and what their drawing is, say `specs/Drawable.antt` and
+//! `specs/Drawing.antt`.
+#![tactic(auto)]
+
+mod drawable;
+mod drawing;
+mod render;
+mod report;
+mod rows;
+
+pub use render::render_plain;
+pub use report::{PlaceLabel, PlainError, PlainReport};

@@ -1,0 +1,1 @@
+-- Rows, columns and lines of a text.
