@@ -1,4 +1,8 @@
 use Rattle.std.specs.Prelude.{ℕ, List, Option, Some, None, ◌++◌, codes, []}
+use Rattle.std.specs.declared.cmp.Ordering.{Ordering}
+use Rattle.std.specs.Ordering.{nat_cmp, ordering_then}
+use Rattle.std.specs.Option.{option_cmp}
+use Rattle.std.specs.Cmp.Lexicographic.{slice_cmp}
 
 -- the two parts of a code, each of which may be missing
 pub record CodeParts : Type 0 where
@@ -22,3 +26,11 @@ shown_code None (Some number) = Some number
 abbrev pub part_or : Option (List ℕ) → List ℕ → Option (List ℕ)
 part_or (Some part) text = Some part
 part_or None text = Some text
+
+-- the order of two texts that may be missing: none comes first, texts go by their bytes
+abbrev pub text_cmp : Option (List ℕ) → Option (List ℕ) → Ordering
+text_cmp = option_cmp (slice_cmp nat_cmp)
+
+-- the order of codes: by scope, then by number
+abbrev pub code_cmp : CodeParts → CodeParts → Ordering
+code_cmp a b = ordering_then (text_cmp a.scope b.scope) (text_cmp a.number b.number)

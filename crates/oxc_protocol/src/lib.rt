@@ -39,4 +39,6 @@ pub type Result<T> = std::result::Result<T, OxcDiagnostic>;
 pub type Labels = SmallVec<LabeledSpan, 2, Global>;
 
 #[cfg(test)]
+mod record_tests;
+#[cfg(test)]
 mod tests;
