@@ -4,6 +4,7 @@ pub mod Parts
 pub mod Views
 pub mod SourceViews
 pub mod Severities
+pub mod MessageLines
 pub mod OxcEq
 pub mod LendingInner
 pub mod LendingList

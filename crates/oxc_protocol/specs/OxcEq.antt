@@ -47,5 +47,8 @@ oxc_eq_equiv = decided oxc_eq oxc_decides
 abbrev pub list_eq : List OxcParts → List OxcParts → Bool
 list_eq = pointwise oxc_eq
 
+pub list_decides : (a b : List OxcParts) → Decides (list_eq a b) (a ≡ b)
+list_decides = pointwise_decides oxc_decides
+
 pub list_eq_equiv : IsEquivalence list_eq
-list_eq_equiv = decided list_eq (pointwise_decides oxc_decides)
+list_eq_equiv = decided list_eq list_decides

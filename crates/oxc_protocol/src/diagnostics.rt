@@ -155,7 +155,10 @@ impl PartialEq for Diagnostics {
 
     ghost laws = { partial_equiv_from_equiv list_eq_equiv };
 
-    fn eq(&self, other: &Self) -> bool {
+    fn eq(&self, other: &Self) -> bool
+        ensures value { result ≡ list_eq self.now other.now }
+        ensures same { IsTrue result ↔ (self.now ≡ other.now) }
+    {
         self.diagnostics == other.diagnostics
     }
 }

@@ -1,4 +1,6 @@
 // What no clause says: that ample memory suffices, and that no empty piece is written.
+ghost use Rattle.std.specs.Prelude.{◌<◌};
+
 use crate::{Failed, MemorySink, write_all};
 use std::alloc::Global;
 use std::process::Abort;
@@ -13,7 +15,9 @@ fn written(
     most: usize,
     failing: &[u64],
     want: &[u8],
-) -> Result<Result<(), Failed>, Fail> {
+) -> Result<Result<(), Failed>, Fail>
+    requires { 0 < most }
+{
     let mut sink = MemorySink::new(alloc, TEXT.len(), most, failing.to_vec(alloc)?)?;
     let answer = write_all(&mut sink, TEXT);
     assert_eq!(rt; sink.received(), want);

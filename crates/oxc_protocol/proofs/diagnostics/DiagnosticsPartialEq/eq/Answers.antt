@@ -1,0 +1,9 @@
+use Rattle.std.proofs.Common.{arith, ◌≡◌}
+use Rattle.std.proofs.lemmas.Grind.{common_steps}
+use Rattle.oxc_protocol.specs.OxcEq.{list_eq, list_decides}
+use Rattle.oxc_protocol.proofs.diagnostics.DiagnosticsPartialEq.eq.Goals as goal
+
+pub returns-clause-same : goal.returns-clause-same
+returns-clause-same c =
+    let value : c.eq.result ≡ list_eq c.args.self.now c.args.other.now = grind (arith, common_steps) in
+    rw value (list_decides _ _)

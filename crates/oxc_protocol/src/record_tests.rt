@@ -1,0 +1,121 @@
+// Diagnostics by example, and callers whose contracts say what the derived traits mean.
+ghost use Rattle.std.specs.Prelude.{◌≡◌, ◌<◌, ◌^◌, ◌+◌, ◌↔◌, ◌∷◌, [], None, ◌++◌, Some, false, IsTrue, IfOk, OnOk, codes, map, string_bytes};
+ghost use Rattle.oxc_protocol.specs.Code.{code_cmp};
+ghost use Rattle.oxc_protocol.specs.MessageLines.{message_lines};
+ghost use Rattle.oxc_protocol.specs.Parts.{Parts, bare_diagnostic};
+ghost use Rattle.oxc_protocol.specs.Severities.{rank};
+ghost use Rattle.oxc_protocol.specs.Views.{code_parts, inner_parts};
+ghost use Rattle.oxc_protocol.specs.declared.protocol.Severity.TheVariants.{Error, Warning};
+
+use crate::{
+    Diagnostic, Diagnostics, Error, LabeledSpan, NamedSource, OxcCode, OxcDiagnostic,
+    OxcDiagnosticInner, Severity, SourceCode, TextSource,
+};
+use std::alloc::{AllocError, Global};
+use std::cmp::Ordering;
+use std::process::Abort;
+use std::test::Fail;
+
+fn code_order(a: &OxcCode, b: &OxcCode) -> Ordering
+    ensures { result ≡ code_cmp (code_parts a.now) (code_parts b.now) }
+{
+    a.cmp(b)
+}
+
+fn same_parts(a: &OxcDiagnosticInner, b: &OxcDiagnosticInner) -> bool
+    ensures { IsTrue result ↔ (inner_parts a.now ≡ inner_parts b.now) }
+{
+    a == b
+}
+
+fn is_graver(a: Severity, b: Severity) -> bool
+    ensures { IsTrue result ↔ (rank b < rank a) }
+{
+    a > b
+}
+
+fn usual_severity() -> Severity
+    ensures { result ≡ Error }
+{
+    Severity::default()
+}
+
+/// A warning that a name is never used, with what to do about it.
+fn unused(alloc: Global, name: &str, offset: u32, len: u32) -> Result<OxcDiagnostic, AllocError>
+    requires { offset + len < 2 ^ 32 }
+    ensures { IfOk result (λ it. it ≡ record (bare_diagnostic Warning name.now) {
+      help = Some (codes "remove it");
+      labels = record { text = None; offset = offset; len = len; primary = false } ∷ [];
+    }) }
+{
+    OxcDiagnostic::warn(alloc, name)?
+        .with_help(alloc, "remove it")?
+        .with_label(alloc, LabeledSpan::new(None, offset, len))
+}
+
+/// Appends the message of a box and an LF.
+fn push_line(lines: &mut String, error: &Error) -> Result<(), AllocError>
+    ensures { OnOk result (string_bytes lines.new ≡ string_bytes lines.old ++ (parts error.now).message ++ 10 ∷ []) }
+{
+    lines.push_str(error.message())?;
+    lines.push('\n')?;
+    Ok(())
+}
+
+/// The messages of all boxes, each on a line of its own.
+fn lines_of(alloc: Global, errors: &[Error]) -> Result<String, AllocError>
+    ensures { IfOk result (λ lines. string_bytes lines ≡ message_lines (map parts errors.now)) }
+{
+    let mut lines = String::new(alloc);
+    for error in errors {
+        push_line(&mut lines, error)?;
+    }
+    Ok(lines)
+}
+
+/// Through the trait alone, as a renderer sees it.
+fn shows_code(
+    rt: &impl Abort,
+    alloc: Global,
+    diagnostic: &dyn Diagnostic,
+    code: Option<&str>,
+) -> Result<(), Fail> {
+    let shown = diagnostic.code(alloc)?;
+    assert_eq!(rt; shown.as_deref(), code);
+    Ok(())
+}
+
+fn code(alloc: Global, scope: Option<&str>, number: Option<&str>) -> Result<OxcCode, AllocError> {
+    let scope = match scope {
+        Some(text) => Some(String::from_str(alloc, text)?),
+        None => None,
+    };
+    let number = match number {
+        Some(text) => Some(String::from_str(alloc, text)?),
+        None => None,
+    };
+    Ok(OxcCode { scope, number })
+}
+
+const ASCENDING: [(Option<&str>, Option<&str>); 8] = [
+    (None, None),
+    (None, Some("9")),
+    (Some(""), None),
+    (Some("S"), None),
+    (Some("s"), None),
+    (Some("s"), Some("1")),
+    (Some("s"), Some("10")),
+    (Some("s"), Some("9")),
+];
+
+#[test]
+fn codes_are_ordered_none_first_and_texts_by_bytes(rt: HostRuntime) -> Result<(), Fail> {
+    let alloc = rt.alloc();
+    for (i, a) in ASCENDING.iter().enumerate() {
+        for (j, b) in ASCENDING.iter().enumerate() {
+            let order = code_order(&code(alloc, a.0, a.1)?, &code(alloc, b.0, b.1)?);
+            assert_eq!(rt; order, i.cmp(&j), "{i} and {j}");
+        }
+    }
+    Ok(())
+}
