@@ -119,3 +119,50 @@ fn codes_are_ordered_none_first_and_texts_by_bytes(rt: HostRuntime) -> Result<()
     }
     Ok(())
 }
+
+fn built(alloc: Global) -> Result<OxcDiagnostic, AllocError> {
+    let more = Vec::from_array(alloc, [LabeledSpan::new(None, 4, 1)])?;
+    OxcDiagnostic::warn(alloc, "w")?
+        .with_help(alloc, "h")?
+        .with_note(alloc, "n")?
+        .with_url(alloc, "u")?
+        .with_label(alloc, LabeledSpan::new(None, 0, 1))?
+        .and_label(LabeledSpan::new(None, 2, 1))?
+        .and_labels(more)
+}
+
+fn has_labels_at(rt: &impl Abort, diagnostic: &dyn Diagnostic, offsets: &[u32]) {
+    let labels = diagnostic.labels();
+    assert_eq!(rt; labels.len(), offsets.len());
+    for (label, offset) in labels.iter().zip(offsets) {
+        assert_eq!(rt; label.offset(), *offset);
+    }
+}
+
+fn has_texts(rt: &impl Abort, diagnostic: &dyn Diagnostic, texts: [Option<&str>; 4]) {
+    assert_eq!(rt; Some(diagnostic.message()), texts[0]);
+    assert_eq!(rt; diagnostic.help(), texts[1]);
+    assert_eq!(rt; diagnostic.note(), texts[2]);
+    assert_eq!(rt; diagnostic.url(), texts[3]);
+}
+
+#[test]
+fn builders_set_their_part(rt: HostRuntime) -> Result<(), Fail> {
+    let built = built(rt.alloc())?;
+    has_texts(&rt, &built, [Some("w"), Some("h"), Some("n"), Some("u")]);
+    has_labels_at(&rt, &built, &[0, 2, 4]);
+    assert_eq!(rt; built.severity(), Some(Severity::Warning));
+    Ok(())
+}
+
+#[test]
+fn labels_are_set_anew_in_a_copy_alone(rt: HostRuntime) -> Result<(), Fail> {
+    let alloc = rt.alloc();
+    let built = built(alloc)?;
+    let copy = built.try_clone(alloc)?;
+    assert!(rt; copy == built);
+    let one = Vec::from_array(alloc, [LabeledSpan::new(None, 6, 1)])?;
+    has_labels_at(&rt, &copy.with_labels(alloc, one)?, &[6]);
+    has_labels_at(&rt, &built, &[0, 2, 4]);
+    Ok(())
+}
