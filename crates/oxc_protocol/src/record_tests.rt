@@ -8,8 +8,8 @@ ghost use Rattle.oxc_protocol.specs.Views.{code_parts, inner_parts};
 ghost use Rattle.oxc_protocol.specs.declared.protocol.Severity.TheVariants.{Error, Warning};
 
 use crate::{
-    Diagnostic, Diagnostics, Error, LabeledSpan, NamedSource, OxcCode, OxcDiagnostic,
-    OxcDiagnosticInner, Severity, SourceCode, TextSource,
+    Diagnostic, DiagnosticWithSource, Diagnostics, Error, LabeledSpan, NamedSource, OxcCode,
+    OxcDiagnostic, OxcDiagnosticInner, Severity, SourceCode, TextSource,
 };
 use std::alloc::{AllocError, Global};
 use std::cmp::Ordering;
@@ -164,5 +164,116 @@ fn labels_are_set_anew_in_a_copy_alone(rt: HostRuntime) -> Result<(), Fail> {
     let one = Vec::from_array(alloc, [LabeledSpan::new(None, 6, 1)])?;
     has_labels_at(&rt, &copy.with_labels(alloc, one)?, &[6]);
     has_labels_at(&rt, &built, &[0, 2, 4]);
+    Ok(())
+}
+
+#[test]
+fn a_part_of_a_code_that_is_there_stays(rt: HostRuntime) -> Result<(), Fail> {
+    let alloc = rt.alloc();
+    let coded = OxcDiagnostic::error(alloc, "m")?.with_error_code(alloc, "s", "1")?;
+    shows_code(&rt, alloc, &coded, Some("s(1)"))?;
+    let again = coded.with_error_code_scope(alloc, "t")?;
+    shows_code(&rt, alloc, &again, Some("s(1)"))?;
+    let both = again.with_error_code(alloc, "u", "2")?;
+    shows_code(&rt, alloc, &both, Some("s(1)"))
+}
+
+#[test]
+fn a_code_may_lack_parts(rt: HostRuntime) -> Result<(), Fail> {
+    let alloc = rt.alloc();
+    let bare = OxcDiagnostic::error(alloc, "m")?;
+    shows_code(&rt, alloc, &bare, None)?;
+    let number = bare.with_error_code_num(alloc, "1")?;
+    shows_code(&rt, alloc, &number, Some("1"))?;
+    assert!(rt; !OxcCode::default().is_some());
+    assert!(rt; OxcCode::default() < code(alloc, Some("s"), Some("1"))?);
+    Ok(())
+}
+
+fn two(alloc: Global) -> Result<Vec<OxcDiagnostic>, AllocError> {
+    let mut two = Vec::new(alloc);
+    two.push(OxcDiagnostic::warn(alloc, "c")?)?;
+    two.push(OxcDiagnostic::error(alloc, "d")?)?;
+    Ok(two)
+}
+
+#[test]
+fn lists_grow_and_copy(rt: HostRuntime) -> Result<(), Fail> {
+    let alloc = rt.alloc();
+    let mut list = Diagnostics::from_one(alloc, OxcDiagnostic::error(alloc, "a")?)?;
+    assert_eq!(rt; list.as_slice().len(), 1);
+    list.push(OxcDiagnostic::warn(alloc, "b")?)?;
+    assert_eq!(rt; list.as_slice().len(), 2);
+    list.extend(two(alloc)?)?;
+    assert_eq!(rt; list.as_slice().len(), 4);
+    assert!(rt; list.try_clone(alloc)? == list);
+    assert!(rt; list != Diagnostics::new(alloc));
+    assert_eq!(rt; list.into_vec().len(), 4);
+    Ok(())
+}
+
+#[test]
+fn errors_and_warnings_stand_apart(rt: HostRuntime) -> Result<(), Fail> {
+    let alloc = rt.alloc();
+    let list = Diagnostics::from_vec(two(alloc)?);
+    assert!(rt; list.has_errors());
+    assert!(rt; list.has_warnings());
+    let mut messages = String::new(alloc);
+    for error in list.errors() {
+        messages.push_str(error.message())?;
+    }
+    assert_eq!(rt; messages.as_str(), "d");
+    for warning in list.warnings() {
+        messages.push_str(warning.message())?;
+    }
+    assert_eq!(rt; messages.as_str(), "dc");
+    Ok(())
+}
+
+#[test]
+fn lists_are_walked_in_order(rt: HostRuntime) -> Result<(), Fail> {
+    let mut list = Diagnostics::from_vec(two(rt.alloc())?);
+    for diagnostic in list.as_mut_slice() {
+        diagnostic.inner_mut().severity = Severity::Advice;
+    }
+    for (diagnostic, message) in (&list).into_iter().zip(["c", "d"]) {
+        assert_eq!(rt; diagnostic.message(), message);
+    }
+    for diagnostic in list {
+        assert_eq!(rt;
+            diagnostic.with_severity(Severity::Error).severity(),
+            Some(Severity::Error)
+        );
+    }
+    Ok(())
+}
+
+fn sourced(alloc: Global) -> Result<DiagnosticWithSource<NamedSource<TextSource>>, AllocError> {
+    let source = TextSource::new(String::from_str(alloc, "let a;")?);
+    let named = NamedSource::new(String::from_str(alloc, "a.js")?, source);
+    Ok(OxcDiagnostic::error(alloc, "b")?.with_source_code(named))
+}
+
+fn has_source(rt: &impl Abort, diagnostic: &dyn Diagnostic, bytes: &[u8], name: &str) {
+    match diagnostic.source_code() {
+        Some(source) => {
+            assert_eq!(rt; source.bytes(), bytes);
+            assert_eq!(rt; source.name(), Some(name));
+        }
+        None => assert!(rt; false, "no source"),
+    }
+}
+
+#[test]
+fn a_box_shows_what_is_in_it(rt: HostRuntime) -> Result<(), Fail> {
+    let alloc = rt.alloc();
+    has_source(&rt, &sourced(alloc)?, b"let a;", "a.js");
+    let mut errors: Vec<Error> = Vec::new(alloc);
+    errors.push(Box::new(alloc, OxcDiagnostic::error(alloc, "a")?)?)?;
+    errors.push(Box::new(alloc, sourced(alloc)?)?)?;
+    assert_eq!(rt; lines_of(alloc, &errors)?.as_str(), "a\nb\n");
+    for error in &errors[1..] {
+        has_source(&rt, &**error, b"let a;", "a.js");
+    }
     Ok(())
 }
