@@ -1,4 +1,4 @@
-use Rattle.std.specs.Prelude.{◌≡◌, ℕ, Bool, List, Option, nat_eq, ◌&&◌}
+use Rattle.std.specs.Prelude.{◌≡◌, Bool, List, nat_eq, ◌&&◌}
 use Rattle.std.proofs.Common.{refl, ap}
 use Rattle.std.specs.Bool.{Decides}
 use Rattle.std.specs.Cmp.{IsEquivalence, decided, unsigned_Decides}

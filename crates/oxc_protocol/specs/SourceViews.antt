@@ -1,4 +1,4 @@
-use Rattle.std.specs.Prelude.{List, ℕ, Option, Some, None, string_bytes}
+use Rattle.std.specs.Prelude.{Option, Some, None, string_bytes}
 use Rattle.std.specs.Option.{option_copied}
 use Rattle.oxc_protocol.specs.Source.{SourceParts}
 use Rattle.oxc_protocol.specs.declared.protocol.SourceRef.{SourceRef}

@@ -43,10 +43,9 @@ impl Display for OxcCode {
 
     fn fmt<W: Write>(&self, f: &mut Formatter<W>) -> fmt::Result {
         match (&self.scope, &self.number) {
-            (Some(scope), Some(number)) => write!(f, "{scope}({number})"),
-            (Some(scope), None) => write!(f, "{scope}"),
-            (None, Some(number)) => write!(f, "{number}"),
             (None, None) => Ok(()),
+            (Some(part), None) | (None, Some(part)) => write!(f, "{part}"),
+            (Some(scope), Some(number)) => write!(f, "{}({})", scope, number),
         }
     }
 }
