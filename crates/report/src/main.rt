@@ -16,6 +16,10 @@ pub use document::{Document, read_document};
 pub use memory::MemorySource;
 pub use source::{Reading, Source, read_all};
 pub use status::Status;
+
+#[cfg(test)]
+mod tests;
+
 use std::env;
 use std::io::ErrorKind;
 use std::process::ExitCode;
