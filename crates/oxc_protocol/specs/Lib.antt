@@ -1,3 +1,12 @@
+pub mod Source
+pub mod Code
+pub mod Parts
+pub mod Views
+pub mod SourceViews
+pub mod Severities
+pub mod OxcEq
+pub mod LendingInner
+pub mod LendingList
 pub mod Faults
 pub mod Sink
 pub mod MemorySink

@@ -1,14 +1,44 @@
-//! What a linter reports and where drawn reports go: for now the sinks that take the bytes.
+//! What a linter reports, the sources that it points into, and where drawn reports go.
+//!
+//! A linter builds an [`OxcDiagnostic`] and hands it on, as a value, in a list of [`Diagnostics`], or in a box
+//! as an [`Error`]. Whoever shows it asks for its parts by the trait [`Diagnostic`] alone, and for the source
+//! that its labels point into by [`SourceCode`].
 //!
 //! A [`Sink`] is any device that takes bytes and counts its own faults. [`MemorySink`] keeps what it
 //! took, and can be told to fail, for tests and for callers that want the text.
 #![tactic(auto)]
 
+mod code;
+mod diagnostic;
+mod diagnostics;
 mod memory;
+mod named_source;
+mod protocol;
 mod sink;
+mod source_impls;
 
-pub use memory::MemorySink;
-pub use sink::{Failed, Sink, write_all};
+pub use crate::code::OxcCode;
+pub use crate::diagnostic::{DiagnosticWithSource, OxcDiagnostic, OxcDiagnosticInner};
+pub use crate::diagnostics::{Diagnostics, Errors, Warnings};
+pub use crate::memory::MemorySink;
+pub use crate::named_source::NamedSource;
+pub use crate::protocol::{Diagnostic, Severity, SourceCode, SourceRef};
+pub use crate::sink::{Failed, Sink, write_all};
+pub use crate::source_impls::TextSource;
+pub use oxc_span::LabeledSpan;
+use smallvec::SmallVec;
+use std::alloc::Global;
 
+/// A diagnostic of any kind, on the heap. The caller makes the box.
+pub type Error = Box<dyn Diagnostic>;
+
+/// A result whose error is an [`OxcDiagnostic`].
+pub type Result<T> = std::result::Result<T, OxcDiagnostic>;
+
+/// The labels of an [`OxcDiagnostic`]. One or two are kept inline and need no allocation.
+pub type Labels = SmallVec<LabeledSpan, 2, Global>;
+
+#[cfg(test)]
+mod record_tests;
 #[cfg(test)]
 mod tests;

@@ -1,0 +1,36 @@
+use Rattle.std.specs.Prelude.{ℕ, List, Option, Some, None, ◌++◌, codes, []}
+use Rattle.std.specs.declared.cmp.Ordering.{Ordering}
+use Rattle.std.specs.Ordering.{nat_cmp, ordering_then}
+use Rattle.std.specs.Option.{option_cmp}
+use Rattle.std.specs.Cmp.Lexicographic.{slice_cmp}
+
+-- the two parts of a code, each of which may be missing
+pub record CodeParts : Type 0 where
+  pub scope : Option (List ℕ)
+  pub number : Option (List ℕ)
+
+-- what a code prints
+abbrev pub code_text : Option (List ℕ) → Option (List ℕ) → List ℕ
+code_text (Some scope) (Some number) = scope ++ codes "(" ++ number ++ codes ")"
+code_text (Some scope) None = scope
+code_text None (Some number) = number
+code_text None None = []
+
+-- the text of a code, none where neither part is there
+abbrev pub shown_code : Option (List ℕ) → Option (List ℕ) → Option (List ℕ)
+shown_code None None = None
+shown_code (Some scope) number = Some (code_text (Some scope) number)
+shown_code None (Some number) = Some number
+
+-- a part that is there stays, one that is missing becomes the given text
+abbrev pub part_or : Option (List ℕ) → List ℕ → Option (List ℕ)
+part_or (Some part) text = Some part
+part_or None text = Some text
+
+-- the order of two texts that may be missing: none comes first, texts go by their bytes
+abbrev pub text_cmp : Option (List ℕ) → Option (List ℕ) → Ordering
+text_cmp = option_cmp (slice_cmp nat_cmp)
+
+-- the order of codes: by scope, then by number
+abbrev pub code_cmp : CodeParts → CodeParts → Ordering
+code_cmp a b = ordering_then (text_cmp a.scope b.scope) (text_cmp a.number b.number)

@@ -1,0 +1,3 @@
+pub mod Label
+pub mod Views
+pub mod LabelEq
