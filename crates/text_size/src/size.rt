@@ -1,5 +1,5 @@
 // Sizes and offsets.
-ghost use Rattle.std.specs.Prelude.{◌≡◌, ℕ, ◌+◌, ◌-◌, ◌<◌, ◌≤◌, ◌^◌, Some, SomeIff, MatchResult, Result, sum, map};
+ghost use Rattle.std.specs.Prelude.{◌≡◌, ℕ, ◌+◌, ◌-◌, ◌<◌, ◌≤◌, ◌^◌, Some, SomeIff, MatchResult, sum, sum_by};
 ghost use Rattle.std.specs.Fmt.{decimal};
 
 use crate::TextLen;
@@ -286,6 +286,21 @@ impl Sum<TextSize> for TextSize {
     ghost sum_gives = { λ sizes total. total ≡ sum sizes };
 
     fn sum<I: Iterator<Item = TextSize>>(iter: I) -> TextSize {
+        let mut total = TextSize::new(0);
+        for size in iter {
+            total += size;
+        }
+        total
+    }
+}
+
+/// The same of sizes that are lent.
+impl<'a> Sum<&'a TextSize> for TextSize {
+    ghost can_sum = { λ sizes. sum_by (λ size. size.now) sizes < 2 ^ 32 };
+
+    ghost sum_gives = { λ sizes total. total ≡ sum_by (λ size. size.now) sizes };
+
+    fn sum<I: Iterator<Item = &'a TextSize>>(iter: I) -> TextSize {
         let mut total = TextSize::new(0);
         for size in iter {
             total += size;
