@@ -6,6 +6,8 @@
 
 mod range;
 mod size;
+#[cfg(test)]
+mod tests;
 mod traits;
 
 pub use range::{TextRange, slice};

@@ -1,0 +1,110 @@
+// Values from the original's examples, the printed texts, and what callers are told of equality, order and hash.
+ghost use Rattle.std.specs.Prelude.{◌≡◌, ◌≤◌, ◌↔◌, ◌++◌, IsTrue, IfSome, slice_range};
+ghost use Rattle.std.specs.Hash as fed;
+ghost use Rattle.std.specs.List.{fold};
+ghost use Rattle.std.specs.Ordering.{nat_cmp};
+
+use crate::{TextRange, TextSize, slice};
+use std::cmp::Ordering;
+use std::hash::{Hash, Hasher};
+use std::ops::RangeBounds;
+use std::test::Fail;
+
+fn range(start: u32, end: u32) -> TextRange
+    requires { start ≤ end }
+    ensures { result ≡ (start, end) }
+{
+    TextRange::new(TextSize::new(start), TextSize::new(end))
+}
+
+fn compared(first: TextSize, second: TextSize) -> Ordering
+    ensures { result ≡ nat_cmp first second }
+{
+    first.cmp(&second)
+}
+
+fn is_same_size(first: TextSize, second: TextSize) -> bool
+    ensures { IsTrue result ↔ (first ≡ second) }
+{
+    first == second
+}
+
+fn is_same_range(first: TextRange, second: TextRange) -> bool
+    ensures { IsTrue result ↔ (first ≡ second) }
+{
+    first == second
+}
+
+fn hash_size<H: Hasher>(size: TextSize, state: &mut H)
+    ensures { state.new ≡ fold H.write state.old (fed.u32 size) }
+{
+    size.hash(state);
+}
+
+fn hash_range<H: Hasher>(range: TextRange, state: &mut H)
+    ensures { state.new ≡ fold H.write state.old (fed.u32 range.0 ++ fed.u32 range.1) }
+{
+    range.hash(state);
+}
+
+fn text_in(text: &str, range: TextRange) -> Option<&str>
+    ensures { IfSome result (λ part. part.now ≡ slice_range text.now range.0 range.1) }
+{
+    let start = range.start().to_usize();
+    let end = range.end().to_usize();
+    if end <= text.len() && text.is_char_boundary(start) && text.is_char_boundary(end) {
+        Some(slice(text, range))
+    } else {
+        None
+    }
+}
+
+#[test]
+fn ranges_are_ordered_as_in_the_original(rt: HostRuntime) {
+    for (first, second, expected) in [
+        (range(0, 3), range(4, 5), Ordering::Less),
+        (range(0, 3), range(3, 5), Ordering::Less),
+        (range(0, 3), range(2, 5), Ordering::Equal),
+        (range(0, 3), range(2, 2), Ordering::Equal),
+        (range(2, 3), range(2, 2), Ordering::Greater),
+    ] {
+        assert_eq!(rt; first.ordering(second), expected, "{first:?} {second:?}");
+    }
+}
+
+#[test]
+fn ranges_meet_cover_and_move_as_in_the_original(rt: HostRuntime) {
+    assert_eq!(rt; range(0, 10).intersect(range(5, 15)), Some(range(5, 10)));
+    assert_eq!(rt; range(0, 5).cover(range(15, 20)), range(0, 20));
+    assert_eq!(rt; range(0, 0).cover_offset(TextSize::new(20)), range(0, 20));
+    let five = range(5, 10);
+    assert_eq!(rt; five.sub_start(TextSize::new(2)), range(3, 10));
+    assert_eq!(rt; five.add_start(TextSize::new(3)), range(8, 10));
+    assert_eq!(rt; five.sub_end(TextSize::new(2)), range(5, 8));
+    assert_eq!(rt; five.add_end(TextSize::new(2)), range(5, 12));
+}
+
+#[test]
+fn texts_have_lengths_and_parts(rt: HostRuntime) -> Result<(), Fail> {
+    assert_eq!(rt; TextSize::of('🦀'), TextSize::new(4));
+    assert_eq!(rt; TextSize::of("rust-analyzer"), TextSize::new(13));
+    let owned = "🦀".to_string(rt.alloc())?;
+    assert!(rt; owned.len() == 4);
+    assert_eq!(rt; TextSize::of(&owned), TextSize::new(4));
+    let two_to_seven = TextRange::at(TextSize::new(2), TextSize::new(5));
+    assert_eq!(rt; text_in("0123456789", two_to_seven), Some("23456"));
+    assert_eq!(rt; text_in("🦀", two_to_seven), None);
+    Ok(())
+}
+
+#[test]
+fn generic_code_takes_sizes_and_ranges(rt: HostRuntime) -> Result<(), Fail> {
+    let sizes = [TextSize::new(3), TextSize::new(4)];
+    assert_eq!(rt; sizes.iter().sum::<TextSize>(), TextSize::new(7));
+    assert_eq!(rt; sizes.iter().copied().sum::<TextSize>(), TextSize::new(7));
+    assert!(rt; RangeBounds::contains(&range(3, 5), &TextSize::new(4)));
+    assert!(rt; !RangeBounds::contains(&range(3, 5), &TextSize::new(5)));
+    let printed = format!(in rt.alloc(); "{:?} {:?}", TextSize::new(7), range(5, 10))?;
+    assert_eq!(rt; printed.as_str(), "7 5..10");
+    Ok(())
+}
