@@ -1,5 +1,5 @@
 // Values from the original's examples, the printed texts, and what callers are told of equality, order and hash.
-ghost use Rattle.std.specs.Prelude.{◌≡◌, ◌≤◌, ◌↔◌, ◌++◌, IsTrue, IfSome, slice_range};
+ghost use Rattle.std.specs.Prelude.{◌≡◌, ◌≤◌, ◌↔◌, ◌++◌, ◌<◌, ◌^◌, IsTrue, IfSome, slice_range, sum};
 ghost use Rattle.std.specs.Hash as fed;
 ghost use Rattle.std.specs.List.{fold};
 ghost use Rattle.std.specs.Ordering.{nat_cmp};
@@ -59,6 +59,20 @@ fn text_in(text: &str, range: TextRange) -> Option<&str>
     }
 }
 
+fn total_of(sizes: &[TextSize]) -> TextSize
+    requires { sum sizes.now < 2 ^ 32 }
+    ensures { result ≡ sum sizes.now }
+{
+    sizes.iter().copied().sum()
+}
+
+fn total_of_lent(sizes: &[TextSize]) -> TextSize
+    requires { sum sizes.now < 2 ^ 32 }
+    ensures { result ≡ sum sizes.now }
+{
+    sizes.iter().sum()
+}
+
 #[test]
 fn ranges_are_ordered_as_in_the_original(rt: HostRuntime) {
     for (first, second, expected) in [
@@ -86,7 +100,9 @@ fn ranges_meet_cover_and_move_as_in_the_original(rt: HostRuntime) {
 
 #[test]
 fn texts_have_lengths_and_parts(rt: HostRuntime) -> Result<(), Fail> {
-    assert_eq!(rt; TextSize::of('🦀'), TextSize::new(4));
+    let crab = '🦀';
+    assert!(rt; crab.len_utf8() <= 4);
+    assert_eq!(rt; TextSize::of(crab), TextSize::new(4));
     assert_eq!(rt; TextSize::of("rust-analyzer"), TextSize::new(13));
     let owned = "🦀".to_string(rt.alloc())?;
     assert!(rt; owned.len() == 4);
@@ -100,8 +116,8 @@ fn texts_have_lengths_and_parts(rt: HostRuntime) -> Result<(), Fail> {
 #[test]
 fn generic_code_takes_sizes_and_ranges(rt: HostRuntime) -> Result<(), Fail> {
     let sizes = [TextSize::new(3), TextSize::new(4)];
-    assert_eq!(rt; sizes.iter().sum::<TextSize>(), TextSize::new(7));
-    assert_eq!(rt; sizes.iter().copied().sum::<TextSize>(), TextSize::new(7));
+    assert_eq!(rt; total_of_lent(&sizes), TextSize::new(7));
+    assert_eq!(rt; total_of(&sizes), TextSize::new(7));
     assert!(rt; RangeBounds::contains(&range(3, 5), &TextSize::new(4)));
     assert!(rt; !RangeBounds::contains(&range(3, 5), &TextSize::new(5)));
     let printed = format!(in rt.alloc(); "{:?} {:?}", TextSize::new(7), range(5, 10))?;
