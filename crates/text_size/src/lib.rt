@@ -10,6 +10,6 @@ mod size;
 mod tests;
 mod traits;
 
-pub use range::{TextRange, slice};
+pub use range::{TextRange, slice, slice_mut};
 pub use size::TextSize;
 pub use traits::TextLen;

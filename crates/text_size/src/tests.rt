@@ -4,7 +4,7 @@ ghost use Rattle.std.specs.Hash as fed;
 ghost use Rattle.std.specs.List.{fold};
 ghost use Rattle.std.specs.Ordering.{nat_cmp};
 
-use crate::{TextRange, TextSize, slice};
+use crate::{TextRange, TextSize, slice, slice_mut};
 use std::cmp::Ordering;
 use std::hash::{Hash, Hasher};
 use std::ops::RangeBounds;
@@ -123,4 +123,12 @@ fn generic_code_takes_sizes_and_ranges(rt: HostRuntime) -> Result<(), Fail> {
     let printed = format!(in rt.alloc(); "{:?} {:?}", TextSize::new(7), range(5, 10))?;
     assert_eq!(rt; printed.as_str(), "7 5..10");
     Ok(())
+}
+
+#[test]
+fn writing_through_a_part_leaves_the_other_bytes(rt: HostRuntime) {
+    let mut bytes = *b"0123456789";
+    let two_to_seven = TextRange::at(TextSize::new(2), TextSize::new(5));
+    slice_mut(&mut bytes, two_to_seven).fill(b'x');
+    assert_eq!(rt; bytes, *b"01xxxxx789");
 }
