@@ -280,6 +280,7 @@ pub fn slice_mut(text: &mut [u8], range: TextRange) -> &mut [u8]
     requires { range.1 ≤ length text.old }
     ensures* writes_back { sem 𝓛 (LendsPart text.entry range.0 range.1 result) }
     ensures bytes { result.now ≡ slice_range text.old range.0 range.1 }
+    ensures len { length result.now ≡ range.1 - range.0 }
 {
     &mut text[range.start.raw as usize..range.end.raw as usize]
 }

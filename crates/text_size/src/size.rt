@@ -114,7 +114,8 @@ impl TryFrom<usize> for TextSize {
 
     #[inline]
     fn try_from(value: usize) -> Result<Self, TryFromIntError> {
-        Ok(u32::try_from(value)?.into())
+        let raw = u32::try_from(value)?;
+        Ok(TextSize::new(raw))
     }
 }
 

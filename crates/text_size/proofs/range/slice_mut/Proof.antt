@@ -4,12 +4,12 @@ use Prim.Native.Nat.{ℕ, ◌+◌, ◌-◌, ◌*◌, ◌^◌, ◌<◌, ◌≤◌
 use native.Mathlib.Omega.{arith}
 use mathlib.Core.List.{List, [], ◌∷◌, ◌++◌}
 use lib.ListN.{length, take, drop as drop_list, take-append-drop, length-drop}
-use base.Logic.{id⊢}
+use base.Logic.{emp, id⊢}
 use base.Fml.{ftrue, flft}
 use mir.Syntax.{named}
-use contract.Monad.{fact}
+use contract.Monad.{fact, fact_i}
 use contract.Running.{tables}
-use types.Kit.{‵, raw, ◌⊛◌, some, later, ◌$◌, ◌∵◌, !, qed, done, move, keep, use1, use2, split, split3, join, fsplit, fjoin, pick, await, rewrite, suffices, frame}
+use types.Kit.{‵, raw, ◌⊛◌, some, later, ◌$◌, ◌∵◌, !, qed, by, move, keep, use1, use2, split, split3, join, fsplit, fjoin, pick, await, rewrite, suffices, frame}
 use types.Part.{whole, sub, agg}
 use types.Run.{enter, bin, un, addr, stop, fld, no_more, and_then, returns}
 use types.ByLocal.{alloc_all, pass_all, free_all, look_at, get, get_in, through, sets}
@@ -87,4 +87,4 @@ slice_mut_spec 𝓤 𝓛 𝓜 𝓡 wired =
     returns ! (look_at ! 0 refl) $ free_all ! refl $ keep ! (0 ∷ []) $ split3 ! $
     rewrite ! 0 (λ (k : ℕ). ‵ ((MutSlice (named 0) κ u8).own_val (record { ref_ptr = (b, i + o); ghost_name = δ; now = run }) (slice_val (b, i + o) k ∷ []))) (run_long i j xs ordered within) refl $
     suffices ! _ (ends_at 𝓛 f.ended stayed c y (slice_val (b, i + o) m) (record { ref_ptr = (b, i + o); ghost_name = δ; now = run }) (tt, (tt, tt)) (tt, (tt, tt))) $
-    nothing ! $ nothing ! $ fjoin ! $ nothing ! $ fjoin ! $ join ! $ nothing ! $ move ! (2 ∷ 0 ∷ []) $ join ! $ join ! $ frame ! $ says ! refl $ done !))))
+    nothing ! $ nothing ! $ fjoin ! $ nothing ! $ fjoin ! $ join ! $ nothing ! $ move ! (2 ∷ 0 ∷ []) $ join ! $ join ! $ frame ! $ frame ! $ says ! (run_long i j xs ordered within) $ by ! (fact_i 𝓤 _ (emp 𝓤) refl)))))
