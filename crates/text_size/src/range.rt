@@ -264,7 +264,6 @@ impl TextRange {
 /// The bytes of the text in the range, whose ends are both boundaries of characters of the text.
 #[inline]
 pub fn slice(text: &str, range: TextRange) -> &str
-    requires within { range.1 ≤ length text.now }
     requires start { IsCharBoundary text.now range.0 }
     requires end { IsCharBoundary text.now range.1 }
     ensures { result.now ≡ slice_range text.now range.0 range.1 }

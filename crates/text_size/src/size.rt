@@ -113,8 +113,8 @@ impl TryFrom<usize> for TextSize {
     ghost try_from_gives = { λ number outcome. MatchResult outcome (λ size. (number < 2 ^ 32) × (size ≡ number)) (λ _. 2 ^ 32 ≤ number) };
 
     #[inline]
-    fn try_from(value: usize) -> Result<Self, TryFromIntError> {
-        let raw = u32::try_from(value)?;
+    fn try_from(number: usize) -> Result<TextSize, TryFromIntError> {
+        let raw = u32::try_from(number)?;
         Ok(TextSize::new(raw))
     }
 }

@@ -1,8 +1,9 @@
 // Values from the original's examples, the printed texts, and what callers are told of equality, order and hash.
-ghost use Rattle.std.specs.Prelude.{◌≡◌, ◌≤◌, ◌↔◌, ◌++◌, ◌<◌, ◌^◌, IsTrue, IfSome, slice_range, sum};
+ghost use Rattle.std.specs.Prelude.{◌≡◌, ◌≤◌, ◌↔◌, ◌++◌, ◌<◌, ◌^◌, IsTrue, IsSome, IfSome, slice_range, sum};
 ghost use Rattle.std.specs.Hash as fed;
 ghost use Rattle.std.specs.List.{fold};
 ghost use Rattle.std.specs.Ordering.{nat_cmp};
+ghost use Rattle.std.specs.Str.{IsCharBoundary};
 
 use crate::{TextRange, TextSize, slice, slice_mut};
 use std::cmp::Ordering;
@@ -47,12 +48,25 @@ fn hash_range<H: Hasher>(range: TextRange, state: &mut H)
     range.hash(state);
 }
 
+fn size_by_default() -> TextSize
+    ensures { result ≡ 0 }
+{
+    TextSize::default()
+}
+
+fn range_by_default() -> TextRange
+    ensures { result ≡ (0, 0) }
+{
+    TextRange::default()
+}
+
 fn text_in(text: &str, range: TextRange) -> Option<&str>
-    ensures { IfSome result (λ part. part.now ≡ slice_range text.now range.0 range.1) }
+    ensures found { IsSome result ↔ (IsCharBoundary text.now range.0 × IsCharBoundary text.now range.1) }
+    ensures bytes { IfSome result (λ part. part.now ≡ slice_range text.now range.0 range.1) }
 {
     let start = range.start().to_usize();
     let end = range.end().to_usize();
-    if end <= text.len() && text.is_char_boundary(start) && text.is_char_boundary(end) {
+    if text.is_char_boundary(start) && text.is_char_boundary(end) {
         Some(slice(text, range))
     } else {
         None
