@@ -1,5 +1,5 @@
 // Values from the original's examples, the printed texts, and what callers are told of equality, order and hash.
-ghost use Rattle.std.specs.Prelude.{◌≡◌, ◌≤◌, ◌↔◌, ◌++◌, ◌<◌, ◌^◌, IsTrue, IsSome, IfSome, slice_range, sum};
+ghost use Rattle.std.specs.Prelude.{◌≡◌, ◌≤◌, ◌↔◌, ◌++◌, ◌<◌, ◌^◌, IsTrue, IsSome, IfSome, slice_range, sum, length, take, drop};
 ghost use Rattle.std.specs.Hash as fed;
 ghost use Rattle.std.specs.List.{fold};
 ghost use Rattle.std.specs.Ordering.{nat_cmp};
@@ -71,6 +71,23 @@ fn text_in(text: &str, range: TextRange) -> Option<&str>
     } else {
         None
     }
+}
+
+// It writes, and its contract says nothing.
+fn scribble(part: &mut [u8]) {
+    if !part.is_empty() {
+        part[0] = b'!';
+    }
+}
+
+// Whatever is written into the part, the bytes before it and behind it are the same.
+fn scribble_in(bytes: &mut [u8], range: TextRange)
+    requires { range.1 ≤ length bytes.old }
+    ensures before { take range.0 bytes.new ≡ take range.0 bytes.old }
+    ensures behind { drop range.1 bytes.new ≡ drop range.1 bytes.old }
+{
+    let part = slice_mut(bytes, range);
+    scribble(part);
 }
 
 fn total_of(sizes: &[TextSize]) -> TextSize
@@ -145,4 +162,6 @@ fn writing_through_a_part_leaves_the_other_bytes(rt: HostRuntime) {
     let two_to_seven = TextRange::at(TextSize::new(2), TextSize::new(5));
     slice_mut(&mut bytes, two_to_seven).fill(b'x');
     assert_eq!(rt; bytes, *b"01xxxxx789");
+    scribble_in(&mut bytes, two_to_seven);
+    assert_eq!(rt; bytes, *b"01!xxxx789");
 }
