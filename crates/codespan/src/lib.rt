@@ -2,5 +2,10 @@
 #![tactic(auto)]
 
 mod file;
+mod index;
 
 pub use file::{AddError, FileId, Files, SourceText};
+pub use index::{
+    ByteIndex, ByteOffset, ColumnIndex, ColumnNumber, ColumnOffset, Index, LineIndex, LineNumber,
+    LineOffset, Offset, RawIndex, RawOffset,
+};
