@@ -1,3 +1,4 @@
 pub mod Texts
 pub mod Causes
 pub mod Laws
+pub mod Spans

@@ -3,9 +3,13 @@
 
 mod file;
 mod index;
+mod location;
+mod span;
 
 pub use file::{AddError, FileId, Files, SourceText};
 pub use index::{
     ByteIndex, ByteOffset, ColumnIndex, ColumnNumber, ColumnOffset, Index, LineIndex, LineNumber,
     LineOffset, Offset, RawIndex, RawOffset,
 };
+pub use location::Location;
+pub use span::Span;
