@@ -40,11 +40,11 @@ pub trait Files {
 
     ghost holds: { Self → Self.FileId → Bool };
 
-    ghost name_of: { Self → Self.FileId → List ℕ };
+    ghost name_in: { Self → Self.FileId → List ℕ };
 
-    ghost text_of: { Self → Self.FileId → List ℕ };
+    ghost text_in: { Self → Self.FileId → List ℕ };
 
-    ghost line_starts_of: { Self → Self.FileId → List ℕ };
+    ghost starts_in: { Self → Self.FileId → List ℕ };
 
     /// Whether the database holds the file, which every other call asks for.
     fn contains(&self, id: Self::FileId) -> bool
@@ -53,18 +53,18 @@ pub trait Files {
     /// The name of the file, to be shown.
     fn name(&self, id: Self::FileId) -> Result<&str, Error>
         requires { IsTrue (holds self.now id) }
-        ensures { IfOk result (λ name. name.now ≡ name_of self.now id) };
+        ensures { IfOk result (λ name. name.now ≡ name_in self.now id) };
 
     /// The text of the file.
     fn source(&self, id: Self::FileId) -> Result<&str, Error>
         requires { IsTrue (holds self.now id) }
-        ensures { IfOk result (λ text. text.now ≡ text_of self.now id) };
+        ensures { IfOk result (λ text. text.now ≡ text_in self.now id) };
 
     /// The line of a place, both from 0; past the end the last line. The place is at most `u32::MAX`.
     fn line_index(&self, id: Self::FileId, byte_index: usize) -> Result<usize, Error>
         requires held { IsTrue (holds self.now id) }
         requires small { byte_index ≤ u32.MAX }
-        ensures { IfOk result (λ line. line ≡ line_at (line_starts_of self.now id) byte_index) };
+        ensures { IfOk result (λ line. line ≡ line_at (starts_in self.now id) byte_index) };
 
     /// The bytes of a line, its break included. The line counts from 0 and is at most `u32::MAX`.
     ///
@@ -73,10 +73,10 @@ pub trait Files {
         requires held { IsTrue (holds self.now id) }
         requires small { line_index ≤ u32.MAX }
         ensures { MatchResult result
-            (λ range. IsLineRange (text_of self.now id) (line_starts_of self.now id) line_index range.start range.end)
-            (λ error. IsLineRefusal (length (line_starts_of self.now id)) line_index error) };
+            (λ range. IsLineRange (text_in self.now id) (starts_in self.now id) line_index range.start range.end)
+            (λ error. IsLineRefusal (length (starts_in self.now id)) line_index error) };
 
     // The starts are those of the lines of a text.
-    ghost lines: { (files : Self) (id : Self.FileId) → IsTrue (holds files id) → IsUtf8 (text_of files id)
-        → AreLineStarts (text_of files id) (line_starts_of files id) };
+    ghost lines: { (files : Self) (id : Self.FileId) → IsTrue (holds files id) → IsUtf8 (text_in files id)
+        → AreLineStarts (text_in files id) (starts_in files id) };
 }
