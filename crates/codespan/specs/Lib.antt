@@ -1,3 +1,4 @@
+pub mod Chars
 pub mod Texts
 pub mod Causes
 pub mod Laws

@@ -6,6 +6,7 @@ ghost use Rattle.codespan_reporting.specs.Causes.{IsLineRefusal, IsPlaceRefusal,
 ghost use Rattle.codespan_reporting.specs.Lines.{line_at};
 ghost use Rattle.codespan.specs.Lines.{LinesJoin, line_count, line_extent, line_of, line_starts_lf, start_of_line};
 ghost use Rattle.codespan.specs.Places.{IsLocation, IsSlice};
+ghost use Rattle.codespan.specs.Chars.{begins_character, character_count};
 ghost use Rattle.codespan.specs.Texts.{Fits, NamedText, name_of, text_of, with_text};
 ghost use Rattle.codespan.specs.Causes.{HasRoom, IsCauseToKeep, IsCauseToRefuse};
 
@@ -497,12 +498,31 @@ fn characters_between(source: &str, start: usize, end: usize) -> usize
     characters_in(&source[start..end])
 }
 
-/// How many characters the text has.
+/// How many characters the text has. They are counted by their first bytes, with no decoding.
 fn characters_in(text: &str) -> usize
     ensures exact { result ≡ length (chars text.now) }
     ensures bound { result ≤ length text.now }
 {
-    text.chars().count()
+    first_bytes_in(text.as_bytes())
+}
+
+/// How many of the bytes begin a character.
+#[tactic(auto, unfolding(crate::specs::Chars::character_count))]
+fn first_bytes_in(bytes: &[u8]) -> usize
+    ensures exact { result ≡ character_count bytes.now }
+    ensures bound { result ≤ length bytes.now }
+{
+    bytes
+        .iter()
+        .filter(|byte| begins_character(**byte))
+        .count()
+}
+
+/// Whether the byte's top bits are not 10.
+fn begins_character(byte: u8) -> bool
+    ensures { result ≡ begins_character byte }
+{
+    byte < 128 || byte >= 192
 }
 
 /// The text between two places, the first not after the second.
