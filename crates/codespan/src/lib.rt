@@ -5,6 +5,8 @@ mod file;
 mod index;
 mod location;
 mod span;
+#[cfg(test)]
+mod tests;
 
 pub use file::{AddError, FileId, Files, SourceText};
 pub use index::{

@@ -89,14 +89,16 @@ impl Span {
 
     /// The place of the first byte.
     pub fn start(self) -> ByteIndex
-        ensures { result.0 ≡ self.start }
+        ensures place { result.0 ≡ self.start }
+        ensures ordered { self.start ≤ self.end }
     {
         self.start
     }
 
     /// The place after the last byte.
     pub fn end(self) -> ByteIndex
-        ensures { result.0 ≡ self.end }
+        ensures place { result.0 ≡ self.end }
+        ensures ordered { self.start ≤ self.end }
     {
         self.end
     }
@@ -119,7 +121,7 @@ impl fmt::Display for Span {
 }
 
 impl From<Span> for Range<usize> {
-    ghost from_gives = { λ span range. range ≡ record { start = span.start; end = span.end } };
+    ghost from_gives = { λ span range. (range ≡ record { start = span.start; end = span.end }) × (span.start ≤ span.end) };
 
     fn from(span: Span) -> Range<usize> {
         span.start.to_usize()..span.end.to_usize()
@@ -127,7 +129,7 @@ impl From<Span> for Range<usize> {
 }
 
 impl From<Span> for Range<RawIndex> {
-    ghost from_gives = { λ span range. range ≡ record { start = span.start; end = span.end } };
+    ghost from_gives = { λ span range. (range ≡ record { start = span.start; end = span.end }) × (span.start ≤ span.end) };
 
     fn from(span: Span) -> Range<RawIndex> {
         span.start.0..span.end.0

@@ -1,5 +1,5 @@
 -- The lines of a text, by the list of the places at which they start.
-use Rattle.std.specs.Prelude.{◌≡◌, ℕ, ◌+◌, ◌-◌, ◌<◌, nat_le, List, length, Some, All, count_by, slice_get, slice_index_or}
+use Rattle.std.specs.Prelude.{◌≡◌, ℕ, ◌+◌, ◌-◌, ◌<◌, ◌≤◌, nat_le, List, length, Some, All, count_by, slice_get, slice_index_or}
 use Rattle.std.specs.Str.{IsCharBoundary}
 use Rattle.std.specs.List.Sorted.{IsStrictlyIncreasing}
 
@@ -20,4 +20,4 @@ line_start starts size line = slice_index_or starts line size
 -- a line that the text has, from its first byte to the end of its break
 abbrev pub IsLineRange : List ℕ → List ℕ → ℕ → ℕ → ℕ → Type 0
 IsLineRange text starts line start end =
-    (line < length starts) × (start ≡ line_start starts (length text) line) × (end ≡ line_start starts (length text) (line + 1))
+    (line < length starts) × (start ≡ line_start starts (length text) line) × (end ≡ line_start starts (length text) (line + 1)) × (start ≤ end)
