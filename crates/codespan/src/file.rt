@@ -512,10 +512,7 @@ fn first_bytes_in(bytes: &[u8]) -> usize
     ensures exact { result ≡ character_count bytes.now }
     ensures bound { result ≤ length bytes.now }
 {
-    bytes
-        .iter()
-        .filter(|byte| begins_character(**byte))
-        .count()
+    bytes.iter().filter(|byte| begins_character(**byte)).count()
 }
 
 /// Whether the byte's top bits are not 10.

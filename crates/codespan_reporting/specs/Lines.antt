@@ -1,5 +1,5 @@
 -- The lines of a text, by the list of the places at which they start.
-use Rattle.std.specs.Prelude.{◌≡◌, ℕ, ◌+◌, ◌-◌, ◌<◌, ◌≤◌, nat_le, List, length, Some, All, count_by, slice_get, slice_index_or}
+use Rattle.std.specs.Prelude.{◌≡◌, ℕ, ◌+◌, ◌-◌, ◌<◌, ◌≤◌, nat_le, List, length, Some, All, count_by, slice_get, slice_index_or, slice_range}
 use Rattle.std.specs.Str.{IsCharBoundary}
 use Rattle.std.specs.List.Sorted.{IsStrictlyIncreasing}
 
@@ -21,3 +21,7 @@ line_start starts size line = slice_index_or starts line size
 abbrev pub IsLineRange : List ℕ → List ℕ → ℕ → ℕ → ℕ → Type 0
 IsLineRange text starts line start end =
     (line < length starts) × (start ≡ line_start starts (length text) line) × (end ≡ line_start starts (length text) (line + 1)) × (start ≤ end)
+
+-- the bytes of a line, its break included
+abbrev pub line_bytes : List ℕ → List ℕ → ℕ → List ℕ
+line_bytes text starts line = slice_range text (line_start starts (length text) line) (line_start starts (length text) (line + 1))

@@ -1,6 +1,6 @@
 //! The database of source files as the tools see it, and why it refuses a question.
-ghost use Rattle.std.specs.Prelude.{◌≡◌, ℕ, ◌+◌, ◌<◌, ◌≤◌, Bool, List, length, IsTrue, IfOk, MatchResult};
-ghost use Rattle.codespan_reporting.specs.Lines.{AreLineStarts, IsLineRange, line_at};
+ghost use Rattle.std.specs.Prelude.{◌≡◌, ℕ, ◌+◌, ◌<◌, ◌≤◌, Bool, List, length, IsTrue, IfOk, OnOk, MatchResult};
+ghost use Rattle.codespan_reporting.specs.Lines.{AreLineStarts, IsLineRange, line_at, line_bytes};
 ghost use Rattle.codespan_reporting.specs.Causes.{IsLineRefusal};
 ghost use Rattle.std.specs.Str.{IsUtf8};
 
@@ -79,4 +79,21 @@ pub trait Files {
     // The starts are those of the lines of a text.
     ghost lines: { (files : Self) (id : Self.FileId) → IsTrue (holds files id) → IsUtf8 (text_in files id)
         → AreLineStarts (text_in files id) (starts_in files id) };
+}
+
+/// The text of a line, its break included, in any database. The line counts from 0 and is at most
+/// `u32::MAX`.
+///
+/// It refuses what `line_range` refuses, and else only where the database refuses the source.
+pub fn line_text<F: Files>(files: &F, id: F::FileId, line_index: usize) -> Result<&str, Error>
+    requires held { IsTrue (F.holds files.now id) }
+    requires small { line_index ≤ u32.MAX }
+    ensures text { IfOk result (λ text. text.now ≡ line_bytes (F.text_in files.now id) (F.starts_in files.now id) line_index) }
+    ensures exists { OnOk result (line_index < length (F.starts_in files.now id)) }
+{
+    let range = files.line_range(id, line_index)?;
+    match files.source(id) {
+        Ok(source) => Ok(&source[range.start..range.end]),
+        Err(error) => Err(error),
+    }
 }
