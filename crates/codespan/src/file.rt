@@ -65,7 +65,7 @@ impl FileId {
     /// The handle of the file with this number, from 0. `None` exactly for `u32::MAX`, which no file
     /// can have.
     pub fn from_index(index: u32) -> Option<FileId>
-        ensures { SomeIff result (index ≢ 4294967295) index }
+        ensures { SomeIff result (index ≢ u32.MAX) index }
     {
         if index == u32::MAX {
             return None;
@@ -107,7 +107,7 @@ impl From<AllocError> for AddError {
 
 /// A database of source files, each a name and a text of fewer than `u32::MAX` bytes. Contracts see
 /// it as the list of its named texts, in the order in which they were added.
-#[derive(Drop)]
+#[derive(Debug, Drop)]
 pub struct Files<Source: SourceText> {
     files: Vec<File<Source>>,
     alloc: Global,
@@ -327,7 +327,7 @@ impl<Source: SourceText> files::Files for Files<Source> {
 }
 
 /// A file that is stored in the database.
-#[derive(Drop)]
+#[derive(Debug, Drop)]
 struct File<Source: SourceText> {
     /// The name of the file.
     name: String,

@@ -298,7 +298,11 @@ impl fmt::Display for ByteOffset {
     }
 }
 
-/// A way between two places of one kind. Offsets add up like numbers, and `ZERO` leads nowhere.
+/// A way between two places of one kind. Offsets add up like numbers.
+///
+/// Each offset keeps these laws, where the sums are in range: `ZERO` added on either side changes
+/// nothing; an offset and its opposite add up to `ZERO`; `(a + b) - b` is `a`; `a + (b - a)` is `b`; and
+/// `+=` and `-=` do what `+` and `-` do.
 pub trait Offset: Copy
     + Ord
     + Neg<Output = Self>
@@ -327,6 +331,9 @@ pub trait Offset: Copy
 }
 
 /// A place of one kind. A place and an offset give a place, and two places give the offset between them.
+///
+/// Each index keeps these laws, where the steps are in range: `i + ZERO` is `i`; `(i + a) - a` is `i`;
+/// `i + (j - i)` is `j`; and `+=` and `-=` do what `+` and `-` do.
 pub trait Index: Copy
     + Ord
     + Add<<Self as Index>::Offset, Output = Self>

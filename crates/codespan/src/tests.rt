@@ -1,7 +1,9 @@
 //! Values from outside, and callers that are proved from the contracts alone.
-ghost use Rattle.std.specs.Prelude.{◌≡◌, ◌≢◌, ◌+◌, ◌++◌, ◌<◌, ◌≤◌, ◌^◌, ◌↔◌, IfOk, IsTrue, codes, length, slice_range, string_bytes};
+ghost use Rattle.std.specs.Prelude.{◌≡◌, ◌≢◌, ◌+◌, ◌++◌, ◌<◌, ◌≤◌, ◌↔◌, IfOk, IsTrue, codes, length, slice_range, string_bytes};
 ghost use Rattle.std.specs.Fmt.{decimal, signed_decimal};
-ghost use Rattle.std.specs.Ordering.{nat_cmp, int_cmp};
+ghost use Rattle.std.specs.Ordering.{int_cmp, nat_cmp, ordering_then};
+ghost use Rattle.std.specs.Hash.{u32 as hash_of_u32};
+ghost use Rattle.std.specs.List.{fold};
 ghost use Rattle.codespan_reporting.specs.Lines.{line_start};
 ghost use Rattle.codespan.specs.Texts.{name_of, text_of};
 
@@ -13,6 +15,7 @@ use codespan_reporting::files;
 use codespan_reporting::files::{Error, line_text};
 use std::alloc::{AllocError, Global};
 use std::cmp::Ordering;
+use std::hash::{Hash, Hasher};
 use std::ops::Range;
 use std::test::Fail;
 
@@ -66,8 +69,14 @@ fn is_same_span(a: Span, b: Span) -> bool
     a == b
 }
 
-fn order_of_places(a: ByteIndex, b: ByteIndex) -> Ordering
-    ensures { result ≡ nat_cmp a.0 b.0 }
+fn order_of_spans(a: Span, b: Span) -> Ordering
+    ensures { result ≡ ordering_then (nat_cmp a.start b.start) (nat_cmp a.end b.end) }
+{
+    a.cmp(&b)
+}
+
+fn order_of_locations(a: Location, b: Location) -> Ordering
+    ensures { result ≡ ordering_then (nat_cmp a.line.0 b.line.0) (nat_cmp a.column.0 b.column.0) }
 {
     a.cmp(&b)
 }
@@ -76,6 +85,18 @@ fn order_of_ids(a: FileId, b: FileId) -> Ordering
     ensures { result ≡ nat_cmp a b }
 {
     a.cmp(&b)
+}
+
+fn order_of_ways(a: ByteOffset, b: ByteOffset) -> Ordering
+    ensures { result ≡ int_cmp a.0 b.0 }
+{
+    a.cmp(&b)
+}
+
+fn hash_number<H: Hasher>(number: LineNumber, state: &mut H)
+    ensures { state.new ≡ fold H.write state.old (hash_of_u32 number) }
+{
+    number.hash(state);
 }
 
 #[test]
