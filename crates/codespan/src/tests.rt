@@ -247,8 +247,8 @@ fn places_ways_and_numbers(rt: HostRuntime) -> Result<(), Fail> {
         "-2 ColumnOffset(-2) 6 LineNumber(7) ByteIndex(8)"
     );
     assert_eq!(rt;
-        order_of_places(ByteIndex(2), ByteIndex(10)),
-        Ordering::Less
+        order_of_ways(ByteOffset(2), ByteOffset(-10)),
+        Ordering::Greater
     );
     assert!(rt; is_same_span(Span::initial(), Span::from_raw_range(0..0)));
     assert_eq!(rt; FileId::from_index(u32::MAX), None);
