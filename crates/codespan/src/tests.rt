@@ -1,15 +1,14 @@
 //! Values from outside, and callers that are proved from the contracts alone.
-ghost use Rattle.std.specs.Prelude.{◌≡◌, ◌≢◌, ◌+◌, ◌++◌, ◌<◌, ◌≤◌, ◌↔◌, IfOk, IsTrue, codes, length, slice_range, string_bytes};
+ghost use Rattle.std.specs.Prelude.{◌≡◌, ◌++◌, ◌↔◌, IfOk, IsTrue, codes, length, string_bytes};
 ghost use Rattle.std.specs.Fmt.{decimal, signed_decimal};
 ghost use Rattle.std.specs.Ordering.{int_cmp, nat_cmp, ordering_then};
 ghost use Rattle.std.specs.Hash.{u32 as hash_of_u32};
 ghost use Rattle.std.specs.List.{fold};
-ghost use Rattle.codespan_reporting.specs.Lines.{line_start};
 ghost use Rattle.codespan.specs.Texts.{name_of, text_of};
 
 use crate::{
-    AddError, ByteIndex, ByteOffset, ColumnIndex, ColumnOffset, FileId, Files, Index, LineIndex,
-    LineNumber, LineOffset, Location, SourceText, Span,
+    AddError, ByteIndex, ByteOffset, ColumnIndex, ColumnNumber, ColumnOffset, FileId, Files, Index,
+    LineIndex, LineNumber, LineOffset, Location, SourceText, Span,
 };
 use codespan_reporting::files;
 use codespan_reporting::files::{Error, line_text};
@@ -61,6 +60,12 @@ fn number_text(alloc: Global, number: LineNumber) -> Result<String, AllocError>
     ensures { IfOk result (λ text. string_bytes text ≡ decimal number) }
 {
     format!(in alloc; "{number}")
+}
+
+fn way_text(alloc: Global, way: ColumnOffset, number: ColumnNumber) -> Result<String, AllocError>
+    ensures { IfOk result (λ text. string_bytes text ≡ codes "ColumnOffset(" ++ signed_decimal way.0 ++ codes ") to " ++ decimal number) }
+{
+    format!(in alloc; "{way:?} to {number}")
 }
 
 fn is_same_span(a: Span, b: Span) -> bool
@@ -177,11 +182,11 @@ fn spans_merge_and_are_disjoint(rt: HostRuntime) -> Result<(), Fail> {
     let empty = Span::from_raw_range(10..10);
     let before = Span::from_raw_range(3..10);
     assert!(rt; empty.disjoint(before) && before.disjoint(empty));
+    assert!(rt; is_same_span(Span::default(), Span::initial()));
     assert_eq!(rt; span_text(alloc, before)?.as_str(), "[3, 10)");
     assert_eq!(rt; Range::<usize>::from(before), 3..10);
     assert_eq!(rt; Range::<u32>::from(before), 3..10);
     assert_eq!(rt; Span::from_str("hello"), Span::from_raw_range(0..5));
-    assert_eq!(rt; Span::default(), Span::initial());
     Ok(())
 }
 
@@ -224,33 +229,26 @@ fn slices_outside_and_inside_a_character(rt: HostRuntime) -> Result<(), Fail> {
 }
 
 #[test]
-fn places_ways_and_numbers(rt: HostRuntime) -> Result<(), Fail> {
-    let alloc = rt.alloc();
+fn there_and_back_at_any_kind_of_place(rt: HostRuntime) {
     assert_eq!(rt; there_and_back(ByteIndex(7), ByteOffset(3)), ByteIndex(7));
     assert_eq!(rt; there_and_back(LineIndex(7), LineOffset(-3)), LineIndex(7));
     assert_eq!(rt; reached(ColumnIndex(9), ColumnIndex(2)), ColumnIndex(2));
+    assert_eq!(rt;
+        order_of_ways(ByteOffset(2), ByteOffset(-10)),
+        Ordering::Greater
+    );
+}
+
+#[test]
+fn lengths_and_numbers(rt: HostRuntime) -> Result<(), Fail> {
+    let alloc = rt.alloc();
     for (ch, text, bytes) in [('A', "A", 1), ('ß', "ß", 2), ('ℝ', "ℝ", 3), ('💣', "💣", 4)] {
         assert_eq!(rt; ByteOffset::from_char_len(ch), ByteOffset(bytes));
         assert_eq!(rt; ByteOffset::from_str_len(text), ByteOffset(bytes));
     }
     assert_eq!(rt; number_text(alloc, LineIndex(3).number())?.as_str(), "4");
-    let shown = format!(in alloc;
-        "{} {:?} {} {:?} {:?}",
-        ByteOffset(-2),
-        ColumnOffset(-2),
-        ColumnIndex(5).number(),
-        LineIndex(6).number(),
-        ByteIndex(8)
-    )?;
-    assert_eq!(rt;
-        shown.as_str(),
-        "-2 ColumnOffset(-2) 6 LineNumber(7) ByteIndex(8)"
-    );
-    assert_eq!(rt;
-        order_of_ways(ByteOffset(2), ByteOffset(-10)),
-        Ordering::Greater
-    );
-    assert!(rt; is_same_span(Span::initial(), Span::from_raw_range(0..0)));
+    let shown = way_text(alloc, ColumnOffset(-2), ColumnIndex(5).number())?;
+    assert_eq!(rt; shown.as_str(), "ColumnOffset(-2) to 6");
     assert_eq!(rt; FileId::from_index(u32::MAX), None);
     Ok(())
 }
