@@ -4,8 +4,10 @@
 ghost use Rattle.std.specs.Prelude.{◌≡◌};
 
 mod line_index;
+mod newlines;
 
 pub use line_index::OneIndexed;
+pub use newlines::{LineEnding, find_newline};
 
 /// A place in a text as a reader counts it: the row and the column, both from 1.
 ///

@@ -1,0 +1,6 @@
+pub mod Counting
+pub mod BreaksLemmas
+pub mod RowsLemmas
+pub mod CharactersLemmas
+pub mod CutLemmas
+pub mod NewlinesLemmas
