@@ -1,11 +1,11 @@
 -- Counts of characters.
-use Rattle.std.proofs.Common.{◌≡◌, ℕ, ◌+◌, ◌-◌, ◌≤◌, ◌<◌, true, cond, List, [], ◌∷◌, ◌++◌, length, take, drop, get_or, refl, sym, ap, ◌∙◌, arith, slice_range}
+use Rattle.std.proofs.Common.{◌≡◌, ℕ, ◌+◌, ◌-◌, ◌≤◌, ◌<◌, true, false, cond, List, [], ◌∷◌, ◌++◌, length, take, drop, get_or, refl, sym, ap, ◌∙◌, arith, slice_range}
 use Rattle.std.specs.Prelude.{encode_utf8}
 use Rattle.std.specs.Char.{len_utf8}
 use Rattle.std.specs.Str.{chars, IsUtf8, IsCharBoundary}
 use Rattle.std.proofs.lemmas.Bool.Decides.{nat_tests}
-use Rattle.std.proofs.lemmas.List.{take_all, take_at}
-use Rattle.std.proofs.lemmas.List.Sums.{sum_by-append, sum_by-take-le, count_by_more_yes}
+use Rattle.std.proofs.lemmas.List.{take_all, take_at, length-take}
+use Rattle.std.proofs.lemmas.List.Sums.{sum_by-append, sum_by-take-le, count_by_more_yes, count_by_more_no, count_by-le-length}
 use Rattle.std.proofs.lemmas.Str.{encodes-chars, length-encode}
 use Rattle.std.proofs.Math.Seq.{take-add}
 use lib.Utf8.{encode, encodes}
@@ -70,3 +70,31 @@ char_count-whole text at le = ap char_count (take_all at text le)
 pub char_count-take-le : (bytes : List ℕ) (n : ℕ) → char_count (take n bytes) ≤ char_count bytes
 unfolding char_count
 char_count-take-le bytes n = sum_by-take-le (λ byte. cond (is_char_start byte) 1 0) bytes n
+
+pub no_characters : (row : List ℕ) (at : ℕ) → at ≡ 0 → char_count (take at row) ≡ 0
+no_characters row at e = ap (λ n. char_count (take n row)) e ∙ char_count-nil
+
+pub all_characters : (row : List ℕ) (at : ℕ) → at ≡ length row → char_count (take at row) ≡ char_count row
+all_characters row at e = char_count-whole row at (omega arith)
+
+-- one byte more, where a character begins with it and where none does
+pub char_count_begun : (row : List ℕ) (at : ℕ) → at < length row → is_char_start (get_or row at 0) ≡ true → char_count (take (at + 1) row) ≡ char_count (take at row) + 1
+unfolding char_count
+char_count_begun row at h e = omega (arith, count_by_more_yes is_char_start row at 0 h e)
+
+pub char_count_within : (row : List ℕ) (at : ℕ) → at < length row → is_char_start (get_or row at 0) ≡ false → char_count (take (at + 1) row) ≡ char_count (take at row)
+unfolding char_count
+char_count_within row at h e = omega (arith, count_by_more_no is_char_start row at 0 h e)
+
+start_high : (byte : ℕ) → is_char_start byte ≡ true → 128 ≤ byte → 192 ≤ byte
+start_high byte e h = grind (arith, nat_tests)
+
+-- a row may be cut before a byte that begins a character
+pub boundary_before : (row : List ℕ) (at : ℕ) → at < length row → is_char_start (get_or row at 0) ≡ true → IsCharBoundary row at
+boundary_before row at h e = (omega (arith, h), λ lt. start_high (get_or row at 0) e)
+
+-- no more characters before an offset than bytes
+pub char_count-le-offset : (text : List ℕ) (from to : ℕ) → char_count (slice_range text from to) ≤ to
+unfolding char_count
+char_count-le-offset text from to =
+    omega (arith, count_by-le-length is_char_start (slice_range text from to), length-take (to - from) (drop from text))

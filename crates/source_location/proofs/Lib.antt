@@ -4,3 +4,7 @@ pub mod RowsLemmas
 pub mod CharactersLemmas
 pub mod CutLemmas
 pub mod NewlinesLemmas
+pub mod IndexLemmas
+pub mod LocationsLemmas
+pub mod OffsetLemmas
+pub mod LargestLemmas

@@ -1,16 +1,20 @@
 -- The first break of a text, from the first LF or CR of its bytes.
-use Rattle.std.proofs.Common.{◌≡◌, ℕ, ◌+◌, ◌-◌, ◌<◌, ◌||◌, Bool, true, false, List, [], ◌∷◌, ◌++◌, length, take, drop, get_or, Some, None, refl, sym, ap, subst, ◌∙◌, arith, suc, add-one, ⊎_elim}
-use Rattle.std.proofs.lemmas.Bool.{cases_eq, false≢true}
+use Rattle.std.proofs.Common.{◌≡◌, ℕ, ◌+◌, ◌-◌, ◌<◌, ◌≤◌, ◌&&◌, Bool, true, false, List, [], ◌∷◌, ◌++◌, length, take, drop, map, slice_range, get_or, Some, None, refl, sym, ap, subst, ◌∙◌, arith, suc, add-one, append_assoc, ⊎_elim}
+use Rattle.std.specs.Str.{IsUtf8, IsCharBoundary}
+use Rattle.std.proofs.lemmas.Str.{IsCharBoundary-after_ascii}
+use Rattle.std.proofs.lemmas.Bool.{cases_eq}
 use Rattle.std.proofs.lemmas.Bool.Decides.{nat_tests}
-use Rattle.std.proofs.lemmas.List.{take_at, take-append-drop, length-take, get_or-take, get_or-drop}
+use Rattle.std.proofs.lemmas.List.{take_at, take-append-drop, length-take, length-drop, get_or-take, get_or-drop}
 use Rattle.std.proofs.Math.Seq.{drop-cons, drop-append_seam, drop-append-add}
 use Rattle.memchr.specs.Find.{IsFirstByte, Passes, is_byte2}
 use Rattle.source_location.specs.declared.newlines.LineEnding.{LineEnding}
 use Rattle.source_location.specs.declared.newlines.LineEnding.TheVariants.{Lf, Cr, CrLf}
-use Rattle.source_location.specs.Breaks.{breaks_of}
+use Rattle.source_location.specs.Breaks.{LineBreak, breaks_of}
+use Rattle.source_location.specs.Index.{is_ascii}
 use Rattle.source_location.specs.Newlines.{ending_bytes, ending_with, IsFirstBreak}
 use Rattle.source_location.proofs.BreaksLemmas.{within_nonzero}
-use Rattle.source_location.proofs.CutLemmas.{HasNone, PartsNone, breaks_of-none, breaks_of-first}
+use Rattle.source_location.proofs.IndexLemmas.{is_ascii-append, starts_behind}
+use Rattle.source_location.proofs.CutLemmas.{HasNone, PartsNone, length-ending, breaks_of-none, breaks_of-first}
 
 -- no break before it and no CRLF parted: the line ending is the first break
 pub first_break_is : (text front rest : List ℕ) (ending : LineEnding) (at : ℕ) → text ≡ front ++ (ending_bytes ending ++ rest) → length front ≡ at → HasNone front
@@ -83,3 +87,58 @@ first_newline text at (found, passes) =
     (λ lf. rw lf (first_break_is text (take at text) (drop (suc at) text) Lf at (cut text at within ∙ ap (λ b. take at text ++ (b ∷ drop (suc at) text)) lf) place none (λ last. absurd (omega (arith, last)))))
     (λ other. first_cr text at within (test_which (get_or text at 0) passes other) place none)
     (cases_eq (get_or text at 0) 10)
+
+-- where the line ending of the first break ends, and its last byte
+ending_ends : (text : List ℕ) (at : ℕ) (ending : LineEnding) → IsFirstBreak text at ending
+    → (at + length (ending_bytes ending) ≤ length text) × (get_or text (at + length (ending_bytes ending) - 1) 0 < 128)
+ending_ends text at ending found =
+    let e = ending_bytes ending in
+    let some = length-ending ending in
+    let long : length (slice_range text at (at + length e)) ≡ length e = ap length found.bytes in
+    let within : at + length e ≤ length text = omega (arith, long, length-take (at + length e - at) (drop at text), length-drop at text, some) in
+    let place : at + length e - 1 ≡ at + (length e - 1) = omega (arith, some) in
+    let last : get_or text (at + length e - 1) 0 ≡ get_or e (length e - 1) 0 =
+    ap (λ k. get_or text k 0) place ∙ sym (get_or-drop at text (length e - 1) 0)
+    ∙ sym (get_or-take (at + length e - at) (drop at text) (length e - 1) 0 (omega (arith, some)))
+    ∙ ap (λ l. get_or l (length e - 1) 0) found.bytes in
+    (within, omega (arith, last, ending_low ending))
+  where
+    ending_low : (kind : LineEnding) → get_or (ending_bytes kind) (length (ending_bytes kind) - 1) 0 < 128
+    ending_low Lf = omega arith
+    ending_low Cr = omega arith
+    ending_low CrLf = omega arith
+
+-- a text may be cut behind its first break
+pub first_break_boundary : (text : List ℕ) (at : ℕ) (ending : LineEnding) → IsUtf8 text → IsFirstBreak text at ending → IsCharBoundary text (at + length (ending_bytes ending))
+first_break_boundary text at ending utf8 found =
+    let e = ending_bytes ending in
+    let ends = ending_ends text at ending found in
+    let some = length-ending ending in
+    let place : at + length e - 1 + 1 ≡ at + length e = omega (arith, some) in
+    subst (λ k. IsCharBoundary text k) place (IsCharBoundary-after_ascii text (at + length e - 1) utf8 (omega (arith, ends, some)) ends.1)
+
+-- the row starts, by those of what follows the first break
+pub starts_step : (starts rest behind all : List ℕ) (p at at' : ℕ) (ending : LineEnding) → IsFirstBreak rest p ending → behind ≡ drop (p + length (ending_bytes ending)) rest
+    → at' ≡ at + (p + length (ending_bytes ending))
+    → starts ++ map (λ (b : LineBreak). b.end + 1 + at) (breaks_of rest) ≡ all
+    → (starts ++ at' ∷ []) ++ map (λ (b : LineBreak). b.end + 1 + at') (breaks_of behind) ≡ all
+starts_step starts rest behind all p at at' ending found is_behind is_at known =
+    let n = p + length (ending_bytes ending) in
+    let first : n - 1 + 1 + at ≡ at' = omega (arith, length-ending ending) in
+    append_assoc starts (at' ∷ []) (map (λ (b : LineBreak). b.end + 1 + at') (breaks_of behind))
+    ∙ ap (λ l. starts ++ l)
+    (ap (λ k. k ∷ map (λ (b : LineBreak). b.end + 1 + at') (breaks_of behind)) (sym first)
+    ∙ ap (λ l. (n - 1 + 1 + at) ∷ l)
+    (ap (λ k. map (λ (b : LineBreak). b.end + 1 + k) (breaks_of behind)) is_at ∙ ap (λ bytes. map (λ (b : LineBreak). b.end + 1 + (at + n)) (breaks_of bytes)) is_behind
+    ∙ sym (starts_behind n at (breaks_of (drop n rest))))
+    ∙ sym (ap (map (λ (b : LineBreak). b.end + 1 + at)) found.breaks))
+    ∙ known
+
+and_again : (a b c : Bool) → ((a && b) && c) ≡ (a && (b && c))
+and_again true b c = refl
+and_again false b c = refl
+
+-- and whether the text is ASCII
+pub kind_step : (rest row behind : List ℕ) → rest ≡ row ++ behind → (a b all : Bool) → b ≡ (a && is_ascii row) → (a && is_ascii rest) ≡ all → (b && is_ascii behind) ≡ all
+kind_step rest row behind split a b all is_b known =
+    ap (λ k. k && is_ascii behind) is_b ∙ and_again a (is_ascii row) (is_ascii behind) ∙ ap (λ k. a && k) (sym (is_ascii-append row behind) ∙ ap is_ascii (sym split)) ∙ known

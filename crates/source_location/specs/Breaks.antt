@@ -1,5 +1,5 @@
 -- The line breaks of a text: LF, CR, and CRLF taken as one.
-use Rattle.std.specs.Prelude.{ℕ, ◌+◌, ◌-◌, ◌<◌, ◌≤◌, ◌==◌, Bool, List, length, slice_index, Option, Some, None, if◌then◌else◌, All, AllPairs}
+use Rattle.std.specs.Prelude.{ℕ, ◌+◌, ◌-◌, ◌<◌, ◌≤◌, ◌==◌, List, length, slice_index, Option, Some, None, if◌then◌else◌, All, AllPairs}
 use Rattle.std.specs.List.{filter_map, range_with_len}
 
 -- a break, by the places of its first and its last byte

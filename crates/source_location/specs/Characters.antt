@@ -1,5 +1,5 @@
 -- Characters, counted by their first bytes.
-use Rattle.std.specs.Prelude.{◌≡◌, ℕ, nat_lt, nat_le, ◌||◌, Bool, List, count_by, length, chars}
+use Rattle.std.specs.Prelude.{ℕ, nat_lt, nat_le, ◌||◌, Bool, List, count_by}
 
 -- the top two bits of a byte are not 10, so that a character begins with it
 abbrev pub is_char_start : ℕ → Bool

@@ -1,6 +1,8 @@
 -- What the index of a text knows of it.
-use Rattle.std.specs.Prelude.{◌≡◌, ℕ, ◌-◌, ◌^◌, ◌<◌, nat_lt, Bool, List, length}
+use Rattle.std.specs.Prelude.{◌≡◌, ℕ, ◌-◌, ◌^◌, ◌<◌, nat_lt, Bool, true, false, List, length}
 use Rattle.std.specs.List.{list_all}
+use Rattle.source_location.specs.declared.line_index.IndexKind.{IndexKind}
+use Rattle.source_location.specs.declared.line_index.IndexKind.TheVariants.{Ascii, Utf8}
 use Rattle.source_location.specs.Breaks.{breaks_of}
 use Rattle.source_location.specs.Rows.{line_starts}
 
@@ -26,3 +28,8 @@ pub record IsIndex (index : IndexView) : Type 0 where
   pub text : List ℕ
   pub fits : Fits text
   pub same : index ≡ index_of text
+
+-- whether a kind of index is that of ASCII texts
+abbrev pub is_ascii_kind : IndexKind → Bool
+is_ascii_kind Ascii = true
+is_ascii_kind Utf8 = false

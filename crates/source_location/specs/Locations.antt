@@ -1,5 +1,5 @@
 -- Rows and columns of a text, both from 1, and the way back.
-use Rattle.std.specs.Prelude.{◌≡◌, ℕ, ◌+◌, ◌<◌, ◌≤◌, ◌^◌, ◌-◌, ◌==◌, ◌&&◌, ◌||◌, nat_le, nat_lt, Bool, List, length, slice_index, slice_range, Option, Some, MatchOption, if◌then◌else◌, reverse}
+use Rattle.std.specs.Prelude.{◌≡◌, ℕ, ◌+◌, ◌≤◌, ◌==◌, ◌&&◌, ◌||◌, nat_le, Bool, List, length, slice_index, slice_range, Option, Some, MatchOption, if◌then◌else◌, reverse}
 use Rattle.std.specs.List.{find, range_with_len}
 use Rattle.std.specs.Str.{IsCharBoundary}
 use Rattle.source_location.specs.Breaks.{breaks_of}

@@ -1,6 +1,6 @@
 -- Line endings, and the first break of a text.
 use Rattle.std.specs.Prelude.{◌≡◌, ℕ, ◌+◌, ◌-◌, ◌==◌, List, [], ◌∷◌, length, map, drop, slice_range, if◌then◌else◌}
-use Rattle.source_location.specs.Breaks.{LineBreak, breaks_of, moved}
+use Rattle.source_location.specs.Breaks.{breaks_of, moved}
 use Rattle.source_location.specs.declared.newlines.LineEnding.{LineEnding}
 use Rattle.source_location.specs.declared.newlines.LineEnding.TheVariants.{Lf, Cr, CrLf}
 

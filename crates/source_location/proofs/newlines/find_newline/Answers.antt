@@ -1,5 +1,3 @@
-use Rattle.std.proofs.Common.{subst, sym}
-use Rattle.source_location.specs.Newlines.{IsFirstBreak}
 use Rattle.source_location.proofs.NewlinesLemmas.{first_newline}
 use Rattle.source_location.proofs.newlines.find_newline.Goals as goal
 
