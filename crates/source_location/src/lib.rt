@@ -31,3 +31,6 @@ impl Default for SourceLocation {
         }
     }
 }
+
+#[cfg(test)]
+mod tests;
