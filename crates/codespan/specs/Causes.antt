@@ -13,3 +13,9 @@ abbrev pub IsCauseToRefuse : List NamedText → List ℕ → AddError → Type 0
 IsCauseToRefuse files text (SourceTooLong bytes) = (bytes ≡ length text) × ¬ Fits text
 IsCauseToRefuse files text TooManyFiles = Fits text × (length files ≡ 4294967295)
 IsCauseToRefuse files text OutOfMemory = Fits text × HasRoom files
+
+-- the cause of a refusal to put a text in the place of another
+abbrev pub IsCauseToKeep : List ℕ → AddError → Type 0
+IsCauseToKeep text (SourceTooLong bytes) = (bytes ≡ length text) × ¬ Fits text
+IsCauseToKeep text TooManyFiles = ⊥
+IsCauseToKeep text OutOfMemory = Fits text

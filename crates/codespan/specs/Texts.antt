@@ -1,5 +1,5 @@
 -- What contracts see of the database: a list of named texts.
-use Rattle.std.specs.Prelude.{ℕ, List, [], length, ◌<◌, slice_index_or}
+use Rattle.std.specs.Prelude.{ℕ, List, [], length, ◌<◌, slice_index_or, slice_set}
 
 -- a file as contracts see it: the bytes of its name and of its source
 pub record NamedText : Type 0 where
@@ -21,3 +21,7 @@ name_of files id = (file_at files id).name
 -- the source of the file with the id
 abbrev pub text_of : List NamedText → ℕ → List ℕ
 text_of files id = (file_at files id).text
+
+-- the list with another source in the file with the id, and all else as it was
+abbrev pub with_text : List NamedText → ℕ → List ℕ → List NamedText
+with_text files id text = slice_set files id (record { name = name_of files id; text = text })

@@ -1,9 +1,22 @@
-ghost use Rattle.std.specs.Prelude.{◌≡◌, ℕ, List, [], ◌∷◌, ◌++◌, ◌<◌, ◌≤◌, length, map, IsTrue, ◌↔◌, IfOk, OnErr, SomeIff, string_bytes, MatchResult, All, ◌≢◌};
-ghost use Rattle.codespan.specs.Texts.{NamedText, Fits, file_at, name_of, text_of};
-ghost use Rattle.codespan.specs.Causes.{HasRoom, IsCauseToRefuse};
+//! The database of source files.
+ghost use Rattle.std.specs.Prelude.{◌≡◌, ◌≢◌, ℕ, List, [], ◌∷◌, ◌++◌, ◌<◌, ◌≤◌, ◌↔◌, IsTrue, IsOk, IfOk, OnOk, OnErr, SomeIff, MatchResult, All, length, map, chars, slice_range, string_bytes};
+ghost use Rattle.std.specs.List.Sorted.{IsStrictlyIncreasing};
+ghost use Rattle.std.specs.Str.{IsCharBoundary};
+ghost use Rattle.codespan_reporting.specs.Causes.{IsLineRefusal, IsPlaceRefusal, IsSpanRefusal, last_index};
+ghost use Rattle.codespan_reporting.specs.Lines.{line_at};
+ghost use Rattle.codespan.specs.Lines.{LinesJoin, line_count, line_extent, line_of, line_starts_lf, start_of_line};
+ghost use Rattle.codespan.specs.Places.{IsLocation, IsSlice};
+ghost use Rattle.codespan.specs.Chars.{begins_character, character_count};
+ghost use Rattle.codespan.specs.Texts.{Fits, NamedText, name_of, text_of, with_text};
+ghost use Rattle.codespan.specs.Causes.{HasRoom, IsCauseToKeep, IsCauseToRefuse};
 
+use crate::{ByteIndex, ColumnIndex, LineIndex, Location, RawIndex, Span};
+use codespan_reporting::files;
+use codespan_reporting::files::Error;
+use memchr::memchr_iter;
 use std::alloc::{AllocError, Global};
 use std::marker::Model;
+use std::ops::Range;
 
 /// A text that the database holds: what a source file's contents are kept in.
 ///
@@ -52,7 +65,7 @@ impl FileId {
     /// The handle of the file with this number, from 0. `None` exactly for `u32::MAX`, which no file
     /// can have.
     pub fn from_index(index: u32) -> Option<FileId>
-        ensures { SomeIff result (index ≢ 4294967295) index }
+        ensures { SomeIff result (index ≢ u32.MAX) index }
     {
         if index == u32::MAX {
             return None;
@@ -94,9 +107,10 @@ impl From<AllocError> for AddError {
 
 /// A database of source files, each a name and a text of fewer than `u32::MAX` bytes. Contracts see
 /// it as the list of its named texts, in the order in which they were added.
-#[derive(Drop)]
+#[derive(Debug, Drop)]
 pub struct Files<Source: SourceText> {
     files: Vec<File<Source>>,
+    alloc: Global,
 }
 
 impl<Source: SourceText> Model for Files<Source> {
@@ -114,10 +128,11 @@ impl<Source: SourceText> Files<Source> {
     {
         Files {
             files: Vec::new(alloc),
+            alloc,
         }
     }
 
-    /// Whether a file has this handle: what every other call that takes a handle asks for.
+    /// Whether the database holds the file, which every other call that takes a handle asks for.
     pub fn contains(&self, file_id: FileId) -> bool
         ensures contained { IsTrue result ↔ (file_id < length self.now) }
         ensures fits { All (λ file. Fits file.text) self.now }
@@ -128,27 +143,58 @@ impl<Source: SourceText> Files<Source> {
     /// Adds a file at the end. Its handle is the number of files that were there before it.
     ///
     /// Where the source has `u32::MAX` bytes or more it answers `SourceTooLong`; else where `u32::MAX`
-    /// files are held, `TooManyFiles`; else it may answer `OutOfMemory`. After a refusal the database is as it was.
+    /// files are held, `TooManyFiles`; else it may answer `OutOfMemory`. A refusal leaves the database
+    /// as it was.
     pub fn add(&mut self, name: String, source: Source) -> Result<FileId, AddError>
         ensures added { IfOk result (λ id. (id ≡ length self.old) × (self.new ≡ self.old ++ record { name = string_bytes name; text = Source.text source } ∷ [])) }
         ensures cause { MatchResult result (λ _. Fits (Source.text source) × HasRoom self.old)
             (λ error. IsCauseToRefuse self.old (Source.text source) error) }
         ensures unchanged { OnErr result (self.new ≡ self.old) }
     {
-        let length = source.text().len();
-        if length >= u32::MAX as usize {
-            return Err(AddError::SourceTooLong { length });
-        }
+        check_length(&source)?;
         if self.files.len() >= u32::MAX as usize {
             return Err(AddError::TooManyFiles);
         }
         let file_id = FileId {
             index: self.files.len() as u32,
         };
-        if self.files.push(File { name, source }).is_err() {
+        let Ok(file) = File::new(self.alloc, name, source) else {
+            return Err(AddError::OutOfMemory);
+        };
+        if self.files.push(file).is_err() {
             return Err(AddError::OutOfMemory);
         }
         Ok(file_id)
+    }
+
+    /// Puts another source in the place of the file's. Its name stays, and so do all other files.
+    ///
+    /// Places and spans of the old source may not be places of the new one. Where the source has
+    /// `u32::MAX` bytes or more it answers `SourceTooLong`; else it may answer `OutOfMemory`. A refusal
+    /// leaves the database as it was.
+    pub fn update(&mut self, file_id: FileId, source: Source) -> Result<(), AddError>
+        requires { file_id < length self.old }
+        ensures updated { OnOk result (self.new ≡ with_text self.old file_id (Source.text source)) }
+        ensures cause { MatchResult result (λ _. Fits (Source.text source))
+            (λ error. IsCauseToKeep (Source.text source) error) }
+        ensures unchanged { OnErr result (self.new ≡ self.old) }
+    {
+        check_length(&source)?;
+        let Ok(line_starts) = line_starts(self.alloc, source.text()) else {
+            return Err(AddError::OutOfMemory);
+        };
+        let file = &mut self.files[file_id.get()];
+        file.source = source;
+        file.line_starts = line_starts;
+        Ok(())
+    }
+
+    fn get(&self, file_id: FileId) -> &File<Source>
+        requires { file_id < length self.now }
+        ensures name { string_bytes result.now.name ≡ name_of self.now file_id }
+        ensures text { Source.text result.now.source ≡ text_of self.now file_id }
+    {
+        &self.files[file_id.get()]
     }
 
     /// The name of the file.
@@ -156,33 +202,345 @@ impl<Source: SourceText> Files<Source> {
         requires { file_id < length self.now }
         ensures { result.now ≡ name_of self.now file_id }
     {
-        self.file(file_id).name.as_str()
+        self.get(file_id).name()
     }
 
-    /// The source of the file.
+    /// The span of a line, with its line feed. Lines end at line feeds alone.
+    ///
+    /// It refuses exactly the lines that the source doesn't have: with `LineTooLarge`, where the first
+    /// of them is named by the number after it.
+    pub fn line_span(&self, file_id: FileId, line_index: LineIndex) -> Result<Span, Error>
+        requires { file_id < length self.now }
+        ensures line { MatchResult result
+            (λ span. (line_index.0 < line_count (text_of self.now file_id)) × (span ≡ line_extent (text_of self.now file_id) line_index.0))
+            (λ error. IsLineRefusal (line_count (text_of self.now file_id)) line_index.0 error) }
+        ensures joined { LinesJoin (text_of self.now file_id) }
+    {
+        self.get(file_id).line_span(line_index)
+    }
+
+    /// The line of a place; past the end of the source the last line.
+    pub fn line_index(&self, file_id: FileId, byte_index: ByteIndex) -> LineIndex
+        requires { file_id < length self.now }
+        ensures { result.0 ≡ line_of (text_of self.now file_id) byte_index.0 }
+    {
+        self.get(file_id).line_index(byte_index)
+    }
+
+    /// The line of a place and its column in characters, both from 0.
+    ///
+    /// It refuses exactly the places past the end, with `IndexTooLarge`, and those inside a character,
+    /// with `InvalidCharBoundary`.
+    pub fn location(&self, file_id: FileId, byte_index: ByteIndex) -> Result<Location, Error>
+        requires { file_id < length self.now }
+        ensures { MatchResult result
+            (λ location. IsLocation (text_of self.now file_id) byte_index.0 location)
+            (λ error. IsPlaceRefusal (text_of self.now file_id) byte_index.0 error) }
+    {
+        self.get(file_id).location(byte_index)
+    }
+
+    /// The source of the file. It has fewer than `u32::MAX` bytes.
     pub fn source(&self, file_id: FileId) -> &Source
         requires { file_id < length self.now }
         ensures text { Source.text result.now ≡ text_of self.now file_id }
         ensures fits { Fits (Source.text result.now) }
     {
-        &self.file(file_id).source
+        self.get(file_id).source()
     }
 
-    fn file(&self, file_id: FileId) -> &File<Source>
+    /// The span of the whole source.
+    pub fn source_span(&self, file_id: FileId) -> Span
         requires { file_id < length self.now }
-        ensures name { string_bytes result.now.name ≡ name_of self.now file_id }
-        ensures text { Source.text result.now.source ≡ text_of self.now file_id }
+        ensures { result ≡ record { start = 0; end = length (text_of self.now file_id) } }
     {
-        &self.files[file_id.get()]
+        self.get(file_id).source_span()
+    }
+
+    /// The text of a span.
+    ///
+    /// It refuses exactly the spans that go past the end, with `IndexTooLarge`, and of the others those
+    /// of which an end is inside a character, with `InvalidCharBoundary`. The start is named before the end.
+    pub fn source_slice(&self, file_id: FileId, span: Span) -> Result<&str, Error>
+        requires { file_id < length self.now }
+        ensures { MatchResult result
+            (λ slice. IsSlice (text_of self.now file_id) span slice.now)
+            (λ error. IsSpanRefusal (text_of self.now file_id) span.start span.end error) }
+    {
+        self.get(file_id).source_slice(span)
+    }
+}
+
+impl<Source: SourceText> files::Files for Files<Source> {
+    type FileId = FileId;
+
+    ghost use Rattle.std.specs.Prelude.{nat_lt, length};
+    ghost use Rattle.codespan.specs.Texts.{name_of, text_of};
+    ghost use Rattle.codespan.specs.Lines.{line_starts_lf};
+    ghost use Rattle.codespan.specs.LineLaws.{starts_valid};
+
+    ghost holds = { λ files id. nat_lt id (length files) };
+
+    ghost name_in = { name_of };
+
+    ghost text_in = { text_of };
+
+    ghost starts_in = { λ files id. line_starts_lf (text_of files id) };
+
+    ghost lines = { λ files id _ utf8. starts_valid (text_of files id) utf8 };
+
+    fn contains(&self, id: FileId) -> bool {
+        self.contains(id)
+    }
+
+    fn name(&self, id: FileId) -> Result<&str, Error>
+        requires { id < length self.now }
+        ensures name { IfOk result (λ name. name.now ≡ name_of self.now id) }
+        ensures answers { IsOk result }
+    {
+        Ok(self.name(id))
+    }
+
+    fn source(&self, id: FileId) -> Result<&str, Error>
+        requires { id < length self.now }
+        ensures text { IfOk result (λ text. text.now ≡ text_of self.now id) }
+        ensures answers { IsOk result }
+    {
+        Ok(self.source(id).text())
+    }
+
+    #[tactic(auto, using(crate::proofs::LinesLemmas::line_at_is))]
+    fn line_index(&self, id: FileId, byte_index: usize) -> Result<usize, Error>
+        requires held { id < length self.now }
+        requires small { byte_index ≤ u32.MAX }
+        ensures line { IfOk result (λ line. line ≡ line_at (line_starts_lf (text_of self.now id)) byte_index) }
+        ensures answers { IsOk result }
+    {
+        let line = self.line_index(id, ByteIndex(byte_index as RawIndex));
+        Ok(line.to_usize())
+    }
+
+    fn line_range(&self, id: FileId, line_index: usize) -> Result<Range<usize>, Error> {
+        let span = self.line_span(id, LineIndex(line_index as RawIndex))?;
+        Ok(Range::from(span))
     }
 }
 
 /// A file that is stored in the database.
-#[derive(Drop)]
+#[derive(Debug, Drop)]
 struct File<Source: SourceText> {
     /// The name of the file.
     name: String,
     /// The contents of the file.
     source: Source,
+    /// Where each line of the source starts.
+    line_starts: Vec<ByteIndex>,
     ghost fits: { length (Source.text source) < 4294967295 },
+    ghost indexed: { map (λ start. start.0) line_starts.items ≡ line_starts_lf (Source.text source) },
+}
+
+impl<Source: SourceText> File<Source> {
+    fn new(alloc: Global, name: String, source: Source) -> Result<File<Source>, AllocError>
+        requires { Fits (Source.text source) }
+        ensures name { IfOk result (λ file. string_bytes file.name ≡ string_bytes name) }
+        ensures text { IfOk result (λ file. Source.text file.source ≡ Source.text source) }
+    {
+        let line_starts = line_starts(alloc, source.text())?;
+        Ok(File {
+            name,
+            source,
+            line_starts,
+        })
+    }
+
+    fn name(&self) -> &str
+        ensures { result.now ≡ string_bytes self.now.name }
+    {
+        self.name.as_str()
+    }
+
+    fn source(&self) -> &Source
+        ensures same { Source.text result.now ≡ Source.text self.now.source }
+        ensures fits { Fits (Source.text result.now) }
+    {
+        &self.source
+    }
+
+    fn source_span(&self) -> Span
+        ensures { result ≡ record { start = 0; end = length (Source.text self.now.source) } }
+    {
+        Span::from_str(self.source.text())
+    }
+
+    /// Where a line starts; the end of the source past the last line.
+    fn line_start(&self, line: usize) -> ByteIndex
+        ensures { result.0 ≡ start_of_line (Source.text self.now.source) line }
+    {
+        match self.line_starts.get(line) {
+            Some(start) => *start,
+            None => self.source_span().end(),
+        }
+    }
+
+    fn line_span(&self, line_index: LineIndex) -> Result<Span, Error>
+        ensures { MatchResult result
+            (λ span. (line_index.0 < line_count (Source.text self.now.source)) × (span ≡ line_extent (Source.text self.now.source) line_index.0))
+            (λ error. IsLineRefusal (line_count (Source.text self.now.source)) line_index.0 error) }
+    {
+        let line = line_index.to_usize();
+        let lines = self.line_starts.len();
+        if line >= lines {
+            return Err(Error::LineTooLarge {
+                given: if line == lines { line + 1 } else { line },
+                max: lines,
+            });
+        }
+        Ok(Span::new(self.line_start(line), self.line_start(line + 1)))
+    }
+
+    fn line_index(&self, byte_index: ByteIndex) -> LineIndex
+        ensures { result.0 ≡ line_of (Source.text self.now.source) byte_index.0 }
+    {
+        LineIndex(line_in(self.line_starts.as_slice(), byte_index) as RawIndex)
+    }
+
+    fn location(&self, byte_index: ByteIndex) -> Result<Location, Error>
+        ensures { MatchResult result
+            (λ location. IsLocation (Source.text self.now.source) byte_index.0 location)
+            (λ error. IsPlaceRefusal (Source.text self.now.source) byte_index.0 error) }
+    {
+        let place = byte_index.to_usize();
+        check_place(self.source.text(), place)?;
+        let line = self.line_index(byte_index);
+        let start = self.line_start(line.to_usize()).to_usize();
+        let column = characters_between(self.source.text(), start, place);
+        Ok(Location::new(line, ColumnIndex(column as RawIndex)))
+    }
+
+    fn source_slice(&self, span: Span) -> Result<&str, Error>
+        ensures { MatchResult result
+            (λ slice. IsSlice (Source.text self.now.source) span slice.now)
+            (λ error. IsSpanRefusal (Source.text self.now.source) span.start span.end error) }
+    {
+        let start = span.start().to_usize();
+        let end = span.end().to_usize();
+        slice_between(self.source.text(), start, end)
+    }
+}
+
+/// Whether the source is short enough.
+fn check_length<Source: SourceText>(source: &Source) -> Result<(), AddError>
+    ensures { MatchResult result (λ _. Fits (Source.text source.now))
+        (λ error. (error ≡ AddError.SourceTooLong (length (Source.text source.now))) × ¬ Fits (Source.text source.now)) }
+{
+    let length = source.text().len();
+    if length >= u32::MAX as usize {
+        return Err(AddError::SourceTooLong { length });
+    }
+    Ok(())
+}
+
+/// Where each line of the text starts.
+fn line_starts(alloc: Global, source: &str) -> Result<Vec<ByteIndex>, AllocError>
+    requires { Fits source.now }
+    ensures { IfOk result (λ starts. map (λ start. start.0) starts.items ≡ line_starts_lf source.now) }
+{
+    let mut starts = Vec::new(alloc);
+    starts.push(ByteIndex(0))?;
+    for at in memchr_iter(b'\n', source.as_bytes()) {
+        starts.push(ByteIndex(at as u32 + 1))?;
+    }
+    Ok(starts)
+}
+
+/// The line of a place, given where the lines of a text start.
+fn line_in(starts: &[ByteIndex], byte_index: ByteIndex) -> usize
+    requires { IsStrictlyIncreasing (map (λ start. start.0) starts.now) }
+    ensures { result ≡ line_at (map (λ start. start.0) starts.now) byte_index.0 }
+{
+    starts
+        .partition_point(|start| *start <= byte_index)
+        .saturating_sub(1)
+}
+
+/// The place of the last byte, and 0 for an empty text.
+fn last_index(source: &str) -> usize
+    ensures { result ≡ last_index source.now }
+{
+    source.len().saturating_sub(1)
+}
+
+/// Whether the place is a boundary of the text.
+fn check_place(source: &str, place: usize) -> Result<(), Error>
+    ensures { MatchResult result (λ _. IsCharBoundary source.now place)
+        (λ error. IsPlaceRefusal source.now place error) }
+{
+    if place > source.len() {
+        return Err(Error::IndexTooLarge {
+            given: place,
+            max: last_index(source),
+        });
+    }
+    if !source.is_char_boundary(place) {
+        return Err(Error::InvalidCharBoundary { given: place });
+    }
+    Ok(())
+}
+
+/// How many characters stand between two boundaries.
+fn characters_between(source: &str, start: usize, end: usize) -> usize
+    requires order { start ≤ end }
+    requires start { IsCharBoundary source.now start }
+    requires end { IsCharBoundary source.now end }
+    ensures exact { result ≡ length (chars (slice_range source.now start end)) }
+    ensures bound { result ≤ length source.now }
+{
+    characters_in(&source[start..end])
+}
+
+/// How many characters the text has. They are counted by their first bytes, with no decoding.
+fn characters_in(text: &str) -> usize
+    ensures exact { result ≡ length (chars text.now) }
+    ensures bound { result ≤ length text.now }
+{
+    first_bytes_in(text.as_bytes())
+}
+
+/// How many of the bytes begin a character.
+#[tactic(auto, unfolding(crate::specs::Chars::character_count))]
+fn first_bytes_in(bytes: &[u8]) -> usize
+    ensures exact { result ≡ character_count bytes.now }
+    ensures bound { result ≤ length bytes.now }
+{
+    bytes.iter().filter(|byte| begins_character(**byte)).count()
+}
+
+/// Whether the byte's top bits are not 10.
+fn begins_character(byte: u8) -> bool
+    ensures { result ≡ begins_character byte }
+{
+    byte < 128 || byte >= 192
+}
+
+/// The text between two places, the first not after the second.
+fn slice_between(source: &str, start: usize, end: usize) -> Result<&str, Error>
+    requires { start ≤ end }
+    ensures { MatchResult result
+        (λ slice. IsSlice source.now (record { start = start; end = end }) slice.now)
+        (λ error. IsSpanRefusal source.now start end error) }
+{
+    if end > source.len() {
+        let max = last_index(source);
+        return Err(Error::IndexTooLarge {
+            given: if start > max { start } else { end },
+            max,
+        });
+    }
+    if !source.is_char_boundary(start) {
+        return Err(Error::InvalidCharBoundary { given: start });
+    }
+    if !source.is_char_boundary(end) {
+        return Err(Error::InvalidCharBoundary { given: end });
+    }
+    Ok(&source[start..end])
 }

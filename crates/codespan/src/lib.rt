@@ -2,5 +2,16 @@
 #![tactic(auto)]
 
 mod file;
+mod index;
+mod location;
+mod span;
+#[cfg(test)]
+mod tests;
 
 pub use file::{AddError, FileId, Files, SourceText};
+pub use index::{
+    ByteIndex, ByteOffset, ColumnIndex, ColumnNumber, ColumnOffset, Index, LineIndex, LineNumber,
+    LineOffset, Offset, RawIndex, RawOffset,
+};
+pub use location::Location;
+pub use span::Span;

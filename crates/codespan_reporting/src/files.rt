@@ -1,25 +1,99 @@
-//! The database of source files, seen from outside.
+//! The database of source files as the tools see it, and why it refuses a question.
+ghost use Rattle.std.specs.Prelude.{◌≡◌, ℕ, ◌+◌, ◌<◌, ◌≤◌, Bool, List, length, IsTrue, IfOk, OnOk, MatchResult};
+ghost use Rattle.codespan_reporting.specs.Lines.{AreLineStarts, IsLineRange, line_at, line_bytes};
+ghost use Rattle.codespan_reporting.specs.Causes.{IsLineRefusal};
+ghost use Rattle.std.specs.Str.{IsUtf8};
+
+use std::ops::Range;
 
 /// Why a question about a file was refused.
 #[derive(Clone, Copy, Debug, PartialEq, Eq)]
 pub enum Error {
-    /// A byte index past the end of the source.
+    /// A place past the end of the source.
     IndexTooLarge {
-        /// The index that was given.
+        /// The place that was given, in bytes.
         given: usize,
-        /// The index of the source's last byte, and 0 for an empty source.
+        /// The place of the source's last byte, and 0 for an empty source.
         max: usize,
     },
-    /// A line index past the last line.
+    /// A line past the last one.
     LineTooLarge {
-        /// The index that was given.
+        /// The line that was given, from 0, or the one after it where it is the first that isn't there.
         given: usize,
-        /// The number of lines.
+        /// How many lines the source has.
         max: usize,
     },
-    /// A byte index inside a character.
+    /// A place inside a character.
     InvalidCharBoundary {
-        /// The index that was given.
+        /// The place that was given, in bytes.
         given: usize,
     },
+}
+
+/// A database of source files.
+///
+/// Contracts see, for each handle, whether the database holds it, the file's name, its text, and where
+/// the text's lines start. Why `name`, `source` and `line_index` refuse, if ever, an implementation says.
+pub trait Files {
+    /// What names a file in the database.
+    type FileId: Copy;
+
+    ghost holds: { Self → Self.FileId → Bool };
+
+    ghost name_in: { Self → Self.FileId → List ℕ };
+
+    ghost text_in: { Self → Self.FileId → List ℕ };
+
+    ghost starts_in: { Self → Self.FileId → List ℕ };
+
+    /// Whether the database holds the file, which every other call asks for.
+    fn contains(&self, id: Self::FileId) -> bool
+        ensures { result ≡ holds self.now id };
+
+    /// The name of the file, to be shown.
+    fn name(&self, id: Self::FileId) -> Result<&str, Error>
+        requires { IsTrue (holds self.now id) }
+        ensures { IfOk result (λ name. name.now ≡ name_in self.now id) };
+
+    /// The text of the file.
+    fn source(&self, id: Self::FileId) -> Result<&str, Error>
+        requires { IsTrue (holds self.now id) }
+        ensures { IfOk result (λ text. text.now ≡ text_in self.now id) };
+
+    /// The line of a place, both from 0; past the end the last line. The place is at most `u32::MAX`.
+    fn line_index(&self, id: Self::FileId, byte_index: usize) -> Result<usize, Error>
+        requires held { IsTrue (holds self.now id) }
+        requires small { byte_index ≤ u32.MAX }
+        ensures { IfOk result (λ line. line ≡ line_at (starts_in self.now id) byte_index) };
+
+    /// The bytes of a line, its break included. The line counts from 0 and is at most `u32::MAX`.
+    ///
+    /// It refuses exactly the lines that the text doesn't have, with `LineTooLarge`.
+    fn line_range(&self, id: Self::FileId, line_index: usize) -> Result<Range<usize>, Error>
+        requires held { IsTrue (holds self.now id) }
+        requires small { line_index ≤ u32.MAX }
+        ensures { MatchResult result
+            (λ range. IsLineRange (text_in self.now id) (starts_in self.now id) line_index range.start range.end)
+            (λ error. IsLineRefusal (length (starts_in self.now id)) line_index error) };
+
+    // The starts are those of the lines of a text.
+    ghost lines: { (files : Self) (id : Self.FileId) → IsTrue (holds files id) → IsUtf8 (text_in files id)
+        → AreLineStarts (text_in files id) (starts_in files id) };
+}
+
+/// The text of a line, its break included, in any database. The line counts from 0 and is at most
+/// `u32::MAX`.
+///
+/// It refuses what `line_range` refuses, and else only where the database refuses the source.
+pub fn line_text<F: Files>(files: &F, id: F::FileId, line_index: usize) -> Result<&str, Error>
+    requires held { IsTrue (F.holds files.now id) }
+    requires small { line_index ≤ u32.MAX }
+    ensures text { IfOk result (λ text. text.now ≡ line_bytes (F.text_in files.now id) (F.starts_in files.now id) line_index) }
+    ensures exists { OnOk result (line_index < length (F.starts_in files.now id)) }
+{
+    let range = files.line_range(id, line_index)?;
+    match files.source(id) {
+        Ok(source) => Ok(&source[range.start..range.end]),
+        Err(error) => Err(error),
+    }
 }

@@ -1,1 +1,6 @@
--- Rows, columns and lines of a text.
+pub mod Breaks
+pub mod Rows
+pub mod Characters
+pub mod Locations
+pub mod Index
+pub mod Newlines

@@ -3,9 +3,13 @@
 
 ghost use Rattle.std.specs.Prelude.{◌≡◌};
 
+mod laws;
 mod line_index;
+mod newlines;
 
-pub use line_index::OneIndexed;
+pub use laws::{boundary_is_found_again, breaks_keep_apart, columns_count_characters};
+pub use line_index::{LineIndex, OneIndexed, fits};
+pub use newlines::{LineEnding, find_newline};
 
 /// A place in a text as a reader counts it: the row and the column, both from 1.
 ///
@@ -27,3 +31,6 @@ impl Default for SourceLocation {
         }
     }
 }
+
+#[cfg(test)]
+mod tests;

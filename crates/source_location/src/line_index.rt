@@ -1,11 +1,308 @@
-// Numbers that count from 1, and the index of a text's rows.
-ghost use Rattle.std.specs.Prelude.{◌≡◌, ◌+◌, ◌-◌, ◌^◌, ◌<◌, ◌≤◌, ◌↔◌, min, max, IsErr, IfOk, IfErr, Some};
+// The index of a text's rows, and numbers that count from 1.
+ghost use Rattle.std.specs.Prelude.{◌≡◌, ◌+◌, ◌-◌, ◌^◌, ◌<◌, ◌≤◌, ◌↔◌, ◌&&◌, ℕ, List, Some, [], ◌∷◌, IsErr, IsTrue, IfOk, IfErr, MatchOption, true, min, max, nat_le, count_by, length, take, slice_range};
 ghost use Rattle.std.specs.Option.{SomeIff};
 ghost use Rattle.std.specs.Fmt.{decimal};
+ghost use Rattle.std.specs.Str.{IsCharBoundary};
+ghost use Rattle.std.specs.List.Sorted.{IsNonDecreasing};
+ghost use Rattle.source_location.specs.Breaks.{breaks_of};
+ghost use Rattle.source_location.specs.Rows.{row_of, row_start};
+ghost use Rattle.source_location.specs.Characters.{is_char_start, char_count};
+ghost use Rattle.source_location.specs.Locations.{begins_with_mark, counted_from, location_of, offset_at, IsOffsetAt};
+ghost use Rattle.source_location.specs.Index.{Fits, index_of, is_ascii, is_ascii_kind};
 
+use crate::{SourceLocation, find_newline};
+use std::alloc::{AllocError, Global};
 use std::fmt;
 use std::fmt::{Debug, Display, Formatter, Write};
 use std::marker::Model;
+use text_size::TextSize;
+
+/// Whether a text is short enough for an index: fewer than `u32::MAX` bytes.
+pub fn fits(text: &str) -> bool
+    ensures { IsTrue result ↔ Fits text.now }
+{
+    text.len() < u32::MAX as usize
+}
+
+/// Where the rows of a text start, by which its offsets are turned into rows and columns and back.
+///
+/// A row ends after an LF, a CR that no LF follows, or a CRLF. An index holds no text: each call that needs
+/// one takes the text that the index was made of.
+#[derive(Debug, Drop)]
+pub struct LineIndex {
+    line_starts: Vec<TextSize>,
+    kind: IndexKind,
+}
+
+impl Model for LineIndex {
+    ghost use Rattle.source_location.specs.Index.{IndexView, IsIndex, is_ascii_kind};
+
+    ghost Value = { IndexView };
+
+    ghost view = { λ index. record { line_starts = index.line_starts.items; is_ascii = is_ascii_kind index.kind } };
+
+    ghost invariant = { λ index. IsIndex (record { line_starts = index.line_starts.items; is_ascii = is_ascii_kind index.kind }) };
+}
+
+impl LineIndex {
+    /// Builds the index of a text that fits, in one pass over it.
+    pub fn from_source_text(alloc: Global, text: &str) -> Result<LineIndex, AllocError>
+        requires { Fits text.now }
+        ensures { IfOk result (λ index. index ≡ index_of text.now) }
+    {
+        let mut line_starts: Vec<TextSize> = Vec::with_capacity(alloc, text.len() / 88)?;
+        line_starts.push(TextSize::new(0))?;
+        let mut kind = IndexKind::Ascii;
+        let mut at = 0;
+        let mut rest = text;
+        while let Some((position, ending)) = find_newline(rest) {
+            let (row, behind) = rest.split_at(position + ending.len());
+            at += row.len();
+            line_starts.push(TextSize::new(at as u32))?;
+            kind = kind.with(row);
+            rest = behind;
+        }
+        Ok(LineIndex {
+            line_starts,
+            kind: kind.with(rest),
+        })
+    }
+
+    /// A second index of the same text.
+    pub fn try_clone(&self, alloc: Global) -> Result<LineIndex, AllocError>
+        ensures { IfOk result (λ index. index ≡ self.now) }
+    {
+        Ok(LineIndex {
+            line_starts: Vec::from_slice(alloc, self.line_starts.as_slice())?,
+            kind: self.kind,
+        })
+    }
+
+    /// The row and the column of a boundary of the text that the index was made of.
+    ///
+    /// A byte order mark at the text's beginning is no column.
+    pub fn source_location(&self, offset: TextSize, content: &str) -> SourceLocation
+        requires indexed { self.now ≡ index_of content.now }
+        requires fits { Fits content.now }
+        requires boundary { IsCharBoundary content.now offset }
+        ensures { result ≡ location_of content.now offset }
+    {
+        let row = self.row_at(offset);
+        let column = self.column_at(row, offset.to_usize(), content);
+        SourceLocation {
+            row: OneIndexed::from_zero_indexed(row as u32),
+            column: OneIndexed::from_zero_indexed(column as u32),
+        }
+    }
+
+    /// The largest boundary of the text with the location; None exactly where no boundary has it.
+    ///
+    /// Behind a byte order mark the first column is at 3.
+    pub fn offset_of(&self, text: &str, location: SourceLocation) -> Option<TextSize>
+        requires indexed { self.now ≡ index_of text.now }
+        requires fits { Fits text.now }
+        ensures largest { IsOffsetAt text.now location result }
+        ensures value { result ≡ offset_at text.now location }
+    {
+        match self.boundary_with(location, text) {
+            Some(at) => Some(TextSize::new(at as u32)),
+            None => None,
+        }
+    }
+
+    /// The row of an offset; past the text's end it is the last row.
+    pub fn line_index(&self, offset: TextSize) -> OneIndexed
+        ensures counted { result ≡ count_by (λ start. nat_le start offset) self.now.line_starts }
+        ensures row { (text : List ℕ) → self.now ≡ index_of text → result ≡ row_of (breaks_of text) offset + 1 }
+    {
+        OneIndexed::from_zero_indexed(self.row_at(offset) as u32)
+    }
+
+    /// Where each row starts: 0, and the place after each break.
+    pub fn line_starts(&self) -> &[TextSize]
+        ensures starts { result.now ≡ self.now.line_starts }
+        ensures first { take 1 result.now ≡ 0 ∷ [] }
+        ensures rise { IsNonDecreasing result.now }
+        ensures few { length result.now < 2 ^ 32 }
+    {
+        self.line_starts.as_slice()
+    }
+
+    /// The largest boundary with the location.
+    fn boundary_with(&self, location: SourceLocation, text: &str) -> Option<usize>
+        requires { self.now ≡ index_of text.now }
+        ensures { IsOffsetAt text.now location result }
+    {
+        let row = location.row.to_zero_indexed_usize();
+        let rows = self.line_starts().len();
+        if row >= rows {
+            return None;
+        }
+        let start = self.counted_start(row, text);
+        let end = self.row_end(row, text);
+        let characters = location.column.to_zero_indexed_usize();
+        match self
+            .kind
+            .nth_boundary(&text.as_bytes()[start..end], characters)
+        {
+            Some(at) if start + at < end => Some(start + at),
+            Some(at) if row + 1 == rows => Some(start + at),
+            Some(_) => None,
+            None => None,
+        }
+    }
+
+    /// The row of an offset, from 0.
+    fn row_at(&self, offset: TextSize) -> usize
+        ensures counted { result + 1 ≡ count_by (λ start. nat_le start offset) self.now.line_starts }
+        ensures row { (text : List ℕ) → self.now ≡ index_of text → result ≡ row_of (breaks_of text) offset }
+        ensures within { result < length self.now.line_starts }
+        ensures few { length self.now.line_starts < 2 ^ 32 }
+    {
+        rows_started(self.line_starts(), offset) - 1
+    }
+
+    /// Where the columns of a row are counted from.
+    #[tactic(auto, using(crate::proofs::LocationsLemmas::counted_from_mark, crate::proofs::LocationsLemmas::counted_from_first))]
+    fn counted_start(&self, row: usize, text: &str) -> usize
+        requires indexed { self.now ≡ index_of text.now }
+        requires within { row < length self.now.line_starts }
+        ensures { result ≡ counted_from text.now row }
+    {
+        if row > 0 {
+            self.line_starts()[row].to_usize()
+        } else if begins_with_byte_order_mark(text) {
+            3
+        } else {
+            0
+        }
+    }
+
+    /// Where the next row starts, or the text ends.
+    fn row_end(&self, row: usize, text: &str) -> usize
+        requires indexed { self.now ≡ index_of text.now }
+        requires within { row < length self.now.line_starts }
+        ensures { result ≡ row_start (length text.now) (breaks_of text.now) (row + 1) }
+    {
+        let starts = self.line_starts();
+        if row + 1 < starts.len() {
+            starts[row + 1].to_usize()
+        } else {
+            text.len()
+        }
+    }
+
+    /// The characters of a row before an offset.
+    fn column_at(&self, row: usize, offset: usize, text: &str) -> usize
+        requires indexed { self.now ≡ index_of text.now }
+        requires row { row < length self.now.line_starts }
+        requires within { offset ≤ length text.now }
+        ensures { result ≡ char_count (slice_range text.now (counted_from text.now row) offset) }
+    {
+        let start = self.counted_start(row, text);
+        if offset <= start {
+            return 0;
+        }
+        self.kind.characters_in(&text.as_bytes()[start..offset])
+    }
+}
+
+/// How many rows start at an offset or before it.
+fn rows_started(line_starts: &[TextSize], offset: TextSize) -> usize
+    requires first { take 1 line_starts.now ≡ 0 ∷ [] }
+    requires rise { IsNonDecreasing line_starts.now }
+    ensures counted { result ≡ count_by (λ start. nat_le start offset) line_starts.now }
+    ensures some { 1 ≤ result }
+    ensures bound { result ≤ length line_starts.now }
+{
+    line_starts.partition_point(|start| *start <= offset)
+}
+
+/// Whether a text begins with a byte order mark.
+fn begins_with_byte_order_mark(text: &str) -> bool
+    ensures { result ≡ begins_with_mark text.now }
+{
+    matches!(text.as_bytes(), [0xEF, 0xBB, 0xBF, ..])
+}
+
+/// Whether a character begins with the byte.
+fn begins_character(byte: u8) -> bool
+    ensures { result ≡ is_char_start byte }
+{
+    byte < 128 || byte >= 192
+}
+
+/// Whether the rows of an index may hold characters of several bytes.
+#[derive(Debug, Clone, Copy)]
+enum IndexKind {
+    /// Each byte is a character.
+    Ascii,
+    /// Characters have one byte or more.
+    Utf8,
+}
+
+impl IndexKind {
+    /// The kind of a text that goes on with this one.
+    fn with(self, text: &str) -> IndexKind
+        ensures { is_ascii_kind result ≡ (is_ascii_kind self && is_ascii text.now) }
+    {
+        match self {
+            IndexKind::Ascii if text.is_ascii() => IndexKind::Ascii,
+            IndexKind::Ascii => IndexKind::Utf8,
+            IndexKind::Utf8 => IndexKind::Utf8,
+        }
+    }
+
+    /// How many characters begin in bytes of a text of this kind.
+    #[tactic(auto, using(crate::proofs::IndexLemmas::ascii_length))]
+    fn characters_in(self, bytes: &[u8]) -> usize
+        requires { is_ascii_kind self ≡ true → is_ascii bytes.now ≡ true }
+        ensures { result ≡ char_count bytes.now }
+    {
+        match self {
+            IndexKind::Ascii => bytes.len(),
+            IndexKind::Utf8 => character_count(bytes),
+        }
+    }
+
+    /// The boundary after the first characters of a row, if it has so many.
+    fn nth_boundary(self, row: &[u8], characters: usize) -> Option<usize>
+        requires { is_ascii_kind self ≡ true → is_ascii row.now ≡ true }
+        ensures { MatchOption result (char_count row.now < characters) (λ at. IsCharBoundary row.now at × (char_count (take at row.now) ≡ characters)) }
+    {
+        match self {
+            IndexKind::Ascii if characters <= row.len() => Some(characters),
+            IndexKind::Ascii => None,
+            IndexKind::Utf8 => boundary_after(row, characters),
+        }
+    }
+}
+
+/// How many characters begin in the bytes.
+#[tactic(auto, unfolding(crate::specs::Characters::char_count))]
+fn character_count(bytes: &[u8]) -> usize
+    ensures { result ≡ char_count bytes.now }
+{
+    bytes.iter().filter(|byte| begins_character(**byte)).count()
+}
+
+/// The same for any row, by a walk over its bytes.
+#[tactic(auto, using(crate::proofs::CharactersLemmas::char_count_begun, crate::proofs::CharactersLemmas::char_count_within, crate::proofs::CharactersLemmas::no_characters, crate::proofs::CharactersLemmas::all_characters))]
+fn boundary_after(row: &[u8], characters: usize) -> Option<usize>
+    ensures { MatchOption result (char_count row.now < characters) (λ at. IsCharBoundary row.now at × (char_count (take at row.now) ≡ characters)) }
+{
+    let mut left = characters;
+    for (at, byte) in row.iter().enumerate() {
+        if !begins_character(*byte) {
+            continue;
+        }
+        if left == 0 {
+            return Some(at);
+        }
+        left -= 1;
+    }
+    if left == 0 { Some(row.len()) } else { None }
+}
 
 /// A number that counts from 1, as the rows and columns of a text do: from 1 to `u32::MAX`.
 #[derive(Clone, Copy, PartialEq, Eq, PartialOrd, Ord, Hash)]

@@ -1,0 +1,4 @@
+pub mod CharsLemmas
+pub mod Counting
+pub mod LinesLemmas
+pub mod TextsLemmas

@@ -1,0 +1,5 @@
+pub mod Breaks
+pub mod Rows
+pub mod Window
+pub mod Scan
+pub mod Views

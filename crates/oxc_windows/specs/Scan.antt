@@ -1,0 +1,40 @@
+-- What contracts see of a scanner, and of the contents that it reads.
+use Rattle.std.specs.Prelude.{ℕ, List, length, slice_range, Option}
+use Rattle.std.specs.Option.{option_map}
+use Rattle.oxc_span.specs.declared.span.Span.{Span}
+use Rattle.oxc_windows.specs.declared.window.Window.{Window}
+use Rattle.oxc_windows.specs.Breaks.{breaks_of}
+use Rattle.oxc_windows.specs.Window.{window_of}
+
+-- the source that a scanner reads, and the rows that it reads before and after a span
+pub record Scan : Type 0 where
+  pub input : List ℕ
+  pub before : ℕ
+  pub after : ℕ
+
+-- bytes, where they stand in their source, and the numbers of their window
+pub record Contents : Type 0 where
+  pub bytes : List ℕ
+  pub span : Span
+  pub line : ℕ
+  pub column : ℕ
+  pub line_count : ℕ
+
+-- the contents of a window of a text: the bytes from its begin to its end, and its three numbers
+abbrev pub contents_of : List ℕ → Window → Contents
+contents_of text window =
+    record {
+      bytes = slice_range text window.begin window.end;
+      span = record { start = window.begin; end = window.end };
+      line = window.line;
+      column = window.column;
+      line_count = window.line_count;
+    }
+
+-- the window that a scanner has for a span, by its text's length and breaks
+abbrev pub window_in : Scan → Span → Option Window
+window_in scan span = window_of (length scan.input) (breaks_of scan.input) scan.before scan.after span.start span.end
+
+-- what a scanner reads of a span: the contents of its window, if it has one
+abbrev pub contents_read : Scan → Span → Option Contents
+contents_read scan span = option_map (contents_of scan.input) (window_in scan span)

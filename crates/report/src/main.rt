@@ -1,0 +1,49 @@
+//! The program `report`: a document of source files and reports on standard input, their drawing on
+//! standard output, and the status as exit status.
+//!
+//! [`run`] is the whole program over any source and sinks; `main` gives it the standard streams.
+#![tactic(auto)]
+
+mod document;
+mod memory;
+mod place;
+mod source;
+mod status;
+mod streams;
+mod top;
+
+pub use document::{Document, read_document};
+pub use memory::MemorySource;
+pub use source::{Reading, Source, read_all};
+pub use status::Status;
+
+#[cfg(test)]
+mod tests;
+
+use std::env;
+use std::io::ErrorKind;
+use std::process::ExitCode;
+pub use streams::{ReaderSource, StderrSink, StdinSource, StdoutSink, WriterSink};
+pub use top::run;
+
+/// The system gave no words, for another cause than memory.
+const NO_WORDS: u8 = 9;
+
+fn main(rt: HostRuntime) -> ExitCode {
+    let alloc = rt.alloc();
+    let mut args = match env::args(&rt) {
+        Ok(args) => args,
+        Err(e) if e.kind() == ErrorKind::OutOfMemory => {
+            return ExitCode::from(Status::OutOfMemory.code());
+        }
+        Err(_) => return ExitCode::from(NO_WORDS),
+    };
+    let _program = args.next();
+    let Ok(words) = args.collect::<Vec<String>>(alloc) else {
+        return ExitCode::from(Status::OutOfMemory.code());
+    };
+    let mut input = StdinSource::new(rt.stdin());
+    let mut out = StdoutSink::new(rt.stdout());
+    let mut err = StderrSink::new(rt.stderr());
+    ExitCode::from(run(alloc, &words, &mut input, &mut out, &mut err).code())
+}

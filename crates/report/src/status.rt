@@ -1,0 +1,46 @@
+// What a run ended with.
+
+/// What a run ended with; its [`code`](Status::code) is the program's exit status.
+#[derive(Clone, Copy, Debug, PartialEq, Eq)]
+pub enum Status {
+    /// The drawing was written whole.
+    Done,
+    /// A report names no file or no place. Not answered yet.
+    Refused,
+    /// The words are no command.
+    Usage,
+    /// The input is no document. Not answered yet: `NotBuilt` stands for it.
+    NoDocument,
+    /// The input failed.
+    ReadFault,
+    /// The output failed.
+    SinkFault,
+    /// There was no memory left.
+    OutOfMemory,
+    /// The input is longer than a run reads.
+    InputTooLong,
+    /// The input is nothing that can be drawn yet.
+    NotBuilt,
+}
+
+impl Status {
+    ghost use Rattle.std.specs.Prelude.{◌≡◌};
+    ghost use Rattle.report.specs.Code.{code_of};
+
+    /// The exit status.
+    pub fn code(self) -> u8
+        ensures { result ≡ code_of self }
+    {
+        match self {
+            Status::Done => 0,
+            Status::Refused => 1,
+            Status::Usage => 2,
+            Status::NoDocument => 3,
+            Status::ReadFault => 4,
+            Status::SinkFault => 5,
+            Status::OutOfMemory => 6,
+            Status::InputTooLong => 7,
+            Status::NotBuilt => 8,
+        }
+    }
+}

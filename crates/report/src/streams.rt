@@ -1,0 +1,94 @@
+// The standard streams as a source and sinks. What they give and take isn't told: this is the edge
+// that is trusted to hand the bytes on.
+ghost use Rattle.std.specs.Prelude.{None};
+
+use crate::source::Source;
+use oxc_protocol::{Failed, Sink};
+use std::io::{ErrorKind, Read, Stderr, Stdin, Stdout, Write};
+
+/// A reader of std whose failures are counted.
+#[derive(Drop)]
+pub struct ReaderSource<R: Read> {
+    reader: R,
+    faults: u64,
+}
+
+/// Standard input.
+pub type StdinSource = ReaderSource<Stdin>;
+
+impl<R: Read> ReaderSource<R> {
+    /// A source over the reader, which has not failed yet.
+    pub fn new(reader: R) -> ReaderSource<R> {
+        ReaderSource { reader, faults: 0 }
+    }
+}
+
+impl<R: Read> Source for ReaderSource<R> {
+    ghost left = { λ _. None };
+
+    ghost faults = { λ s. s.faults };
+
+    /// A read that was interrupted is counted and made again.
+    fn read(&mut self, buf: &mut [u8]) -> Result<usize, Failed> {
+        for _ in 0..u64::MAX {
+            match self.reader.read(buf) {
+                Ok(count) => return Ok(count),
+                Err(e) => {
+                    self.faults = self.faults.saturating_add(1);
+                    if e.kind() != ErrorKind::Interrupted {
+                        break;
+                    }
+                }
+            }
+        }
+        self.faults = self.faults.saturating_add(1);
+        Err(Failed)
+    }
+}
+
+/// A writer of std whose failures are counted, and which is flushed after each write.
+#[derive(Drop)]
+pub struct WriterSink<W: Write> {
+    writer: W,
+    faults: u64,
+}
+
+/// Standard output.
+pub type StdoutSink = WriterSink<Stdout>;
+
+/// Standard error.
+pub type StderrSink = WriterSink<Stderr>;
+
+impl<W: Write> WriterSink<W> {
+    /// A sink over the writer, which has not failed yet.
+    pub fn new(writer: W) -> WriterSink<W> {
+        WriterSink { writer, faults: 0 }
+    }
+}
+
+impl<W: Write> Sink for WriterSink<W> {
+    ghost received = { λ _. None };
+
+    ghost faults = { λ s. s.faults };
+
+    /// A write that was interrupted is counted and made again. A write that takes nothing of a piece
+    /// that isn't empty fails, and so does one whose flush is refused.
+    fn write(&mut self, bytes: &[u8]) -> Result<usize, Failed> {
+        for _ in 0..u64::MAX {
+            match self.writer.write(bytes) {
+                Ok(count) if count > 0 || bytes.is_empty() => {
+                    if self.writer.flush().is_ok() {
+                        return Ok(count);
+                    }
+                    break;
+                }
+                Err(e) if e.kind() == ErrorKind::Interrupted => {
+                    self.faults = self.faults.saturating_add(1);
+                }
+                _ => break,
+            }
+        }
+        self.faults = self.faults.saturating_add(1);
+        Err(Failed)
+    }
+}

@@ -1,0 +1,10 @@
+pub mod Counting
+pub mod BreaksLemmas
+pub mod RowsLemmas
+pub mod CharactersLemmas
+pub mod CutLemmas
+pub mod NewlinesLemmas
+pub mod IndexLemmas
+pub mod LocationsLemmas
+pub mod OffsetLemmas
+pub mod LargestLemmas
