@@ -64,7 +64,7 @@ impl fmt::Display for LineIndex {
 pub struct LineNumber(RawIndex);
 
 impl Model for LineNumber {
-    ghost use Rattle.std.specs.Prelude.{ℕ, ◌<◌, ◌^◌};
+    ghost use Rattle.std.specs.Prelude.{ℕ};
 
     ghost Value = { ℕ };
 
@@ -170,7 +170,7 @@ impl fmt::Display for ColumnIndex {
 pub struct ColumnNumber(RawIndex);
 
 impl Model for ColumnNumber {
-    ghost use Rattle.std.specs.Prelude.{ℕ, ◌<◌, ◌^◌};
+    ghost use Rattle.std.specs.Prelude.{ℕ};
 
     ghost Value = { ℕ };
 

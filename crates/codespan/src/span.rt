@@ -1,5 +1,5 @@
 //! A stretch of a source by its ends.
-ghost use Rattle.std.specs.Prelude.{◌≡◌, ◌≤◌, ◌<◌, ◌^◌, ◌++◌, ◌↔◌, IsTrue, Some, codes, length};
+ghost use Rattle.std.specs.Prelude.{◌≡◌, ◌≤◌, ◌<◌, ◌++◌, ◌↔◌, IsTrue, Some, codes, length};
 ghost use Rattle.std.specs.Fmt.{decimal};
 ghost use Rattle.codespan.specs.Spans.{Extent, merged, Covers, AreDisjoint};
 

@@ -1,5 +1,5 @@
 //! The database of source files as the tools see it, and why it refuses a question.
-ghost use Rattle.std.specs.Prelude.{◌≡◌, ℕ, ◌+◌, ◌<◌, ◌≤◌, Bool, List, length, IsTrue, IfOk, OnOk, MatchResult};
+ghost use Rattle.std.specs.Prelude.{◌≡◌, ℕ, ◌<◌, ◌≤◌, Bool, List, length, IsTrue, IfOk, OnOk, MatchResult};
 ghost use Rattle.codespan_reporting.specs.Lines.{AreLineStarts, IsLineRange, line_at, line_bytes};
 ghost use Rattle.codespan_reporting.specs.Causes.{IsLineRefusal};
 ghost use Rattle.std.specs.Str.{IsUtf8};

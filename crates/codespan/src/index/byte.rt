@@ -1,5 +1,5 @@
 //! The operators of `ByteIndex` and `ByteOffset`.
-ghost use Rattle.std.specs.Prelude.{◌≡◌, ◌<◌, ◌^◌, pos, ◌+ℤ◌, ◌-ℤ◌, neg_ℤ, FitsSigned};
+ghost use Rattle.std.specs.Prelude.{◌≡◌, ◌<◌, pos, ◌+ℤ◌, ◌-ℤ◌, neg_ℤ, FitsSigned};
 ghost use Rattle.std.specs.Int.{w32, w64, FitsUnsigned};
 
 use super::{ByteIndex, ByteOffset, Index, Offset, RawIndex, RawOffset};

@@ -1,5 +1,5 @@
 //! The operators of `LineIndex` and `LineOffset`.
-ghost use Rattle.std.specs.Prelude.{◌≡◌, ◌<◌, ◌^◌, pos, ◌+ℤ◌, ◌-ℤ◌, neg_ℤ, FitsSigned};
+ghost use Rattle.std.specs.Prelude.{◌≡◌, ◌<◌, pos, ◌+ℤ◌, ◌-ℤ◌, neg_ℤ, FitsSigned};
 ghost use Rattle.std.specs.Int.{w32, w64, FitsUnsigned};
 
 use super::{Index, LineIndex, LineOffset, Offset, RawIndex, RawOffset};
