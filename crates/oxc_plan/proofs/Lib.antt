@@ -1,0 +1,3 @@
+pub mod GroupsLemmas
+pub mod OrderLemmas
+pub mod RowsLemmas
