@@ -1,5 +1,5 @@
 //! The database of source files.
-ghost use Rattle.std.specs.Prelude.{◌≡◌, ◌≢◌, ℕ, List, [], ◌∷◌, ◌++◌, ◌<◌, ◌≤◌, ◌↔◌, IsTrue, IsOk, IfOk, OnOk, OnErr, SomeIff, MatchResult, All, length, map, chars, slice_range, string_bytes};
+ghost use Rattle.std.specs.Prelude.{◌≡◌, ◌≢◌, ℕ, List, [], ◌∷◌, ◌++◌, ◌<◌, ◌≤◌, ◌↔◌, IsTrue, IfOk, OnOk, OnErr, SomeIff, MatchResult, All, length, map, chars, slice_range, string_bytes};
 ghost use Rattle.std.specs.List.Sorted.{IsStrictlyIncreasing};
 ghost use Rattle.std.specs.Str.{IsCharBoundary};
 ghost use Rattle.codespan_reporting.specs.Causes.{IsLineRefusal, IsPlaceRefusal, IsSpanRefusal, last_index};
@@ -287,35 +287,24 @@ impl<Source: SourceText> files::Files for Files<Source> {
 
     ghost starts_in = { λ files id. line_starts_lf (text_of files id) };
 
+    ghost refuses = { λ _ _ _. ⊥ };
+
     ghost lines = { λ files id _ utf8. starts_valid (text_of files id) utf8 };
 
     fn contains(&self, id: FileId) -> bool {
         self.contains(id)
     }
 
-    fn name(&self, id: FileId) -> Result<&str, Error>
-        requires { id < length self.now }
-        ensures name { IfOk result (λ name. name.now ≡ name_of self.now id) }
-        ensures answers { IsOk result }
-    {
+    fn name(&self, id: FileId) -> Result<&str, Error> {
         Ok(self.name(id))
     }
 
-    fn source(&self, id: FileId) -> Result<&str, Error>
-        requires { id < length self.now }
-        ensures text { IfOk result (λ text. text.now ≡ text_of self.now id) }
-        ensures answers { IsOk result }
-    {
+    fn source(&self, id: FileId) -> Result<&str, Error> {
         Ok(self.source(id).text())
     }
 
     #[tactic(auto, using(crate::proofs::LinesLemmas::line_at_is))]
-    fn line_index(&self, id: FileId, byte_index: usize) -> Result<usize, Error>
-        requires held { id < length self.now }
-        requires small { byte_index ≤ u32.MAX }
-        ensures line { IfOk result (λ line. line ≡ line_at (line_starts_lf (text_of self.now id)) byte_index) }
-        ensures answers { IsOk result }
-    {
+    fn line_index(&self, id: FileId, byte_index: usize) -> Result<usize, Error> {
         let line = self.line_index(id, ByteIndex(byte_index as RawIndex));
         Ok(line.to_usize())
     }

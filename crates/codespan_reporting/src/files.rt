@@ -1,7 +1,8 @@
 //! The database of source files as the tools see it, and why it refuses a question.
-ghost use Rattle.std.specs.Prelude.{◌≡◌, ℕ, ◌<◌, ◌≤◌, Bool, List, length, IsTrue, IfOk, OnOk, MatchResult};
+ghost use Rattle.std.specs.Prelude.{◌≡◌, ℕ, ◌<◌, ◌≤◌, Bool, List, length, ◌⊎◌, IsTrue, IfErr, IfOk, OnOk, MatchResult};
 ghost use Rattle.codespan_reporting.specs.Lines.{AreLineStarts, IsLineRange, line_at, line_bytes};
 ghost use Rattle.codespan_reporting.specs.Causes.{IsLineRefusal};
+ghost use Rattle.codespan_reporting.specs.declared.files.Error.{Error};
 ghost use Rattle.std.specs.Str.{IsUtf8};
 
 use std::ops::Range;
@@ -32,8 +33,8 @@ pub enum Error {
 
 /// A database of source files.
 ///
-/// Contracts see, for each handle, whether the database holds it, the file's name, its text, and where
-/// the text's lines start. Why `name`, `source` and `line_index` refuse, if ever, an implementation says.
+/// Contracts see, for each handle, whether the database holds it, the file's name, its text, where the
+/// text's lines start, and with which errors, if any, it may refuse a file that it holds.
 pub trait Files {
     /// What names a file in the database.
     type FileId: Copy;
@@ -46,6 +47,8 @@ pub trait Files {
 
     ghost starts_in: { Self → Self.FileId → List ℕ };
 
+    ghost refuses: { Self → Self.FileId → Error → Type 0 };
+
     /// Whether the database holds the file, which every other call asks for.
     fn contains(&self, id: Self::FileId) -> bool
         ensures { result ≡ holds self.now id };
@@ -53,18 +56,18 @@ pub trait Files {
     /// The name of the file, to be shown.
     fn name(&self, id: Self::FileId) -> Result<&str, Error>
         requires { IsTrue (holds self.now id) }
-        ensures { IfOk result (λ name. name.now ≡ name_in self.now id) };
+        ensures { MatchResult result (λ name. name.now ≡ name_in self.now id) (λ error. refuses self.now id error) };
 
     /// The text of the file.
     fn source(&self, id: Self::FileId) -> Result<&str, Error>
         requires { IsTrue (holds self.now id) }
-        ensures { IfOk result (λ text. text.now ≡ text_in self.now id) };
+        ensures { MatchResult result (λ text. text.now ≡ text_in self.now id) (λ error. refuses self.now id error) };
 
     /// The line of a place, both from 0; past the end the last line. The place is at most `u32::MAX`.
     fn line_index(&self, id: Self::FileId, byte_index: usize) -> Result<usize, Error>
         requires held { IsTrue (holds self.now id) }
         requires small { byte_index ≤ u32.MAX }
-        ensures { IfOk result (λ line. line ≡ line_at (starts_in self.now id) byte_index) };
+        ensures { MatchResult result (λ line. line ≡ line_at (starts_in self.now id) byte_index) (λ error. refuses self.now id error) };
 
     /// The bytes of a line, its break included. The line counts from 0 and is at most `u32::MAX`.
     ///
@@ -84,12 +87,13 @@ pub trait Files {
 /// The text of a line, its break included, in any database. The line counts from 0 and is at most
 /// `u32::MAX`.
 ///
-/// It refuses what `line_range` refuses, and else only where the database refuses the source.
+/// It refuses what `line_range` refuses, and else only where the database refuses the file.
 pub fn line_text<F: Files>(files: &F, id: F::FileId, line_index: usize) -> Result<&str, Error>
     requires held { IsTrue (F.holds files.now id) }
     requires small { line_index ≤ u32.MAX }
     ensures text { IfOk result (λ text. text.now ≡ line_bytes (F.text_in files.now id) (F.starts_in files.now id) line_index) }
     ensures exists { OnOk result (line_index < length (F.starts_in files.now id)) }
+    ensures cause { IfErr result (λ error. IsLineRefusal (length (F.starts_in files.now id)) line_index error ⊎ F.refuses files.now id error) }
 {
     let range = files.line_range(id, line_index)?;
     match files.source(id) {
