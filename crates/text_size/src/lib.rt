@@ -6,8 +6,10 @@
 
 mod range;
 mod size;
+#[cfg(test)]
+mod tests;
 mod traits;
 
-pub use range::{TextRange, slice};
+pub use range::{TextRange, slice, slice_mut};
 pub use size::TextSize;
 pub use traits::TextLen;

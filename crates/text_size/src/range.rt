@@ -1,9 +1,11 @@
 // Ranges.
 ghost use Rattle.std.specs.Prelude.{◌≡◌, ℕ, ◌+◌, ◌-◌, ◌<◌, ◌≤◌, ◌^◌, ◌++◌, ◌↔◌, Some, codes, IsTrue, IsNone, IfSome, SomeIff, length, slice_range, min, max, ⊤};
+ghost use Rattle.std.specs.Borrow.{sem};
 ghost use Rattle.std.specs.Fmt.{decimal};
 ghost use Rattle.std.specs.declared.cmp.Ordering.TheVariants.{Less, Equal, Greater};
 ghost use Rattle.std.specs.Str.{IsCharBoundary};
 ghost use Rattle.std.specs.declared.ops.Bound.TheVariants.{Included, Excluded};
+ghost use Rattle.text_size.specs.Lending.{LendsPart};
 ghost use Rattle.text_size.specs.Ranges.{HoldsRange, IsLeastHolding};
 
 use crate::TextSize;
@@ -262,12 +264,24 @@ impl TextRange {
 /// The bytes of the text in the range, whose ends are both boundaries of characters of the text.
 #[inline]
 pub fn slice(text: &str, range: TextRange) -> &str
-    requires within { range.1 ≤ length text.now }
     requires start { IsCharBoundary text.now range.0 }
     requires end { IsCharBoundary text.now range.1 }
     ensures { result.now ≡ slice_range text.now range.0 range.1 }
 {
     &text[Range::<usize>::from(range)]
+}
+
+/// The bytes in the range, to be written. The range's end is at most the number of bytes.
+///
+/// Once the part is given up, the bytes are what they were, but for those of the range, which are as they were left.
+#[inline]
+pub fn slice_mut(text: &mut [u8], range: TextRange) -> &mut [u8]
+    requires { range.1 ≤ length text.old }
+    ensures* writes_back { sem 𝓛 (LendsPart text.entry range.0 range.1 result) }
+    ensures bytes { result.now ≡ slice_range text.old range.0 range.1 }
+    ensures len { length result.now ≡ range.1 - range.0 }
+{
+    &mut text[range.start.raw as usize..range.end.raw as usize]
 }
 
 impl RangeBounds<TextSize> for TextRange {

@@ -1,5 +1,5 @@
 // Sizes and offsets.
-ghost use Rattle.std.specs.Prelude.{◌≡◌, ℕ, ◌+◌, ◌-◌, ◌<◌, ◌≤◌, ◌^◌, Some, SomeIff, MatchResult, Result, sum, map};
+ghost use Rattle.std.specs.Prelude.{◌≡◌, ℕ, ◌+◌, ◌-◌, ◌<◌, ◌≤◌, ◌^◌, Some, SomeIff, MatchResult, sum, sum_by};
 ghost use Rattle.std.specs.Fmt.{decimal};
 
 use crate::TextLen;
@@ -113,8 +113,9 @@ impl TryFrom<usize> for TextSize {
     ghost try_from_gives = { λ number outcome. MatchResult outcome (λ size. (number < 2 ^ 32) × (size ≡ number)) (λ _. 2 ^ 32 ≤ number) };
 
     #[inline]
-    fn try_from(value: usize) -> Result<Self, TryFromIntError> {
-        Ok(u32::try_from(value)?.into())
+    fn try_from(number: usize) -> Result<TextSize, TryFromIntError> {
+        let raw = u32::try_from(number)?;
+        Ok(TextSize::new(raw))
     }
 }
 
@@ -286,6 +287,21 @@ impl Sum<TextSize> for TextSize {
     ghost sum_gives = { λ sizes total. total ≡ sum sizes };
 
     fn sum<I: Iterator<Item = TextSize>>(iter: I) -> TextSize {
+        let mut total = TextSize::new(0);
+        for size in iter {
+            total += size;
+        }
+        total
+    }
+}
+
+/// The same of sizes that are lent.
+impl<'a> Sum<&'a TextSize> for TextSize {
+    ghost can_sum = { λ sizes. sum_by (λ size. size.now) sizes < 2 ^ 32 };
+
+    ghost sum_gives = { λ sizes total. total ≡ sum_by (λ size. size.now) sizes };
+
+    fn sum<I: Iterator<Item = &'a TextSize>>(iter: I) -> TextSize {
         let mut total = TextSize::new(0);
         for size in iter {
             total += size;

@@ -4,7 +4,7 @@ use Rattle.text_size.proofs.SumLemmas.{fits_now, fits_on}
 use Rattle.text_size.proofs.size.TextSizeSum.sum.Goals as goal
 
 pub add_assign-requires : goal.add_assign-requires
-add_assign-requires g c = fits_now g.I.Iterator.next_gives _ _ _ _ c.loop-size.invariant.3 c.in-Some.ensures.steps
+add_assign-requires g c = fits_now (λ size. size) g.I.Iterator.next_gives _ _ _ _ c.loop-size.invariant.3 c.in-Some.ensures.steps
 
 pub loop-size-preserved : goal.loop-size-preserved
-loop-size-preserved g c = (search rules, search rules, omega (arith, sum_by_push (λ y. y) c.loop-size.yielded c.in-Some.size), rw c.add_assign.ensures.after (fits_on g.I.Iterator.next_gives _ _ _ _ c.loop-size.invariant.3 c.in-Some.ensures.steps))
+loop-size-preserved g c = (search rules, search rules, omega (arith, sum_by_push (λ size. size) c.loop-size.yielded c.in-Some.size), rw c.add_assign.ensures.after (fits_on (λ size. size) g.I.Iterator.next_gives _ _ _ _ c.loop-size.invariant.3 c.in-Some.ensures.steps))
