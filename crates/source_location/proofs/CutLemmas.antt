@@ -141,7 +141,7 @@ breaks_of-none xs none =
     none_with (get_or xs i 0) (get_or xs (i - 1) 0) (get_or xs (i + 1) 0) i here.0 here.1)
 
 -- a line ending alone is one break
-breaks_of-ending : (ending : LineEnding) → breaks_of (ending_bytes ending) ≡ record { start = 0; end = length (ending_bytes ending) - 1 } ∷ []
+pub breaks_of-ending : (ending : LineEnding) → breaks_of (ending_bytes ending) ≡ record { start = 0; end = length (ending_bytes ending) - 1 } ∷ []
 unfolding breaks_of
 breaks_of-ending Lf = refl
 breaks_of-ending Cr = refl

@@ -8,3 +8,5 @@ pub mod IndexLemmas
 pub mod LocationsLemmas
 pub mod OffsetLemmas
 pub mod LargestLemmas
+pub mod LinesLemmas
+pub mod EndingLemmas

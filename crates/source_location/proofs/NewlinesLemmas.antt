@@ -30,17 +30,17 @@ first_break_is text front rest ending at split place none whole =
       breaks = ap breaks_of split ∙ breaks_of-first front rest ending none whole ∙ rw (place, after) refl;
     }
 
-test_lf : (byte : ℕ) → byte ≡ 10 → is_byte2 10 13 byte ≡ true
+pub test_lf : (byte : ℕ) → byte ≡ 10 → is_byte2 10 13 byte ≡ true
 test_lf byte e = grind (arith, nat_tests)
 
-test_cr : (byte : ℕ) → byte ≡ 13 → is_byte2 10 13 byte ≡ true
+pub test_cr : (byte : ℕ) → byte ≡ 13 → is_byte2 10 13 byte ≡ true
 test_cr byte e = grind (arith, nat_tests)
 
-test_which : (byte : ℕ) → is_byte2 10 13 byte ≡ true → (byte ≡ 10 → ⊥) → byte ≡ 13
+pub test_which : (byte : ℕ) → is_byte2 10 13 byte ≡ true → (byte ≡ 10 → ⊥) → byte ≡ 13
 test_which byte e ne = grind (arith, nat_tests)
 
 -- bytes that all fail the test for an LF or a CR have none
-passed_over : (xs : List ℕ) → ((k : ℕ) → k < length xs → Passes (is_byte2 10 13) xs k → ⊥) → HasNone xs
+pub passed_over : (xs : List ℕ) → ((k : ℕ) → k < length xs → Passes (is_byte2 10 13) xs k → ⊥) → HasNone xs
 passed_over xs fail i h = ((λ lf. fail i h (test_lf (get_or xs i 0) lf)), (λ cr. fail i h (test_cr (get_or xs i 0) cr)))
 
 pub no_newline : (text : List ℕ) → IsFirstByte (is_byte2 10 13) text None → breaks_of text ≡ []
@@ -89,7 +89,7 @@ first_newline text at (found, passes) =
     (cases_eq (get_or text at 0) 10)
 
 -- where the line ending of the first break ends, and its last byte
-ending_ends : (text : List ℕ) (at : ℕ) (ending : LineEnding) → IsFirstBreak text at ending
+pub ending_ends : (text : List ℕ) (at : ℕ) (ending : LineEnding) → IsFirstBreak text at ending
     → (at + length (ending_bytes ending) ≤ length text) × (get_or text (at + length (ending_bytes ending) - 1) 0 < 128)
 ending_ends text at ending found =
     let e = ending_bytes ending in

@@ -87,16 +87,18 @@ row_of-between len list o r ok le from upto =
     below (suc m) k d h within start =
         omega (arith, later_end list k m d ok (omega arith) (omega arith), row_start_after len list m d (omega arith), start)
 
+-- a row that a break ends starts before the next
+pub row_start-lt-next : (len : ℕ) (list : List LineBreak) (r : ℕ) → AreBreaks list → r < length list → row_start len list r < row_start len list (r + 1)
+row_start-lt-next len list zero ok h =
+    let none : LineBreak = record { start = 0; end = 0 } in
+    omega (arith, row_start_first len list, ap (row_start len list) (add-one 0), row_start_after len list 0 none h)
+row_start-lt-next len list (suc m) ok h =
+    let none : LineBreak = record { start = 0; end = 0 } in
+    omega (arith, ap (row_start len list) (add-one (suc m)), row_start_after len list m none (omega arith), row_start_after len list (suc m) none h, ok.apart m (suc m) none (omega arith) h, (ok.shape (suc m) none h).0)
+
 -- a row's start is in the row
 pub row_of-start : (len : ℕ) (list : List LineBreak) (r : ℕ) → AreBreaks list → r ≤ length list → row_of list (row_start len list r) ≡ r
-row_of-start len list r ok le =
-    let none : LineBreak = record { start = 0; end = 0 } in
-    row_of-between len list (row_start len list r) r ok le (omega arith) (λ h. next r none h)
-  where
-    next : (m : ℕ) (d : LineBreak) → m < length list → row_start len list m < row_start len list (m + 1)
-    next zero d h = omega (arith, row_start_first len list, ap (row_start len list) (add-one 0), row_start_after len list 0 d h)
-    next (suc m) d h =
-        omega (arith, ap (row_start len list) (add-one (suc m)), row_start_after len list m d (omega arith), row_start_after len list (suc m) d h, ok.apart m (suc m) d (omega arith) h, (ok.shape (suc m) d h).0)
+row_of-start len list r ok le = row_of-between len list (row_start len list r) r ok le (omega arith) (row_start-lt-next len list r ok)
 
 -- an offset is no later than where the next row starts
 pub le_next_start : (len : ℕ) (list : List LineBreak) (o r : ℕ) → AreBreaks list → o ≤ len → row_of list o ≡ r → o ≤ row_start len list (r + 1)
@@ -122,3 +124,13 @@ row_start-le-next len list r ok =
     ⊎_elim (λ le. le_next_start len list (row_start len list r) r ok.ordered (row_start-le len list r ok) (row_of-start len list r ok.ordered (omega (arith, le))))
     (λ past. omega (arith, row_start_past len list r past, ap (row_start len list) (add-one r), row_start_past len list (suc r) (omega (arith, past))))
     (cases_lt r (suc (length list)))
+
+-- the same for rows that count from 1
+pub row_start-le-from : (len : ℕ) (list : List LineBreak) (r : ℕ) → IsBreakList len list → row_start len list (r - 1) ≤ row_start len list r
+row_start-le-from len list zero ok = omega (arith, ap (row_start len list) (sub-zero-one))
+  where
+    sub-zero-one : 0 - 1 ≡ 0
+    sub-zero-one = omega arith
+row_start-le-from len list (suc r) ok =
+    let before : suc r - 1 ≡ r = omega arith in
+    omega (arith, ap (row_start len list) before, ap (row_start len list) (add-one r), row_start-le-next len list r ok)

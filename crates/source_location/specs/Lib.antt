@@ -4,3 +4,6 @@ pub mod Characters
 pub mod Locations
 pub mod Index
 pub mod Newlines
+pub mod Lines
+pub mod Views
+pub mod Files

@@ -15,6 +15,10 @@ line_starts breaks = 0 ∷ map (λ b. b.end + 1) breaks
 unfoldable pub row_start : ℕ → List LineBreak → ℕ → ℕ
 row_start len breaks row = slice_index_or (line_starts breaks) row len
 
+-- how many rows a text has: one more than breaks
+abbrev pub row_count : List ℕ → ℕ
+row_count text = length (breaks_of text) + 1
+
 -- the bytes of a row with its break, and none where there is no such row
 abbrev pub row_text : List ℕ → ℕ → List ℕ
 row_text text row = slice_range text (row_start (length text) (breaks_of text) row) (row_start (length text) (breaks_of text) (row + 1))

@@ -15,7 +15,7 @@ use std::alloc::{AllocError, Global};
 use std::fmt;
 use std::fmt::{Debug, Display, Formatter, Write};
 use std::marker::Model;
-use text_size::TextSize;
+use text_size::{TextRange, TextSize};
 
 /// Whether a text is short enough for an index: fewer than `u32::MAX` bytes.
 pub fn fits(text: &str) -> bool
@@ -118,6 +118,43 @@ impl LineIndex {
         OneIndexed::from_zero_indexed(self.row_at(offset) as u32)
     }
 
+    /// How many rows the text has.
+    pub(crate) fn line_count(&self) -> usize
+        ensures { result ≡ length self.now.line_starts }
+    {
+        self.line_starts().len()
+    }
+
+    /// Where a row starts; past the last row, where the text ends.
+    pub(crate) fn line_start(&self, line: OneIndexed, contents: &str) -> TextSize
+        requires indexed { self.now ≡ index_of contents.now }
+        requires fits { Fits contents.now }
+        ensures { result ≡ row_start (length contents.now) (breaks_of contents.now) (line - 1) }
+    {
+        TextSize::new(self.start_of(line.to_zero_indexed_usize(), contents) as u32)
+    }
+
+    /// Where a row with its break ends.
+    pub(crate) fn line_end(&self, line: OneIndexed, contents: &str) -> TextSize
+        requires indexed { self.now ≡ index_of contents.now }
+        requires fits { Fits contents.now }
+        ensures { result ≡ row_start (length contents.now) (breaks_of contents.now) line }
+    {
+        TextSize::new(self.start_of(line.to_usize(), contents) as u32)
+    }
+
+    /// A row with its break.
+    pub(crate) fn line_range(&self, line: OneIndexed, contents: &str) -> TextRange
+        requires indexed { self.now ≡ index_of contents.now }
+        requires fits { Fits contents.now }
+        ensures { result ≡ (row_start (length contents.now) (breaks_of contents.now) (line - 1), row_start (length contents.now) (breaks_of contents.now) line) }
+    {
+        TextRange::new(
+            self.line_start(line, contents),
+            self.line_end(line, contents),
+        )
+    }
+
     /// Where each row starts: 0, and the place after each break.
     pub fn line_starts(&self) -> &[TextSize]
         ensures starts { result.now ≡ self.now.line_starts }
@@ -139,7 +176,7 @@ impl LineIndex {
             return None;
         }
         let start = self.counted_start(row, text);
-        let end = self.row_end(row, text);
+        let end = self.start_of(row + 1, text);
         let characters = location.column.to_zero_indexed_usize();
         match self
             .kind
@@ -163,14 +200,13 @@ impl LineIndex {
     }
 
     /// Where the columns of a row are counted from.
-    #[tactic(auto, using(crate::proofs::LocationsLemmas::counted_from_mark, crate::proofs::LocationsLemmas::counted_from_first))]
+    #[tactic(auto, using(crate::proofs::LocationsLemmas::counted_from_later, crate::proofs::LocationsLemmas::counted_from_mark, crate::proofs::LocationsLemmas::counted_from_first))]
     fn counted_start(&self, row: usize, text: &str) -> usize
-        requires indexed { self.now ≡ index_of text.now }
-        requires within { row < length self.now.line_starts }
+        requires { self.now ≡ index_of text.now }
         ensures { result ≡ counted_from text.now row }
     {
         if row > 0 {
-            self.line_starts()[row].to_usize()
+            self.start_of(row, text)
         } else if begins_with_byte_order_mark(text) {
             3
         } else {
@@ -178,15 +214,14 @@ impl LineIndex {
         }
     }
 
-    /// Where the next row starts, or the text ends.
-    fn row_end(&self, row: usize, text: &str) -> usize
-        requires indexed { self.now ≡ index_of text.now }
-        requires within { row < length self.now.line_starts }
-        ensures { result ≡ row_start (length text.now) (breaks_of text.now) (row + 1) }
+    /// Where a row starts; past the last row, where the text ends.
+    fn start_of(&self, row: usize, text: &str) -> usize
+        requires { self.now ≡ index_of text.now }
+        ensures { result ≡ row_start (length text.now) (breaks_of text.now) row }
     {
         let starts = self.line_starts();
-        if row + 1 < starts.len() {
-            starts[row + 1].to_usize()
+        if row < starts.len() {
+            starts[row].to_usize()
         } else {
             text.len()
         }
@@ -195,7 +230,6 @@ impl LineIndex {
     /// The characters of a row before an offset.
     fn column_at(&self, row: usize, offset: usize, text: &str) -> usize
         requires indexed { self.now ≡ index_of text.now }
-        requires row { row < length self.now.line_starts }
         requires within { offset ≤ length text.now }
         ensures { result ≡ char_count (slice_range text.now (counted_from text.now row) offset) }
     {
