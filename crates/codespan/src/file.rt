@@ -45,7 +45,7 @@ impl<'a> SourceText for &'a str {
     }
 }
 
-/// A handle that points to a file in the database: the number of files that were there before it.
+/// What a database calls a file: the number of files that were there before it.
 #[derive(Clone, Copy, Debug, PartialEq, Eq, PartialOrd, Ord, Hash)]
 pub struct FileId {
     index: u32,
@@ -105,8 +105,8 @@ impl From<AllocError> for AddError {
     }
 }
 
-/// A database of source files, each a name and a text of fewer than `u32::MAX` bytes. Contracts see
-/// it as the list of its named texts, in the order in which they were added.
+/// Source files in the order in which they were added, each a name and a text of fewer than `u32::MAX`
+/// bytes. Contracts see the list of these named texts.
 #[derive(Debug, Drop)]
 pub struct Files<Source: SourceText> {
     files: Vec<File<Source>>,
@@ -197,7 +197,7 @@ impl<Source: SourceText> Files<Source> {
         &self.files[file_id.get()]
     }
 
-    /// The name of the file.
+    /// What the file is called.
     pub fn name(&self, file_id: FileId) -> &str
         requires { file_id < length self.now }
         ensures { result.now ≡ name_of self.now file_id }
@@ -304,8 +304,8 @@ impl<Source: SourceText> files::Files for Files<Source> {
     }
 
     #[tactic(auto, using(crate::proofs::LinesLemmas::line_at_is))]
-    fn line_index(&self, id: FileId, byte_index: usize) -> Result<usize, Error> {
-        let line = self.line_index(id, ByteIndex(byte_index as RawIndex));
+    fn line_index(&self, id: FileId, place: usize) -> Result<usize, Error> {
+        let line = self.line_index(id, ByteIndex(place as RawIndex));
         Ok(line.to_usize())
     }
 
@@ -315,10 +315,10 @@ impl<Source: SourceText> files::Files for Files<Source> {
     }
 }
 
-/// A file that is stored in the database.
+/// One of the files, with an index of its lines.
 #[derive(Debug, Drop)]
 struct File<Source: SourceText> {
-    /// The name of the file.
+    /// What the file is called.
     name: String,
     /// The contents of the file.
     source: Source,
@@ -521,7 +521,7 @@ fn slice_between(source: &str, start: usize, end: usize) -> Result<&str, Error>
     if end > source.len() {
         let max = last_index(source);
         return Err(Error::IndexTooLarge {
-            given: if start > max { start } else { end },
+            given: if max < start { start } else { end },
             max,
         });
     }

@@ -31,7 +31,7 @@ pub enum Error {
     },
 }
 
-/// A database of source files.
+/// What holds source files for a tool.
 ///
 /// Contracts see, for each handle, whether the database holds it, the file's name, its text, where the
 /// text's lines start, and with which errors, if any, it may refuse a file that it holds.
@@ -53,7 +53,7 @@ pub trait Files {
     fn contains(&self, id: Self::FileId) -> bool
         ensures { result ≡ holds self.now id };
 
-    /// The name of the file, to be shown.
+    /// What to call the file in a message.
     fn name(&self, id: Self::FileId) -> Result<&str, Error>
         requires { IsTrue (holds self.now id) }
         ensures { MatchResult result (λ name. name.now ≡ name_in self.now id) (λ error. refuses self.now id error) };
