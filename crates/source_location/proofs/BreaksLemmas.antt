@@ -105,10 +105,6 @@ breaks_valid bytes =
       within = λ k d h. found_within bytes _ (found k d h).0;
     }
 
--- the same for a list that is known to be the breaks
-pub index_valid : (bytes : List ℕ) (list : List LineBreak) → list ≡ breaks_of bytes → IsBreakList (length bytes) list
-index_valid bytes list e = subst (λ l. IsBreakList (length bytes) l) (sym e) (breaks_valid bytes)
-
 -- the ends rise, which is what a search by end asks
 pub rising_ends : (list : List LineBreak) → AreBreaks list → IsNonDecreasingBy (λ b. b.end) list
 rising_ends list ok i j d le h =

@@ -1,18 +1,13 @@
 -- Counts of characters.
 use Rattle.std.proofs.Common.{◌≡◌, ℕ, ◌+◌, ◌-◌, ◌≤◌, ◌<◌, true, false, cond, List, [], ◌∷◌, ◌++◌, length, take, drop, get_or, refl, sym, ap, ◌∙◌, arith, slice_range}
-use Rattle.std.specs.Prelude.{encode_utf8}
-use Rattle.std.specs.Char.{len_utf8}
 use Rattle.std.specs.Str.{chars, IsUtf8, IsCharBoundary}
 use Rattle.std.proofs.lemmas.Bool.Decides.{nat_tests}
-use Rattle.std.proofs.lemmas.List.{take_all, take_at, length-take}
-use Rattle.std.proofs.lemmas.List.Sums.{sum_by-append, sum_by-take-le, count_by_more_yes, count_by_more_no, count_by-le-length}
-use Rattle.std.proofs.lemmas.Str.{encodes-chars, length-encode}
+use Rattle.std.proofs.lemmas.List.{take_all, length-take}
+use Rattle.std.proofs.lemmas.List.Sums.{sum_by-append, count_by_more_yes, count_by_more_no, count_by-le-length}
+use Rattle.std.proofs.lemmas.Str.{encodes-chars}
 use Rattle.std.proofs.Math.Seq.{take-add}
 use lib.Utf8.{encode, encodes}
 use Rattle.source_location.specs.Characters.{is_char_start, char_count}
-
-one_if : ℕ → ℕ
-one_if byte = cond (is_char_start byte) 1 0
 
 pub char_count-append : (xs ys : List ℕ) → char_count (xs ++ ys) ≡ char_count xs + char_count ys
 unfolding char_count
@@ -58,18 +53,8 @@ char_count-none text from to le =
     let empty : to - from ≡ 0 = omega arith in
     ap (λ n. char_count (take n (drop from text))) empty ∙ char_count-nil
 
-pub char_count-past_char : (text rest : List ℕ) (at c : ℕ) → drop at text ≡ encode_utf8 c ++ rest → char_count (take (at + len_utf8 c) text) ≡ char_count (take at text) + 1
-char_count-past_char text rest at c e =
-    let one : take (len_utf8 c) (drop at text) ≡ encode c = ap (take (len_utf8 c)) e ∙ take_at (encode c) rest (len_utf8 c) (length-encode c) in
-    ap char_count (take-add at (len_utf8 c) text) ∙ char_count-append (take at text) (take (len_utf8 c) (drop at text))
-    ∙ ap (λ bytes. char_count (take at text) + char_count bytes) one ∙ omega (arith, char_count-encode c)
-
 pub char_count-whole : (text : List ℕ) (at : ℕ) → length text ≤ at → char_count (take at text) ≡ char_count text
 char_count-whole text at le = ap char_count (take_all at text le)
-
-pub char_count-take-le : (bytes : List ℕ) (n : ℕ) → char_count (take n bytes) ≤ char_count bytes
-unfolding char_count
-char_count-take-le bytes n = sum_by-take-le (λ byte. cond (is_char_start byte) 1 0) bytes n
 
 pub no_characters : (row : List ℕ) (at : ℕ) → at ≡ 0 → char_count (take at row) ≡ 0
 no_characters row at e = ap (λ n. char_count (take n row)) e ∙ char_count-nil
@@ -85,13 +70,6 @@ char_count_begun row at h e = omega (arith, count_by_more_yes is_char_start row 
 pub char_count_within : (row : List ℕ) (at : ℕ) → at < length row → is_char_start (get_or row at 0) ≡ false → char_count (take (at + 1) row) ≡ char_count (take at row)
 unfolding char_count
 char_count_within row at h e = omega (arith, count_by_more_no is_char_start row at 0 h e)
-
-start_high : (byte : ℕ) → is_char_start byte ≡ true → 128 ≤ byte → 192 ≤ byte
-start_high byte e h = grind (arith, nat_tests)
-
--- a row may be cut before a byte that begins a character
-pub boundary_before : (row : List ℕ) (at : ℕ) → at < length row → is_char_start (get_or row at 0) ≡ true → IsCharBoundary row at
-boundary_before row at h e = (omega (arith, h), λ lt. start_high (get_or row at 0) e)
 
 -- no more characters before an offset than bytes
 pub char_count-le-offset : (text : List ℕ) (from to : ℕ) → char_count (slice_range text from to) ≤ to

@@ -17,10 +17,6 @@ use Rattle.source_location.proofs.CutLemmas.{HasNone, PartsNone, breaks_of-none,
 use Rattle.source_location.proofs.NewlinesLemmas.{test_lf, test_which, passed_over}
 use Rattle.source_location.proofs.LinesLemmas.{EndsWhole, IsOneLine, row_start_seam, lines_of-last}
 
--- the last byte, and the one before
-last_byte : List ℕ → ℕ
-last_byte text = get_or text (length text - 1) 0
-
 -- how long the ending is, by the last two bytes
 length_crlf : (text : List ℕ) → get_or text (length text - 1) 0 ≡ 10 → get_or text (length text - 2) 0 ≡ 13 → ending_length text ≡ 2
 length_crlf text lf cr = grind (arith, nat_tests)
@@ -105,9 +101,6 @@ text_ends text =
     ⊎_elim (λ lf. ⊎_elim (λ cr. inr (CrLf, ends_crlf text lf cr)) (λ not_cr. inr (Lf, ends_lf text lf not_cr)) (cases_eq (get_or text (length text - 2) 0) 13))
     (λ no_lf. ⊎_elim (λ cr. inr (Cr, ends_cr text cr)) (λ no_cr. inl (length_none text no_lf no_cr)) (cases_eq (get_or text (length text - 1) 0) 13))
     (cases_eq (get_or text (length text - 1) 0) 10)
-
-pub ending_length-le : (text : List ℕ) → ending_length text ≤ length text
-ending_length-le text = ⊎_elim (λ none. omega (arith, none)) (λ (ending, ends). omega (arith, ends.len, ends.within)) (text_ends text)
 
 -- the last row of a text that ends in a break has no byte
 ends_whole : (text : List ℕ) (ending : LineEnding) → EndsWith text ending → EndsWhole text

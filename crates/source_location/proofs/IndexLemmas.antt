@@ -1,6 +1,6 @@
 -- What the index of a text says of its rows.
 use Rattle.std.proofs.Common.{◌≡◌, ℕ, ◌+◌, ◌-◌, ◌<◌, ◌≤◌, ◌^◌, ◌&&◌, Bool, true, false, cond, List, [], ◌∷◌, ◌++◌, length, take, drop, slice_range, get_or, map, count_by, refl, sym, ap, subst, ◌∙◌, arith, leb, ltb, suc, zero, ⊎_elim}
-use Rattle.std.specs.List.Sorted.{IsNonDecreasing, IsPartitionedBy}
+use Rattle.std.specs.List.Sorted.{IsNonDecreasing}
 use Rattle.std.specs.Str.{IsAscii, IsNotAscii, IsCharBoundary}
 use Rattle.std.proofs.lemmas.Str.{IsCharBoundary-from_ascii}
 use Rattle.std.specs.Bool.{MatchBool}
@@ -10,11 +10,9 @@ use Rattle.std.proofs.Math.Nat.{sub-zero}
 use Rattle.std.proofs.lemmas.List.{length-map, get_or-map, get_or_default, get_or_past, length-take, get_or-take, get_or-drop}
 use Rattle.std.proofs.lemmas.List.Sums.{sum_by-cons, list_all-from_AllPass, AllPass-from_list_all}
 use Rattle.std.proofs.lemmas.List.Folds.{list_all_at, list_all-append}
-use Rattle.std.proofs.lemmas.List.Sorted.{IsPartitionedBy-leb}
 use Rattle.source_location.specs.Breaks.{LineBreak, breaks_of, AreBreaks, moved}
 use Rattle.source_location.specs.Rows.{row_of, line_starts, row_start}
 use Rattle.source_location.specs.Characters.{is_char_start, char_count}
-use Rattle.source_location.specs.Locations.{begins_with_mark}
 use Rattle.source_location.specs.declared.line_index.IndexKind.{IndexKind}
 use Rattle.source_location.specs.declared.line_index.IndexKind.TheVariants.{Ascii}
 use Rattle.source_location.specs.Index.{IndexView, IsIndex, index_of, is_ascii, is_ascii_kind}
@@ -49,11 +47,6 @@ starts_rise list ok (suc i) (suc j) d le h =
     ⊎_elim (λ lt. omega (arith, get_or-map (λ b. b.end + 1) list i none d (omega arith), get_or-map (λ b. b.end + 1) list j none d within, ok.apart i j none lt within, (ok.shape j none within).0))
     (λ ge. let same : i ≡ j = omega arith in omega (arith, ap (λ k. get_or (map (λ (b : LineBreak). b.end + 1) list) k d) same))
     (cases_lt i j)
-
--- as a search by offset asks
-pub starts_parted : (starts : List ℕ) (text : List ℕ) (o : ℕ) → starts ≡ line_starts (breaks_of text) → IsPartitionedBy (λ s. leb s o) starts
-starts_parted starts text o e =
-    subst (λ l. IsPartitionedBy (λ s. leb s o) l) (sym e) (IsPartitionedBy-leb (λ s. s) (line_starts (breaks_of text)) o (starts_rise (breaks_of text) (breaks_valid text).ordered))
 
 -- no more rows than bytes and one
 pub few_starts : (starts : List ℕ) (text : List ℕ) → starts ≡ line_starts (breaks_of text) → (1 ≤ length starts) × (length starts ≤ length text + 1)
@@ -154,10 +147,6 @@ char_count-ascii text e =
     count_by_cut is_char_start text (length text) (omega arith)
     (λ k d h. ascii_start (get_or text k d) (omega (arith, get_or_default text k d 0 h, ascii_all text e k)))
     (λ k d low high. absurd (omega (arith, low, high)))
-
--- where an ASCII text has no byte order mark
-pub ascii_unmarked : (text : List ℕ) → is_ascii text ≡ true → begins_with_mark text ≡ false
-ascii_unmarked text e = let low = ascii_all text e 0 in grind (arith, nat_tests)
 
 -- its boundary after the first characters
 -- as a case on the kind of a text needs it

@@ -6,9 +6,9 @@ use Rattle.std.proofs.lemmas.Bool.Decides.{nat_tests}
 use Rattle.std.proofs.lemmas.Str.{IsUtf8-encode, IsCharBoundary-start, IsCharBoundary-end, IsCharBoundary-from_take, IsCharBoundary-after_ascii}
 use lib.Utf8.{encode}
 use Rattle.source_location.specs.Breaks.{LineBreak, breaks_of}
-use Rattle.source_location.specs.Rows.{row_of, row_start}
-use Rattle.source_location.proofs.BreaksLemmas.{breaks_valid, few_breaks, break_ends_ascii}
-use Rattle.source_location.proofs.RowsLemmas.{row_start_after, row_start_past, row_le}
+use Rattle.source_location.specs.Rows.{row_start}
+use Rattle.source_location.proofs.BreaksLemmas.{breaks_valid, break_ends_ascii}
+use Rattle.source_location.proofs.RowsLemmas.{row_start_after, row_start_past}
 use Rattle.source_location.specs.Locations.{begins_with_mark, counted_from}
 
 -- what stands at the front of a text with a mark
@@ -67,6 +67,3 @@ counted_from_boundary text r utf8 = at (begins_with_mark text) refl
     at : (said : Bool) → begins_with_mark text ≡ said → IsCharBoundary text (counted_from text r)
     at true e = ⊎_elim (λ first. rw (counted_from_mark text r first e) (mark_boundary text utf8 e)) (λ later. rw (counted_from_later text r (omega arith)) (row_start_boundary text r utf8)) (cases_eq r 0)
     at false e = ⊎_elim (λ first. rw (counted_from_first text r first e) (IsCharBoundary-start text utf8)) (λ later. rw (counted_from_later text r (omega arith)) (row_start_boundary text r utf8)) (cases_eq r 0)
-
-pub row_fits : (text : List ℕ) (offset r : ℕ) → r ≡ row_of (breaks_of text) offset → r ≤ length text
-row_fits text offset r e = omega (arith, row_le (breaks_of text) offset, few_breaks text)

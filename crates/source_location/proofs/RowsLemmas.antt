@@ -53,20 +53,6 @@ row_start_le len list o (suc k) ok e =
     let h : k < length list = omega (arith, row_le list o) in
     omega (arith, row_start_after len list k d h, ends_before_row list o ok k d (omega arith))
 
-place_le_start : (list : List LineBreak) → AreBreaks list → (k : ℕ) (d : LineBreak) → k < length list → k ≤ (get_or list k d).start
-place_le_start list ok zero d h = omega arith
-place_le_start list ok (suc k) d h =
-    omega (arith, place_le_start list ok k d (omega arith), ok.apart k (suc k) d (omega arith) h, (ok.shape k d (omega arith)).0)
-
--- a text has no more breaks than bytes
-pub few_in_text : (len : ℕ) (list : List LineBreak) → IsBreakList len list → length list ≤ len
-few_in_text len list ok =
-    let none : LineBreak = record { start = 0; end = 0 } in
-    ⊎_elim (λ some.
-    let last = length list - 1 in
-    omega (arith, place_le_start list ok.ordered last none (omega (arith, some)), (ok.ordered.shape last none (omega (arith, some))).0, ok.within last none (omega (arith, some))))
-    (λ zero. omega arith) (cases_lt 0 (length list))
-
 later_end : (list : List LineBreak) (k m : ℕ) (d : LineBreak) → AreBreaks list → k ≤ m → m < length list → (get_or list k d).end ≤ (get_or list m d).end
 later_end list k m d ok le h =
     ⊎_elim (λ lt. omega (arith, ok.apart k m d lt h, (ok.shape m d h).0))

@@ -74,6 +74,7 @@ impl<'src, 'index> SourceCode<'src, 'index> {
     pub fn line_index(&self, offset: TextSize) -> OneIndexed
         ensures { result ≡ row_of (breaks_of self.now) offset + 1 }
     {
+        // A look at a field, by which it is known that the index is the text's.
         let _ = &self.text;
         self.index.line_index(offset)
     }
@@ -150,6 +151,7 @@ impl<'src, 'index> SourceCode<'src, 'index> {
     pub fn line_count(&self) -> usize
         ensures { result ≡ row_count self.now }
     {
+        // The same.
         let _ = &self.text;
         self.index.line_count()
     }

@@ -63,8 +63,8 @@ impl<'a> UniversalNewlineIterator<'a> {
     }
 }
 
-#[tactic(auto, using(crate::proofs::NewlinesLemmas::no_newline, crate::proofs::NewlinesLemmas::first_newline))]
 /// The first break of a text: its place in bytes, and its kind. None exactly where the text has no break.
+#[tactic(auto, using(crate::proofs::NewlinesLemmas::no_newline))]
 #[inline]
 pub fn find_newline(text: &str) -> Option<(usize, LineEnding)>
     ensures { MatchOption result (breaks_of text.now ≡ []) (λ found. IsFirstBreak text.now found.0 found.1) }
@@ -204,9 +204,11 @@ impl<'a> NewlineWithTrailingNewline<'a> {
         ensures lines { result ≡ lines_with_trailing offset input.now }
         ensures few { length result ≤ length input.now + 1 }
     {
+        let trailing = Self::trailing_line(input, offset);
+        let underlying = UniversalNewlineIterator::with_offset(input, offset);
         NewlineWithTrailingNewline {
-            underlying: UniversalNewlineIterator::with_offset(input, offset),
-            trailing: Self::trailing_line(input, offset),
+            trailing,
+            underlying,
         }
     }
 

@@ -19,7 +19,8 @@ fn is_line(line: &Option<Line<'_>>, text: &str, start: u32) -> bool {
 
 #[test]
 fn lines_come_from_both_ends_once(rt: HostRuntime) {
-    let mut lines = UniversalNewlineIterator::from("foo\nbar\n\r\nbaz\rbop");
+    let text = "foo\nbar\n\r\nbaz\rbop";
+    let mut lines = UniversalNewlineIterator::from(text);
     assert!(rt; is_line(&lines.next_back(), "bop", 14));
     assert!(rt; is_line(&lines.next(), "foo\n", 0));
     assert!(rt; is_line(&lines.next_back(), "baz\r", 10));
