@@ -1,0 +1,4 @@
+pub mod CharsLemmas
+pub mod WordLemmas
+pub mod FlagLemmas
+pub mod SumLemmas
