@@ -1,5 +1,5 @@
 -- The words of flags: which bytes equal those of another word, and which begin a character.
-use Rattle.std.proofs.Common.{◌≡◌, ℕ, zero, suc, ◌+◌, ◌-◌, ◌*◌, ◌/◌, ◌^◌, ◌<◌, ◌≤◌, Bool, true, false, cond, ◌&&◌, ◌==◌, eqb, T, List, ◌⊎◌, inl, inr, map, replicate, refl, sym, ap, ◌∙◌, subst, arith, bit_and, bit_or, bit_xor}
+use Rattle.std.proofs.Common.{◌≡◌, ℕ, zero, suc, ◌+◌, ◌-◌, ◌*◌, ◌/◌, ◌^◌, ◌<◌, Bool, true, false, cond, ◌&&◌, ◌==◌, eqb, T, ◌⊎◌, inl, inr, replicate, refl, sym, ap, ◌∙◌, subst, arith, bit_and, bit_or, bit_xor}
 use Rattle.std.specs.Simd.Lanes.{zip2}
 use Rattle.std.proofs.lemmas.Bool.{false≢true, cases_order}
 use Rattle.std.proofs.lemmas.Nat.{and_le_r, or_lt, xor_lt}
@@ -9,10 +9,10 @@ use lib.Dec.{eqb→eq, eqb_refl}
 use lib.Bits.{xor_assoc, xor_self, xor_zero_r}
 use Rattle.bytecount.specs.Counts.{begins_char}
 use Rattle.bytecount.specs.Words.{bytes_of, flags}
-use Rattle.bytecount.proofs.WordLemmas.{digits, AreBytes, listed, byte_in, listed_is, bytes_of_digits, digits_of_bytes, length-bytes_of, AreBytes-of, and_bytes, or_bytes, xor_bytes}
+use Rattle.bytecount.proofs.WordLemmas.{digits, AreBytes, byte_in, listed_is, bytes_of_digits, digits_of_bytes, length-bytes_of, AreBytes-of, and_bytes, or_bytes, xor_bytes}
 
 -- ---- a fact of each byte, by trying all 256
-abbrev each_below : ℕ → (ℕ → Bool) → Bool
+abbrev pub each_below : ℕ → (ℕ → Bool) → Bool
 each_below zero test = true
 each_below (suc n) test = test n && each_below n test
 
@@ -29,7 +29,7 @@ tried (suc n) test all b lt = by (test n) refl all (tried n test)
         last (inr (inr more)) = absurd (omega arith)
     by false is both below = absurd (false≢true both)
 
-at_each_byte : (f g : ℕ → ℕ) → each_below 256 (λ b. eqb (f b) (g b)) ≡ true → (b : ℕ) → b < 256 → f b ≡ g b
+pub at_each_byte : (f g : ℕ → ℕ) → each_below 256 (λ b. eqb (f b) (g b)) ≡ true → (b : ℕ) → b < 256 → f b ≡ g b
 at_each_byte f g all b small = eqb→eq _ _ (subst T (sym (tried 256 (λ c. eqb (f c) (g c)) all b small)) tt)
 
 -- ---- what is done to one byte

@@ -2,3 +2,4 @@ pub mod CharsLemmas
 pub mod WordLemmas
 pub mod FlagLemmas
 pub mod SumLemmas
+pub mod LaneLemmas

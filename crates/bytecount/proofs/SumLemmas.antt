@@ -1,5 +1,5 @@
 -- Counts as sums: of the small counters of a word, of the words of a block, and of the last bytes.
-use Rattle.std.proofs.Common.{◌≡◌, ℕ, zero, suc, ◌+◌, ◌-◌, ◌*◌, ◌/◌, ◌%◌, ◌^◌, ◌<◌, ◌≤◌, Bool, true, false, cond, List, [], ◌∷◌, ◌++◌, map, length, get_or, take, drop, sum, sum_by, count_by, refl, sym, ap, ◌∙◌, arith}
+use Rattle.std.proofs.Common.{◌≡◌, ℕ, zero, suc, ◌+◌, ◌-◌, ◌*◌, ◌/◌, ◌%◌, ◌^◌, ◌<◌, ◌≤◌, Bool, true, false, cond, List, [], ◌∷◌, length, get_or, take, drop, sum, sum_by, count_by, refl, sym, ap, ◌∙◌, arith}
 use Rattle.std.specs.Simd.{first_chunks}
 use Rattle.std.proofs.lemmas.List.{drop-map, get_or-drop, drop-drop, length-drop, drop_all}
 use Rattle.std.proofs.lemmas.List.Sums.{sum-map, sum_by-cons, sum_by-append, sum_by-take-drop, sum_by-take-le, count_by-le-length}
@@ -99,14 +99,17 @@ last_flags test word j bytes is =
     ∙ sum-map (λ b. cond (test b) 1 0) (drop j bytes)
 
 -- ---- the bytes of a slice, as words and a rest
-pub count_in_chunks : (test : ℕ → Bool) (k : ℕ) (bytes : List ℕ) → sum_by (λ word. count_by test word) (first_chunks 8 k bytes) ≡ count_by test (take (k * 8) bytes)
-count_in_chunks test zero bytes = refl
-count_in_chunks test (suc k) bytes =
-    let more : suc k * 8 ≡ 8 + k * 8 = omega arith in
-    sum_by-cons (λ word. count_by test word) (take 8 bytes) (first_chunks 8 k (drop 8 bytes))
-    ∙ ap (λ n. count_by test (take 8 bytes) + n) (count_in_chunks test k (drop 8 bytes))
-    ∙ sym (sum_by-append (λ b. cond (test b) 1 0) (take 8 bytes) (take (k * 8) (drop 8 bytes)))
-    ∙ ap (count_by test) (sym (take-add 8 (k * 8) bytes) ∙ ap (λ n. take n bytes) (sym more))
+pub count_in_chunks : (test : ℕ → Bool) (size k : ℕ) (bytes : List ℕ) → sum_by (λ word. count_by test word) (first_chunks size k bytes) ≡ count_by test (take (k * size) bytes)
+count_in_chunks test size zero bytes = ap (λ n. count_by test (take n bytes)) (sym none)
+  where
+    none : 0 * size ≡ 0
+    none = omega arith
+count_in_chunks test size (suc k) bytes =
+    let more : suc k * size ≡ size + k * size = omega arith in
+    sum_by-cons (λ word. count_by test word) (take size bytes) (first_chunks size k (drop size bytes))
+    ∙ ap (λ n. count_by test (take size bytes) + n) (count_in_chunks test size k (drop size bytes))
+    ∙ sym (sum_by-append (λ b. cond (test b) 1 0) (take size bytes) (take (k * size) (drop size bytes)))
+    ∙ ap (count_by test) (sym (take-add size (k * size) bytes) ∙ ap (λ n. take n bytes) (sym more))
 
 -- the whole count, where `left` bytes follow the last whole word, and the last eight bytes overlap it
 pub words_and_rest : (test : ℕ → Bool) (bytes : List ℕ) → 8 ≤ length bytes
@@ -114,7 +117,7 @@ pub words_and_rest : (test : ℕ → Bool) (bytes : List ℕ) → 8 ≤ length b
 words_and_rest test bytes long =
     let n = length bytes in
     let place : (n - 8) + (8 - n % 8) ≡ n / 8 * 8 = omega arith in
-    ap (λ m. m + count_by test (drop (8 - n % 8) (drop (n - 8) bytes))) (count_in_chunks test (n / 8) bytes)
+    ap (λ m. m + count_by test (drop (8 - n % 8) (drop (n - 8) bytes))) (count_in_chunks test 8 (n / 8) bytes)
     ∙ ap (λ l. count_by test (take (n / 8 * 8) bytes) + count_by test l) (drop-drop (8 - n % 8) (n - 8) bytes ∙ ap (λ m. drop m bytes) place)
     ∙ sum_by-take-drop (λ b. cond (test b) 1 0) bytes (n / 8 * 8)
 
@@ -122,7 +125,7 @@ words_and_rest test bytes long =
 pub count_in_chunks-le : (test : ℕ → Bool) (bytes : List ℕ) (words : List (List ℕ)) → words ≡ first_chunks 8 (length bytes / 8) bytes → sum_by (λ word. count_by test word) words ≤ length bytes
 count_in_chunks-le test bytes words is =
     let k = length bytes / 8 in
-    omega (arith, ap (sum_by (λ word. count_by test word)) is, count_in_chunks test k bytes, sum_by-take-le (λ b. cond (test b) 1 0) bytes (k * 8), count_by-le-length test bytes)
+    omega (arith, ap (sum_by (λ word. count_by test word)) is, count_in_chunks test 8 k bytes, sum_by-take-le (λ b. cond (test b) 1 0) bytes (k * 8), count_by-le-length test bytes)
 
 -- the count of a slice, from that of its words and that of the last bytes of the last eight
 pub whole_count : (test : ℕ → Bool) (bytes : List ℕ) (words : List (List ℕ)) (last : List ℕ) (in_words flag_word left in_rest : ℕ) → 8 ≤ length bytes

@@ -1,5 +1,5 @@
 -- What is counted.
-use Rattle.std.specs.Prelude.{ℕ, ◌/◌, ◌^◌, Bool, List, count_by, nat_lt, nat_le, ◌||◌, ◌==◌, not}
+use Rattle.std.specs.Prelude.{ℕ, ◌/◌, ◌^◌, Bool, List, count_by, ◌==◌, not}
 
 -- a byte begins a character where its two top bits, its highest quarter, aren't 10
 abbrev pub begins_char : ℕ → Bool

@@ -1,8 +1,19 @@
 // Counts by example, and the counts by words beside the plain ones.
+ghost use Rattle.std.specs.Prelude.{◌≡◌, ◌==◌, count_by, length};
+ghost use Rattle.std.specs.Str.{chars};
+
 use crate::integer_simd::{chunk_count, chunk_num_chars};
 use crate::{count, naive_count, naive_count_32, naive_num_chars, num_chars};
 use std::process::Abort;
 use std::test::Fail;
+
+/// How many characters a text has, and how many line feeds.
+fn characters_and_line_feeds(text: &str) -> (usize, usize)
+    ensures characters { result.0 ≡ length (chars text.now) }
+    ensures line_feeds { result.1 ≡ count_by (λ byte. byte == 10) text.now }
+{
+    (num_chars(text.as_bytes()), count(text.as_bytes(), b'\n'))
+}
 
 // Every count of one byte, where there are eight bytes or more.
 fn counts(rt: &impl Abort, haystack: &[u8], needle: u8, want: usize) {
@@ -48,5 +59,6 @@ fn characters_are_counted(rt: HostRuntime) -> Result<(), Fail> {
         assert_eq!(rt; naive_num_chars(text.as_bytes()), want);
     }
     assert_eq!(rt; chunk_num_chars(&[0x80; 9]), 0);
+    assert_eq!(rt; characters_and_line_feeds("メカ\nジキ\n"), (6, 2));
     Ok(())
 }

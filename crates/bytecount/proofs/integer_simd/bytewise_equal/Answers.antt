@@ -1,5 +1,4 @@
 use Rattle.std.proofs.Common.{bit_xor}
-use mir.Val.{Fits}
 use Rattle.bytecount.proofs.FlagLemmas.{equal_bytes, carried_fits}
 use Rattle.bytecount.proofs.integer_simd.bytewise_equal.Goals as goal
 

@@ -1,4 +1,4 @@
-use Rattle.std.proofs.Common.{ℕ, ◌+◌, ◌==◌, [], List, get_or, take, sum_by, count_by, sym, ap, ◌∙◌, arith}
+use Rattle.std.proofs.Common.{ℕ, ◌+◌, ◌==◌, [], List, get_or, count_by, sym, ap, ◌∙◌, arith}
 use Rattle.std.proofs.lemmas.List.Sums.{sum_by_more}
 use Rattle.bytecount.specs.Words.{flags}
 use Rattle.bytecount.proofs.FlagLemmas.{against_splat}

@@ -1,5 +1,5 @@
-use Rattle.std.proofs.Common.{◌≡◌, ◌*◌, arith}
-use Rattle.bytecount.proofs.WordLemmas.{bytes_of_digits, digits}
+use Rattle.std.proofs.Common.{arith}
+use Rattle.bytecount.proofs.WordLemmas.{bytes_of_digits}
 use Rattle.bytecount.proofs.integer_simd.splat.Goals as goal
 
 pub returns : goal.returns
