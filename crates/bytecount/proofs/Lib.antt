@@ -1,0 +1,5 @@
+pub mod CharsLemmas
+pub mod WordLemmas
+pub mod FlagLemmas
+pub mod SumLemmas
+pub mod LaneLemmas
