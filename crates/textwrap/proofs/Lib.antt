@@ -1,0 +1,9 @@
+pub mod WidthLemmas
+pub mod CutsLemmas
+pub mod WordsLemmas
+pub mod PiecesLemmas
+pub mod LinesLemmas
+pub mod FirstFit
+pub mod LayoutLemmas
+pub mod FilledLemmas
+pub mod FrontsLemmas

@@ -1,0 +1,7 @@
+pub mod Width
+pub mod Cuts
+pub mod Words
+pub mod Pieces
+pub mod Lines
+pub mod Filled
+pub mod Layout

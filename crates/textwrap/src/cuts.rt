@@ -1,0 +1,48 @@
+//! The front of a text that fits a room.
+ghost use Rattle.std.specs.Prelude.{◌≡◌, ◌==◌, ◌&&◌, nat_lt, ◌*◌, ◌<◌, ◌≤◌, [], ◌∷◌, length, take, drop, if◌then◌else◌};
+ghost use Rattle.std.specs.Str.{IsCharBoundary};
+ghost use Rattle.textwrap.specs.Width.{display_width as width_of_text};
+ghost use Rattle.textwrap.specs.Cuts.{cuts};
+
+use crate::pen::{moved_over, pen_at_start};
+
+/// The bytes of the front of a text, and its width in cells.
+#[derive(Clone, Copy, Debug, PartialEq, Eq)]
+pub struct Front {
+    pub len: usize,
+    pub width: usize,
+}
+
+/// The longest front of a text that fits the room, and no less than a character.
+pub fn front_cut(text: &str, room: usize) -> Front
+    ensures cut { cuts room text.now ≡ (if result.len == length text.now then text.now ∷ [] else take result.len text.now ∷ cuts room (drop result.len text.now)) }
+    ensures width { result.width ≡ width_of_text (take result.len text.now) }
+    ensures bound { result.width ≤ 2 * result.len }
+    ensures boundary { IsCharBoundary text.now result.len }
+    ensures some { 0 < length text.now → 0 < result.len }
+{
+    let mut pen = pen_at_start();
+    let mut len = 0;
+    for c in text.chars() {
+        let next = moved_over(pen, c);
+        if is_over(len, next.width, room) {
+            return Front {
+                len,
+                width: pen.width,
+            };
+        }
+        pen = next;
+        len += c.len_utf8();
+    }
+    Front {
+        len,
+        width: pen.width,
+    }
+}
+
+/// Whether a character no longer belongs to a front of `len` bytes, which it would make `width` cells wide.
+fn is_over(len: usize, width: usize, room: usize) -> bool
+    ensures { result ≡ (nat_lt 0 len && nat_lt room width) }
+{
+    len > 0 && width > room
+}

@@ -1,0 +1,92 @@
+//! Texts filled to a width.
+ghost use Rattle.std.specs.Prelude.{◌≡◌, ◌++◌, ◌-◌, IfOk, OnOk, map, string_bytes};
+ghost use Rattle.std.specs.List.{flat_map};
+ghost use Rattle.textwrap.specs.Filled.{IsFilled, filled, filled_part, filled_parts, joined_by_breaks, later_part, parts_of as parts_of_text, room};
+
+use crate::core_::display_width;
+use crate::lines::push_pieces;
+use crate::options::Options;
+use crate::pieces::pieces_of;
+use std::alloc::{AllocError, Global};
+
+/// Fills a text to the options' width: each part of it between LFs by itself, by first fit.
+///
+/// A part is laid out in words, and the spaces behind them. A word may be parted behind a `-` between two
+/// ASCII letters or digits, and where it is wider than the room of a later line, then into longest pieces that
+/// fit. A line takes pieces, with the spaces between them, as long as they fit behind its indent, and
+/// one in any case; spaces at its end are dropped. Lines are joined by LF.
+#[tactic(auto, using(crate::proofs::FilledLemmas::filled_is))]
+pub fn fill(alloc: Global, text: &str, options: &Options<'_>) -> Result<String, AllocError>
+    ensures relation { IfOk result (λ out. IsFilled options.now.width options.now.initial_indent.now options.now.subsequent_indent.now text.now (string_bytes out)) }
+    ensures value { IfOk result (λ out. string_bytes out ≡ filled options.now.width options.now.initial_indent.now options.now.subsequent_indent.now text.now) }
+{
+    let parts = parts_of(alloc, text)?;
+    let mut out = String::new(alloc);
+    push_parts(alloc, &mut out, &parts, options)?;
+    Ok(out)
+}
+
+/// The parts of a text between LFs.
+fn parts_of<'a>(alloc: Global, text: &'a str) -> Result<Vec<&'a str>, AllocError>
+    ensures { IfOk result (λ parts. map (λ part. part.now) parts.items ≡ parts_of_text text.now) }
+{
+    text.split('\n').collect(alloc)
+}
+
+/// The parts of a text, filled, with LFs between them.
+fn push_parts(
+    alloc: Global,
+    out: &mut String,
+    parts: &[&str],
+    options: &Options<'_>,
+) -> Result<(), AllocError>
+    ensures { OnOk result (string_bytes out.new ≡ string_bytes out.old ++ joined_by_breaks (filled_parts options.now.width options.now.initial_indent.now options.now.subsequent_indent.now (map (λ part. part.now) parts.now))) }
+{
+    let Some((first, later)) = parts.split_first() else {
+        return Ok(());
+    };
+    push_part(alloc, out, first, options, options.initial_indent)?;
+    push_later_parts(alloc, out, later, options)
+}
+
+/// Parts behind others.
+fn push_later_parts(
+    alloc: Global,
+    out: &mut String,
+    parts: &[&str],
+    options: &Options<'_>,
+) -> Result<(), AllocError>
+    ensures { OnOk result (string_bytes out.new ≡ string_bytes out.old ++ flat_map (later_part options.now.width options.now.subsequent_indent.now) (map (λ part. part.now) parts.now)) }
+{
+    for part in parts {
+        out.push('\n')?;
+        push_part(alloc, out, part, options, options.subsequent_indent)?;
+    }
+    Ok(())
+}
+
+/// A part, with an indent before its first line.
+#[tactic(auto, using(crate::proofs::FilledLemmas::part_text))]
+fn push_part(
+    alloc: Global,
+    out: &mut String,
+    part: &str,
+    options: &Options<'_>,
+    indent: &str,
+) -> Result<(), AllocError>
+    ensures { OnOk result (string_bytes out.new ≡ string_bytes out.old ++ joined_by_breaks (filled_part options.now.width indent.now options.now.subsequent_indent.now part.now)) }
+{
+    let first = room_behind(options.width, indent);
+    let later = room_behind(options.width, options.subsequent_indent);
+    let pieces = pieces_of(alloc, part, later)?;
+    out.push_str(indent)?;
+    push_pieces(out, &pieces, first, later, options.subsequent_indent)
+}
+
+/// The cells that an indent leaves to its line.
+#[tactic(auto, unfolding(crate::specs::Filled::room))]
+fn room_behind(width: usize, indent: &str) -> usize
+    ensures { result ≡ room width indent.now }
+{
+    width.saturating_sub(display_width(indent))
+}

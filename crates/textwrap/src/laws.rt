@@ -1,0 +1,17 @@
+//! What the definitions mean, as laws. Each function does nothing: a caller calls it to know its law.
+ghost use Rattle.textwrap.specs.Cuts.{IsCut, IsOneCut, cuts};
+ghost use Rattle.textwrap.specs.Filled.{HasOneFilling, IsFilled, filled};
+
+use crate::options::Options;
+
+/// The law that a text is filled in one way, which `filled` computes.
+pub fn one_filling(_text: &str, _options: &Options<'_>)
+    ensures one { HasOneFilling _options.now.width _options.now.initial_indent.now _options.now.subsequent_indent.now _text.now }
+    ensures computed { IsFilled _options.now.width _options.now.initial_indent.now _options.now.subsequent_indent.now _text.now (filled _options.now.width _options.now.initial_indent.now _options.now.subsequent_indent.now _text.now) }
+{}
+
+/// The law that a word is cut in one way into longest fronts that fit the room, which `cuts` computes.
+pub fn one_cut(_text: &str, _room: usize)
+    ensures one { IsOneCut _room _text.now }
+    ensures computed { IsCut _room _text.now (cuts _room _text.now) }
+{}

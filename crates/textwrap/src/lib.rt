@@ -1,0 +1,19 @@
+//! Texts filled to a width by first fit, and the width that a text takes on a screen.
+#![tactic(auto)]
+
+pub mod core_;
+mod cuts;
+mod filling;
+mod laws;
+mod lines;
+mod options;
+mod pen;
+mod pieces;
+mod words;
+
+pub use filling::fill;
+pub use laws::{one_cut, one_filling};
+pub use options::Options;
+
+#[cfg(test)]
+mod tests;

@@ -1,0 +1,103 @@
+//! Pieces laid out in lines.
+ghost use Rattle.std.specs.Prelude.{◌≡◌, ◌++◌, ◌+◌, ◌^◌, ◌<◌, IfOk, OnOk, map, string_bytes};
+ghost use Rattle.textwrap.specs.Pieces.{extent, piece_view};
+ghost use Rattle.textwrap.specs.Filled.{spaces};
+ghost use Rattle.textwrap.specs.Layout.{continued, laid_out, line_behind, placed};
+
+use crate::pieces::Piece;
+use std::alloc::AllocError;
+
+/// A line so far.
+#[derive(Clone, Copy, Debug, PartialEq, Eq)]
+pub struct Line {
+    /// The cells that it has room for.
+    pub room: usize,
+    /// The cells that its pieces and the gaps between them take.
+    pub used: usize,
+    /// The spaces behind its last piece.
+    pub gap: usize,
+}
+
+/// Lays pieces out behind an indent, by first fit.
+#[tactic(auto, unfolding(crate::specs::Layout::laid_out))]
+pub fn push_pieces(
+    out: &mut String,
+    pieces: &[Piece<'_>],
+    first: usize,
+    later: usize,
+    indent: &str,
+) -> Result<(), AllocError>
+    requires { extent (map piece_view pieces.now) < 2 ^ 64 }
+    ensures { OnOk result (string_bytes out.new ≡ string_bytes out.old ++ laid_out indent.now first later (map piece_view pieces.now)) }
+{
+    let Some((piece, more)) = pieces.split_first() else {
+        return Ok(());
+    };
+    out.push_str(piece.text)?;
+    let line = Line {
+        room: first,
+        used: piece.width,
+        gap: piece.gap,
+    };
+    push_more(out, line, more, later, indent)
+}
+
+/// Lays pieces out behind a line so far.
+fn push_more(
+    out: &mut String,
+    first: Line,
+    pieces: &[Piece<'_>],
+    later: usize,
+    indent: &str,
+) -> Result<(), AllocError>
+    requires { first.used + first.gap + extent (map piece_view pieces.now) < 2 ^ 64 }
+    ensures { OnOk result (string_bytes out.new ≡ string_bytes out.old ++ continued indent.now later first (map piece_view pieces.now)) }
+{
+    let mut line = first;
+    for piece in pieces {
+        line = push_piece(out, line, piece, later, indent)?;
+    }
+    Ok(())
+}
+
+/// Puts a piece into the line where it fits, and else into the next one.
+#[tactic(auto, unfolding(crate::specs::Layout::placed, crate::specs::Layout::line_behind))]
+fn push_piece(
+    out: &mut String,
+    line: Line,
+    piece: &Piece<'_>,
+    later: usize,
+    indent: &str,
+) -> Result<Line, AllocError>
+    requires { line.used + line.gap + piece.now.width < 2 ^ 64 }
+    ensures line { IfOk result (λ next. next ≡ line_behind later line (piece_view piece.now)) }
+    ensures text { OnOk result (string_bytes out.new ≡ string_bytes out.old ++ placed indent.now line (piece_view piece.now)) }
+{
+    let used = line.used + line.gap + piece.width;
+    if used <= line.room {
+        push_spaces(out, line.gap)?;
+        out.push_str(piece.text)?;
+        return Ok(Line {
+            room: line.room,
+            used,
+            gap: piece.gap,
+        });
+    }
+    out.push('\n')?;
+    out.push_str(indent)?;
+    out.push_str(piece.text)?;
+    Ok(Line {
+        room: later,
+        used: piece.width,
+        gap: piece.gap,
+    })
+}
+
+fn push_spaces(out: &mut String, count: usize) -> Result<(), AllocError>
+    ensures { OnOk result (string_bytes out.new ≡ string_bytes out.old ++ spaces count) }
+{
+    for _i in 0..count {
+        out.push(' ')?;
+    }
+    Ok(())
+}
