@@ -1,6 +1,6 @@
 -- How many columns a text takes: the sum of the advances of its characters. `tab` is the distance of the tab stops.
-use Rattle.std.specs.Prelude.{ℕ, ◌+◌, ◌-◌, ◌%◌, nat_lt, nat_le, ◌==◌, ◌&&◌, ◌||◌, Bool, true, false, not, List, [], ◌∷◌, fold, if◌then◌else◌}
-use Rattle.std.specs.List.{flat_map}
+use Rattle.std.specs.Prelude.{ℕ, ◌+◌, ◌-◌, ◌%◌, nat_lt, nat_le, ◌==◌, ◌&&◌, ◌||◌, Bool, true, false, not, List, [], ◌∷◌, fold, map, if◌then◌else◌}
+use Rattle.std.specs.List.{flat_map, list_all}
 use Rattle.std.specs.Str.{chars}
 use Rattle.unicode_segmentation.specs.Grapheme.{graphemes}
 use Rattle.unicode_width.specs.Width.{str_width}
@@ -48,3 +48,11 @@ at_margin = record { column = 0; in_escape = false }
 -- the columns of a text
 unfoldable pub text_width : ℕ → List ℕ → ℕ
 text_width tab text = (fold (moved tab) at_margin (led_text text)).column
+
+-- a text of ASCII without LF: each of its bytes is a character and a cluster of its own
+abbrev pub is_plain : List ℕ → Bool
+is_plain text = list_all (λ byte. nat_lt byte 128 && not (byte == 10)) text
+
+-- the pen after bytes of such a text
+unfoldable pub pen_after : ℕ → Pen → List ℕ → Pen
+pen_after tab pen bytes = fold (moved tab) pen (map {B = ℕ × ℕ} (λ byte. (1, byte)) bytes)

@@ -4,7 +4,7 @@
 ghost use Rattle.std.specs.Prelude.{◌≡◌, ◌+◌, ◌*◌, ◌^◌, ◌<◌, ◌≤◌, fold, length, if◌then◌else◌};
 ghost use Rattle.std.specs.Str.{IsCharBoundary};
 ghost use Rattle.oxc_plan.specs.Rows.{row_view};
-ghost use Rattle.oxc_plan.specs.Width.{advance_of, led, moved, text_width};
+ghost use Rattle.oxc_plan.specs.Width.{advance_of, is_plain, led, moved, pen_after, text_width};
 ghost use Rattle.oxc_plan.specs.Columns.{HasColumnsAsDrawn, boundary_down, boundary_up, column_at, column_in};
 
 use crate::rows::Row;
@@ -78,6 +78,33 @@ pub fn text_width(text: &str, tab: usize) -> usize
     ensures exact { result ≡ text_width tab text.now }
     ensures bound { result ≤ 18 * length text.now }
 {
+    if is_plain(text) {
+        let margin = Pen {
+            column: 0,
+            in_escape: false,
+        };
+        return pen_over(margin, text.as_bytes(), tab).column;
+    }
+    width_by_clusters(text, tab)
+}
+
+/// Whether a text is ASCII without LF. Its bytes are its clusters then.
+fn is_plain(text: &str) -> bool
+    ensures { result ≡ is_plain text.now }
+{
+    text.as_bytes()
+        .iter()
+        .all(|byte| *byte < 128 && *byte != b'\n')
+}
+
+/// The columns that a text takes, cluster by cluster.
+fn width_by_clusters(text: &str, tab: usize) -> usize
+    requires fits { length text.now < 2 ^ 32 }
+    requires some { 1 ≤ tab }
+    requires most { tab ≤ 16 }
+    ensures exact { result ≡ text_width tab text.now }
+    ensures bound { result ≤ 18 * length text.now }
+{
     let mut pen = Pen {
         column: 0,
         in_escape: false,
@@ -95,6 +122,20 @@ pub struct Pen {
     pub column: usize,
     /// Whether an escape is unfinished.
     pub in_escape: bool,
+}
+
+/// The pen after the bytes of a text of ASCII without LF.
+fn pen_over(mut pen: Pen, bytes: &[u8], tab: usize) -> Pen
+    requires room { pen.column + 17 * length bytes.now < 2 ^ 64 }
+    requires some { 1 ≤ tab }
+    requires most { tab ≤ 16 }
+    ensures exact { result ≡ pen_after tab pen bytes.now }
+    ensures bound { result.column ≤ pen.column + 17 * length bytes.now }
+{
+    for byte in bytes {
+        pen = moved_over(pen, 1, char::from(*byte), tab);
+    }
+    pen
 }
 
 /// The pen after a cluster.
