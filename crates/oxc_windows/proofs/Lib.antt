@@ -4,3 +4,4 @@ pub mod RowsLemmas
 pub mod PlacesLemmas
 pub mod WindowLemmas
 pub mod TextLemmas
+pub mod ReadLemmas

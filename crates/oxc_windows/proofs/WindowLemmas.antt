@@ -1,5 +1,5 @@
 -- Where windows begin and end.
-use Rattle.std.proofs.Common.{◌≡◌, ℕ, ◌+◌, ◌-◌, ◌<◌, ◌≤◌, ◌&&◌, true, false, List, length, min, Some, refl, sym, ap, ◌∙◌, arith, eqb, ltb, suc, zero, ⊎_elim}
+use Rattle.std.proofs.Common.{◌≡◌, ℕ, ◌+◌, ◌-◌, ◌<◌, ◌≤◌, ◌&&◌, true, false, List, length, min, Some, None, refl, sym, ap, ◌∙◌, arith, eqb, ltb, suc, zero, ⊎_elim}
 use Rattle.std.proofs.lemmas.Bool.{cases_lt, and_parts, eqb-true}
 use Rattle.std.proofs.lemmas.Bool.Decides.{nat_tests}
 use Rattle.std.proofs.lemmas.List.Folds.{Any-from_list_any}
@@ -63,3 +63,11 @@ past_none len end le = grind (arith, nat_tests)
 pub window_of_inside : (len : ℕ) (list : List LineBreak) (before after start end : ℕ) → end ≤ len → window_of len list before after start end ≡ Some (window_at len list before after start end)
 unfolding window_of
 window_of_inside len list before after start end le = rw (past_none len end le) refl
+
+-- a span that ends past the text has none
+past_some : (len end : ℕ) → len < end → ltb len end ≡ true
+past_some len end lt = grind (arith, nat_tests)
+
+pub window_of_past : (len : ℕ) (list : List LineBreak) (before after start end : ℕ) → len < end → window_of len list before after start end ≡ None
+unfolding window_of
+window_of_past len list before after start end lt = rw (past_some len end lt) refl

@@ -1,5 +1,6 @@
 -- What contracts see of a scanner, and of the contents that it reads.
-use Rattle.std.specs.Prelude.{ℕ, List, length, slice_range, Option}
+use Rattle.std.specs.Prelude.{◌≡◌, ℕ, ◌+◌, ◌<◌, ◌≤◌, List, length, slice_range, Option}
+use Rattle.std.specs.Str.{IsUtf8}
 use Rattle.std.specs.Option.{option_map}
 use Rattle.oxc_span.specs.declared.span.Span.{Span}
 use Rattle.oxc_windows.specs.declared.window.Window.{Window}
@@ -38,3 +39,17 @@ window_in scan span = window_of (length scan.input) (breaks_of scan.input) scan.
 -- what a scanner reads of a span: the contents of its window, if it has one
 abbrev pub contents_read : Scan → Span → Option Contents
 contents_read scan span = option_map (contents_of scan.input) (window_in scan span)
+
+-- a scanner reads a text, in whole rows: a row of context or more is asked for on both sides
+pub record IsReadInRows (scan : Scan) : Type 0 where
+  pub text : IsUtf8 scan.input
+  pub before : 1 ≤ scan.before
+  pub after : 1 ≤ scan.after
+
+-- the span is as long as the bytes
+abbrev pub IsMeasured : Contents → Type 0
+IsMeasured contents = contents.span.start + length contents.bytes ≡ contents.span.end
+
+-- the numbers of rows are below `u32::MAX`
+abbrev pub IsNumbered : Contents → Type 0
+IsNumbered contents = (contents.line < 4294967295) × (contents.line_count < 4294967295)

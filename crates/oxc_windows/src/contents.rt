@@ -1,6 +1,6 @@
 //! The contents of a window.
-ghost use Rattle.std.specs.Prelude.{◌≡◌, ◌+◌, ◌<◌, ◌≤◌, ◌^◌, length};
-ghost use Rattle.oxc_windows.specs.Scan.{contents_of};
+ghost use Rattle.std.specs.Prelude.{◌≡◌, ◌<◌, ◌≤◌, ◌^◌, length};
+ghost use Rattle.oxc_windows.specs.Scan.{IsMeasured, contents_of};
 
 use crate::Window;
 use oxc_span::Span;
@@ -82,7 +82,7 @@ pub fn contents_in<'a>(input: &'a [u8], window: Window) -> SpanContents<'a>
     requires ordered { window.begin ≤ window.end }
     requires within { window.end ≤ length input.now }
     ensures exact { result ≡ contents_of input.now window }
-    ensures measured { result.span.start + length result.bytes ≡ result.span.end }
+    ensures measured { IsMeasured result }
 {
     SpanContents::new(
         &input[window.begin..window.end],

@@ -1,7 +1,7 @@
 //! The scanner, which reads windows of one source.
-ghost use Rattle.std.specs.Prelude.{◌≡◌, ◌+◌, ◌<◌, ◌≤◌, ◌↔◌, length, IfOk, IfSome, IsNone, IsTrue};
+ghost use Rattle.std.specs.Prelude.{◌≡◌, ◌<◌, ◌≤◌, ◌↔◌, length, IfOk, IfSome, IsNone, IsTrue};
 ghost use Rattle.std.specs.Str.{IsUtf8};
-ghost use Rattle.oxc_windows.specs.Scan.{contents_read};
+ghost use Rattle.oxc_windows.specs.Scan.{IsMeasured, IsNumbered, IsReadInRows, contents_read};
 
 use crate::SpanContents;
 use crate::breaks::line_breaks;
@@ -71,10 +71,10 @@ impl<'a> SpanScanner<'a> {
         requires { span.start ≤ span.end }
         ensures value { IfOk result (λ found. found ≡ contents_read self.old span) }
         ensures none { IfOk result (λ found. IsNone found ↔ (length self.old.input < span.end)) }
-        // with a row of context on both sides, a text is cut where rows begin
-        ensures text { IsUtf8 self.old.input → 1 ≤ self.old.before → 1 ≤ self.old.after → IfOk result (λ found. IfSome found (λ contents. IsUtf8 contents.bytes)) }
-        ensures measured { IfOk result (λ found. IfSome found (λ contents. contents.span.start + length contents.bytes ≡ contents.span.end)) }
-        ensures numbered { IfOk result (λ found. IfSome found (λ contents. contents.line < 4294967295)) }
+        // a text is cut where rows begin
+        ensures text { IsReadInRows self.old → IfOk result (λ found. IfSome found (λ contents. IsUtf8 contents.bytes)) }
+        ensures measured { IfOk result (λ found. IfSome found IsMeasured) }
+        ensures numbered { IfOk result (λ found. IfSome found IsNumbered) }
         ensures unchanged { self.new ≡ self.old }
     {
         let len = self.input.len();

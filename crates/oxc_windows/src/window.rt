@@ -123,7 +123,7 @@ pub fn window_at(
     ensures from { result.begin ≤ start }
     ensures upto { end ≤ result.end }
     ensures inside { result.end ≤ len }
-    ensures few { result.line ≤ len }
+    ensures few { (result.line ≤ len) × (result.line_count ≤ len) }
 {
     let row = row_at(breaks, start);
     let last = end_of_window(len, breaks, after, end);

@@ -1,0 +1,124 @@
+//! The rows of what a scanner read.
+ghost use Rattle.std.specs.Prelude.{◌≡◌, ◌+◌, ◌^◌, ◌<◌, ◌≤◌, IfOk, length, map, take};
+ghost use Rattle.std.specs.Str.{IsCharBoundary, IsUtf8};
+ghost use Rattle.oxc_windows.specs.Scan.{IsMeasured};
+ghost use Rattle.oxc_plan.specs.Rows.{first_len, row_of_piece, row_text, row_view, rows_from, rows_of};
+
+use memchr::memchr;
+use oxc_windows::SpanContents;
+use std::alloc::{AllocError, Global};
+use std::str::from_utf8;
+
+/// A row of a snippet.
+#[derive(Clone, Copy, Debug)]
+pub struct Row<'a> {
+    /// Its number, from 1.
+    pub number: usize,
+    /// The offset of its first byte in the source.
+    pub offset: usize,
+    /// The number of its bytes, its LF with them.
+    pub length: usize,
+    /// Its text, without its LF and one CR before it.
+    pub text: &'a str,
+}
+
+/// The rows of contents that are UTF-8: the pieces after each LF, with their true offsets, lengths and texts.
+///
+/// Rows are numbered from the row in which the contents begin, one after another. A last piece that ends in a CR,
+/// with no LF, keeps the CR in its text, and its number is one less.
+///
+/// # Errors
+///
+/// Want of memory.
+pub fn rows_of<'a>(alloc: Global, contents: &SpanContents<'a>) -> Result<Vec<Row<'a>>, AllocError>
+    requires text { IsUtf8 contents.now.bytes }
+    requires measured { IsMeasured contents.now }
+    requires numbered { contents.now.line < 4294967295 }
+    ensures { IfOk result (λ rows. map row_view rows.items ≡ rows_of contents.now) }
+{
+    let span = *contents.span();
+    match from_utf8(contents.bytes()) {
+        Ok(text) => rows_of_text(alloc, text, span.start as usize, contents.line()),
+        Err(_) => unreachable!(),
+    }
+}
+
+/// The rows of a text that begins at an offset, below so many rows.
+fn rows_of_text<'a>(
+    alloc: Global,
+    text: &'a str,
+    begin: usize,
+    line: usize,
+) -> Result<Vec<Row<'a>>, AllocError>
+    requires line { line < 2 ^ 32 }
+    requires end { begin + length text.now < 2 ^ 32 }
+    ensures { IfOk result (λ rows. map row_view rows.items ≡ rows_from line begin text.now) }
+{
+    let mut rows = Vec::new(alloc);
+    let mut at = 0;
+    let mut above = line;
+    while at < text.len() {
+        let piece = first_piece(&text[at..]);
+        rows.push(row_of_piece(piece, begin + at, above))?;
+        at += piece.len();
+        above += 1;
+    }
+    Ok(rows)
+}
+
+/// The row of a piece, below so many rows.
+fn row_of_piece<'a>(piece: &'a str, offset: usize, above: usize) -> Row<'a>
+    requires { above < 2 ^ 63 }
+    ensures { row_view result ≡ row_of_piece above offset piece.now }
+{
+    let number = if let [.., b'\r'] = piece.as_bytes() {
+        above
+    } else {
+        above + 1
+    };
+    Row {
+        number,
+        offset,
+        length: piece.len(),
+        text: text_of(piece),
+    }
+}
+
+/// A piece without its LF and one CR before it.
+#[tactic(auto, unfolding(crate::specs::Rows::row_text))]
+fn text_of<'a>(piece: &'a str) -> &'a str
+    ensures { result.now ≡ row_text piece.now }
+{
+    let bytes = piece.as_bytes();
+    let n = bytes.len();
+    if n == 0 || bytes[n - 1] != b'\n' {
+        return piece;
+    }
+    if n > 1 && bytes[n - 2] == b'\r' {
+        &piece[..n - 2]
+    } else {
+        &piece[..n - 1]
+    }
+}
+
+/// The first piece of a text.
+fn first_piece<'a>(text: &'a str) -> &'a str
+    requires { 0 < length text.now }
+    ensures exact { result.now ≡ take (first_len text.now) text.now }
+    ensures boundary { IsCharBoundary text.now (length result.now) }
+    ensures some { 0 < length result.now }
+{
+    &text[..piece_len(text)]
+}
+
+/// How long the first piece is, its LF with it.
+fn piece_len(text: &str) -> usize
+    requires { 0 < length text.now }
+    ensures exact { result ≡ first_len text.now }
+    ensures boundary { IsCharBoundary text.now result }
+{
+    match memchr(b'\n', text.as_bytes()) {
+        Some(at) => at + 1,
+        None => text.len(),
+    }
+}
