@@ -8,7 +8,7 @@ loop-byte-preserved c =
     let kept = c.loop-byte.invariant in
     record {
       ahead = rw (c.moved_over-pen.ensures, c.from.ensures) (pen_more c.args.tab c.loop-byte.pen c.args.bytes.now c.loop-byte.byte-index _ c.loop-byte-test.true ∙ kept.ahead);
-      room = rw c.moved_over-pen.ensures (omega (arith, kept.room, advance_of-le c.args.tab c.loop-byte.pen.in_escape c.loop-byte.pen.column 1 _ c.requires.most));
+      room = rw c.moved_over-pen.ensures (omega (arith, kept.room, advance_of-le c.args.tab c.loop-byte.pen.in_escape c.loop-byte.pen.column 1 c.from.result c.requires.most));
     }
 
 pub returns-clause-exact : goal.returns-clause-exact
