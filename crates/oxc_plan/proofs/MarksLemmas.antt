@@ -1,6 +1,6 @@
 -- Placed marks: one more, their order, and where they are the labels' own cells.
-use Rattle.std.proofs.Common.{◌≡◌, ℕ, ◌+◌, ◌<◌, ◌≤◌, true, false, List, [], ◌∷◌, ◌++◌, length, map, take, drop, get_or, refl, sym, ap, subst, ◌∙◌, arith, zero, suc}
-use Rattle.std.specs.Prelude.{All, AllPairs}
+use Rattle.std.proofs.Common.{◌≡◌, ℕ, ◌+◌, ◌<◌, ◌≤◌, Bool, true, false, List, [], ◌∷◌, ◌++◌, length, map, drop, get_or, refl, sym, ap, subst, ◌∙◌, arith, suc}
+use Rattle.std.specs.Prelude.{All, max, ◌==◌, if◌then◌else◌}
 use Rattle.std.proofs.lemmas.Bool.Decides.{nat_tests}
 use Rattle.std.proofs.lemmas.List.{at_drop_more, at_drop_all, append_assoc}
 use Rattle.std.proofs.lemmas.List.Elements.{All-head, All-tail, All-map}
@@ -10,7 +10,8 @@ use Rattle.oxc_plan.specs.declared.marks.MarkCells.{MarkCells}
 use Rattle.oxc_plan.specs.Groups.{span_at}
 use Rattle.oxc_plan.specs.Meets.{one_row_labels}
 use Rattle.oxc_plan.specs.Rows.{RowView}
-use Rattle.oxc_plan.specs.Marks.{cells_of, cells_at, mark_of, mark_start, mark_end, placed_marks, marked_cells, row_cells, row_marks, AreInOrder, DoNotOverlap, HasExactMarks}
+use Rattle.oxc_plan.specs.Columns.{column_at}
+use Rattle.oxc_plan.specs.Marks.{cells_of, cells_at, mark_of, mark_start, mark_end, placed_marks, marked_cells, row_cells, AreInOrder, DoNotOverlap, HasEndsByColumns, HasExactMarks}
 
 -- one mark more, and none
 pub placed_more : (marks : List MarkCells) (before tab : ℕ) (row : RowView) (spans : List Span) (places : List ℕ) (i d : ℕ) → i < length places
@@ -65,3 +66,11 @@ marks_are_exact tab row spans apart =
     exact_from 0 (row_cells tab row spans) (λ i d lt. omega arith)
     (All-map (λ (c : LabelCells). c.start < c.end) (λ at. cells_of tab row at (span_at spans at)) (one_row_labels row.offset row.length spans) (λ i d lt. let at = get_or (one_row_labels row.offset row.length spans) i d in some_cells tab row at (span_at spans at)))
     apart
+
+pub ends_by_columns : (tab : ℕ) (row : RowView) → HasEndsByColumns tab row
+ends_by_columns tab row before label span = ends_at before (column_at tab row span.start true) (column_at tab row span.end false) (span.start == span.end)
+  where
+    ends_at : (before first past : ℕ) (empty : Bool)
+        → max (if empty then first + 1 else max past (first + 1)) (max first before + 1) ≡ (if empty then max first before + 1 else max past (max first before + 1))
+    ends_at before first past true = omega arith
+    ends_at before first past false = omega arith

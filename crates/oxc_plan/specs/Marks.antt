@@ -1,5 +1,5 @@
 -- The marks of a row: one for each of its one-row labels, in label order, none over another.
-use Rattle.std.specs.Prelude.{◌≡◌, ℕ, ◌+◌, ◌/◌, ◌<◌, ◌≤◌, ◌==◌, true, false, List, [], ◌∷◌, All, AllPairs, map, max, if◌then◌else◌}
+use Rattle.std.specs.Prelude.{◌≡◌, ℕ, ◌+◌, ◌/◌, ◌<◌, ◌≤◌, ◌==◌, true, false, List, [], ◌∷◌, AllPairs, map, max, if◌then◌else◌}
 use Rattle.oxc_span.specs.declared.span.Span.{Span}
 use Rattle.oxc_plan.specs.declared.marks.LabelCells.{LabelCells}
 use Rattle.oxc_plan.specs.declared.marks.MarkCells.{MarkCells}
@@ -10,10 +10,12 @@ use Rattle.oxc_plan.specs.Columns.{column_at}
 
 -- the cells of a one-row label: from the column of its start to before that of its end, one at least, and one where
 -- the label is empty
+abbrev pub cells_between : ℕ → Span → ℕ → ℕ → LabelCells
+cells_between label span first past =
+    record { label = label; start = first; end = (if span.start == span.end then first + 1 else max past (first + 1)) }
+
 abbrev pub cells_of : ℕ → RowView → ℕ → Span → LabelCells
-cells_of tab row label span =
-    let start = column_at tab row span.start true in
-    record { label = label; start = start; end = (if span.start == span.end then start + 1 else max (column_at tab row span.end false) (start + 1)) }
+cells_of tab row label span = cells_between label span (column_at tab row span.start true) (column_at tab row span.end false)
 
 -- the cells of the labels at these places of spans in label order
 unfoldable pub cells_at : ℕ → RowView → List Span → List ℕ → List LabelCells
@@ -57,6 +59,14 @@ DoNotOverlap cells = AllPairs (λ a b. a.end ≤ b.start) cells
 -- the cells that a mark takes
 abbrev pub marked_cells : MarkCells → LabelCells
 marked_cells mark = record { label = mark.label; start = mark.start; end = mark.end }
+
+-- the law: a mark ends one cell after its start where its label is empty, and otherwise at the column of the label's end,
+-- or one cell after its start if that is later
+abbrev pub HasEndsByColumns : ℕ → RowView → Type 0
+HasEndsByColumns tab row =
+    (before label : ℕ) (span : Span)
+    → let mark = mark_of before (cells_of tab row label span) in
+    mark.end ≡ (if span.start == span.end then mark.start + 1 else max (column_at tab row span.end false) (mark.start + 1))
 
 -- the law: one-row labels without overlap are marked in exactly their cells
 abbrev pub HasExactMarks : ℕ → RowView → List Span → Type 0

@@ -50,8 +50,11 @@ unfoldable pub text_width : ℕ → List ℕ → ℕ
 text_width tab text = (fold (moved tab) at_margin (led_text text)).column
 
 -- a text of ASCII without LF: each of its bytes is a character and a cluster of its own
+abbrev pub is_plain_byte : ℕ → Bool
+is_plain_byte byte = nat_lt byte 128 && not (byte == 10)
+
 abbrev pub is_plain : List ℕ → Bool
-is_plain text = list_all (λ byte. nat_lt byte 128 && not (byte == 10)) text
+is_plain text = list_all is_plain_byte text
 
 -- the pen after bytes of such a text
 unfoldable pub pen_after : ℕ → Pen → List ℕ → Pen

@@ -1,11 +1,11 @@
 //! Columns: how many a text takes when it is drawn, and in which one an offset of a row stands.
 //!
 //! Each function takes the distance of the tab stops, from 1 to 16.
-ghost use Rattle.std.specs.Prelude.{◌≡◌, ◌+◌, ◌*◌, ◌^◌, ◌<◌, ◌≤◌, fold, length, if◌then◌else◌};
+ghost use Rattle.std.specs.Prelude.{◌≡◌, ◌+◌, ◌*◌, ◌^◌, ◌<◌, ◌≤◌, IsTrue, true, fold, length, min, if◌then◌else◌};
 ghost use Rattle.std.specs.Str.{IsCharBoundary};
 ghost use Rattle.oxc_plan.specs.Rows.{row_view};
 ghost use Rattle.oxc_plan.specs.Width.{advance_of, is_plain, led, moved, pen_after, text_width};
-ghost use Rattle.oxc_plan.specs.Columns.{HasColumnsAsDrawn, boundary_down, boundary_up, column_at, column_in};
+ghost use Rattle.oxc_plan.specs.Columns.{HasColumnsAsDrawn, IsStop, boundary_down, boundary_up, column_at, column_in};
 
 use crate::rows::Row;
 use unicode_segmentation::UnicodeSegmentation;
@@ -79,17 +79,13 @@ pub fn text_width(text: &str, tab: usize) -> usize
     ensures bound { result ≤ 18 * length text.now }
 {
     if is_plain(text) {
-        let margin = Pen {
-            column: 0,
-            in_escape: false,
-        };
-        return pen_over(margin, text.as_bytes(), tab).column;
+        return pen_over(AT_MARGIN, text.as_bytes(), tab).column;
     }
     width_by_clusters(text, tab)
 }
 
-/// Whether a text is ASCII without LF. Its bytes are its clusters then.
-fn is_plain(text: &str) -> bool
+/// Whether a text is ASCII without LF. Its bytes are its clusters then, and its columns can be counted on from a stop.
+pub fn is_plain(text: &str) -> bool
     ensures { result ≡ is_plain text.now }
 {
     text.as_bytes()
@@ -105,10 +101,7 @@ fn width_by_clusters(text: &str, tab: usize) -> usize
     ensures exact { result ≡ text_width tab text.now }
     ensures bound { result ≤ 18 * length text.now }
 {
-    let mut pen = Pen {
-        column: 0,
-        in_escape: false,
-    };
+    let mut pen = AT_MARGIN;
     for cluster in text.graphemes(true) {
         pen = over_cluster(pen, cluster, tab);
     }
@@ -122,6 +115,80 @@ pub struct Pen {
     pub column: usize,
     /// Whether an escape is unfinished.
     pub in_escape: bool,
+}
+
+const AT_MARGIN: Pen = Pen {
+    column: 0,
+    in_escape: false,
+};
+
+/// A place of a text, and the pen there. The columns of a text of ASCII without LF are counted on from one to the next.
+#[derive(Clone, Copy, Debug, PartialEq, Eq)]
+pub struct Stop {
+    /// The number of bytes before it.
+    pub place: usize,
+    /// The pen after them.
+    pub pen: Pen,
+}
+
+/// The stop before a text.
+pub const FIRST_STOP: Stop = Stop {
+    place: 0,
+    pen: AT_MARGIN,
+};
+
+/// The stop at a place of a text, or at its end for a place past it. It is reached from the last stop, or from the
+/// first where the last one lies further on.
+pub fn next_stop(text: &str, last: Stop, place: usize, tab: usize) -> Stop
+    requires stop { IsStop tab text.now last }
+    requires fits { length text.now < 2 ^ 32 }
+    requires some { 1 ≤ tab }
+    requires most { tab ≤ 16 }
+    ensures stop { IsStop tab text.now result }
+    ensures place { result.place ≡ min place (length text.now) }
+{
+    let place = place.min(text.len());
+    if last.place <= place {
+        further_stop(text, last, place, tab)
+    } else {
+        further_stop(text, FIRST_STOP, place, tab)
+    }
+}
+
+/// The stop at a place of a text, from one that lies no further on.
+fn further_stop(text: &str, last: Stop, place: usize, tab: usize) -> Stop
+    requires stop { IsStop tab text.now last }
+    requires from { last.place ≤ place }
+    requires within { place ≤ length text.now }
+    requires fits { length text.now < 2 ^ 32 }
+    requires some { 1 ≤ tab }
+    requires most { tab ≤ 16 }
+    ensures stop { IsStop tab text.now result }
+    ensures place { result.place ≡ place }
+{
+    let passed = &text.as_bytes()[last.place..place];
+    Stop {
+        place,
+        pen: pen_over(last.pen, passed, tab),
+    }
+}
+
+/// The column of a place in a text of ASCII without LF, from the stop there.
+pub fn column_at_stop(text: &str, stop: Stop, place: usize, at_start: bool, tab: usize) -> usize
+    requires plain { is_plain text.now ≡ true }
+    requires stop { IsStop tab text.now stop }
+    requires place { stop.place ≡ min place (length text.now) }
+    requires fits { length text.now < 2 ^ 32 }
+    requires some { 1 ≤ tab }
+    requires most { tab ≤ 16 }
+    ensures exact { result ≡ column_in tab text.now place at_start }
+    ensures bound { result < 2 ^ 38 }
+{
+    if place > text.len() {
+        stop.pen.column + 1
+    } else {
+        stop.pen.column
+    }
 }
 
 /// The pen after the bytes of a text of ASCII without LF.

@@ -19,4 +19,6 @@ pub use crate::order::{label_order, one_label_order};
 pub use crate::rows::{Row, rows_of};
 
 #[cfg(test)]
+mod mark_tests;
+#[cfg(test)]
 mod tests;

@@ -1,11 +1,13 @@
 //! The marks under a row: which labels meet it, and the cells in which they are marked.
-ghost use Rattle.std.specs.Prelude.{◌≡◌, ◌+◌, ◌^◌, ◌<◌, ◌≤◌, ◌↔◌, IfOk, IsTrue, length, All};
+ghost use Rattle.std.specs.Prelude.{◌≡◌, ◌+◌, ◌^◌, ◌<◌, ◌≤◌, ◌↔◌, IfOk, IsTrue, true, length, All};
 ghost use Rattle.oxc_plan.specs.Groups.{span_at};
 ghost use Rattle.oxc_plan.specs.Meets.{IsMultiRow, IsOneRow, Meets, is_multi_row, is_one_row, is_within, meets};
 ghost use Rattle.oxc_plan.specs.Rows.{row_view};
-ghost use Rattle.oxc_plan.specs.Marks.{AreInOrder, HasExactMarks, cells_at, cells_of, mark_of, placed_marks};
+ghost use Rattle.oxc_plan.specs.Width.{is_plain};
+ghost use Rattle.oxc_plan.specs.Columns.{IsStop};
+ghost use Rattle.oxc_plan.specs.Marks.{AreInOrder, HasEndsByColumns, HasExactMarks, cells_at, cells_between, cells_of, mark_of, placed_marks};
 
-use crate::columns::column_at;
+use crate::columns::{FIRST_STOP, Stop, column_at, column_at_stop, is_plain, next_stop};
 use crate::rows::Row;
 use oxc_span::Span;
 use std::alloc::{AllocError, Global};
@@ -34,10 +36,11 @@ pub struct LabelCells {
     pub end: usize,
 }
 
-/// The law that one-row labels whose cells do not overlap are marked in exactly their cells. It does nothing: a caller
-/// calls it to know the law.
+/// The law that one-row labels whose cells do not overlap are marked in exactly their cells, and that each mark ends by
+/// the column of its label's end. It does nothing: a caller calls it to know the law.
 pub fn exact_marks(_row: &Row<'_>, _spans: &[Span], _tab: usize)
-    ensures { HasExactMarks _tab (row_view _row.now) _spans.now }
+    ensures exact { HasExactMarks _tab (row_view _row.now) _spans.now }
+    ensures ends { HasEndsByColumns _tab (row_view _row.now) }
 {}
 
 /// The placed marks of a row's labels at these places of spans in label order.
@@ -57,14 +60,82 @@ pub fn placed(
     ensures exact { IfOk result (λ marks. marks.items ≡ placed_marks 0 (cells_at tab (row_view row.now) spans.now places.now)) }
     ensures order { IfOk result (λ marks. AreInOrder 0 marks.items) }
 {
-    let mut marks = Vec::new(alloc);
+    let plain = is_plain(row.text);
+    let mut stop = FIRST_STOP;
     let mut before = 0;
+    let mut marks = Vec::new(alloc);
     for at in places {
-        let mark = mark_after(before, cells_of(row, *at, spans[*at], tab));
+        let measured = next_cells(row, plain, stop, *at, spans[*at], tab);
+        let mark = mark_after(before, measured.cells);
+        stop = measured.stop;
         before = mark.end;
         marks.push(mark)?;
     }
     Ok(marks)
+}
+
+/// The cells of a label, and where the row was measured to.
+#[derive(Clone, Copy, Debug)]
+struct Measured {
+    cells: LabelCells,
+    stop: Stop,
+}
+
+/// The cells of the next label of a row. If the row's text is ASCII without LF, it is measured on from the last stop.
+fn next_cells(
+    row: &Row<'_>,
+    plain: bool,
+    stop: Stop,
+    label: usize,
+    span: Span,
+    tab: usize,
+) -> Measured
+    requires plain { plain ≡ is_plain row.now.text.now }
+    requires stop { IsStop tab row.now.text.now stop }
+    requires from { row.now.offset ≤ span.start }
+    requires ordered { span.start ≤ span.end }
+    requires fits { length row.now.text.now < 2 ^ 32 }
+    requires some { 1 ≤ tab }
+    requires most { tab ≤ 16 }
+    ensures exact { result.cells ≡ cells_of tab (row_view row.now) label span }
+    ensures first { result.cells.start < 2 ^ 38 }
+    ensures last { result.cells.end ≤ 2 ^ 38 }
+    ensures stop { IsStop tab row.now.text.now result.stop }
+{
+    if plain {
+        cells_from_stop(row, stop, label, span, tab)
+    } else {
+        Measured {
+            cells: cells_of(row, label, span, tab),
+            stop,
+        }
+    }
+}
+
+/// The cells of a label of a row of ASCII, measured on from the last stop.
+fn cells_from_stop(row: &Row<'_>, last: Stop, label: usize, span: Span, tab: usize) -> Measured
+    requires plain { is_plain row.now.text.now ≡ true }
+    requires stop { IsStop tab row.now.text.now last }
+    requires from { row.now.offset ≤ span.start }
+    requires ordered { span.start ≤ span.end }
+    requires fits { length row.now.text.now < 2 ^ 32 }
+    requires some { 1 ≤ tab }
+    requires most { tab ≤ 16 }
+    ensures exact { result.cells ≡ cells_of tab (row_view row.now) label span }
+    ensures first { result.cells.start < 2 ^ 38 }
+    ensures last { result.cells.end ≤ 2 ^ 38 }
+    ensures stop { IsStop tab row.now.text.now result.stop }
+{
+    let start = span.start as usize - row.offset;
+    let end = span.end as usize - row.offset;
+    let stop = next_stop(row.text, last, start, tab);
+    let first = column_at_stop(row.text, stop, start, true, tab);
+    let end_stop = next_stop(row.text, stop, end, tab);
+    let past = column_at_stop(row.text, end_stop, end, false, tab);
+    Measured {
+        cells: cells_between(label, span, first, past),
+        stop,
+    }
 }
 
 /// The mark of a label, after the marks that end before this cell.
@@ -95,18 +166,25 @@ fn cells_of(row: &Row<'_>, label: usize, span: Span, tab: usize) -> LabelCells
     ensures first { result.start < 2 ^ 38 }
     ensures last { result.end ≤ 2 ^ 38 }
 {
-    let start = column_at(row, span.start as usize, true, tab);
-    if span.start == span.end {
-        return LabelCells {
-            label,
-            start,
-            end: start + 1,
-        };
-    }
+    let first = column_at(row, span.start as usize, true, tab);
+    let past = column_at(row, span.end as usize, false, tab);
+    cells_between(label, span, first, past)
+}
+
+/// The cells of a label from the column of its start to before that of its end: one at least, and one for an empty one.
+fn cells_between(label: usize, span: Span, first: usize, past: usize) -> LabelCells
+    requires { first < 2 ^ 62 }
+    ensures { result ≡ cells_between label span first past }
+{
+    let end = if span.start == span.end {
+        first + 1
+    } else {
+        past.max(first + 1)
+    };
     LabelCells {
         label,
-        start,
-        end: column_at(row, span.end as usize, false, tab).max(start + 1),
+        start: first,
+        end,
     }
 }
 

@@ -1,4 +1,4 @@
-use Rattle.std.proofs.Common.{◌≡◌, ◌+◌, ◌∙◌, sym, arith}
+use Rattle.std.proofs.Common.{◌∙◌, sym, arith}
 use Rattle.oxc_plan.proofs.AsciiLemmas.{pen_more, pen_done}
 use Rattle.oxc_plan.proofs.WidthLemmas.{advance_of-le}
 use Rattle.oxc_plan.proofs.columns.pen_over.Goals as goal

@@ -1,4 +1,4 @@
-use Rattle.std.proofs.Common.{◌≡◌, ◌+◌, ◌*◌, ◌≤◌, length, drop}
+use Rattle.std.proofs.Common.{◌≡◌, ◌+◌, ◌*◌, ◌≤◌, drop}
 use Rattle.oxc_plan.specs.Width.{pen_after}
 use Rattle.oxc_plan.proofs.columns.pen_over.Given as goal
 
