@@ -260,11 +260,13 @@ first_is_stop tab text = (omega arith, refl)
 
 pub further_is_stop : (tab : ℕ) (text bytes : List ℕ) (last : Stop) (place : ℕ) (pen : Pen) → IsStop tab text last → last.place ≤ place → place ≤ length text
     → bytes ≡ text → pen ≡ pen_after tab last.pen (slice_range bytes last.place place) → IsStop tab text (record { place = place; pen = pen })
-further_is_stop tab text bytes last place pen stop from within same here =
-    (within, here
-    ∙ ap (λ bs. pen_after tab last.pen (slice_range bs last.place place)) same
-    ∙ ap (λ p. pen_after tab p (slice_range text last.place place)) stop.1
-    ∙ pen_further tab at_margin text last.place place from)
+further_is_stop tab text bytes last place pen stop from within same here = (
+  within,
+  here
+      ∙ ap (λ bs. pen_after tab last.pen (slice_range bs last.place place)) same
+      ∙ ap (λ p. pen_after tab p (slice_range text last.place place)) stop.1
+      ∙ pen_further tab at_margin text last.place place from,
+)
 
 pub stop_small : (tab : ℕ) (text : List ℕ) (stop : Stop) → IsStop tab text stop → tab ≤ 16 → stop.pen.column ≤ 17 * stop.place
 stop_small tab text stop is most = omega (arith, ap (λ (pen : Pen). pen.column) is.1, stop_le tab text stop.place most is.0)

@@ -60,6 +60,29 @@ pub fn placed(
     ensures exact { IfOk result (λ marks. marks.items ≡ placed_marks 0 (cells_at tab (row_view row.now) spans.now places.now)) }
     ensures order { IfOk result (λ marks. AreInOrder 0 marks.items) }
 {
+    if places.is_empty() {
+        return Ok(Vec::new(alloc));
+    }
+    placed_in_turn(alloc, row, spans, places, tab)
+}
+
+/// The placed marks of labels, one after another.
+fn placed_in_turn(
+    alloc: Global,
+    row: &Row<'_>,
+    spans: &[Span],
+    places: &[usize],
+    tab: usize,
+) -> Result<Vec<MarkCells>, AllocError>
+    requires starts { All (λ at. row.now.offset ≤ (span_at spans.now at).start) places.now }
+    requires ordered { All (λ at. (span_at spans.now at).start ≤ (span_at spans.now at).end) places.now }
+    requires within { All (λ at. at < length spans.now) places.now }
+    requires fits { length row.now.text.now < 2 ^ 32 }
+    requires some { 1 ≤ tab }
+    requires most { tab ≤ 16 }
+    ensures exact { IfOk result (λ marks. marks.items ≡ placed_marks 0 (cells_at tab (row_view row.now) spans.now places.now)) }
+    ensures order { IfOk result (λ marks. AreInOrder 0 marks.items) }
+{
     let plain = is_plain(row.text);
     let mut stop = FIRST_STOP;
     let mut before = 0;

@@ -5,8 +5,14 @@ use Rattle.oxc_plan.proofs.columns.further_stop.Goals as goal
 
 pub pen_over-requires-clause-room : goal.pen_over-requires-clause-room
 pen_over-requires-clause-room c =
-    omega (arith, c.requires.fits, c.requires.within, c.requires.from, stop_small c.args.tab c.args.text.now c.args.last c.requires.stop c.requires.most,
-    length-slice_range c.as_bytes.result.now c.args.last.place c.args.place (omega (arith, c.requires.within, c.as_bytes.ensures.len)))
+    omega (
+      arith,
+      c.requires.fits,
+      c.requires.within,
+      c.requires.from,
+      stop_small c.args.tab c.args.text.now c.args.last c.requires.stop c.requires.most,
+      length-slice_range c.as_bytes.result.now c.args.last.place c.args.place (omega (arith, c.requires.within, c.as_bytes.ensures.len)),
+    )
 
 pub returns-clause-stop : goal.returns-clause-stop
 returns-clause-stop c =
