@@ -1,10 +1,16 @@
 // Columns and marks by example.
+ghost use Rattle.std.specs.Prelude.{◌≡◌};
+
 use crate::marks::placed;
 use crate::{MarkCells, Row, column_of};
 use oxc_span::Span;
 use std::test::Fail;
 
-fn row_of(text: &str) -> Row<'_> {
+/// The first row of a source, with this text and no break.
+fn row_of(text: &str) -> Row<'_>
+    ensures offset { result.offset ≡ 0 }
+    ensures text { result.text.now ≡ text.now }
+{
     Row {
         number: 1,
         offset: 0,
