@@ -1,16 +1,24 @@
 //! What a drawing shows of a source: which labels share a snippet, and the rows of each snippet.
 //!
 //! Labels go by the order of their starts ([`label_order`]). [`groups`] tells which of them share a snippet, and
-//! [`rows_of`] gives the rows of what a scanner read for one. Offsets, lengths and columns count bytes.
+//! [`rows_of`] gives the rows of what a scanner read for one. [`column_of`] tells in which
+//! column an offset of a row stands when the row is drawn, and [`MarkCells`] which cells under a row a label marks.
+//! Offsets and lengths count bytes.
 #![tactic(auto)]
 
+mod columns;
 mod grouping;
+mod marks;
 mod order;
 mod rows;
 
+pub use crate::columns::{column_of, columns_as_drawn};
 pub use crate::grouping::{groups, one_grouping};
+pub use crate::marks::{MarkCells, exact_marks};
 pub use crate::order::{label_order, one_label_order};
 pub use crate::rows::{Row, rows_of};
 
+#[cfg(test)]
+mod mark_tests;
 #[cfg(test)]
 mod tests;

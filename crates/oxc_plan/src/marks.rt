@@ -1,0 +1,251 @@
+//! The marks under a row: which labels meet it, and the cells in which they are marked.
+ghost use Rattle.std.specs.Prelude.{◌≡◌, ◌+◌, ◌^◌, ◌<◌, ◌≤◌, ◌↔◌, IfOk, IsTrue, true, length, All};
+ghost use Rattle.oxc_plan.specs.Groups.{span_at};
+ghost use Rattle.oxc_plan.specs.Meets.{IsMultiRow, IsOneRow, Meets, is_multi_row, is_one_row, is_within, meets};
+ghost use Rattle.oxc_plan.specs.Rows.{row_view};
+ghost use Rattle.oxc_plan.specs.Width.{is_plain};
+ghost use Rattle.oxc_plan.specs.Columns.{IsStop};
+ghost use Rattle.oxc_plan.specs.Marks.{AreInOrder, HasEndsByColumns, HasExactMarks, cells_at, cells_between, cells_of, mark_of, placed_marks};
+
+use crate::columns::{FIRST_STOP, Stop, column_at, column_at_stop, is_plain, next_stop};
+use crate::rows::Row;
+use oxc_span::Span;
+use std::alloc::{AllocError, Global};
+
+/// The mark of a one-row label: its cells under the row, from 0, and the cell of its bar.
+#[derive(Clone, Copy, Debug, PartialEq, Eq)]
+pub struct MarkCells {
+    /// The label, by its place in label order.
+    pub label: usize,
+    /// The first cell.
+    pub start: usize,
+    /// One past the last cell.
+    pub end: usize,
+    /// The cell from which the label's text hangs.
+    pub bar: usize,
+}
+
+/// The cells that a one-row label takes, before the marks are placed.
+#[derive(Clone, Copy, Debug, PartialEq, Eq)]
+pub struct LabelCells {
+    /// The label, by its place in label order.
+    pub label: usize,
+    /// The first cell.
+    pub start: usize,
+    /// One past the last cell.
+    pub end: usize,
+}
+
+/// The law that one-row labels whose cells do not overlap are marked in exactly their cells, and that each mark ends by
+/// the column of its label's end. It does nothing: a caller calls it to know the law.
+pub fn exact_marks(_row: &Row<'_>, _spans: &[Span], _tab: usize)
+    ensures exact { HasExactMarks _tab (row_view _row.now) _spans.now }
+    ensures ends { HasEndsByColumns _tab (row_view _row.now) }
+{}
+
+/// The placed marks of a row's labels at these places of spans in label order.
+pub fn placed(
+    alloc: Global,
+    row: &Row<'_>,
+    spans: &[Span],
+    places: &[usize],
+    tab: usize,
+) -> Result<Vec<MarkCells>, AllocError>
+    requires starts { All (λ at. row.now.offset ≤ (span_at spans.now at).start) places.now }
+    requires ordered { All (λ at. (span_at spans.now at).start ≤ (span_at spans.now at).end) places.now }
+    requires within { All (λ at. at < length spans.now) places.now }
+    requires fits { length row.now.text.now < 2 ^ 32 }
+    requires some { 1 ≤ tab }
+    requires most { tab ≤ 16 }
+    ensures exact { IfOk result (λ marks. marks.items ≡ placed_marks 0 (cells_at tab (row_view row.now) spans.now places.now)) }
+    ensures order { IfOk result (λ marks. AreInOrder 0 marks.items) }
+{
+    if places.is_empty() {
+        return Ok(Vec::new(alloc));
+    }
+    placed_in_turn(alloc, row, spans, places, tab)
+}
+
+/// The placed marks of labels, one after another.
+fn placed_in_turn(
+    alloc: Global,
+    row: &Row<'_>,
+    spans: &[Span],
+    places: &[usize],
+    tab: usize,
+) -> Result<Vec<MarkCells>, AllocError>
+    requires starts { All (λ at. row.now.offset ≤ (span_at spans.now at).start) places.now }
+    requires ordered { All (λ at. (span_at spans.now at).start ≤ (span_at spans.now at).end) places.now }
+    requires within { All (λ at. at < length spans.now) places.now }
+    requires fits { length row.now.text.now < 2 ^ 32 }
+    requires some { 1 ≤ tab }
+    requires most { tab ≤ 16 }
+    ensures exact { IfOk result (λ marks. marks.items ≡ placed_marks 0 (cells_at tab (row_view row.now) spans.now places.now)) }
+    ensures order { IfOk result (λ marks. AreInOrder 0 marks.items) }
+{
+    let plain = is_plain(row.text);
+    let mut stop = FIRST_STOP;
+    let mut before = 0;
+    let mut marks = Vec::new(alloc);
+    for at in places {
+        let measured = next_cells(row, plain, stop, *at, spans[*at], tab);
+        let mark = mark_after(before, measured.cells);
+        stop = measured.stop;
+        before = mark.end;
+        marks.push(mark)?;
+    }
+    Ok(marks)
+}
+
+/// The cells of a label, and where the row was measured to.
+#[derive(Clone, Copy, Debug)]
+struct Measured {
+    cells: LabelCells,
+    stop: Stop,
+}
+
+/// The cells of the next label of a row. If the row's text is ASCII without LF, it is measured on from the last stop.
+fn next_cells(
+    row: &Row<'_>,
+    plain: bool,
+    stop: Stop,
+    label: usize,
+    span: Span,
+    tab: usize,
+) -> Measured
+    requires plain { plain ≡ is_plain row.now.text.now }
+    requires stop { IsStop tab row.now.text.now stop }
+    requires from { row.now.offset ≤ span.start }
+    requires ordered { span.start ≤ span.end }
+    requires fits { length row.now.text.now < 2 ^ 32 }
+    requires some { 1 ≤ tab }
+    requires most { tab ≤ 16 }
+    ensures exact { result.cells ≡ cells_of tab (row_view row.now) label span }
+    ensures first { result.cells.start < 2 ^ 38 }
+    ensures last { result.cells.end ≤ 2 ^ 38 }
+    ensures stop { IsStop tab row.now.text.now result.stop }
+{
+    if plain {
+        cells_from_stop(row, stop, label, span, tab)
+    } else {
+        Measured {
+            cells: cells_of(row, label, span, tab),
+            stop,
+        }
+    }
+}
+
+/// The cells of a label of a row of ASCII, measured on from the last stop.
+fn cells_from_stop(row: &Row<'_>, last: Stop, label: usize, span: Span, tab: usize) -> Measured
+    requires plain { is_plain row.now.text.now ≡ true }
+    requires stop { IsStop tab row.now.text.now last }
+    requires from { row.now.offset ≤ span.start }
+    requires ordered { span.start ≤ span.end }
+    requires fits { length row.now.text.now < 2 ^ 32 }
+    requires some { 1 ≤ tab }
+    requires most { tab ≤ 16 }
+    ensures exact { result.cells ≡ cells_of tab (row_view row.now) label span }
+    ensures first { result.cells.start < 2 ^ 38 }
+    ensures last { result.cells.end ≤ 2 ^ 38 }
+    ensures stop { IsStop tab row.now.text.now result.stop }
+{
+    let start = span.start as usize - row.offset;
+    let end = span.end as usize - row.offset;
+    let stop = next_stop(row.text, last, start, tab);
+    let first = column_at_stop(row.text, stop, start, true, tab);
+    let end_stop = next_stop(row.text, stop, end, tab);
+    let past = column_at_stop(row.text, end_stop, end, false, tab);
+    Measured {
+        cells: cells_between(label, span, first, past),
+        stop,
+    }
+}
+
+/// The mark of a label, after the marks that end before this cell.
+fn mark_after(before: usize, cells: LabelCells) -> MarkCells
+    requires before { before < 2 ^ 62 }
+    requires start { cells.start < 2 ^ 62 }
+    requires end { cells.end < 2 ^ 62 }
+    ensures { result ≡ mark_of before cells }
+{
+    let start = cells.start.max(before);
+    let end = cells.end.max(start + 1);
+    MarkCells {
+        label: cells.label,
+        start,
+        end,
+        bar: (start + end) / 2,
+    }
+}
+
+/// The cells of a one-row label of a row.
+fn cells_of(row: &Row<'_>, label: usize, span: Span, tab: usize) -> LabelCells
+    requires from { row.now.offset ≤ span.start }
+    requires ordered { span.start ≤ span.end }
+    requires fits { length row.now.text.now < 2 ^ 32 }
+    requires some { 1 ≤ tab }
+    requires most { tab ≤ 16 }
+    ensures exact { result ≡ cells_of tab (row_view row.now) label span }
+    ensures first { result.start < 2 ^ 38 }
+    ensures last { result.end ≤ 2 ^ 38 }
+{
+    let first = column_at(row, span.start as usize, true, tab);
+    let past = column_at(row, span.end as usize, false, tab);
+    cells_between(label, span, first, past)
+}
+
+/// The cells of a label from the column of its start to before that of its end: one at least, and one for an empty one.
+fn cells_between(label: usize, span: Span, first: usize, past: usize) -> LabelCells
+    requires { first < 2 ^ 62 }
+    ensures { result ≡ cells_between label span first past }
+{
+    let end = if span.start == span.end {
+        first + 1
+    } else {
+        past.max(first + 1)
+    };
+    LabelCells {
+        label,
+        start: first,
+        end,
+    }
+}
+
+/// Whether a label meets a row: they have a byte in common, where an empty label counts as the byte at its place.
+pub fn meets(row: &Row<'_>, span: Span) -> bool
+    requires ordered { span.start ≤ span.end }
+    requires range { row.now.offset + row.now.length < 2 ^ 64 }
+    ensures value { result ≡ meets row.now.offset row.now.length span }
+    ensures meaning { IsTrue result ↔ Meets row.now.offset row.now.length span }
+{
+    let past = (span.end as usize).max(span.start as usize + 1);
+    row.offset.max(span.start as usize) < past.min(row.offset + row.length)
+}
+
+/// Whether a label meets a row, and starts and ends within it.
+pub fn is_one_row(row: &Row<'_>, span: Span) -> bool
+    requires ordered { span.start ≤ span.end }
+    requires range { row.now.offset + row.now.length < 2 ^ 64 }
+    ensures value { result ≡ is_one_row row.now.offset row.now.length span }
+    ensures meaning { IsTrue result ↔ IsOneRow row.now.offset row.now.length span }
+{
+    meets(row, span) && is_within(row, span)
+}
+
+/// Whether a label meets a row, and starts before it or ends after it.
+pub fn is_multi_row(row: &Row<'_>, span: Span) -> bool
+    requires ordered { span.start ≤ span.end }
+    requires range { row.now.offset + row.now.length < 2 ^ 64 }
+    ensures value { result ≡ is_multi_row row.now.offset row.now.length span }
+    ensures meaning { IsTrue result ↔ IsMultiRow row.now.offset row.now.length span }
+{
+    meets(row, span) && !is_within(row, span)
+}
+
+/// Whether a label starts and ends within a row; its end may be the row's end.
+fn is_within(row: &Row<'_>, span: Span) -> bool
+    requires { row.now.offset + row.now.length < 2 ^ 64 }
+    ensures { result ≡ is_within row.now.offset row.now.length span }
+{
+    row.offset <= span.start as usize && span.end as usize <= row.offset + row.length
+}
