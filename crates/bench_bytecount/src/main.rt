@@ -2,6 +2,8 @@
 //! rounds in microseconds, and by how much the plain counts are slower. With no word it does nothing.
 #![tactic(auto)]
 
+ghost use Rattle.std.specs.Prelude.{◌≡◌, ◌*◌, ◌/◌, ◌<◌, ◌^◌, max};
+
 use bytecount::integer_simd::{chunk_count, chunk_num_chars};
 use bytecount::{count, naive_count, naive_num_chars, num_chars};
 use std::alloc::{AllocError, Global};
@@ -57,14 +59,21 @@ fn text_of_lines(alloc: Global) -> Result<Vec<u8>, AllocError> {
     Ok(text)
 }
 
+/// How long the slow one takes, in hundredths of the fast one, which takes at least 1.
+fn hundredths(slow: u128, fast: u128) -> u128
+    ensures { slow < 2 ^ 64 → result ≡ slow * 100 / max fast 1 }
+{
+    slow.saturating_mul(100) / fast.max(1)
+}
+
 /// A plain count, the same by words, and the one that callers use.
 fn compare(rt: HostRuntime, name: &str, counts: [Count; 3], text: &[u8]) -> anyhow::Result<()> {
     let (naive, a) = best(&rt, counts[0], text)?;
     let (words, b) = best(&rt, counts[1], text)?;
     let (whole, c) = best(&rt, counts[2], text)?;
     println!(rt; "{name}: {a} {b} {c}, plain {naive} us, by words {words} us, public {whole} us")?;
-    let by_words = naive.saturating_mul(100) / words.max(1);
-    let public = naive.saturating_mul(100) / whole.max(1);
+    let by_words = hundredths(naive, words);
+    let public = hundredths(naive, whole);
     println!(rt; "{name}: plain is {by_words} % of by words, {public} % of public")?;
     Ok(())
 }
