@@ -5,3 +5,6 @@ pub mod BoundaryLemmas
 pub mod WidthLemmas
 pub mod AsciiLemmas
 pub mod MarksLemmas
+pub mod PlaceLemmas
+pub mod PlanLemmas
+pub mod TextsLemmas

@@ -8,17 +8,25 @@
 
 mod columns;
 mod grouping;
+mod laws;
 mod marks;
 mod order;
+mod plan;
 mod rows;
 
 pub use crate::columns::{column_of, columns_as_drawn};
 pub use crate::grouping::{groups, one_grouping};
+pub use crate::laws::texts_hang_once;
 pub use crate::marks::{MarkCells, exact_marks};
 pub use crate::order::{label_order, one_label_order};
+pub use crate::plan::{
+    Bar, BarKind, Hang, OrderedLabel, RowPlan, SnippetPlan, plan_snippets, plan_with_tabs,
+};
 pub use crate::rows::{Row, rows_of};
 
 #[cfg(test)]
 mod mark_tests;
+#[cfg(test)]
+mod plan_tests;
 #[cfg(test)]
 mod tests;

@@ -1,0 +1,480 @@
+-- Each text of a label hangs once: counts of places, and of the rows in which a byte lies.
+use Rattle.std.proofs.Common.{◌≡◌, ℕ, zero, suc, ◌+◌, ◌-◌, ◌<◌, ◌≤◌, ◌&&◌, not, Bool, true, false, leb, ltb, eqb, cond, List, [], ◌∷◌, ◌++◌, length, map, get_or, max, min, take, drop, slice_range, zero-le, count_by, Option, Some, None, inl, inr, refl, sym, ap, subst, ◌∙◌, arith, ⊎_elim, All}
+use Rattle.std.specs.List.{filter, filter_map, flat_map, range_with_len, sum_by}
+use Rattle.std.specs.Option.{is_some}
+use Rattle.std.proofs.lemmas.Bool.{and_parts, cases_lt, cases_Bool, eqb-true, false≢true, leb-true, ltb-true}
+use Rattle.std.proofs.lemmas.Bool.Decides.{nat_tests}
+use Rattle.std.proofs.lemmas.List.Sums.{sum_by-append, sum_by-cons}
+use Rattle.std.proofs.lemmas.List.{get_or-map, length-map, length-take, length-drop}
+use Rattle.std.proofs.lemmas.List.Elements.{All-append, All-cons, All-map, All-nil, All-tail}
+use Rattle.std.specs.declared.ops.Range.{Range}
+use Rattle.oxc_span.specs.declared.span.Span.{Span}
+use Rattle.oxc_span.specs.Label.{Label}
+use Rattle.oxc_windows.specs.declared.breaks.LineBreak.{LineBreak}
+use Rattle.oxc_windows.specs.Rows.{row_of}
+use Rattle.oxc_windows.specs.Window.{row_further, window_end}
+use Rattle.oxc_windows.proofs.BreaksLemmas.{breaks_valid}
+use Rattle.oxc_windows.proofs.WindowLemmas.{row_start_within}
+use Rattle.oxc_windows.specs.Breaks.{IsBreakList, breaks_of}
+use Rattle.oxc_plan.specs.Groups.{AreApart, AreGroups, HoldsItsSpans, group_window, groups_of, largest_end, span_at}
+use Rattle.oxc_plan.specs.Laws.{HaveTextsOnce, IsLastMet, drawn_rows, texts_below}
+use Rattle.oxc_plan.specs.Order.{spans_in_order}
+use Rattle.oxc_plan.proofs.GroupsLemmas.{groups_apart, groups_hold, groups_of_are, largest_end_reaches, largest_end_within}
+use Rattle.oxc_plan.proofs.OrderLemmas.{spans_ascend, spans_valid}
+use Rattle.oxc_plan.proofs.PlaceLemmas.{window_reaches}
+use Rattle.oxc_plan.specs.Meets.{is_multi_row, is_one_row, label_past, multi_row_labels, one_row_labels}
+use Rattle.oxc_plan.specs.Rows.{RowView, numbered, pieces, row_of_piece, rows_in}
+use Rattle.oxc_plan.proofs.PlanLemmas.{groups_within, spans_ordered, total, total_pieces}
+use Rattle.oxc_plan.specs.declared.plan.Hang.{Hang}
+use Rattle.oxc_plan.specs.Plan.{Ordered, RowPlanView, ends_of, ends_with_text, hang_of, hang_place, hangs_of, in_order, ordered_at, row_plan_of, row_plans_of, snippet_of, snippets_of, spans_of}
+
+-- one more element of a sum and of a count
+count_more : {X : Type 0} (p : X → Bool) (x : X) (xs : List X) → count_by p (x ∷ xs) ≡ cond (p x) 1 0 + count_by p xs
+count_more p x xs = sum_by-cons (λ y. cond (p y) 1 0) x xs
+
+-- how often a place stands among places that pass a test
+pub count_kept : (p : ℕ → Bool) (at : ℕ) (xs : List ℕ) → p at ≡ true → count_by (λ k. eqb k at) (filter p xs) ≡ count_by (λ k. eqb k at) xs
+count_kept p at [] said = refl
+count_kept p at (x ∷ xs) said =
+    elim (cases_Bool (p x)) [
+      | inl kept ↦ rw kept (count_more (λ k. eqb k at) x (filter p xs) ∙ ap (λ n. cond (eqb x at) 1 0 + n) (count_kept p at xs said) ∙ sym (count_more (λ k. eqb k at) x xs))
+      | inr dropped ↦
+          elim (cases_Bool (eqb x at)) [
+            | inl same ↦ absurd (false≢true (sym dropped ∙ ap p (eqb-true x at same) ∙ said))
+            | inr other ↦ rw dropped (count_kept p at xs said ∙ sym (count_more (λ k. eqb k at) x xs ∙ rw other (omega arith)))
+          ]
+    ]
+
+pub count_dropped : (p : ℕ → Bool) (at : ℕ) (xs : List ℕ) → p at ≡ false → count_by (λ k. eqb k at) (filter p xs) ≡ 0
+count_dropped p at [] said = refl
+count_dropped p at (x ∷ xs) said =
+    elim (cases_Bool (p x)) [
+      | inl kept ↦
+          elim (cases_Bool (eqb x at)) [
+            | inl same ↦ absurd (false≢true (sym said ∙ sym (ap p (eqb-true x at same)) ∙ kept))
+            | inr other ↦ rw kept (count_more (λ k. eqb k at) x (filter p xs) ∙ rw other (omega (arith, count_dropped p at xs said)))
+          ]
+      | inr dropped ↦ rw dropped (count_dropped p at xs said)
+    ]
+
+other_number : (a b : ℕ) → a < b → eqb a b ≡ false
+other_number a b lt = grind (arith, nat_tests)
+
+other_number_up : (a b : ℕ) → b < a → eqb a b ≡ false
+other_number_up a b lt = grind (arith, nat_tests)
+
+same_number : (a b : ℕ) → a ≡ b → eqb a b ≡ true
+same_number a b e = grind (arith, nat_tests)
+
+-- each place stands once in a range
+count_past : (at a n : ℕ) → at < a → count_by (λ k. eqb k at) (range_with_len a n) ≡ 0
+count_past at a zero lt = refl
+count_past at a (suc n) lt =
+    count_more (λ k. eqb k at) a (range_with_len (a + 1) n) ∙ rw (other_number_up a at lt) (omega (arith, count_past at (a + 1) n (omega arith)))
+
+pub count_once : (at a n : ℕ) → a ≤ at → at < a + n → count_by (λ k. eqb k at) (range_with_len a n) ≡ 1
+count_once at a zero le lt = absurd (omega arith)
+count_once at a (suc n) le lt =
+    ⊎_elim
+    (λ later. count_more (λ k. eqb k at) a (range_with_len (a + 1) n) ∙ rw (other_number a at later) (omega (arith, count_once at (a + 1) n (omega arith) (omega arith))))
+    (λ from. count_more (λ k. eqb k at) a (range_with_len (a + 1) n) ∙ rw (same_number a at (omega arith)) (omega (arith, count_past at (a + 1) n (omega arith))))
+    (cases_lt a at)
+
+-- how often a place stands among the hanging texts
+pub count_hangs : (labels : List Ordered) (places : List ℕ) (at : ℕ) (xs : List ℕ) → is_some (ordered_at labels at).text ≡ true
+    → count_by (λ (h : Hang). eqb h.label at) (filter_map (hang_of labels places) xs) ≡ count_by (λ k. eqb k at) xs
+count_hangs labels places at [] said = refl
+count_hangs labels places at (x ∷ xs) said =
+    elim (cases_Bool (is_some (ordered_at labels x).text)) [
+      | inl text ↦
+          let hang : Hang = record { label = x; at = hang_place labels places x } in
+          rw text
+          (count_more (λ (h : Hang). eqb h.label at) hang (filter_map (hang_of labels places) xs) ∙ ap (λ n. cond (eqb x at) 1 0 + n) (count_hangs labels places at xs said)
+          ∙ sym (count_more (λ k. eqb k at) x xs))
+      | inr bare ↦
+          elim (cases_Bool (eqb x at)) [
+            | inl same ↦ absurd (false≢true (sym bare ∙ ap (λ k. is_some (ordered_at labels k).text) (eqb-true x at same) ∙ said))
+            | inr other ↦ rw bare (count_hangs labels places at xs said ∙ sym (count_more (λ k. eqb k at) x xs ∙ rw other (omega arith)))
+          ]
+    ]
+
+-- the byte lies in the row
+abbrev pub holds_byte : ℕ → RowView → Bool
+holds_byte byte row = leb row.offset byte && ltb byte (row.offset + row.length)
+
+-- a row holds the last byte of a label exactly where the label lies within it, or ends there having started above
+less_said : (a b : ℕ) → a < b → ltb a b ≡ true
+less_said a b lt = grind (arith, nat_tests)
+
+less_not : (a b : ℕ) → b ≤ a → ltb a b ≡ false
+less_not a b le = grind (arith, nat_tests)
+
+upto_said : (a b : ℕ) → a ≤ b → leb a b ≡ true
+upto_said a b le = grind (arith, nat_tests)
+
+upto_not : (a b : ℕ) → b < a → leb a b ≡ false
+upto_not a b lt = grind (arith, nat_tests)
+
+-- the tests that the plan makes of a row from `o` to before `e` and a label from `x` to before `y`
+abbrev pub meets_test : ℕ → ℕ → ℕ → ℕ → Bool
+meets_test o e x y = ltb (max o x) (min e (x + max (y - x) 1))
+
+abbrev pub within_test : ℕ → ℕ → ℕ → ℕ → Bool
+within_test o e x y = leb o x && leb y e
+
+pub last_byte_held : (o e x y : ℕ) → x ≤ y
+    → cond (meets_test o e x y && within_test o e x y) 1 0 + cond (meets_test o e x y && not (within_test o e x y) && (not (leb o x) && leb y e)) 1 0
+    ≡ cond (leb o (x + max (y - x) 1 - 1) && ltb (x + max (y - x) 1 - 1) e) 1 0
+last_byte_held o e x y le =
+    let last = x + max (y - x) 1 - 1 in
+    ⊎_elim
+    (λ (before : last < o).
+    let apart : meets_test o e x y ≡ false = less_not (max o x) (min e (x + max (y - x) 1)) (omega (arith, before)) in
+    rw (apart, upto_not o last before) refl)
+    (λ (from : o ≤ last).
+    ⊎_elim
+    (λ (inside : last < e).
+    let met : meets_test o e x y ≡ true = less_said (max o x) (min e (x + max (y - x) 1)) (omega (arith, from, inside)) in
+    let ends : leb y e ≡ true = upto_said y e (omega (arith, inside)) in
+    let first = upto_said o last from in
+    let second = less_said last e inside in
+    ⊎_elim
+    (λ (above : x < o). rw (met, ends, upto_not o x above, first, second) refl)
+    (λ (here : o ≤ x). rw (met, ends, upto_said o x here, first, second) refl)
+    (cases_lt x o))
+    (λ (past : e ≤ last).
+    let second = less_not last e past in
+    let first = upto_said o last from in
+    ⊎_elim
+    (λ (some : x < y).
+    let ends : leb y e ≡ false = upto_not y e (omega (arith, past, some)) in
+    elim (cases_Bool (meets_test o e x y)) [
+      | inl met ↦ elim (cases_Bool (leb o x)) [ inl here ↦ rw (met, ends, here, first, second) refl | inr above ↦ rw (met, ends, above, first, second) refl ]
+      | inr apart ↦ rw (apart, first, second) refl
+    ])
+    (λ (empty : y ≤ x).
+    let apart : meets_test o e x y ≡ false = less_not (max o x) (min e (x + max (y - x) 1)) (omega (arith, past, empty)) in
+    rw (apart, first, second) refl)
+    (cases_lt x y))
+    (cases_lt last e))
+    (cases_lt last o)
+
+-- how many of these rows hold a byte
+abbrev pub rows_with : ℕ → List RowView → ℕ
+rows_with byte rows = sum_by (λ row. cond (holds_byte byte row) 1 0) rows
+
+rows_with_more : (byte : ℕ) (row : RowView) (rows : List RowView) → rows_with byte (row ∷ rows) ≡ cond (holds_byte byte row) 1 0 + rows_with byte rows
+rows_with_more byte row rows = sum_by-cons (λ r. cond (holds_byte byte r) 1 0) row rows
+
+holds_not_before : (o e byte : ℕ) → byte < o → (leb o byte && ltb byte e) ≡ false
+holds_not_before o e byte lt = grind (arith, nat_tests)
+
+holds_not_past : (o e byte : ℕ) → e ≤ byte → (leb o byte && ltb byte e) ≡ false
+holds_not_past o e byte le = grind (arith, nat_tests)
+
+holds_said : (o e byte : ℕ) → o ≤ byte → byte < e → (leb o byte && ltb byte e) ≡ true
+holds_said o e byte le lt = grind (arith, nat_tests)
+
+-- of the rows of pieces that follow one another, none holds a byte before them or past them, and one holds each other
+none_before : (byte above offset : ℕ) (ps : List (List ℕ)) → byte < offset → rows_with byte (numbered above offset ps) ≡ 0
+unfolding numbered
+none_before byte above offset [] lt = refl
+none_before byte above offset (p ∷ ps) lt =
+    rows_with_more byte (row_of_piece above offset p) (numbered (above + 1) (offset + length p) ps)
+    ∙ rw (holds_not_before offset (offset + length p) byte lt) (omega (arith, none_before byte (above + 1) (offset + length p) ps (omega arith)))
+
+none_past : (byte above offset : ℕ) (ps : List (List ℕ)) → offset + total ps ≤ byte → rows_with byte (numbered above offset ps) ≡ 0
+unfolding numbered total
+none_past byte above offset [] le = refl
+none_past byte above offset (p ∷ ps) le =
+    rows_with_more byte (row_of_piece above offset p) (numbered (above + 1) (offset + length p) ps)
+    ∙ rw (holds_not_past offset (offset + length p) byte (omega arith)) (omega (arith, none_past byte (above + 1) (offset + length p) ps (omega arith)))
+
+one_within : (byte above offset : ℕ) (ps : List (List ℕ)) → offset ≤ byte → byte < offset + total ps → rows_with byte (numbered above offset ps) ≡ 1
+unfolding numbered total
+one_within byte above offset [] le lt = absurd (omega arith)
+one_within byte above offset (p ∷ ps) le lt =
+    ⊎_elim
+    (λ here. rows_with_more byte (row_of_piece above offset p) (numbered (above + 1) (offset + length p) ps)
+    ∙ rw (holds_said offset (offset + length p) byte le here) (omega (arith, none_before byte (above + 1) (offset + length p) ps here)))
+    (λ later. rows_with_more byte (row_of_piece above offset p) (numbered (above + 1) (offset + length p) ps)
+    ∙ rw (holds_not_past offset (offset + length p) byte later) (omega (arith, one_within byte (above + 1) (offset + length p) ps later (omega arith))))
+    (cases_lt byte (offset + length p))
+
+-- the rows of the windows of groups
+abbrev pub window_rows : List ℕ → List Span → Range ℕ → List RowView
+window_rows source spans group = rows_in source (group_window (length source) (breaks_of source) spans group)
+
+slice_len : (source : List ℕ) (a b : ℕ) → length (slice_range source a b) ≡ min (b - a) (length source - a)
+slice_len source a b = length-take (b - a) (drop a source) ∙ ap (min (b - a)) (length-drop a source)
+
+none_below_windows : (byte : ℕ) (source : List ℕ) (spans : List Span) (groups : List (Range ℕ)) → All (λ g. byte < (group_window (length source) (breaks_of source) spans g).begin) groups
+    → rows_with byte (flat_map (window_rows source spans) groups) ≡ 0
+none_below_windows byte source spans [] all = refl
+none_below_windows byte source spans (g ∷ gs) all =
+    let w = group_window (length source) (breaks_of source) spans g in
+    let below : byte < w.begin = all 0 g (omega arith) in
+    sum_by-append (λ row. cond (holds_byte byte row) 1 0) (window_rows source spans g) (flat_map (window_rows source spans) gs)
+    ∙ omega (arith, none_before byte w.line w.begin (pieces (slice_range source w.begin w.end)) below, none_below_windows byte source spans gs (All-tail (λ h. byte < (group_window (length source) (breaks_of source) spans h).begin) g gs all))
+
+none_above_windows : (byte : ℕ) (source : List ℕ) (spans : List Span) (groups : List (Range ℕ)) → length source ≤ byte
+    → All (λ g. (group_window (length source) (breaks_of source) spans g).begin ≤ length source) groups
+    → rows_with byte (flat_map (window_rows source spans) groups) ≡ 0
+none_above_windows byte source spans [] le all = refl
+none_above_windows byte source spans (g ∷ gs) le all =
+    let w = group_window (length source) (breaks_of source) spans g in
+    let begins : w.begin ≤ length source = all 0 g (omega arith) in
+    let size = total_pieces (slice_range source w.begin w.end) ∙ slice_len source w.begin w.end in
+    sum_by-append (λ row. cond (holds_byte byte row) 1 0) (window_rows source spans g) (flat_map (window_rows source spans) gs)
+    ∙ omega (arith, none_past byte w.line w.begin (pieces (slice_range source w.begin w.end)) (omega (arith, size, le, begins)),
+      none_above_windows byte source spans gs le (All-tail (λ h. (group_window (length source) (breaks_of source) spans h).begin ≤ length source) g gs all))
+
+-- a byte of the span at a place, in the window of its group, lies in one row of all windows
+pub one_in_windows : (source : List ℕ) (spans : List Span) (at byte from : ℕ) (groups : List (Range ℕ))
+    → AreGroups (length source) (breaks_of source) spans from groups → AreApart (length source) (breaks_of source) spans groups
+    → All (HoldsItsSpans (length source) (breaks_of source) spans) groups → All (λ (s : Span). s.start ≤ s.end) spans
+    → from ≤ at → at < length spans → (span_at spans at).start ≤ byte → byte < length source
+    → ((g : Range ℕ) → g.start ≤ at → at < g.end → g.end ≤ length spans → byte < (group_window (length source) (breaks_of source) spans g).end)
+    → rows_with byte (flat_map (window_rows source spans) groups) ≡ 1
+one_in_windows source spans at byte from [] are apart held ordered low lt start inside ends = absurd (omega (arith, are, low, lt))
+one_in_windows source spans at byte from (g ∷ gs) are apart held ordered low lt start inside ends =
+    let len = length source in
+    let list = breaks_of source in
+    let w = group_window len list spans g in
+    let part = pieces (slice_range source w.begin w.end) in
+    let size = total_pieces (slice_range source w.begin w.end) ∙ slice_len source w.begin w.end in
+    let later : byte < w.end → rows_with byte (flat_map (window_rows source spans) gs) ≡ 0 =
+    λ before. none_below_windows byte source spans gs (λ k d h. omega (arith, before, apart 0 (suc k) d (omega arith) (omega (arith, h)))) in
+    let both = sum_by-append (λ row. cond (holds_byte byte row) 1 0) (window_rows source spans g) (flat_map (window_rows source spans) gs) in
+    ⊎_elim
+    (λ (own : at < g.end).
+    let before = ends g (omega (arith, are.0, low)) own are.1.within in
+    let begins = (held 0 g (omega arith) at (omega (arith, are.0, low)) own).0 in
+    both ∙ omega (arith, one_within byte w.line w.begin part (omega (arith, begins, start)) (omega (arith, size, before, inside, begins, start)), later before))
+    (λ (next : g.end ≤ at).
+    let rest = one_in_windows source spans at byte g.end gs are.2 (λ i j d i_lt j_lt. apart (suc i) (suc j) d (omega (arith, i_lt)) (omega (arith, j_lt)))
+    (All-tail (HoldsItsSpans len list spans) g gs held) ordered next lt start inside ends in
+    let past : w.end ≤ byte = ⊎_elim (λ before. absurd (omega (arith, rest, later before))) (λ ge. ge) (cases_lt byte w.end) in
+    let first = held 0 g (omega arith) g.start (omega arith) are.1.some in
+    both ∙ omega (arith, none_past byte w.line w.begin part (omega (arith, size, past, first.0, first.1, ordered g.start (record { start = 0; end = 0 }) (omega (arith, are.1.some, are.1.within)))), rest))
+    (cases_lt at g.end)
+
+both : (a b : Bool) → b ≡ true → ◌≡◌ {A = ℕ} (cond (a && b) 1 0) (cond a 1 0)
+both true b said = rw said refl
+both false b said = refl
+
+neither : (a b : Bool) → b ≡ false → ◌≡◌ {A = ℕ} (cond (a && b) 1 0) 0
+neither true b said = rw said refl
+neither false b said = refl
+
+with_true : (a : Bool) → (a && true) ≡ a
+with_true true = refl
+with_true false = refl
+
+-- how often a place stands among the places below n that pass a test
+count_filter : (p : ℕ → Bool) (at n : ℕ) → at < n → count_by (λ k. eqb k at) (filter p (range_with_len 0 n)) ≡ cond (p at) 1 0
+count_filter p at n lt =
+    elim (cases_Bool (p at)) [
+      | inl said ↦ count_kept p at (range_with_len 0 n) said ∙ count_once at 0 n zero-le (omega arith) ∙ sym (rw said refl)
+      | inr other ↦ count_dropped p at (range_with_len 0 n) other ∙ sym (rw other refl)
+    ]
+
+count_filters : (p q : ℕ → Bool) (at n : ℕ) → at < n → count_by (λ k. eqb k at) (filter q (filter p (range_with_len 0 n))) ≡ cond (p at && q at) 1 0
+count_filters p q at n lt =
+    elim (cases_Bool (q at)) [
+      | inl said ↦ count_kept q at (filter p (range_with_len 0 n)) said ∙ count_filter p at n lt ∙ sym (both (p at) (q at) said)
+      | inr other ↦ count_dropped q at (filter p (range_with_len 0 n)) other ∙ sym (neither (p at) (q at) other)
+    ]
+
+-- how often the text of a label stands below a row: once where the row holds its last byte
+abbrev pub last_byte : Span → ℕ
+last_byte span = label_past span - 1
+
+pub texts_of_row : (tab : ℕ) (labels : List Ordered) (row : RowView) (at : ℕ) → at < length labels → is_some (ordered_at labels at).text ≡ true
+    → (ordered_at labels at).span.start ≤ (ordered_at labels at).span.end
+    → texts_below at (row_plan_of tab labels row) ≡ cond (holds_byte (last_byte (ordered_at labels at).span) row) 1 0
+unfolding row_plan_of hangs_of ends_of one_row_labels multi_row_labels
+texts_of_row tab labels row at lt text ordered =
+    let spans = spans_of labels in
+    let x = (ordered_at labels at).span.start in
+    let y = (ordered_at labels at).span.end in
+    let e = row.offset + row.length in
+    let size : length spans ≡ length labels = length-map labels (λ l. l.span) in
+    let same : span_at spans at ≡ (ordered_at labels at).span = get_or-map (λ l. l.span) labels at _ _ lt in
+    let p : ℕ → Bool = λ k. is_one_row row.offset row.length (span_at spans k) in
+    let m : ℕ → Bool = λ k. is_multi_row row.offset row.length (span_at spans k) in
+    let q : ℕ → Bool = λ k. ends_with_text row (ordered_at labels k) in
+    let hangs = count_hangs labels (filter p (range_with_len 0 (length spans))) at (filter p (range_with_len 0 (length spans))) text ∙ count_filter p at (length spans) (omega (arith, lt, size)) in
+    let ends = count_filters m q at (length spans) (omega (arith, lt, size)) in
+    let one : p at ≡ (meets_test row.offset e x y && within_test row.offset e x y) = ap (is_one_row row.offset row.length) same in
+    let many : m at ≡ (meets_test row.offset e x y && not (within_test row.offset e x y)) = ap (is_multi_row row.offset row.length) same in
+    let said : q at ≡ (not (leb row.offset x) && leb y e) = ap (λ b. not (leb row.offset x) && leb y e && b) text ∙ with_true (not (leb row.offset x) && leb y e) in
+    ap (λ n. n + count_by (λ k. eqb k at) (filter q (filter m (range_with_len 0 (length spans))))) hangs ∙ ap (λ n. cond (p at) 1 0 + n) ends
+    ∙ ap (λ b. cond b 1 0 + cond (m at && q at) 1 0) one
+    ∙ ap (λ b. cond (meets_test row.offset e x y && within_test row.offset e x y) 1 0 + cond (b && q at) 1 0) many
+    ∙ ap (λ b. cond (meets_test row.offset e x y && within_test row.offset e x y) 1 0 + cond (meets_test row.offset e x y && not (within_test row.offset e x y) && b) 1 0) said
+    ∙ last_byte_held row.offset e x y ordered
+
+texts_of_rows : (tab : ℕ) (labels : List Ordered) (at : ℕ) (rows : List RowView) (more : List RowPlanView) → at < length labels → is_some (ordered_at labels at).text ≡ true
+    → (ordered_at labels at).span.start ≤ (ordered_at labels at).span.end
+    → sum_by (texts_below at) (map (row_plan_of tab labels) rows ++ more) ≡ rows_with (last_byte (ordered_at labels at).span) rows + sum_by (texts_below at) more
+texts_of_rows tab labels at [] more lt text ordered = omega arith
+texts_of_rows tab labels at (row ∷ rows) more lt text ordered =
+    sum_by-cons (texts_below at) (row_plan_of tab labels row) (map (row_plan_of tab labels) rows ++ more)
+    ∙ omega (arith, texts_of_row tab labels row at lt text ordered, texts_of_rows tab labels at rows more lt text ordered, rows_with_more (last_byte (ordered_at labels at).span) row rows)
+
+texts_of_groups : (tab : ℕ) (source : List ℕ) (labels : List Ordered) (at : ℕ) (groups : List (Range ℕ)) → at < length labels → is_some (ordered_at labels at).text ≡ true
+    → (ordered_at labels at).span.start ≤ (ordered_at labels at).span.end
+    → sum_by (texts_below at) (drawn_rows (map (snippet_of tab source labels) groups)) ≡ rows_with (last_byte (ordered_at labels at).span) (flat_map (window_rows source (spans_of labels)) groups)
+unfolding snippet_of row_plans_of
+texts_of_groups tab source labels at [] lt text ordered = refl
+texts_of_groups tab source labels at (g ∷ gs) lt text ordered =
+    let byte = last_byte (ordered_at labels at).span in
+    texts_of_rows tab labels at (window_rows source (spans_of labels) g) (drawn_rows (map (snippet_of tab source labels) gs)) lt text ordered
+    ∙ ap (λ n. rows_with byte (window_rows source (spans_of labels) g) + n) (texts_of_groups tab source labels at gs lt text ordered)
+    ∙ sym (sum_by-append (λ row. cond (holds_byte byte row) 1 0) (window_rows source (spans_of labels) g) (flat_map (window_rows source (spans_of labels)) gs))
+
+-- rows of plans, each at or after the end of the one before, from one offset to another
+abbrev pub Ascend : ℕ → List RowPlanView → ℕ → Type 0
+Ascend from [] to = from ≤ to
+Ascend from (p ∷ ps) to = (from ≤ p.row.offset) × Ascend (p.row.offset + p.row.length) ps to
+
+ascend_from : (a b to : ℕ) (ps : List RowPlanView) → a ≤ b → Ascend b ps to → Ascend a ps to
+ascend_from a b to [] le up = omega (arith, up)
+ascend_from a b to (p ∷ ps) le up = (omega (arith, up.0), up.1)
+
+ascend_append : (a b c : ℕ) (xs ys : List RowPlanView) → Ascend a xs b → Ascend b ys c → Ascend a (xs ++ ys) c
+ascend_append a b c [] ys left right = ascend_from a b c ys left right
+ascend_append a b c (x ∷ xs) ys left right = (left.0, ascend_append (x.row.offset + x.row.length) b c xs ys left.1 right)
+
+ascend_all : (a to : ℕ) (ps : List RowPlanView) → Ascend a ps to → All (λ p. a ≤ p.row.offset) ps
+ascend_all a to [] up = All-nil (λ p. a ≤ p.row.offset)
+ascend_all a to (p ∷ ps) up =
+    All-cons (λ q. a ≤ q.row.offset) p ps up.0 (λ k d lt. omega (arith, up.0, ascend_all (p.row.offset + p.row.length) to ps up.1 k d lt))
+
+-- of two rows, the one that begins earlier ends before the other begins
+ascend_apart : (a to : ℕ) (ps : List RowPlanView) → Ascend a ps to → (i j : ℕ) (d e : RowPlanView) → i < length ps → j < length ps
+    → (get_or ps i d).row.offset < (get_or ps j e).row.offset → (get_or ps i d).row.offset + (get_or ps i d).row.length ≤ (get_or ps j e).row.offset
+ascend_apart a to [] up i j d e i_lt j_lt lt = absurd (omega arith)
+ascend_apart a to (p ∷ ps) up zero zero d e i_lt j_lt lt = absurd (omega (arith, lt))
+ascend_apart a to (p ∷ ps) up zero (suc j) d e i_lt j_lt lt = ascend_all (p.row.offset + p.row.length) to ps up.1 j e (omega arith)
+ascend_apart a to (p ∷ ps) up (suc i) zero d e i_lt j_lt lt = absurd (omega (arith, lt, ascend_all (p.row.offset + p.row.length) to ps up.1 i d (omega arith)))
+ascend_apart a to (p ∷ ps) up (suc i) (suc j) d e i_lt j_lt lt = ascend_apart (p.row.offset + p.row.length) to ps up.1 i j d e (omega arith) (omega arith) lt
+
+ascend_rows : (tab : ℕ) (labels : List Ordered) (above offset : ℕ) (ps : List (List ℕ)) → Ascend offset (map (row_plan_of tab labels) (numbered above offset ps)) (offset + total ps)
+unfolding numbered total row_plan_of
+ascend_rows tab labels above offset [] = omega arith
+ascend_rows tab labels above offset (p ∷ ps) =
+    let place : offset + length p + total ps ≡ offset + (length p + total ps) = omega arith in
+    (omega arith, subst (Ascend (offset + length p) (map (row_plan_of tab labels) (numbered (above + 1) (offset + length p) ps))) place (ascend_rows tab labels (above + 1) (offset + length p) ps))
+
+ascend_groups : (tab : ℕ) (source : List ℕ) (labels : List Ordered) (from : ℕ) (groups : List (Range ℕ)) → from ≤ length source
+    → AreApart (length source) (breaks_of source) (spans_of labels) groups
+    → All (λ g. (from ≤ (group_window (length source) (breaks_of source) (spans_of labels) g).begin) × ((group_window (length source) (breaks_of source) (spans_of labels) g).begin ≤ (group_window (length source) (breaks_of source) (spans_of labels) g).end) × ((group_window (length source) (breaks_of source) (spans_of labels) g).end ≤ length source)) groups
+    → Ascend from (drawn_rows (map (snippet_of tab source labels) groups)) (length source)
+unfolding snippet_of row_plans_of
+ascend_groups tab source labels from [] le apart each = le
+ascend_groups tab source labels from (g ∷ gs) le apart each =
+    let w = group_window (length source) (breaks_of source) (spans_of labels) g in
+    let own = each 0 g (omega arith) in
+    let size = total_pieces (slice_range source w.begin w.end) ∙ slice_len source w.begin w.end in
+    let reach : w.begin + total (pieces (slice_range source w.begin w.end)) ≡ w.end = omega (arith, size, own.1, own.2) in
+    let rows = subst (Ascend w.begin (map (row_plan_of tab labels) (window_rows source (spans_of labels) g))) reach (ascend_rows tab labels w.line w.begin (pieces (slice_range source w.begin w.end))) in
+    let rest = ascend_groups tab source labels w.end gs own.2 (λ i j d i_lt j_lt. apart (suc i) (suc j) d (omega (arith, i_lt)) (omega (arith, j_lt)))
+    (λ k d lt. let one = each (suc k) d (omega (arith, lt)) in (apart 0 (suc k) d (omega arith) (omega (arith, lt)), one.1, one.2)) in
+    ascend_from from w.begin (length source) _ own.0 (ascend_append w.begin w.end (length source) (map (row_plan_of tab labels) (window_rows source (spans_of labels) g)) (drawn_rows (map (snippet_of tab source labels) gs)) rows rest)
+
+-- the count of texts below each row, as above
+each_row : (tab : ℕ) (labels : List Ordered) (at : ℕ) (rows : List RowView) → at < length labels → is_some (ordered_at labels at).text ≡ true
+    → (ordered_at labels at).span.start ≤ (ordered_at labels at).span.end
+    → All (λ plan. texts_below at plan ≡ cond (holds_byte (last_byte (ordered_at labels at).span) plan.row) 1 0) (map (row_plan_of tab labels) rows)
+unfolding row_plan_of
+each_row tab labels at rows lt text ordered =
+    All-map (λ plan. texts_below at plan ≡ cond (holds_byte (last_byte (ordered_at labels at).span) plan.row) 1 0) (row_plan_of tab labels) rows (λ k d _. texts_of_row tab labels (get_or rows k d) at lt text ordered)
+
+each_plan : (tab : ℕ) (source : List ℕ) (labels : List Ordered) (at : ℕ) (groups : List (Range ℕ)) → at < length labels → is_some (ordered_at labels at).text ≡ true
+    → (ordered_at labels at).span.start ≤ (ordered_at labels at).span.end
+    → All (λ plan. texts_below at plan ≡ cond (holds_byte (last_byte (ordered_at labels at).span) plan.row) 1 0) (drawn_rows (map (snippet_of tab source labels) groups))
+unfolding snippet_of row_plans_of
+each_plan tab source labels at [] lt text ordered = All-nil (λ plan. texts_below at plan ≡ cond (holds_byte (last_byte (ordered_at labels at).span) plan.row) 1 0)
+each_plan tab source labels at (g ∷ gs) lt text ordered =
+    All-append (λ plan. texts_below at plan ≡ cond (holds_byte (last_byte (ordered_at labels at).span) plan.row) 1 0)
+    (map (row_plan_of tab labels) (window_rows source (spans_of labels) g)) (drawn_rows (map (snippet_of tab source labels) gs))
+    (each_row tab labels at (window_rows source (spans_of labels) g) lt text ordered) (each_plan tab source labels at gs lt text ordered)
+
+holds_from : (o e byte : ℕ) → 0 < cond (leb o byte && ltb byte e) 1 0 → (o ≤ byte) × (byte < e)
+holds_from o e byte some =
+    elim (cases_Bool (leb o byte && ltb byte e)) [
+      | inl said ↦ let parts = and_parts (leb o byte) (ltb byte e) said in (leb-true o byte parts.0, ltb-true byte e parts.1)
+      | inr other ↦ absurd (omega (arith, ap {B = ℕ} (λ b. cond b 1 0) other))
+    ]
+
+pub last_met : (len : ℕ) (rows : List RowPlanView) (span : Span) (at : ℕ) → Ascend 0 rows len
+    → All (λ plan. texts_below at plan ≡ cond (holds_byte (last_byte span) plan.row) 1 0) rows
+    → All (λ plan. 0 < texts_below at plan → IsLastMet rows span plan) rows
+last_met len rows span at up each k d lt some =
+    let plan = get_or rows k d in
+    let here = holds_from plan.row.offset (plan.row.offset + plan.row.length) (last_byte span) (omega (arith, some, each k d lt)) in (
+      (last_byte span, here.0, here.1, omega arith, omega arith),
+      λ j e j_lt later met. omega (arith, ascend_apart 0 len rows up k j d e lt j_lt later, met.1, met.4, here.1),
+    )
+
+-- the byte lies in the window of a group whose largest end is at or after the label's
+reaches_byte : (len : ℕ) (list : List LineBreak) (largest start end : ℕ) → IsBreakList len list → largest ≤ len → start ≤ end → end ≤ largest → start < len
+    → start + max (end - start) 1 - 1 < window_end len list 1 largest
+reaches_byte len list largest start end ok le ordered reach inside =
+    ⊎_elim (λ lt. omega (arith, lt, reach, ordered)) (λ (all : window_end len list 1 largest ≡ len). omega (arith, all, le, reach, ordered, inside)) (window_reaches len list largest ok le)
+
+-- each window is a part of the source
+windows_within : (source : List ℕ) (spans : List Span) (groups : List (Range ℕ)) → All (λ g. (g.start < g.end) × (g.end ≤ length spans)) groups
+    → All (HoldsItsSpans (length source) (breaks_of source) spans) groups → All (λ (s : Span). s.start ≤ s.end) spans
+    → All (λ g. (0 ≤ (group_window (length source) (breaks_of source) spans g).begin) × ((group_window (length source) (breaks_of source) spans g).begin ≤ (group_window (length source) (breaks_of source) spans g).end) × ((group_window (length source) (breaks_of source) spans g).end ≤ length source)) groups
+unfolding window_end
+windows_within source spans groups within held ordered k d lt =
+    let g = get_or groups k d in
+    let one = within k d lt in
+    let first = held k d lt g.start (omega arith) one.0 in
+    let last = largest_end spans g.start g.end - 1 in
+    (zero-le, omega (arith, first.0, first.1, ordered g.start (record { start = 0; end = 0 }) (omega (arith, one.0, one.1))),
+      row_start_within (length source) (breaks_of source) (row_of (breaks_of source) last + 1 + row_further (breaks_of source) last + 1) (breaks_valid source))
+
+pub texts_once : (tab : ℕ) (source : List ℕ) (labels : List Label) → HaveTextsOnce tab source labels
+unfolding snippets_of groups_of
+texts_once tab source labels all at lt some =
+    let len = length source in
+    let list = breaks_of source in
+    let ordered = in_order labels in
+    let same : spans_of ordered ≡ spans_in_order labels = spans_ordered labels in
+    let groups = groups_of len list (spans_in_order labels) in
+    let span = (ordered_at ordered at).span in
+    let ok = breaks_valid source in
+    let valid_there = spans_valid len labels (spans_in_order labels) refl all in
+    let are_there = groups_of_are len list (spans_in_order labels) in
+    let are = subst (λ s. AreGroups len list s 0 groups) (sym same) are_there in
+    let apart = subst (λ s. AreApart len list s groups) (sym same) (groups_apart len list (spans_in_order labels) 0 groups ok (spans_ascend labels, valid_there) are_there) in
+    let held = subst (λ s. All (HoldsItsSpans len list s) groups) (sym same) (groups_hold len list (spans_in_order labels) 0 groups ok (spans_ascend labels, valid_there) are_there) in
+    let valid = subst (All (λ (s : Span). (s.start ≤ s.end) × (s.end ≤ len))) (sym same) valid_there in
+    let rising : All (λ (s : Span). s.start ≤ s.end) (spans_of ordered) = λ k d h. (valid k d h).0 in
+    let size : length (spans_of ordered) ≡ length ordered = length-map ordered (λ l. l.span) in
+    let place : span_at (spans_of ordered) at ≡ span = get_or-map (λ l. l.span) ordered at _ _ lt in
+    let here = valid at (record { start = 0; end = 0 }) (omega (arith, lt, size)) in
+    let start : (span_at (spans_of ordered) at).start ≡ span.start = ap (λ s. s.start) place in
+    let end : (span_at (spans_of ordered) at).end ≡ span.end = ap (λ s. s.end) place in
+    let up : span.start ≤ span.end = omega (arith, here.0, start, end) in
+    let high : span.end ≤ len = omega (arith, here.1, end) in
+    let counted = texts_of_groups tab source ordered at groups lt some up in
+    let windows = windows_within source (spans_of ordered) groups (groups_within len list (spans_of ordered) 0 groups are) held rising in
+    record {
+      once = λ inside.
+          let short : span.start < len = ⊎_elim (λ h. h) (λ ge. absurd (inside ge)) (cases_lt span.start len) in
+          counted
+          ∙ one_in_windows source (spans_of ordered) at (last_byte span) 0 groups are apart held rising zero-le (omega (arith, lt, size)) (omega (arith, start)) (omega (arith, short, high, up))
+          (λ g low before within.
+          let reach = largest_end_reaches (spans_of ordered) g.start g.end at low before within in
+          let most = largest_end_within (spans_of ordered) g.start g.end len valid (omega (arith, low, before)) within in
+          reaches_byte len list (largest_end (spans_of ordered) g.start g.end) span.start span.end ok most up (omega (arith, reach, end)) short);
+      nowhere = λ past.
+          counted ∙ none_above_windows (last_byte span) source (spans_of ordered) groups (omega (arith, past)) (λ k d h. omega (arith, (windows k d h).1, (windows k d h).2));
+      last = last_met len (drawn_rows (map (snippet_of tab source ordered) groups)) span at
+          (ascend_groups tab source ordered 0 groups zero-le apart windows) (each_plan tab source ordered at groups lt some up);
+    }

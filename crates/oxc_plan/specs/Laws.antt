@@ -1,0 +1,40 @@
+-- What the plan of a report's snippets promises of the texts of its labels.
+use Rattle.std.specs.Prelude.{◌≡◌, ℕ, ◌+◌, ◌<◌, ◌≤◌, ◌==◌, List, length, count_by, All}
+use Rattle.std.specs.List.{flat_map, sum_by}
+use Rattle.std.specs.Option.{IsSome}
+use Rattle.oxc_span.specs.declared.span.Span.{Span}
+use Rattle.oxc_span.specs.Label.{Label, label_end}
+use Rattle.oxc_plan.specs.Meets.{Meets}
+use Rattle.oxc_plan.specs.Plan.{RowPlanView, SnippetView, in_order, ordered_at, snippets_of}
+
+-- all rows of snippets, from the first to the last
+abbrev pub drawn_rows : List SnippetView → List RowPlanView
+drawn_rows plans = flat_map (λ plan. plan.rows) plans
+
+-- how often the text of a label stands below a row, hanging or at the end of a bar
+abbrev pub texts_below : ℕ → RowPlanView → ℕ
+texts_below at plan = count_by (λ hang. hang.label == at) plan.hangs + count_by (λ end. end == at) plan.ends
+
+-- a row is the last of these rows that a label meets
+abbrev pub IsLastMet : List RowPlanView → Span → RowPlanView → Type 0
+IsLastMet rows span plan =
+    Meets plan.row.offset plan.row.length span
+    × All (λ other. plan.row.offset < other.row.offset → ¬ Meets other.row.offset other.row.length span) rows
+
+-- an empty label at the source's end
+abbrev pub IsAtEnd : ℕ → Span → Type 0
+IsAtEnd len span = len ≤ span.start
+
+-- the text of a label stands once below these rows, and under the last of them that the label meets; only that of an
+-- empty label at the source's end stands nowhere
+pub record HangsOnce (len : ℕ) (rows : List RowPlanView) (span : Span) (at : ℕ) : Type 0 where
+  pub once : ¬ IsAtEnd len span → sum_by (texts_below at) rows ≡ 1
+  pub nowhere : IsAtEnd len span → sum_by (texts_below at) rows ≡ 0
+  pub last : All (λ plan. 0 < texts_below at plan → IsLastMet rows span plan) rows
+
+-- the law: each text of a label that ends within the source hangs once
+abbrev pub HaveTextsOnce : ℕ → List ℕ → List Label → Type 0
+HaveTextsOnce tab source labels =
+    All (λ label. label_end label ≤ length source) labels
+    → (at : ℕ) → at < length (in_order labels) → IsSome (ordered_at (in_order labels) at).text
+    → HangsOnce (length source) (drawn_rows (snippets_of tab source labels)) (ordered_at (in_order labels) at).span at

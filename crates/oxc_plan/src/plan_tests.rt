@@ -1,0 +1,103 @@
+// The plans of snippets by example, and that memory suffices for them.
+ghost use Rattle.std.specs.Prelude.{◌+◌, ◌<◌, ◌^◌};
+
+use crate::{Bar, BarKind, Hang, MarkCells, RowPlan, SnippetPlan, plan_snippets};
+use oxc_span::LabeledSpan;
+use oxc_windows::SpanScanner;
+use std::alloc::{AllocError, Global};
+use std::process::Abort;
+use std::test::Fail;
+
+/// A label with a text.
+fn label(alloc: Global, start: u32, len: u32, text: &str) -> Result<LabeledSpan, AllocError>
+    requires { start + len < 2 ^ 32 }
+{
+    Ok(LabeledSpan::new(Some(String::from_str(alloc, text)?), start, len))
+}
+
+fn has_bar(rt: &impl Abort, row: &RowPlan<'_>, kind: BarKind, ends: &[usize]) {
+    assert_eq!(rt; row.bars.as_slice(), [Bar { label: 0, kind }].as_slice());
+    assert_eq!(rt; row.ends.as_slice(), ends);
+    assert!(rt; row.marks.is_empty() && row.hangs.is_empty());
+}
+
+fn has_head(rt: &impl Abort, plan: &SnippetPlan<'_>, line: usize, column: usize, gutter: usize) {
+    assert_eq!(rt; plan.head_line, line);
+    assert_eq!(rt; plan.head_column, column);
+    assert_eq!(rt; plan.gutter, gutter);
+}
+
+#[test]
+fn a_label_over_rows_has_a_bar_beside_each(rt: HostRuntime) -> Result<(), Fail> {
+    let alloc = rt.alloc();
+    let labels = [label(alloc, 2, 7, "block")?];
+    let mut scanner = SpanScanner::new(alloc, b"a {\n  b\n}\n", 1, 1);
+    let plans = plan_snippets(alloc, &mut scanner, &labels)?;
+    assert_eq!(rt; plans.len(), 1);
+    has_head(&rt, &plans[0], 1, 3, 1);
+    let rows = &plans[0].rows;
+    assert_eq!(rt; rows.len(), 3);
+    has_bar(&rt, &rows[0], BarKind::Starts, &[]);
+    has_bar(&rt, &rows[1], BarKind::Passes, &[]);
+    has_bar(&rt, &rows[2], BarKind::Ends, &[0]);
+    assert_eq!(rt; rows[2].row.number, 3);
+    Ok(())
+}
+
+#[test]
+fn labels_within_a_row_have_marks_and_texts(rt: HostRuntime) -> Result<(), Fail> {
+    let alloc = rt.alloc();
+    let labels = [label(alloc, 0, 4, "A")?, label(alloc, 2, 4, "B")?];
+    let mut scanner = SpanScanner::new(alloc, b"abcdef", 1, 1);
+    let plans = plan_snippets(alloc, &mut scanner, &labels)?;
+    assert_eq!(rt; plans.len(), 1);
+    assert_eq!(rt; plans[0].rows.len(), 1);
+    let row = &plans[0].rows[0];
+    assert_eq!(rt;
+        row.marks.as_slice(),
+        [
+            MarkCells { label: 0, start: 0, end: 4, bar: 2 },
+            MarkCells { label: 1, start: 4, end: 6, bar: 5 },
+        ].as_slice()
+    );
+    assert_eq!(rt;
+        row.hangs.as_slice(),
+        [Hang { label: 0, at: 0 }, Hang { label: 1, at: 1 }].as_slice()
+    );
+    Ok(())
+}
+
+#[test]
+fn a_mark_stands_past_a_tab(rt: HostRuntime) -> Result<(), Fail> {
+    let alloc = rt.alloc();
+    let labels = [LabeledSpan::new(None, 5, 1)];
+    let mut scanner = SpanScanner::new(alloc, "é\txyz".as_bytes(), 1, 1);
+    let plans = plan_snippets(alloc, &mut scanner, &labels)?;
+    assert_eq!(rt; plans.len(), 1);
+    assert_eq!(rt; plans[0].rows.len(), 1);
+    assert_eq!(rt;
+        plans[0].rows[0].marks.as_slice(),
+        [MarkCells { label: 0, start: 6, end: 7, bar: 6 }].as_slice()
+    );
+    Ok(())
+}
+
+#[test]
+fn a_head_is_at_the_first_primary_label_and_equal_texts_hang_together(rt: HostRuntime) -> Result<(), Fail> {
+    let alloc = rt.alloc();
+    let labels = [
+        label(alloc, 0, 1, "x")?,
+        label(alloc, 0, 1, "x")?,
+        LabeledSpan::primary_at(None, 3, 1),
+    ];
+    let mut scanner = SpanScanner::new(alloc, b"a\r\nb", 1, 1);
+    let plans = plan_snippets(alloc, &mut scanner, &labels)?;
+    assert_eq!(rt; plans.len(), 1);
+    has_head(&rt, &plans[0], 2, 1, 0);
+    assert_eq!(rt; plans[0].rows.len(), 2);
+    assert_eq!(rt;
+        plans[0].rows[0].hangs.as_slice(),
+        [Hang { label: 0, at: 0 }, Hang { label: 1, at: 0 }].as_slice()
+    );
+    Ok(())
+}
