@@ -226,8 +226,11 @@ none_above_windows byte source spans (g ∷ gs) le all =
     let begins : w.begin ≤ length source = all 0 g (omega arith) in
     let size = total_pieces (slice_range source w.begin w.end) ∙ slice_len source w.begin w.end in
     sum_by-append (λ row. cond (holds_byte byte row) 1 0) (window_rows source spans g) (flat_map (window_rows source spans) gs)
-    ∙ omega (arith, none_past byte w.line w.begin (pieces (slice_range source w.begin w.end)) (omega (arith, size, le, begins)),
-      none_above_windows byte source spans gs le (All-tail (λ h. (group_window (length source) (breaks_of source) spans h).begin ≤ length source) g gs all))
+    ∙ omega (
+      arith,
+      none_past byte w.line w.begin (pieces (slice_range source w.begin w.end)) (omega (arith, size, le, begins)),
+      none_above_windows byte source spans gs le (All-tail (λ h. (group_window (length source) (breaks_of source) spans h).begin ≤ length source) g gs all),
+    )
 
 -- a byte of the span at a place, in the window of its group, lies in one row of all windows
 pub one_in_windows : (source : List ℕ) (spans : List Span) (at byte from : ℕ) (groups : List (Range ℕ))
@@ -434,9 +437,11 @@ windows_within source spans groups within held ordered k d lt =
     let g = get_or groups k d in
     let one = within k d lt in
     let first = held k d lt g.start (omega arith) one.0 in
-    let last = largest_end spans g.start g.end - 1 in
-    (zero-le, omega (arith, first.0, first.1, ordered g.start (record { start = 0; end = 0 }) (omega (arith, one.0, one.1))),
-      row_start_within (length source) (breaks_of source) (row_of (breaks_of source) last + 1 + row_further (breaks_of source) last + 1) (breaks_valid source))
+    let last = largest_end spans g.start g.end - 1 in (
+      zero-le,
+      omega (arith, first.0, first.1, ordered g.start (record { start = 0; end = 0 }) (omega (arith, one.0, one.1))),
+      row_start_within (length source) (breaks_of source) (row_of (breaks_of source) last + 1 + row_further (breaks_of source) last + 1) (breaks_valid source),
+    )
 
 pub texts_once : (tab : ℕ) (source : List ℕ) (labels : List Label) → HaveTextsOnce tab source labels
 unfolding snippets_of groups_of

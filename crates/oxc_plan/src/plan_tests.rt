@@ -56,9 +56,20 @@ fn labels_within_a_row_have_marks_and_texts(rt: HostRuntime) -> Result<(), Fail>
     assert_eq!(rt;
         row.marks.as_slice(),
         [
-            MarkCells { label: 0, start: 0, end: 4, bar: 2 },
-            MarkCells { label: 1, start: 4, end: 6, bar: 5 },
-        ].as_slice()
+            MarkCells {
+                label: 0,
+                start: 0,
+                end: 4,
+                bar: 2
+            },
+            MarkCells {
+                label: 1,
+                start: 4,
+                end: 6,
+                bar: 5
+            },
+        ]
+        .as_slice()
     );
     assert_eq!(rt;
         row.hangs.as_slice(),
@@ -77,13 +88,21 @@ fn a_mark_stands_past_a_tab(rt: HostRuntime) -> Result<(), Fail> {
     assert_eq!(rt; plans[0].rows.len(), 1);
     assert_eq!(rt;
         plans[0].rows[0].marks.as_slice(),
-        [MarkCells { label: 0, start: 6, end: 7, bar: 6 }].as_slice()
+        [MarkCells {
+            label: 0,
+            start: 6,
+            end: 7,
+            bar: 6
+        }]
+        .as_slice()
     );
     Ok(())
 }
 
 #[test]
-fn a_head_is_at_the_first_primary_label_and_equal_texts_hang_together(rt: HostRuntime) -> Result<(), Fail> {
+fn a_head_is_at_the_first_primary_label_and_equal_texts_hang_together(
+    rt: HostRuntime,
+) -> Result<(), Fail> {
     let alloc = rt.alloc();
     let labels = [
         label(alloc, 0, 1, "x")?,
