@@ -3,8 +3,7 @@ ghost use Rattle.std.specs.Prelude.{◌≡◌, ◌++◌, ◌-◌, ◌<◌, ◌�
 ghost use Rattle.std.specs.List.{flat_map, range_with_len};
 ghost use Rattle.std.specs.Option.{option_copied};
 ghost use Rattle.render_files.specs.Report.{label_view, report_view};
-ghost use Rattle.render_files.specs.Drawable.{row_at as row_of_source};
-ghost use Rattle.render_files.specs.Drawing.{spaces, title, numbers, head, shown_row, front, first_cell, end_cell, bar_cell, mark_at as mark_of, mark_line, hanging_line, hanging_text, close, row_above as row_above_of, number_width as width_of_numbers, lines_of_label, snippet, drawn_report};
+ghost use Rattle.render_files.specs.Drawing.{spaces, title, numbers, head, shown_row, front, end_cell, bar_cell, mark_at as mark_of, mark_line, hanging_line, hanging_text, close, row_above as row_above_of, number_width as width_of_numbers, lines_of_label, snippet, drawn_report};
 
 use crate::report::{PlaceLabel, PlainReport};
 use crate::rows::row_at;

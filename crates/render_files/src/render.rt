@@ -38,11 +38,7 @@ pub fn render_plain<K: Sink>(
 }
 
 // The whole text.
-fn draw(
-    alloc: Global,
-    files: &Files<String>,
-    reports: &[PlainReport],
-) -> Result<String, PlainError>
+fn draw(alloc: Global, files: &Files<String>, reports: &[PlainReport]) -> Result<String, PlainError>
     requires known { All (λ report. report.file < length files.now) reports.now }
     ensures drawn { IfOk result (λ text. string_bytes text ≡ drawn files.now (map report_view reports.now)) }
     ensures cause { MatchResult result (λ _. first_undrawable files.now (map report_view reports.now) ≡ None) (IsCause files.now (map report_view reports.now)) }

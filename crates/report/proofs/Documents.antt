@@ -1,8 +1,8 @@
 -- What the reading of an input, of an object's keys and of an array say of the document.
-use Rattle.std.proofs.Common.{◌≡◌, ◌≢◌, length, ℕ, List, [], ◌∷◌, ◌&&◌, ◌||◌, Bool, true, false, Some, None, refl, ap, ◌∙◌, map, not, String, string_bytes}
+use Rattle.std.proofs.Common.{◌≡◌, ◌≢◌, length, ℕ, List, [], ◌∷◌, ◌||◌, Bool, true, false, Some, None, refl, ap, map, String, string_bytes}
 use Rattle.std.specs.Borrow.{Bor}
 use Rattle.std.specs.Str.{IsUtf8, is_utf8, bytes_eq}
-use Rattle.std.specs.List.{list_all, list_any, position}
+use Rattle.std.specs.List.{list_all, list_any}
 use Rattle.std.specs.Map.{keys_of}
 use Rattle.std.proofs.lemmas.Str.{is_utf8-from_IsUtf8, IsUtf8-from_is_utf8}
 use Rattle.std.specs.declared.alloc.Global.{Global}
@@ -11,7 +11,7 @@ use Rattle.serde_json.specs.Read.{read}
 use Rattle.serde_json.specs.View.{members_view, items_view}
 use Rattle.serde_json.specs.declared.value.Value.{Value}
 use Rattle.render_files.specs.Drawable.{first_undrawable}
-use Rattle.report.specs.Document.{Document, only_keys, only_item, pair_of, json_in, form_of, form_in, document_of}
+use Rattle.report.specs.Document.{Document, only_keys, only_item, pair_of, form_of, form_in, document_of}
 
 -- the names, one after another
 any_now : (key : List ℕ) (names : List (Bor (List ℕ))) → list_any (λ name. bytes_eq name key) (map (λ name. name.now) names) ≡ list_any (λ name. bytes_eq name.now key) names

@@ -1,5 +1,5 @@
 -- Which input is a document that can be drawn, and what its drawing is.
-use Rattle.std.specs.Prelude.{ℕ, ◌^◌, List, [], ◌∷◌, ◌&&◌, ◌==◌, Bool, true, false, nat_lt, if◌then◌else◌, length, map, Option, Some, None, option_map, option_and_then, unwrap_or, codes}
+use Rattle.std.specs.Prelude.{ℕ, ◌^◌, List, [], ◌∷◌, ◌&&◌, ◌==◌, Bool, true, false, nat_lt, if◌then◌else◌, length, Option, Some, None, option_map, option_and_then, unwrap_or, codes}
 use Rattle.std.specs.List.{list_any}
 use Rattle.std.specs.Option.{is_none}
 use Rattle.std.specs.Str.{is_utf8, bytes_eq}

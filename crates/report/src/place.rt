@@ -1,11 +1,11 @@
 // Single values of a document: texts, numbers, places.
-ghost use Rattle.std.specs.Prelude.{◌≡◌, ◌&&◌, codes, map, option_map, string_bytes};
+ghost use Rattle.std.specs.Prelude.{◌≡◌, map, option_map, string_bytes};
 ghost use Rattle.std.specs.List.{list_all, list_any};
 ghost use Rattle.std.specs.Option.{option_copied};
 ghost use Rattle.std.specs.Str.{bytes_eq};
 ghost use Rattle.std.specs.BTreeMap.{keys};
 ghost use Rattle.serde_json.specs.View.{view, items_view};
-ghost use Rattle.report.specs.Document.{has_only_keys as holds_only_keys, text_in as text_under, only_item as item_of_one, only_in as item_under, whole as whole_number, counted as counting_number, pair_of as place_of_pair, place_in as place_under, is_first_in as is_zero_under};
+ghost use Rattle.report.specs.Document.{has_only_keys as holds_only_keys, text_in as text_under, only_item as item_of_one, only_in as item_under, counted as counting_number, pair_of as place_of_pair, place_in as place_under, is_first_in as is_zero_under};
 
 use serde_json::{Map, Value};
 use source_location::{OneIndexed, SourceLocation};

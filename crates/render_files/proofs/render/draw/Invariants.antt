@@ -10,5 +10,5 @@ abbrev pub invariant-loop-place : goal.invariant-loop-place
 invariant-loop-place l = record {
   so_far : string_bytes l.text ++ drawn l.files (map report_view (drop l.place l.reports)) ≡ drawn l.files (map report_view l.reports);
   drawable : position_from (λ report. not (is_drawable l.files report)) l.place (map report_view (drop l.place l.reports))
-    ≡ position (λ report. not (is_drawable l.files report)) (map report_view l.reports);
+      ≡ position (λ report. not (is_drawable l.files report)) (map report_view l.reports);
 }

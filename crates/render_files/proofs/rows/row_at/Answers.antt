@@ -1,5 +1,4 @@
 -- The item of `lines` at a place.
-use Rattle.std.proofs.Common.{refl}
 use Rattle.std.proofs.lemmas.Iterator.Consumers.{nth_from_yields_List}
 use Rattle.std.proofs.lemmas.Iterator.Splits.{YieldsList-from_lines}
 use Rattle.render_files.specs.Drawable.{row_at}
