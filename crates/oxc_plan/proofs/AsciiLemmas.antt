@@ -1,13 +1,13 @@
--- A row of ASCII: each character is a cluster, and each but a tab and an escape takes one cell.
-use Rattle.std.proofs.Common.{◌≡◌, ◌≢◌, ℕ, ◌+◌, ◌-◌, ◌*◌, ◌%◌, ◌<◌, ◌≤◌, Bool, true, false, cond, List, [], ◌∷◌, ◌++◌, map, length, fold, take, drop, get_or, ⊎_elim, refl, sym, ap, subst, ◌∙◌, arith, eqb, length-append, replicate, unwrap_or, zero, suc}
+-- A row of ASCII: whatever its clusters, each of its characters but a tab and an escape takes one cell.
+use Rattle.std.proofs.Common.{◌≡◌, ℕ, ◌+◌, ◌-◌, ◌*◌, ◌%◌, ◌<◌, ◌≤◌, Bool, true, false, cond, List, [], ◌∷◌, ◌++◌, map, length, fold, take, drop, get_or, ⊎_elim, refl, sym, ap, subst, ◌∙◌, arith, eqb, length-append, replicate, unwrap_or, zero, suc}
 use Rattle.std.specs.Prelude.{All, encode_utf8_all}
 use Rattle.std.specs.List.{flat_map}
 use Rattle.std.specs.Int.{is_in_range}
 use Rattle.std.specs.Str.{IsAscii}
-use Rattle.std.proofs.lemmas.Bool.{false≢true, ne_eqb, cases_lt, le-ltb, lt-ltb}
+use Rattle.std.proofs.lemmas.Bool.{false≢true, eqb-true, cases_lt, le-ltb, lt-ltb}
 use Rattle.std.proofs.lemmas.Bool.Decides.{nat_tests}
 use Rattle.std.proofs.lemmas.List.{length-replicate, at_drop_more, at_drop_all, get_or-take, get_or_past, length-take, length-take-le, map-append, take_all}
-use Rattle.std.proofs.lemmas.List.Elements.{All-head, All-tail, All-weaker, All-from_get_or, All-take, All-nil, All-cons}
+use Rattle.std.proofs.lemmas.List.Elements.{All-head, All-tail, All-from_get_or, All-take, All-nil, All-cons}
 use Rattle.std.proofs.lemmas.Str.{chars-IsAscii, encode_ascii, IsCharBoundary-from_ascii}
 use Rattle.std.proofs.lemmas.Str.Ascii.{IsAscii-from_all}
 use Rattle.oxc_plan.proofs.BoundaryLemmas.{down_is, up_is}
@@ -22,91 +22,85 @@ use Rattle.ucd_breaks.specs.GraphemeClusterBreak.{grapheme_cluster_break}
 use Rattle.ucd_breaks.proofs.GraphemeClusterBreakLemmas.{grapheme_cluster_break_stepped}
 use Rattle.ucd_breaks.specs.declared.GraphemeClusterBreak.{GraphemeClusterBreak}
 use Rattle.ucd_breaks.specs.declared.GraphemeClusterBreak.TheVariants.{Control, Cr, Lf, Other}
-use Rattle.unicode_segmentation.specs.Grapheme.{graphemes, is_grapheme_break, break_by_pair}
+use Rattle.unicode_segmentation.specs.Grapheme.{is_grapheme_break, break_by_pair}
 use Rattle.unicode_segmentation.specs.Segments.{cut, segments}
 use Rattle.unicode_segmentation.proofs.GraphemeLemmas.{is_grapheme_break-inside, is_grapheme_break-others}
 use Rattle.unicode_width.specs.Width.{str_width}
 use Rattle.unicode_width.proofs.Rules.{str_width-printable}
 use Rattle.oxc_plan.specs.declared.columns.Pen.{Pen}
 use Rattle.oxc_plan.specs.Rows.{RowView}
-use Rattle.oxc_plan.specs.Width.{advance_of, is_control, with_lead, led, moved, at_margin, stays_in_escape, is_plain, is_plain_byte, pen_after, text_width}
+use Rattle.oxc_plan.specs.Width.{advance_of, is_control, with_lead, led, led_text, moved, at_margin, stays_in_escape, is_ascii, is_ascii_byte, pen_after, text_width}
 use Rattle.oxc_plan.specs.Columns.{boundary_down, boundary_up, column_in, drawn_char, drawn_from, drawn_text, HasColumnsAsDrawn, IsStop}
 
 abbrev stands_alone : ℕ → GraphemeClusterBreak → Bool
 stands_alone c Control = true
-stands_alone c Cr = true
+stands_alone c Cr = eqb c 13
 stands_alone c Lf = eqb c 10
 stands_alone c Other = true
 stands_alone c _ = false
 
-plain_ascii : (c : ℕ) → c < 128 → stands_alone c (grapheme_cluster_break c) ≡ true
+kind_of_ascii : (c : ℕ) → c < 128 → stands_alone c (grapheme_cluster_break c) ≡ true
 unfolding tables grapheme_cluster_break_stepped
-plain_ascii = Stepped-below grapheme_cluster_break grapheme_cluster_break_stepped stands_alone 128 refl
+kind_of_ascii = Stepped-below grapheme_cluster_break grapheme_cluster_break_stepped stands_alone 128 refl
 
-lf_value : GraphemeClusterBreak → Bool
-lf_value Lf = true
-lf_value _ = false
-
--- what the rules on pairs say of the values of two characters of ASCII, the second no LF
-pair_breaks : (left right : GraphemeClusterBreak) (c d : ℕ) (said : Bool) → stands_alone c left ≡ true → stands_alone d right ≡ true → eqb d 10 ≡ false
+-- what the rules on pairs say of the values of two characters of ASCII that are no CRLF
+pair_breaks : (left right : GraphemeClusterBreak) (c d : ℕ) (said : Bool) → stands_alone c left ≡ true → stands_alone d right ≡ true → (eqb c 13 ≡ true → eqb d 10 ≡ false)
     → (left ≡ Other → right ≡ Other → said ≡ true) → unwrap_or (break_by_pair true left right) said ≡ true
-pair_breaks Control right c d said l r no_lf others = refl
-pair_breaks Lf right c d said l r no_lf others = refl
-pair_breaks Cr Lf c d said l r no_lf others = absurd (false≢true (sym no_lf ∙ r))
-pair_breaks Cr _ c d said l r no_lf others = refl
-pair_breaks Other Control c d said l r no_lf others = refl
-pair_breaks Other Cr c d said l r no_lf others = refl
-pair_breaks Other Lf c d said l r no_lf others = refl
-pair_breaks Other Other c d said l r no_lf others = others refl refl
-pair_breaks Other _ c d said l r no_lf others = absurd (false≢true r)
-pair_breaks _ right c d said l r no_lf others = absurd (false≢true l)
+pair_breaks Control right c d said l r no_crlf others = refl
+pair_breaks Lf right c d said l r no_crlf others = refl
+pair_breaks Cr Lf c d said l r no_crlf others = absurd (false≢true (sym (no_crlf l) ∙ r))
+pair_breaks Cr _ c d said l r no_crlf others = refl
+pair_breaks Other Control c d said l r no_crlf others = refl
+pair_breaks Other Cr c d said l r no_crlf others = refl
+pair_breaks Other Lf c d said l r no_crlf others = refl
+pair_breaks Other Other c d said l r no_crlf others = others refl refl
+pair_breaks Other _ c d said l r no_crlf others = absurd (false≢true r)
+pair_breaks _ right c d said l r no_crlf others = absurd (false≢true l)
 
 from_others : (left right : GraphemeClusterBreak) (said : Bool) → left ≡ Other → right ≡ Other → unwrap_or (break_by_pair true left right) said ≡ true → said ≡ true
 from_others left right said a b e = rw (a, b) at e
 
--- any two characters of ASCII break, if the second is no LF
-ascii_breaks : (last next : ℕ) (before after : List ℕ) → last < 128 → next < 128 → eqb next 10 ≡ false → is_grapheme_break true (last ∷ before) (next ∷ after) ≡ true
-ascii_breaks last next before after l n no_lf =
+-- any two characters of ASCII break, if they are no CRLF
+ascii_breaks : (last next : ℕ) (before after : List ℕ) → last < 128 → next < 128 → (eqb last 13 ≡ true → eqb next 10 ≡ false) → is_grapheme_break true (last ∷ before) (next ∷ after) ≡ true
+ascii_breaks last next before after l n no_crlf =
     let pair = is_grapheme_break-inside true (last ∷ before) next after (omega arith) in
-    pair ∙ pair_breaks (grapheme_cluster_break last) (grapheme_cluster_break next) last next _ (plain_ascii last l) (plain_ascii next n) no_lf
+    pair ∙ pair_breaks (grapheme_cluster_break last) (grapheme_cluster_break next) last next _ (kind_of_ascii last l) (kind_of_ascii next n) no_crlf
     (λ a b. from_others (grapheme_cluster_break last) (grapheme_cluster_break next) _ a b (sym pair ∙ sym (is_grapheme_break-others true (last ∷ before) next after (omega arith) (omega arith) (sym a) (sym b))))
 
--- each character of ASCII is a cluster of its own
+breaks_after : (last : ℕ) (before cs : List ℕ) → last < 128 → All (λ c. c < 128) cs → eqb last 13 ≡ false → is_grapheme_break true (last ∷ before) (cs ++ []) ≡ true
+unfolding is_grapheme_break
+breaks_after last before [] l low no_cr = refl
+breaks_after last before (d ∷ cs) l low no_cr = ascii_breaks last d before (cs ++ []) l (All-head (λ c. c < 128) d cs low) (λ h. absurd (false≢true (sym no_cr ∙ h)))
+
+breaks_at_end : (last : ℕ) (before : List ℕ) → is_grapheme_break true (last ∷ before) [] ≡ true
+unfolding is_grapheme_break
+breaks_at_end last before = refl
+
+-- a cluster of one character of ASCII, and one of two, with its width
 abbrev single : ℕ → List ℕ
 single c = c ∷ []
+
+abbrev double : ℕ → ℕ → List ℕ
+double c d = c ∷ d ∷ []
 
 single_ascii : (c : ℕ) → c < 128 → IsAscii (single c)
 single_ascii c lt zero = lt
 single_ascii c lt (suc i) = omega arith
 
-breaks_after : (last : ℕ) (before cs : List ℕ) → last < 128 → All (λ c. c < 128) cs → All (λ c. eqb c 10 ≡ false) cs → is_grapheme_break true (last ∷ before) (cs ++ []) ≡ true
-unfolding is_grapheme_break
-breaks_after last before [] l ascii no_lf = refl
-breaks_after last before (d ∷ cs) l ascii no_lf = ascii_breaks last d before (cs ++ []) l (All-head (λ c. c < 128) d cs ascii) (All-head (λ c. eqb c 10 ≡ false) d cs no_lf)
+double_ascii : (c d : ℕ) → c < 128 → d < 128 → IsAscii (double c d)
+double_ascii c d l r zero = l
+double_ascii c d l r (suc zero) = r
+double_ascii c d l r (suc (suc i)) = omega arith
 
-cut_ascii : (before cs : List ℕ) → All (λ c. c < 128) cs → All (λ c. eqb c 10 ≡ false) cs → cut (is_grapheme_break true) before cs [] ≡ map single cs
-unfolding cut
-cut_ascii before [] ascii no_lf = refl
-cut_ascii before (c ∷ cs) ascii no_lf =
-    let l = All-head (λ x. x < 128) c cs ascii in
-    let more = All-tail (λ x. x < 128) c cs ascii in
-    let others = All-tail (λ x. eqb x 10 ≡ false) c cs no_lf in
-    rw (breaks_after c before cs l more others) (ap (λ l. single c ∷ l) (cut_ascii (c ∷ before) cs more others))
+led_single : (c : ℕ) → c < 128 → led (encode_utf8_all (single c)) ≡ (str_width false (single c), c) ∷ []
+led_single c lt =
+    let bytes : encode_utf8_all (single c) ≡ single c = rw (encode_ascii c lt) refl in
+    ap led bytes ∙ ap (λ cs. with_lead (str_width false cs) cs) (chars-IsAscii (single c) (single_ascii c lt))
 
-bytes_of_singles : (cs : List ℕ) → All (λ c. c < 128) cs → map encode_utf8_all (map single cs) ≡ map single cs
-bytes_of_singles [] ascii = refl
-bytes_of_singles (c ∷ cs) ascii =
-    rw (encode_ascii c (All-head (λ x. x < 128) c cs ascii)) (ap (λ l. single c ∷ l) (bytes_of_singles cs (All-tail (λ x. x < 128) c cs ascii)))
-
-pub graphemes_ascii : (text : List ℕ) → All (λ c. c < 128) text → IsAscii text → All (λ c. eqb c 10 ≡ false) text → graphemes true text ≡ map single text
-unfolding segments
-graphemes_ascii text low ascii no_lf =
-    ap (λ cs. map encode_utf8_all (cut (is_grapheme_break true) [] cs [])) (chars-IsAscii text ascii)
-    ∙ ap (map encode_utf8_all) (cut_ascii [] text low no_lf) ∙ bytes_of_singles text low
-
--- a character of ASCII with the width of its cluster, where it is drawn by itself
-led_single : (c : ℕ) → c < 128 → led (single c) ≡ (str_width false (single c), c) ∷ []
-led_single c lt = ap (λ cs. with_lead (str_width false cs) cs) (chars-IsAscii (single c) (single_ascii c lt))
+led_double : (c d : ℕ) → c < 128 → d < 128 → led (encode_utf8_all (double c d)) ≡ (str_width false (double c d), c) ∷ (0, d) ∷ []
+led_double c d l r =
+    let bytes : encode_utf8_all (double c d) ≡ double c d = rw (encode_ascii c l, encode_ascii d r) refl in
+    ap led bytes ∙ ap (λ cs. with_lead (str_width false cs) cs) (chars-IsAscii (double c d) (double_ascii c d l r))
 
 width_single : (c : ℕ) → is_in_range 0x20 0x7E c ≡ true → str_width false (single c) ≡ 1
 width_single c h = str_width-printable false (single c) (rw h refl)
@@ -114,14 +108,90 @@ width_single c h = str_width-printable false (single c) (rw h refl)
 printable : (c : ℕ) → c < 128 → is_control c ≡ false → is_in_range 0x20 0x7E c ≡ true
 printable c lt no_control = grind (arith, nat_tests)
 
--- it moves the pen as far as it is drawn
-advance_seen : (tab : ℕ) (escape : Bool) (column lead c : ℕ) → (is_control c ≡ false → lead ≡ 1) → advance_of tab escape column lead c ≡ length (drawn_char tab (record { column = column; in_escape = escape }) c)
-advance_seen tab true column lead c one = refl
-advance_seen tab false column lead c one = not_tab (eqb c 9) refl
+-- where only controls have another width than 1, the pen moves and the text is drawn as if each character had that
+abbrev lone : ℕ → ℕ × ℕ
+lone c = (1, c)
+
+abbrev AreAlike : List (ℕ × ℕ) → List ℕ → Type 0
+AreAlike ps cs =
+    (tab : ℕ) (pen : Pen) → (fold (moved tab) pen ps ≡ fold (moved tab) pen (map lone cs)) × (drawn_from tab pen ps ≡ drawn_from tab pen (map lone cs))
+
+same_advance : (tab : ℕ) (escape : Bool) (column lead c : ℕ) → (is_control c ≡ false → lead ≡ 1) → advance_of tab escape column lead c ≡ advance_of tab escape column 1 c
+same_advance tab escape column lead c one = grind (arith, nat_tests, one)
+
+same_step : (tab : ℕ) (pen : Pen) (lead c : ℕ) → (is_control c ≡ false → lead ≡ 1) → moved tab pen (lead, c) ≡ moved tab pen (lone c)
+same_step tab pen lead c one =
+    ap {A = ℕ} {B = Pen} (λ n. record { column = pen.column + n; in_escape = stays_in_escape pen.in_escape c }) (same_advance tab pen.in_escape pen.column lead c one)
+
+alike_more : (lead c : ℕ) (ps : List (ℕ × ℕ)) (cs : List ℕ) → (is_control c ≡ false → lead ≡ 1) → AreAlike ps cs → AreAlike ((lead, c) ∷ ps) (c ∷ cs)
+alike_more lead c ps cs one alike tab pen =
+    let step = same_step tab pen lead c one in
+    let rest = alike tab (moved tab pen (lone c)) in (
+      ap (λ p. fold (moved tab) p ps) step ∙ rest.0,
+      ap (λ p. drawn_char tab pen c ++ drawn_from tab p ps) step ∙ ap (λ l. drawn_char tab pen c ++ l) rest.1,
+    )
+
+-- the characters of what is left of a text, by its clusters
+abbrev clusters : List ℕ → List ℕ → List (ℕ × ℕ)
+clusters before cs = flat_map led (map encode_utf8_all (cut (is_grapheme_break true) before cs []))
+
+first_alone : (before : List ℕ) (c : ℕ) (cs : List ℕ) → c < 128 → is_grapheme_break true (c ∷ before) (cs ++ []) ≡ true
+    → clusters before (c ∷ cs) ≡ (str_width false (single c), c) ∷ clusters (c ∷ before) cs
+unfolding cut
+first_alone before c cs lt breaks = rw breaks (ap (λ l. l ++ clusters (c ∷ before) cs) (led_single c lt))
+
+first_joined : (before : List ℕ) (c d : ℕ) (cs : List ℕ) → c < 128 → d < 128 → is_grapheme_break true (c ∷ before) (d ∷ (cs ++ [])) ≡ false → is_grapheme_break true (d ∷ c ∷ before) (cs ++ []) ≡ true
+    → clusters before (c ∷ d ∷ cs) ≡ (str_width false (double c d), c) ∷ (0, d) ∷ clusters (d ∷ c ∷ before) cs
+unfolding cut
+first_joined before c d cs l r joins breaks = rw (joins, breaks) (ap (λ l. l ++ clusters (d ∷ c ∷ before) cs) (led_double c d l r))
+
+both : (a b : Bool) → ¬ (a ≡ true → b ≡ false) → (a ≡ true) × (b ≡ true)
+both true true no_other = (refl, refl)
+both true false no_other = absurd (no_other (λ h. refl))
+both false b no_other = absurd (no_other (λ h. absurd (false≢true h)))
+
+control_leads : (c n lead : ℕ) → eqb c n ≡ true → is_control n ≡ true → is_control c ≡ false → lead ≡ 1
+control_leads c n lead same control h = absurd (false≢true (sym h ∙ ap is_control (eqb-true c n same) ∙ control))
+
+alike_pair : (before : List ℕ) (c d : ℕ) (cs : List ℕ) (b : Bool) → is_grapheme_break true (c ∷ before) (d ∷ (cs ++ [])) ≡ b → c < 128 → d < 128 → All (λ x. x < 128) cs
+    → AreAlike (clusters (c ∷ before) (d ∷ cs)) (d ∷ cs) → AreAlike (clusters (d ∷ c ∷ before) cs) cs → AreAlike (clusters before (c ∷ d ∷ cs)) (c ∷ d ∷ cs)
+alike_pair before c d cs true breaks l r low one two =
+    subst (λ ps. AreAlike ps (c ∷ d ∷ cs)) (sym (first_alone before c (d ∷ cs) l breaks))
+    (alike_more (str_width false (single c)) c (clusters (c ∷ before) (d ∷ cs)) (d ∷ cs) (λ h. width_single c (printable c l h)) one)
+alike_pair before c d cs false joins l r low one two =
+    let crlf = both (eqb c 13) (eqb d 10) (λ h. false≢true (sym joins ∙ ascii_breaks c d before (cs ++ []) l r h)) in
+    let no_cr : eqb d 13 ≡ false = subst (λ n. eqb n 13 ≡ false) (sym (eqb-true d 10 crlf.1)) refl in
+    let breaks = breaks_after d (c ∷ before) cs r low no_cr in
+    subst (λ ps. AreAlike ps (c ∷ d ∷ cs)) (sym (first_joined before c d cs l r joins breaks))
+    (alike_more (str_width false (double c d)) c ((0, d) ∷ clusters (d ∷ c ∷ before) cs) (d ∷ cs) (control_leads c 13 (str_width false (double c d)) crlf.0 refl)
+    (alike_more 0 d (clusters (d ∷ c ∷ before) cs) cs (control_leads d 10 0 crlf.1 refl) two))
+
+alike_clusters : (before cs : List ℕ) → All (λ c. c < 128) cs → AreAlike (clusters before cs) cs
+unfolding cut
+alike_clusters before [] low = λ tab pen. (refl, refl)
+alike_clusters before (c ∷ []) low =
+    let lt = All-head (λ x. x < 128) c [] low in
+    subst (λ ps. AreAlike ps (c ∷ [])) (sym (first_alone before c [] lt (breaks_at_end c before)))
+    (alike_more (str_width false (single c)) c [] [] (λ h. width_single c (printable c lt h)) (λ tab pen. (refl, refl)))
+alike_clusters before (c ∷ d ∷ cs) low =
+    let more = All-tail (λ x. x < 128) c (d ∷ cs) low in
+    let rest = All-tail (λ x. x < 128) d cs more in
+    alike_pair before c d cs (is_grapheme_break true (c ∷ before) (d ∷ (cs ++ []))) refl (All-head (λ x. x < 128) c (d ∷ cs) low) (All-head (λ x. x < 128) d cs more) rest
+    (alike_clusters (c ∷ before) (d ∷ cs) more) (alike_clusters (d ∷ c ∷ before) cs rest)
+
+alike_text : (text : List ℕ) → All (λ c. c < 128) text → AreAlike (led_text text) text
+unfolding segments
+alike_text text low =
+    subst (λ cs. AreAlike (flat_map led (map encode_utf8_all (cut (is_grapheme_break true) [] cs []))) text) (sym (chars-IsAscii text (IsAscii-from_all text low))) (alike_clusters [] text low)
+
+-- a character of width 1 moves the pen as far as it is drawn
+advance_drawn : (tab : ℕ) (escape : Bool) (column lead c : ℕ) → lead ≡ 1 → advance_of tab escape column lead c ≡ length (drawn_char tab (record { column = column; in_escape = escape }) c)
+advance_drawn tab true column lead c one = refl
+advance_drawn tab false column lead c one = not_tab (eqb c 9) refl
   where
     not_control : (b : Bool) → is_control c ≡ b → cond (is_control c) 1 lead ≡ 1
     not_control true e = rw e refl
-    not_control false e = rw e (one e)
+    not_control false e = rw e one
 
     not_esc : (b : Bool) → eqb c 27 ≡ b → cond (eqb c 27) 0 (cond (is_control c) 1 lead) ≡ length (cond (eqb c 27) [] (c ∷ []))
     not_esc true e = rw e refl
@@ -131,30 +201,21 @@ advance_seen tab false column lead c one = not_tab (eqb c 9) refl
     not_tab true e = rw e (sym (length-replicate (tab - column % tab) 32))
     not_tab false e = rw e (not_esc (eqb c 27) refl)
 
-one_step : (tab : ℕ) (pen : Pen) (c : ℕ) → c < 128 → (moved tab pen (str_width false (single c), c)).column ≡ pen.column + length (drawn_char tab pen c)
-one_step tab pen c lt = ap (λ n. pen.column + n) (advance_seen tab pen.in_escape pen.column (str_width false (single c)) c (λ h. width_single c (printable c lt h)))
+drawn_lone : (tab : ℕ) (pen : Pen) (cs : List ℕ) → (fold (moved tab) pen (map lone cs)).column ≡ pen.column + length (drawn_from tab pen (map lone cs))
+drawn_lone tab pen [] = omega arith
+drawn_lone tab pen (c ∷ cs) =
+    let next = moved tab pen (lone c) in
+    let rest = drawn_from tab next (map lone cs) in
+    let joined : length (drawn_char tab pen c ++ rest) ≡ length (drawn_char tab pen c) + length rest = length-append (drawn_char tab pen c) rest in
+    let step : next.column ≡ pen.column + length (drawn_char tab pen c) = ap (λ n. pen.column + n) (advance_drawn tab pen.in_escape pen.column 1 c refl) in
+    omega (arith, drawn_lone tab next cs, step, joined)
 
-steps : (tab : ℕ) (pen : Pen) (cs : List ℕ) → All (λ c. c < 128) cs
-    → (fold (moved tab) pen (flat_map led (map single cs))).column ≡ pen.column + length (drawn_from tab pen (flat_map led (map single cs)))
-steps tab pen [] low = omega arith
-steps tab pen (c ∷ cs) low =
-    let lt = All-head (λ x. x < 128) c cs low in
-    let p : ℕ × ℕ = (str_width false (single c), c) in
-    let rest = flat_map led (map single cs) in
-    let ih = steps tab (moved tab pen p) cs (All-tail (λ x. x < 128) c cs low) in
-    let joined : length (drawn_char tab pen c ++ drawn_from tab (moved tab pen p) rest) ≡ length (drawn_char tab pen c) + length (drawn_from tab (moved tab pen p) rest) = length-append (drawn_char tab pen c) (drawn_from tab (moved tab pen p) rest) in
-    let front : List (ℕ × ℕ) → Type 0 = λ l. (fold (moved tab) pen (l ++ rest)).column ≡ pen.column + length (drawn_from tab pen (l ++ rest)) in
-    subst front (sym (led_single c lt)) (omega (arith, ih, one_step tab pen c lt, joined))
-
--- a text of ASCII without LF is as wide as it is drawn
-drawn_ascii : (tab : ℕ) (text : List ℕ) → IsAscii text → All (λ c. c ≢ 10) text → text_width tab text ≡ length (drawn_text tab text)
+-- a text of ASCII is as wide as it is drawn
+drawn_ascii : (tab : ℕ) (text : List ℕ) → IsAscii text → text_width tab text ≡ length (drawn_text tab text)
 unfolding text_width drawn_text
-drawn_ascii tab text ascii no_lf =
-    let low : All (λ c. c < 128) text = All-from_get_or (λ c. c < 128) text 0 (λ i h. ascii i) in
-    let others : All (λ c. eqb c 10 ≡ false) text = All-weaker (λ c. c ≢ 10) (λ c. eqb c 10 ≡ false) (λ c ne. ne_eqb c 10 ne) text no_lf in
-    let singles = graphemes_ascii text low ascii others in
-    let law : List (List ℕ) → Type 0 = λ gs. (fold (moved tab) at_margin (flat_map led gs)).column ≡ length (drawn_from tab at_margin (flat_map led gs)) in
-    subst law (sym singles) (omega (arith, steps tab at_margin text low))
+drawn_ascii tab text ascii =
+    let alike = alike_text text (All-from_get_or (λ c. c < 128) text 0 (λ i h. ascii i)) tab at_margin in
+    omega (arith, ap (λ (pen : Pen). pen.column) alike.0, drawn_lone tab at_margin text, ap length alike.1)
 
 -- each place of a text of ASCII is a boundary
 down_ascii : (text : List ℕ) (place : ℕ) → IsAscii text → place ≤ length text → boundary_down text place ≡ place
@@ -174,45 +235,19 @@ take_ascii : (text : List ℕ) (place : ℕ) → IsAscii text → IsAscii (take 
 take_ascii text place ascii i = ⊎_elim (λ lt. rw (get_or-take place text i 0 lt) (ascii i)) (λ ge. let past : get_or (take place text) i 0 ≡ 0 = get_or_past (take place text) i 0 (omega (arith, length-take place text)) in omega (arith, past)) (cases_lt i place)
 
 pub columns_are_drawn : (tab : ℕ) (row : RowView) → HasColumnsAsDrawn tab row
-columns_are_drawn tab row ascii no_lf offset at_start from within =
+columns_are_drawn tab row ascii offset at_start from within =
     let place = offset - row.offset in
     column_ascii tab row.text place at_start ascii within
-    ∙ drawn_ascii tab (take place row.text) (take_ascii row.text place ascii) (All-take (λ c. c ≢ 10) place row.text no_lf)
+    ∙ drawn_ascii tab (take place row.text) (take_ascii row.text place ascii)
 
--- over a text of ASCII without LF, the clusters lead to the same pen as the bytes
-abbrev lone : ℕ → ℕ × ℕ
-lone c = (1, c)
+-- over a text of ASCII, the clusters lead to the same pen as the bytes
+ascii_low : (text : List ℕ) → is_ascii text ≡ true → All (λ c. c < 128) text
+ascii_low [] ascii = All-nil (λ c. c < 128)
+ascii_low (c ∷ cs) ascii = All-cons (λ c. c < 128) c cs (grind (arith, nat_tests)) (ascii_low cs (grind (arith, nat_tests)))
 
-same_advance : (tab : ℕ) (escape : Bool) (column lead c : ℕ) → (is_control c ≡ false → lead ≡ 1) → advance_of tab escape column lead c ≡ advance_of tab escape column 1 c
-same_advance tab escape column lead c one = grind (arith, nat_tests, one)
-
-same_step : (tab : ℕ) (pen : Pen) (c : ℕ) → c < 128 → moved tab pen (str_width false (single c), c) ≡ moved tab pen (lone c)
-same_step tab pen c lt =
-    let same = same_advance tab pen.in_escape pen.column (str_width false (single c)) c (λ h. width_single c (printable c lt h)) in
-    ap {A = ℕ} {B = Pen} (λ n. record { column = pen.column + n; in_escape = stays_in_escape pen.in_escape c }) same
-
-same_pen : (tab : ℕ) (pen : Pen) (cs : List ℕ) → All (λ c. c < 128) cs → fold (moved tab) pen (flat_map led (map single cs)) ≡ fold (moved tab) pen (map lone cs)
-same_pen tab pen [] low = refl
-same_pen tab pen (c ∷ cs) low =
-    let lt = All-head (λ x. x < 128) c cs low in
-    let rest = flat_map led (map single cs) in
-    let ih = same_pen tab (moved tab pen (lone c)) cs (All-tail (λ x. x < 128) c cs low) in
-    ap (λ l. fold (moved tab) pen (l ++ rest)) (led_single c lt) ∙ ap (λ p. fold (moved tab) p rest) (same_step tab pen c lt) ∙ ih
-
-plain_low : (text : List ℕ) → is_plain text ≡ true → All (λ c. c < 128) text
-plain_low [] plain = All-nil (λ c. c < 128)
-plain_low (c ∷ cs) plain = All-cons (λ c. c < 128) c cs (grind (arith, nat_tests)) (plain_low cs (grind (arith, nat_tests)))
-
-plain_others : (text : List ℕ) → is_plain text ≡ true → All (λ c. eqb c 10 ≡ false) text
-plain_others [] plain = All-nil (λ c. eqb c 10 ≡ false)
-plain_others (c ∷ cs) plain = All-cons (λ c. eqb c 10 ≡ false) c cs (grind (arith, nat_tests)) (plain_others cs (grind (arith, nat_tests)))
-
-pub plain_width : (tab : ℕ) (text : List ℕ) → is_plain text ≡ true → (pen_after tab at_margin text).column ≡ text_width tab text
+pub width_ascii : (tab : ℕ) (text : List ℕ) → is_ascii text ≡ true → (pen_after tab at_margin text).column ≡ text_width tab text
 unfolding text_width pen_after
-plain_width tab text plain =
-    let low = plain_low text plain in
-    let singles = graphemes_ascii text low (IsAscii-from_all text low) (plain_others text plain) in
-    ap (λ pen. pen.column) (sym (same_pen tab at_margin text low)) ∙ ap (λ gs. (fold (moved tab) at_margin (flat_map led gs)).column) (sym singles)
+width_ascii tab text ascii = ap (λ (pen : Pen). pen.column) (sym (alike_text text (ascii_low text ascii) tab at_margin).0)
 
 -- one byte more, and none
 pub pen_more : (tab : ℕ) (pen : Pen) (bytes : List ℕ) (i d : ℕ) → i < length bytes → pen_after tab (moved tab pen (1, get_or bytes i d)) (drop (i + 1) bytes) ≡ pen_after tab pen (drop i bytes)
@@ -239,19 +274,19 @@ pen_le tab pen (c ∷ cs) most = omega (arith, pen_le tab (moved tab pen (lone c
 pub stop_le : (tab : ℕ) (text : List ℕ) (place : ℕ) → tab ≤ 16 → place ≤ length text → (pen_after tab at_margin (take place text)).column ≤ 17 * place
 stop_le tab text place most within = omega (arith, pen_le tab at_margin (take place text) most, length-take-le place text within)
 
--- a text of ASCII without LF up to a place is one too
-plain_take : (text : List ℕ) (place : ℕ) → is_plain text ≡ true → is_plain (take place text) ≡ true
-plain_take text place plain = list_all-from_AllPass is_plain_byte (take place text) (All-take (λ c. is_plain_byte c ≡ true) place text (AllPass-from_list_all is_plain_byte text plain))
+-- a text of ASCII up to a place is one too
+ascii_take : (text : List ℕ) (place : ℕ) → is_ascii text ≡ true → is_ascii (take place text) ≡ true
+ascii_take text place ascii = list_all-from_AllPass is_ascii_byte (take place text) (All-take (λ c. is_ascii_byte c ≡ true) place text (AllPass-from_list_all is_ascii_byte text ascii))
 
-pub column_plain : (tab : ℕ) (text : List ℕ) (place : ℕ) (at_start : Bool) → is_plain text ≡ true → place ≤ length text → (pen_after tab at_margin (take place text)).column ≡ column_in tab text place at_start
-column_plain tab text place at_start plain within =
-    plain_width tab (take place text) (plain_take text place plain)
-    ∙ sym (column_ascii tab text place at_start (IsAscii-from_all text (plain_low text plain)) within)
+pub column_within : (tab : ℕ) (text : List ℕ) (place : ℕ) (at_start : Bool) → is_ascii text ≡ true → place ≤ length text → (pen_after tab at_margin (take place text)).column ≡ column_in tab text place at_start
+column_within tab text place at_start ascii within =
+    width_ascii tab (take place text) (ascii_take text place ascii)
+    ∙ sym (column_ascii tab text place at_start (IsAscii-from_all text (ascii_low text ascii)) within)
 
-pub column_past : (tab : ℕ) (text : List ℕ) (place : ℕ) (at_start : Bool) → is_plain text ≡ true → length text < place → (pen_after tab at_margin (take (length text) text)).column + 1 ≡ column_in tab text place at_start
+pub column_past : (tab : ℕ) (text : List ℕ) (place : ℕ) (at_start : Bool) → is_ascii text ≡ true → length text < place → (pen_after tab at_margin (take (length text) text)).column + 1 ≡ column_in tab text place at_start
 unfolding column_in
-column_past tab text place at_start plain past =
-    rw (lt-ltb (length text) place past, take_all (length text) text (omega arith)) (ap (λ n. n + 1) (plain_width tab text plain))
+column_past tab text place at_start ascii past =
+    rw (lt-ltb (length text) place past, take_all (length text) text (omega arith)) (ap (λ n. n + 1) (width_ascii tab text ascii))
 
 -- stops: the first, and one further on
 pub first_is_stop : (tab : ℕ) (text : List ℕ) → IsStop tab text (record { place = 0; pen = at_margin })
@@ -271,14 +306,14 @@ further_is_stop tab text bytes last place pen stop from within same here = (
 pub stop_small : (tab : ℕ) (text : List ℕ) (stop : Stop) → IsStop tab text stop → tab ≤ 16 → stop.pen.column ≤ 17 * stop.place
 stop_small tab text stop is most = omega (arith, ap (λ (pen : Pen). pen.column) is.1, stop_le tab text stop.place most is.0)
 
-pub at_stop_past : (tab : ℕ) (text : List ℕ) (stop : Stop) (place : ℕ) (at_start : Bool) → is_plain text ≡ true → IsStop tab text stop → stop.place ≡ min place (length text) → length text < place
+pub at_stop_past : (tab : ℕ) (text : List ℕ) (stop : Stop) (place : ℕ) (at_start : Bool) → is_ascii text ≡ true → IsStop tab text stop → stop.place ≡ min place (length text) → length text < place
     → stop.pen.column + 1 ≡ column_in tab text place at_start
-at_stop_past tab text stop place at_start plain is there past =
+at_stop_past tab text stop place at_start ascii is there past =
     let at_end : stop.place ≡ length text = omega (arith, there) in
-    ap (λ (pen : Pen). pen.column + 1) (is.1 ∙ ap (λ n. pen_after tab at_margin (take n text)) at_end) ∙ column_past tab text place at_start plain past
+    ap (λ (pen : Pen). pen.column + 1) (is.1 ∙ ap (λ n. pen_after tab at_margin (take n text)) at_end) ∙ column_past tab text place at_start ascii past
 
-pub at_stop_within : (tab : ℕ) (text : List ℕ) (stop : Stop) (place : ℕ) (at_start : Bool) → is_plain text ≡ true → IsStop tab text stop → stop.place ≡ min place (length text) → place ≤ length text
+pub at_stop_within : (tab : ℕ) (text : List ℕ) (stop : Stop) (place : ℕ) (at_start : Bool) → is_ascii text ≡ true → IsStop tab text stop → stop.place ≡ min place (length text) → place ≤ length text
     → stop.pen.column ≡ column_in tab text place at_start
-at_stop_within tab text stop place at_start plain is there within =
+at_stop_within tab text stop place at_start ascii is there within =
     let same : stop.place ≡ place = omega (arith, there) in
-    ap (λ (pen : Pen). pen.column) (is.1 ∙ ap (λ n. pen_after tab at_margin (take n text)) same) ∙ column_plain tab text place at_start plain within
+    ap (λ (pen : Pen). pen.column) (is.1 ∙ ap (λ n. pen_after tab at_margin (take n text)) same) ∙ column_within tab text place at_start ascii within

@@ -1,5 +1,5 @@
 -- The column of an offset in a row, and what stands before it when the row is drawn.
-use Rattle.std.specs.Prelude.{◌≡◌, ◌≢◌, ℕ, ◌+◌, ◌-◌, ◌%◌, ◌≤◌, nat_lt, nat_le, ◌==◌, ◌||◌, Bool, not, List, [], ◌∷◌, ◌++◌, All, length, replicate, take, drop, slice_index, zero, suc, if◌then◌else◌}
+use Rattle.std.specs.Prelude.{◌≡◌, ℕ, ◌+◌, ◌-◌, ◌%◌, ◌≤◌, nat_lt, nat_le, ◌==◌, ◌||◌, Bool, not, List, [], ◌∷◌, ◌++◌, length, replicate, take, drop, slice_index, zero, suc, if◌then◌else◌}
 use Rattle.std.specs.List.{prefix_len}
 use Rattle.std.specs.Str.{IsAscii}
 use Rattle.oxc_plan.specs.declared.columns.Pen.{Pen}
@@ -50,7 +50,7 @@ drawn_text tab text = drawn_from tab at_margin (led_text text)
 -- the law: in a row of ASCII, the drawn text before an offset has as many characters as the offset's column
 abbrev pub HasColumnsAsDrawn : ℕ → RowView → Type 0
 HasColumnsAsDrawn tab row =
-    IsAscii row.text → All (λ c. c ≢ 10) row.text
+    IsAscii row.text
     → (offset : ℕ) (at_start : Bool) → row.offset ≤ offset → offset - row.offset ≤ length row.text
     → column_at tab row offset at_start ≡ length (drawn_text tab (take (offset - row.offset) row.text))
 

@@ -21,8 +21,8 @@ cells_of tab row label span = cells_between label span (column_at tab row span.s
 unfoldable pub cells_at : ℕ → RowView → List Span → List ℕ → List LabelCells
 cells_at tab row spans places = map (λ at. cells_of tab row at (span_at spans at)) places
 
--- the mark of a label, after the marks that end with a cell: it starts at the label's first cell, or there if that is
--- later, and ends with the label's last cell, or with its own first if that is later; the bar stands in its middle
+-- the mark of a label where the marks before it end before a cell: it starts at the label's first cell, or at that one if
+-- that is later; it ends with the label's last cell, or with its own first if that is later; the bar stands in its middle
 abbrev pub mark_start : ℕ → LabelCells → ℕ
 mark_start before cells = max cells.start before
 

@@ -49,12 +49,12 @@ at_margin = record { column = 0; in_escape = false }
 unfoldable pub text_width : ℕ → List ℕ → ℕ
 text_width tab text = (fold (moved tab) at_margin (led_text text)).column
 
--- a text of ASCII without LF: each of its bytes is a character and a cluster of its own
-abbrev pub is_plain_byte : ℕ → Bool
-is_plain_byte byte = nat_lt byte 128 && not (byte == 10)
+-- a text of ASCII
+abbrev pub is_ascii_byte : ℕ → Bool
+is_ascii_byte byte = nat_lt byte 128
 
-abbrev pub is_plain : List ℕ → Bool
-is_plain text = list_all is_plain_byte text
+abbrev pub is_ascii : List ℕ → Bool
+is_ascii text = list_all is_ascii_byte text
 
 -- the pen after bytes of such a text
 unfoldable pub pen_after : ℕ → Pen → List ℕ → Pen

@@ -4,7 +4,7 @@
 ghost use Rattle.std.specs.Prelude.{◌≡◌, ◌+◌, ◌*◌, ◌^◌, ◌<◌, ◌≤◌, IsTrue, true, fold, length, min, if◌then◌else◌};
 ghost use Rattle.std.specs.Str.{IsCharBoundary};
 ghost use Rattle.oxc_plan.specs.Rows.{row_view};
-ghost use Rattle.oxc_plan.specs.Width.{advance_of, is_plain, led, moved, pen_after, text_width};
+ghost use Rattle.oxc_plan.specs.Width.{advance_of, is_ascii, led, moved, pen_after, text_width};
 ghost use Rattle.oxc_plan.specs.Columns.{HasColumnsAsDrawn, IsStop, boundary_down, boundary_up, column_at, column_in};
 
 use crate::rows::Row;
@@ -78,19 +78,17 @@ pub fn text_width(text: &str, tab: usize) -> usize
     ensures exact { result ≡ text_width tab text.now }
     ensures bound { result ≤ 18 * length text.now }
 {
-    if is_plain(text) {
+    if is_ascii(text) {
         return pen_over(AT_MARGIN, text.as_bytes(), tab).column;
     }
     width_by_clusters(text, tab)
 }
 
-/// Whether a text is ASCII without LF. Its bytes are its clusters then, and its columns can be counted on from a stop.
-pub fn is_plain(text: &str) -> bool
-    ensures { result ≡ is_plain text.now }
+/// Whether a text is ASCII. Its columns can be counted by its bytes then, and counted on from a stop.
+pub fn is_ascii(text: &str) -> bool
+    ensures { result ≡ is_ascii text.now }
 {
-    text.as_bytes()
-        .iter()
-        .all(|byte| *byte < 128 && *byte != b'\n')
+    text.as_bytes().iter().all(|byte| *byte < 128)
 }
 
 /// The columns that a text takes, cluster by cluster.
@@ -122,7 +120,7 @@ const AT_MARGIN: Pen = Pen {
     in_escape: false,
 };
 
-/// A place of a text, and the pen there. The columns of a text of ASCII without LF are counted on from one to the next.
+/// A place of a text, and the pen there. The columns of a text of ASCII are counted on from one to the next.
 #[derive(Clone, Copy, Debug, PartialEq, Eq)]
 pub struct Stop {
     /// The number of bytes before it.
@@ -173,9 +171,9 @@ fn further_stop(text: &str, last: Stop, place: usize, tab: usize) -> Stop
     }
 }
 
-/// The column of a place in a text of ASCII without LF, from the stop there.
+/// The column of a place in a text of ASCII, from the stop there.
 pub fn column_at_stop(text: &str, stop: Stop, place: usize, at_start: bool, tab: usize) -> usize
-    requires plain { is_plain text.now ≡ true }
+    requires ascii { is_ascii text.now ≡ true }
     requires stop { IsStop tab text.now stop }
     requires place { stop.place ≡ min place (length text.now) }
     requires fits { length text.now < 2 ^ 32 }
@@ -191,7 +189,7 @@ pub fn column_at_stop(text: &str, stop: Stop, place: usize, at_start: bool, tab:
     }
 }
 
-/// The pen after the bytes of a text of ASCII without LF.
+/// The pen after the bytes of a text of ASCII.
 fn pen_over(mut pen: Pen, bytes: &[u8], tab: usize) -> Pen
     requires room { pen.column + 17 * length bytes.now < 2 ^ 64 }
     requires some { 1 ≤ tab }

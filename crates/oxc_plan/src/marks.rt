@@ -3,11 +3,11 @@ ghost use Rattle.std.specs.Prelude.{◌≡◌, ◌+◌, ◌^◌, ◌<◌, ◌≤
 ghost use Rattle.oxc_plan.specs.Groups.{span_at};
 ghost use Rattle.oxc_plan.specs.Meets.{IsMultiRow, IsOneRow, Meets, is_multi_row, is_one_row, is_within, meets};
 ghost use Rattle.oxc_plan.specs.Rows.{row_view};
-ghost use Rattle.oxc_plan.specs.Width.{is_plain};
+ghost use Rattle.oxc_plan.specs.Width.{is_ascii};
 ghost use Rattle.oxc_plan.specs.Columns.{IsStop};
 ghost use Rattle.oxc_plan.specs.Marks.{AreInOrder, HasEndsByColumns, HasExactMarks, cells_at, cells_between, cells_of, mark_of, placed_marks};
 
-use crate::columns::{FIRST_STOP, Stop, column_at, column_at_stop, is_plain, next_stop};
+use crate::columns::{FIRST_STOP, Stop, column_at, column_at_stop, is_ascii, next_stop};
 use crate::rows::Row;
 use oxc_span::Span;
 use std::alloc::{AllocError, Global};
@@ -83,12 +83,12 @@ fn placed_in_turn(
     ensures exact { IfOk result (λ marks. marks.items ≡ placed_marks 0 (cells_at tab (row_view row.now) spans.now places.now)) }
     ensures order { IfOk result (λ marks. AreInOrder 0 marks.items) }
 {
-    let plain = is_plain(row.text);
+    let ascii = is_ascii(row.text);
     let mut stop = FIRST_STOP;
     let mut before = 0;
     let mut marks = Vec::new(alloc);
     for at in places {
-        let measured = next_cells(row, plain, stop, *at, spans[*at], tab);
+        let measured = next_cells(row, ascii, stop, *at, spans[*at], tab);
         let mark = mark_after(before, measured.cells);
         stop = measured.stop;
         before = mark.end;
@@ -104,16 +104,16 @@ struct Measured {
     stop: Stop,
 }
 
-/// The cells of the next label of a row. If the row's text is ASCII without LF, it is measured on from the last stop.
+/// The cells of the next label of a row. If the row's text is ASCII, it is measured on from the last stop.
 fn next_cells(
     row: &Row<'_>,
-    plain: bool,
+    ascii: bool,
     stop: Stop,
     label: usize,
     span: Span,
     tab: usize,
 ) -> Measured
-    requires plain { plain ≡ is_plain row.now.text.now }
+    requires ascii { ascii ≡ is_ascii row.now.text.now }
     requires stop { IsStop tab row.now.text.now stop }
     requires from { row.now.offset ≤ span.start }
     requires ordered { span.start ≤ span.end }
@@ -125,7 +125,7 @@ fn next_cells(
     ensures last { result.cells.end ≤ 2 ^ 38 }
     ensures stop { IsStop tab row.now.text.now result.stop }
 {
-    if plain {
+    if ascii {
         cells_from_stop(row, stop, label, span, tab)
     } else {
         Measured {
@@ -137,7 +137,7 @@ fn next_cells(
 
 /// The cells of a label of a row of ASCII, measured on from the last stop.
 fn cells_from_stop(row: &Row<'_>, last: Stop, label: usize, span: Span, tab: usize) -> Measured
-    requires plain { is_plain row.now.text.now ≡ true }
+    requires ascii { is_ascii row.now.text.now ≡ true }
     requires stop { IsStop tab row.now.text.now last }
     requires from { row.now.offset ≤ span.start }
     requires ordered { span.start ≤ span.end }
