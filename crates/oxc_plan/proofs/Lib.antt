@@ -7,4 +7,5 @@ pub mod AsciiLemmas
 pub mod MarksLemmas
 pub mod PlaceLemmas
 pub mod PlanLemmas
+pub mod SourceLemmas
 pub mod TextsLemmas

@@ -37,7 +37,7 @@ unfolding breaks_of
 listed bytes at b e lt = found_in bytes (length bytes) at b e lt
 
 -- the last byte of a break says that it is one
-break_says : (bytes : List ℕ) (b : LineBreak) → break_at bytes b.start ≡ Some b → ends_break bytes b.end ≡ true
+pub break_says : (bytes : List ℕ) (b : LineBreak) → break_at bytes b.start ≡ Some b → ends_break bytes b.end ≡ true
 break_says bytes b e = grind (arith, nat_tests)
 
 -- a byte that ends a break ends one that starts there or one byte before
@@ -50,10 +50,10 @@ pair_there bytes at cr lf = grind (arith, nat_tests)
 cr_alone : (bytes : List ℕ) (at : ℕ) → get_or bytes at 0 ≡ 13 → (get_or bytes (at + 1) 0 ≡ 10 → ⊥) → break_at bytes at ≡ Some (record { start = at; end = at })
 cr_alone bytes at cr other = grind (arith, nat_tests)
 
-test_says : (a b : ℕ) → (eqb a 10 || eqb a 13 && not (eqb b 10)) ≡ true → (a ≡ 10) ⊎ ((a ≡ 13) × (b ≡ 10 → ⊥))
+pub test_says : (a b : ℕ) → (eqb a 10 || eqb a 13 && not (eqb b 10)) ≡ true → (a ≡ 10) ⊎ ((a ≡ 13) × (b ≡ 10 → ⊥))
 test_says a b e = grind (arith, nat_tests)
 
-number_cases : (a b : ℕ) → (a ≡ b) ⊎ (a ≡ b → ⊥)
+pub number_cases : (a b : ℕ) → (a ≡ b) ⊎ (a ≡ b → ⊥)
 number_cases a b =
     ⊎_elim (λ lt. inr (λ e. omega arith)) (λ ge. ⊎_elim (λ gt. inr (λ e. omega arith)) (λ le. inl (omega arith)) (cases_lt b a)) (cases_lt a b)
 
@@ -72,7 +72,7 @@ pub record EndsAt (bytes : List ℕ) (at : ℕ) : Type 0 where
   pub listed : Contains (breaks_of bytes) break
   pub end : break.end ≡ at
 
-said_break : (bytes : List ℕ) (at : ℕ) → at < length bytes → ends_break bytes at ≡ true → EndsAt bytes at
+pub said_break : (bytes : List ℕ) (at : ℕ) → at < length bytes → ends_break bytes at ≡ true → EndsAt bytes at
 said_break bytes at lt said =
     ⊎_elim
     (λ lf. ⊎_elim
@@ -99,7 +99,7 @@ row_past_end list k d ok lt =
     omega (arith, low, high)
 
 -- a break that ends at an offset is the one at the offset's row
-end_at_row : (list : List LineBreak) (o k : ℕ) (d : LineBreak) → AreBreaks list → k < length list → (get_or list k d).end ≡ o → k ≡ row_of list o
+pub end_at_row : (list : List LineBreak) (o k : ℕ) (d : LineBreak) → AreBreaks list → k < length list → (get_or list k d).end ≡ o → k ≡ row_of list o
 end_at_row list o k d ok lt e =
     let low : row_of list o ≤ k = ⊎_elim (λ before. absurd (omega (arith, ends_before_row list o ok k d before, e))) (λ ge. ge) (cases_lt k (row_of list o)) in
     let high : k ≤ row_of list o =

@@ -1,23 +1,25 @@
 -- Each text of a label hangs once: counts of places, and of the rows in which a byte lies.
 use Rattle.std.proofs.Common.{◌≡◌, ℕ, zero, suc, ◌+◌, ◌-◌, ◌<◌, ◌≤◌, ◌&&◌, not, Bool, true, false, leb, ltb, eqb, cond, List, [], ◌∷◌, ◌++◌, length, map, get_or, max, min, take, drop, slice_range, zero-le, count_by, Option, Some, None, inl, inr, refl, sym, ap, subst, ◌∙◌, arith, ⊎_elim, All}
+use Rattle.std.specs.List.Sorted.{IsNonDecreasingBy}
 use Rattle.std.specs.List.{filter, filter_map, flat_map, range_with_len, sum_by}
 use Rattle.std.specs.Option.{is_some}
 use Rattle.std.proofs.lemmas.Bool.{and_parts, cases_lt, cases_Bool, eqb-true, false≢true, leb-true, ltb-true}
 use Rattle.std.proofs.lemmas.Bool.Decides.{nat_tests}
 use Rattle.std.proofs.lemmas.List.Sums.{sum_by-append, sum_by-cons}
 use Rattle.std.proofs.lemmas.List.{get_or-map, length-map, length-take, length-drop}
-use Rattle.std.proofs.lemmas.List.Elements.{All-append, All-cons, All-map, All-nil, All-tail}
+use Rattle.std.proofs.lemmas.List.Elements.{All-append, All-cons, All-head, All-map, All-nil, All-tail}
 use Rattle.std.specs.declared.ops.Range.{Range}
 use Rattle.oxc_span.specs.declared.span.Span.{Span}
 use Rattle.oxc_span.specs.Label.{Label}
 use Rattle.oxc_windows.specs.declared.breaks.LineBreak.{LineBreak}
-use Rattle.oxc_windows.specs.Rows.{row_of}
+use Rattle.oxc_windows.specs.Rows.{row_of, row_start}
 use Rattle.oxc_windows.specs.Window.{row_further, window_end}
 use Rattle.oxc_windows.proofs.BreaksLemmas.{breaks_valid}
-use Rattle.oxc_windows.proofs.WindowLemmas.{row_start_within}
+use Rattle.oxc_windows.proofs.WindowLemmas.{row_start_before, row_start_mono, row_start_within}
 use Rattle.oxc_windows.specs.Breaks.{IsBreakList, breaks_of}
 use Rattle.oxc_plan.specs.Groups.{AreApart, AreGroups, HoldsItsSpans, group_window, groups_of, largest_end, span_at}
-use Rattle.oxc_plan.specs.Laws.{HaveTextsOnce, IsLastMet, drawn_rows, texts_below}
+use Rattle.oxc_plan.specs.Laws.{HasPairedCrs, HaveRowsOnce, HaveTextsOnce, IsLastMet, drawn_rows, source_row, texts_below}
+use Rattle.oxc_plan.proofs.SourceLemmas.{IsSourceRow, rows_are}
 use Rattle.oxc_plan.specs.Order.{spans_in_order}
 use Rattle.oxc_plan.proofs.GroupsLemmas.{groups_apart, groups_hold, groups_of_are, largest_end_reaches, largest_end_within}
 use Rattle.oxc_plan.proofs.OrderLemmas.{spans_ascend, spans_valid}
@@ -236,11 +238,13 @@ none_above_windows byte source spans (g ∷ gs) le all =
 pub one_in_windows : (source : List ℕ) (spans : List Span) (at byte from : ℕ) (groups : List (Range ℕ))
     → AreGroups (length source) (breaks_of source) spans from groups → AreApart (length source) (breaks_of source) spans groups
     → All (HoldsItsSpans (length source) (breaks_of source) spans) groups → All (λ (s : Span). s.start ≤ s.end) spans
-    → from ≤ at → at < length spans → (span_at spans at).start ≤ byte → byte < length source
+    → from ≤ at → at < length spans
+    → ((g : Range ℕ) → g.start ≤ at → at < g.end → g.end ≤ length spans → (group_window (length source) (breaks_of source) spans g).begin ≤ byte)
+    → byte < length source
     → ((g : Range ℕ) → g.start ≤ at → at < g.end → g.end ≤ length spans → byte < (group_window (length source) (breaks_of source) spans g).end)
     → rows_with byte (flat_map (window_rows source spans) groups) ≡ 1
-one_in_windows source spans at byte from [] are apart held ordered low lt start inside ends = absurd (omega (arith, are, low, lt))
-one_in_windows source spans at byte from (g ∷ gs) are apart held ordered low lt start inside ends =
+one_in_windows source spans at byte from [] are apart held ordered low lt begins inside ends = absurd (omega (arith, are, low, lt))
+one_in_windows source spans at byte from (g ∷ gs) are apart held ordered low lt begins inside ends =
     let len = length source in
     let list = breaks_of source in
     let w = group_window len list spans g in
@@ -252,11 +256,11 @@ one_in_windows source spans at byte from (g ∷ gs) are apart held ordered low l
     ⊎_elim
     (λ (own : at < g.end).
     let before = ends g (omega (arith, are.0, low)) own are.1.within in
-    let begins = (held 0 g (omega arith) at (omega (arith, are.0, low)) own).0 in
-    both ∙ omega (arith, one_within byte w.line w.begin part (omega (arith, begins, start)) (omega (arith, size, before, inside, begins, start)), later before))
+    let first = begins g (omega (arith, are.0, low)) own are.1.within in
+    both ∙ omega (arith, one_within byte w.line w.begin part first (omega (arith, size, before, inside, first)), later before))
     (λ (next : g.end ≤ at).
     let rest = one_in_windows source spans at byte g.end gs are.2 (λ i j d i_lt j_lt. apart (suc i) (suc j) d (omega (arith, i_lt)) (omega (arith, j_lt)))
-    (All-tail (HoldsItsSpans len list spans) g gs held) ordered next lt start inside ends in
+    (All-tail (HoldsItsSpans len list spans) g gs held) ordered next lt begins inside ends in
     let past : w.end ≤ byte = ⊎_elim (λ before. absurd (omega (arith, rest, later before))) (λ ge. ge) (cases_lt byte w.end) in
     let first = held 0 g (omega arith) g.start (omega arith) are.1.some in
     both ∙ omega (arith, none_past byte w.line w.begin part (omega (arith, size, past, first.0, first.1, ordered g.start (record { start = 0; end = 0 }) (omega (arith, are.1.some, are.1.within)))), rest))
@@ -459,6 +463,7 @@ texts_once tab source labels all at lt some =
     let apart = subst (λ s. AreApart len list s groups) (sym same) (groups_apart len list (spans_in_order labels) 0 groups ok (spans_ascend labels, valid_there) are_there) in
     let held = subst (λ s. All (HoldsItsSpans len list s) groups) (sym same) (groups_hold len list (spans_in_order labels) 0 groups ok (spans_ascend labels, valid_there) are_there) in
     let valid = subst (All (λ (s : Span). (s.start ≤ s.end) × (s.end ≤ len))) (sym same) valid_there in
+    let up_there = subst (IsNonDecreasingBy (λ (s : Span). s.start)) (sym same) (spans_ascend labels) in
     let rising : All (λ (s : Span). s.start ≤ s.end) (spans_of ordered) = λ k d h. (valid k d h).0 in
     let size : length (spans_of ordered) ≡ length ordered = length-map ordered (λ l. l.span) in
     let place : span_at (spans_of ordered) at ≡ span = get_or-map (λ l. l.span) ordered at _ _ lt in
@@ -473,7 +478,11 @@ texts_once tab source labels all at lt some =
       once = λ inside.
           let short : span.start < len = ⊎_elim (λ h. h) (λ ge. absurd (inside ge)) (cases_lt span.start len) in
           counted
-          ∙ one_in_windows source (spans_of ordered) at (last_byte span) 0 groups are apart held rising zero-le (omega (arith, lt, size)) (omega (arith, start)) (omega (arith, short, high, up))
+          ∙ one_in_windows source (spans_of ordered) at (last_byte span) 0 groups are apart held rising zero-le (omega (arith, lt, size))
+          (λ g low before within.
+          let first = (span_at (spans_of ordered) g.start).start in
+          omega (arith, row_start_before len list first (row_of list first - 1) ok (omega arith), up_there g.start at (record { start = 0; end = 0 }) low (omega (arith, lt, size)), start))
+          (omega (arith, short, high, up))
           (λ g low before within.
           let reach = largest_end_reaches (spans_of ordered) g.start g.end at low before within in
           let most = largest_end_within (spans_of ordered) g.start g.end len valid (omega (arith, low, before)) within in
@@ -482,4 +491,141 @@ texts_once tab source labels all at lt some =
           counted ∙ none_above_windows (last_byte span) source (spans_of ordered) groups (omega (arith, past)) (λ k d h. omega (arith, (windows k d h).1, (windows k d h).2));
       last = last_met len (drawn_rows (map (snippet_of tab source ordered) groups)) span at
           (ascend_groups tab source ordered 0 groups zero-le apart windows) (each_plan tab source ordered at groups lt some up);
+    }
+
+-- of the rows of the source, only one begins at an offset, and it is the one that holds the byte there
+test_at : (offset len o : ℕ) → offset ≡ o → 0 < len → eqb offset o ≡ (leb offset o && ltb o (offset + len))
+test_at offset len o e some = grind (arith, nat_tests)
+
+test_below : (offset len o : ℕ) → offset < o → offset + len ≤ o → eqb offset o ≡ (leb offset o && ltb o (offset + len))
+test_below offset len o lt le = grind (arith, nat_tests)
+
+test_above : (offset len o : ℕ) → o < offset → eqb offset o ≡ (leb offset o && ltb o (offset + len))
+test_above offset len o lt = grind (arith, nat_tests)
+
+offset_says : (source : List ℕ) (r : ℕ) (row : RowView) → IsSourceRow source row → row_start (length source) (breaks_of source) r < row_start (length source) (breaks_of source) (r + 1)
+    → eqb row.offset (row_start (length source) (breaks_of source) r) ≡ holds_byte (row_start (length source) (breaks_of source) r) row
+offset_says source r row is some =
+    let st : ℕ → ℕ = row_start (length source) (breaks_of source) in
+    let valid = breaks_valid source in
+    let j = is.at in
+    let offset : row.offset ≡ st j = ap (λ v. v.offset) is.is in
+    let size : row.length ≡ st (j + 1) - st j = ap (λ v. v.length) is.is in
+    ⊎_elim
+    (λ before. test_below row.offset row.length (st r) (omega (arith, offset, size, is.some, row_start_mono (length source) (breaks_of source) (j + 1) r valid (omega (arith, before)))) (omega (arith, offset, size, is.some, row_start_mono (length source) (breaks_of source) (j + 1) r valid (omega (arith, before)))))
+    (λ from. ⊎_elim
+    (λ after. test_above row.offset row.length (st r) (omega (arith, offset, some, row_start_mono (length source) (breaks_of source) (r + 1) j valid (omega (arith, after)))))
+    (λ upto. let same : j ≡ r = omega (arith, from, upto) in test_at row.offset row.length (st r) (offset ∙ ap st same) is.some)
+    (cases_lt r j))
+    (cases_lt j r)
+
+row_same : (source : List ℕ) (r : ℕ) (row : RowView) → IsSourceRow source row → row_start (length source) (breaks_of source) r < row_start (length source) (breaks_of source) (r + 1)
+    → row.offset ≡ row_start (length source) (breaks_of source) r → row ≡ source_row source r
+row_same source r row is some e =
+    let valid = breaks_valid source in
+    let j = is.at in
+    let offset = ap (λ v. v.offset) is.is in
+    let size = ap (λ v. v.length) is.is in
+    let low : r ≤ j = ⊎_elim (λ before. absurd (omega (arith, e, offset, size, is.some, row_start_mono (length source) (breaks_of source) (j + 1) r valid (omega (arith, before))))) (λ ge. ge) (cases_lt j r) in
+    let high : j ≤ r = ⊎_elim (λ after. absurd (omega (arith, e, offset, some, row_start_mono (length source) (breaks_of source) (r + 1) j valid (omega (arith, after))))) (λ le. le) (cases_lt r j) in
+    let same : j ≡ r = omega (arith, low, high) in
+    is.is ∙ ap (source_row source) same
+
+-- counts over plans and over rows
+count_offsets : (source : List ℕ) (r : ℕ) (plans : List RowPlanView) → row_start (length source) (breaks_of source) r < row_start (length source) (breaks_of source) (r + 1)
+    → All (λ plan. IsSourceRow source plan.row) plans
+    → count_by (λ plan. eqb plan.row.offset (row_start (length source) (breaks_of source) r)) plans ≡ sum_by (λ plan. cond (holds_byte (row_start (length source) (breaks_of source) r) plan.row) 1 0) plans
+count_offsets source r [] some all = refl
+count_offsets source r (p ∷ ps) some all =
+    let o = row_start (length source) (breaks_of source) r in
+    sum_by-cons (λ (plan : RowPlanView). cond (eqb plan.row.offset o) 1 0) p ps
+    ∙ ap {B = ℕ} (λ b. cond b 1 0 + count_by (λ (plan : RowPlanView). eqb plan.row.offset o) ps) (offset_says source r p.row (All-head (λ plan. IsSourceRow source plan.row) p ps all) some)
+    ∙ ap {B = ℕ} (λ n. cond (holds_byte o p.row) 1 0 + n) (count_offsets source r ps some (All-tail (λ plan. IsSourceRow source plan.row) p ps all))
+    ∙ sym (sum_by-cons (λ (plan : RowPlanView). cond (holds_byte o plan.row) 1 0) p ps)
+
+held_by_rows : (tab : ℕ) (labels : List Ordered) (byte : ℕ) (rows : List RowView) (more : List RowPlanView)
+    → sum_by (λ plan. cond (holds_byte byte plan.row) 1 0) (map (row_plan_of tab labels) rows ++ more) ≡ rows_with byte rows + sum_by (λ plan. cond (holds_byte byte plan.row) 1 0) more
+unfolding row_plan_of
+held_by_rows tab labels byte [] more = omega arith
+held_by_rows tab labels byte (row ∷ rows) more =
+    sum_by-cons (λ (plan : RowPlanView). cond (holds_byte byte plan.row) 1 0) (row_plan_of tab labels row) (map (row_plan_of tab labels) rows ++ more)
+    ∙ omega (arith, held_by_rows tab labels byte rows more, rows_with_more byte row rows)
+
+held_by_groups : (tab : ℕ) (source : List ℕ) (labels : List Ordered) (byte : ℕ) (groups : List (Range ℕ))
+    → sum_by (λ plan. cond (holds_byte byte plan.row) 1 0) (drawn_rows (map (snippet_of tab source labels) groups)) ≡ rows_with byte (flat_map (window_rows source (spans_of labels)) groups)
+unfolding snippet_of row_plans_of
+held_by_groups tab source labels byte [] = refl
+held_by_groups tab source labels byte (g ∷ gs) =
+    held_by_rows tab labels byte (window_rows source (spans_of labels) g) (drawn_rows (map (snippet_of tab source labels) gs))
+    ∙ ap (λ n. rows_with byte (window_rows source (spans_of labels) g) + n) (held_by_groups tab source labels byte gs)
+    ∙ sym (sum_by-append (λ row. cond (holds_byte byte row) 1 0) (window_rows source (spans_of labels) g) (flat_map (window_rows source (spans_of labels)) gs))
+
+window_is_rows : (source : List ℕ) → HasPairedCrs source → (spans : List Span) (g : Range ℕ) → All (IsSourceRow source) (window_rows source spans g)
+unfolding window_end
+window_is_rows source paired spans g =
+    let w = group_window (length source) (breaks_of source) spans g in
+    let last = largest_end spans g.start g.end - 1 in
+    let q = row_of (breaks_of source) last + 1 + row_further (breaks_of source) last + 1 in
+    rows_are source paired q w.line q (omega arith)
+
+source_plans : (tab : ℕ) (source : List ℕ) → HasPairedCrs source → (labels : List Ordered) (groups : List (Range ℕ)) → All (λ plan. IsSourceRow source plan.row) (drawn_rows (map (snippet_of tab source labels) groups))
+unfolding snippet_of row_plans_of row_plan_of
+source_plans tab source paired labels [] = All-nil (λ plan. IsSourceRow source plan.row)
+source_plans tab source paired labels (g ∷ gs) =
+    All-append (λ plan. IsSourceRow source plan.row) (map (row_plan_of tab labels) (window_rows source (spans_of labels) g)) (drawn_rows (map (snippet_of tab source labels) gs))
+    (All-map (λ plan. IsSourceRow source plan.row) (row_plan_of tab labels) (window_rows source (spans_of labels) g) (window_is_rows source paired (spans_of labels) g))
+    (source_plans tab source paired labels gs)
+
+-- the window of the group of a label begins no later than each row that the label meets
+begins_before : (source : List ℕ) (first x b r : ℕ) → first ≤ x → x ≤ b → b < row_start (length source) (breaks_of source) (r + 1)
+    → row_start (length source) (breaks_of source) (row_of (breaks_of source) first - 1) ≤ row_start (length source) (breaks_of source) r
+begins_before source first x b r before from lt =
+    let len = length source in
+    let list = breaks_of source in
+    let valid = breaks_valid source in
+    ⊎_elim
+    (λ past. absurd (omega (arith, row_start_mono len list (r + 1) (row_of list first - 1) valid (omega (arith, past)), row_start_before len list first (row_of list first - 1) valid (omega arith), before, from, lt)))
+    (λ le. row_start_mono len list (row_of list first - 1) r valid le)
+    (cases_lt r (row_of list first - 1))
+
+pub rows_once : (tab : ℕ) (source : List ℕ) (labels : List Label) → HaveRowsOnce tab source labels
+unfolding snippets_of groups_of
+rows_once tab source labels all paired at r lt met =
+    let len = length source in
+    let list = breaks_of source in
+    let ordered = in_order labels in
+    let same : spans_of ordered ≡ spans_in_order labels = spans_ordered labels in
+    let groups = groups_of len list (spans_in_order labels) in
+    let span = (ordered_at ordered at).span in
+    let ok = breaks_valid source in
+    let o = row_start len list r in
+    let some : o < row_start len list (r + 1) = omega (arith, met.1, met.2) in
+    let high : row_start len list (r + 1) ≤ len = row_start_within len list (r + 1) ok in
+    let valid_there = spans_valid len labels (spans_in_order labels) refl all in
+    let are_there = groups_of_are len list (spans_in_order labels) in
+    let are = subst (λ s. AreGroups len list s 0 groups) (sym same) are_there in
+    let apart = subst (λ s. AreApart len list s groups) (sym same) (groups_apart len list (spans_in_order labels) 0 groups ok (spans_ascend labels, valid_there) are_there) in
+    let held = subst (λ s. All (HoldsItsSpans len list s) groups) (sym same) (groups_hold len list (spans_in_order labels) 0 groups ok (spans_ascend labels, valid_there) are_there) in
+    let valid = subst (All (λ (s : Span). (s.start ≤ s.end) × (s.end ≤ len))) (sym same) valid_there in
+    let up_there = subst (IsNonDecreasingBy (λ (s : Span). s.start)) (sym same) (spans_ascend labels) in
+    let rising : All (λ (s : Span). s.start ≤ s.end) (spans_of ordered) = λ k d h. (valid k d h).0 in
+    let size : length (spans_of ordered) ≡ length ordered = length-map ordered (λ l. l.span) in
+    let place : span_at (spans_of ordered) at ≡ span = get_or-map (λ l. l.span) ordered at _ _ lt in
+    let here = valid at (record { start = 0; end = 0 }) (omega (arith, lt, size)) in
+    let start : (span_at (spans_of ordered) at).start ≡ span.start = ap (λ s. s.start) place in
+    let end : (span_at (spans_of ordered) at).end ≡ span.end = ap (λ s. s.end) place in
+    let up : span.start ≤ span.end = omega (arith, here.0, start, end) in
+    let each = source_plans tab source paired ordered groups in
+    record {
+      once =
+          count_offsets source r (drawn_rows (map (snippet_of tab source ordered) groups)) some each
+          ∙ held_by_groups tab source ordered o groups
+          ∙ one_in_windows source (spans_of ordered) at o 0 groups are apart held rising zero-le (omega (arith, lt, size))
+          (λ g low before within. begins_before source (span_at (spans_of ordered) g.start).start span.start met.0 r (omega (arith, start, up_there g.start at (record { start = 0; end = 0 }) low (omega (arith, lt, size)))) met.3 (omega (arith, met.2, some)))
+          (omega (arith, some, high))
+          (λ g low before within.
+          let reach = largest_end_reaches (spans_of ordered) g.start g.end at low before within in
+          let most = largest_end_within (spans_of ordered) g.start g.end len valid (omega (arith, low, before)) within in
+          omega (arith, reaches_byte len list (largest_end (spans_of ordered) g.start g.end) span.start span.end ok most up (omega (arith, reach, end)) (omega (arith, met.3, met.2, some, high)), met.1, met.4));
+      same = λ k d h e. row_same source r (get_or (drawn_rows (map (snippet_of tab source ordered) groups)) k d).row (each k d h) some e;
     }

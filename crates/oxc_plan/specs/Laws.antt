@@ -1,10 +1,13 @@
 -- What the plan of a report's snippets promises of the texts of its labels.
-use Rattle.std.specs.Prelude.{◌≡◌, ℕ, ◌+◌, ◌<◌, ◌≤◌, ◌==◌, List, length, count_by, All}
+use Rattle.std.specs.Prelude.{◌≡◌, ℕ, ◌+◌, ◌-◌, ◌<◌, ◌≤◌, ◌==◌, List, length, count_by, slice_index, slice_range, All}
 use Rattle.std.specs.List.{flat_map, sum_by}
 use Rattle.std.specs.Option.{IsSome}
 use Rattle.oxc_span.specs.declared.span.Span.{Span}
 use Rattle.oxc_span.specs.Label.{Label, label_end}
 use Rattle.oxc_plan.specs.Meets.{Meets}
+use Rattle.oxc_plan.specs.Rows.{RowView, row_text}
+use Rattle.oxc_windows.specs.Breaks.{breaks_of}
+use Rattle.oxc_windows.specs.Rows.{row_start}
 use Rattle.oxc_plan.specs.Plan.{RowPlanView, SnippetView, in_order, ordered_at, snippets_of}
 
 -- all rows of snippets, from the first to the last
@@ -38,3 +41,27 @@ HaveTextsOnce tab source labels =
     All (λ label. label_end label ≤ length source) labels
     → (at : ℕ) → at < length (in_order labels) → IsSome (ordered_at (in_order labels) at).text
     → HangsOnce (length source) (drawn_rows (snippets_of tab source labels)) (ordered_at (in_order labels) at).span at
+
+-- CR stands only before LF
+abbrev pub HasPairedCrs : List ℕ → Type 0
+HasPairedCrs source = (at : ℕ) → slice_index source at ≡ 13 → slice_index source (at + 1) ≡ 10
+
+-- a row of the source, counted from 0 under all breaks: its number from 1, its offset, its bytes and its text
+abbrev pub source_row : List ℕ → ℕ → RowView
+source_row source r =
+    let begin = row_start (length source) (breaks_of source) r in
+    let end = row_start (length source) (breaks_of source) (r + 1) in
+    record { number = r + 1; offset = begin; length = end - begin; text = row_text (slice_range source begin end) }
+
+-- a row of the source stands once among rows, as it is
+pub record StandsOnce (rows : List RowPlanView) (row : RowView) : Type 0 where
+  pub once : count_by (λ plan. plan.row.offset == row.offset) rows ≡ 1
+  pub same : All (λ plan. plan.row.offset ≡ row.offset → plan.row ≡ row) rows
+
+-- the law: where CR stands only before LF, every row of the source that a label meets is drawn exactly once, truly numbered
+abbrev pub HaveRowsOnce : ℕ → List ℕ → List Label → Type 0
+HaveRowsOnce tab source labels =
+    All (λ label. label_end label ≤ length source) labels → HasPairedCrs source
+    → (at r : ℕ) → at < length (in_order labels)
+    → Meets (source_row source r).offset (source_row source r).length (ordered_at (in_order labels) at).span
+    → StandsOnce (drawn_rows (snippets_of tab source labels)) (source_row source r)

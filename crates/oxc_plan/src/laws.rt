@@ -1,5 +1,5 @@
 //! Laws of plans, each as the contract of a function that does nothing.
-ghost use Rattle.oxc_plan.specs.Laws.{HaveTextsOnce};
+ghost use Rattle.oxc_plan.specs.Laws.{HaveRowsOnce, HaveTextsOnce};
 
 use oxc_span::LabeledSpan;
 
@@ -8,4 +8,10 @@ use oxc_span::LabeledSpan;
 /// it to know the law.
 pub fn texts_hang_once(_source: &[u8], _labels: &[LabeledSpan], _tab: usize)
     ensures { HaveTextsOnce _tab _source.now _labels.now }
+{}
+
+/// The law that, where CR stands only before LF, every row of the source that a label meets is drawn exactly once, with
+/// its true number, length and text. It does nothing: a caller calls it to know the law.
+pub fn rows_stand_once(_source: &[u8], _labels: &[LabeledSpan], _tab: usize)
+    ensures { HaveRowsOnce _tab _source.now _labels.now }
 {}

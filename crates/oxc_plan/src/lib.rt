@@ -16,7 +16,7 @@ mod rows;
 
 pub use crate::columns::{column_of, columns_as_drawn};
 pub use crate::grouping::{groups, one_grouping};
-pub use crate::laws::texts_hang_once;
+pub use crate::laws::{rows_stand_once, texts_hang_once};
 pub use crate::marks::{MarkCells, exact_marks};
 pub use crate::order::{label_order, one_label_order};
 pub use crate::plan::{
