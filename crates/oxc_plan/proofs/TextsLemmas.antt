@@ -1,5 +1,5 @@
 -- Each text of a label hangs once: counts of places, and of the rows in which a byte lies.
-use Rattle.std.proofs.Common.{◌≡◌, ℕ, zero, suc, ◌+◌, ◌-◌, ◌<◌, ◌≤◌, ◌&&◌, not, Bool, true, false, leb, ltb, eqb, cond, List, [], ◌∷◌, ◌++◌, length, map, get_or, max, min, take, drop, slice_range, zero-le, count_by, Option, Some, None, inl, inr, refl, sym, ap, subst, ◌∙◌, arith, ⊎_elim, All}
+use Rattle.std.proofs.Common.{◌≡◌, ℕ, zero, suc, ◌+◌, ◌-◌, ◌<◌, ◌≤◌, ◌&&◌, not, Bool, true, false, leb, ltb, eqb, cond, List, [], ◌∷◌, ◌++◌, length, map, get_or, max, min, drop, slice_range, zero-le, count_by, inl, inr, refl, sym, ap, subst, ◌∙◌, arith, ⊎_elim, All}
 use Rattle.std.specs.List.Sorted.{IsNonDecreasingBy}
 use Rattle.std.specs.List.{filter, filter_map, flat_map, range_with_len, sum_by}
 use Rattle.std.specs.Option.{is_some}
@@ -228,8 +228,11 @@ none_above_windows byte source spans (g ∷ gs) le all =
     let begins : w.begin ≤ length source = all 0 g (omega arith) in
     let size = total_pieces (slice_range source w.begin w.end) ∙ slice_len source w.begin w.end in
     sum_by-append (λ row. cond (holds_byte byte row) 1 0) (window_rows source spans g) (flat_map (window_rows source spans) gs)
-    ∙ omega (arith, none_past byte w.line w.begin (pieces (slice_range source w.begin w.end)) (omega (arith, size, le, begins)),
-      none_above_windows byte source spans gs le (All-tail (λ h. (group_window (length source) (breaks_of source) spans h).begin ≤ length source) g gs all))
+    ∙ omega (
+      arith,
+      none_past byte w.line w.begin (pieces (slice_range source w.begin w.end)) (omega (arith, size, le, begins)),
+      none_above_windows byte source spans gs le (All-tail (λ h. (group_window (length source) (breaks_of source) spans h).begin ≤ length source) g gs all),
+    )
 
 -- a byte of the span at a place, in the window of its group, lies in one row of all windows
 pub one_in_windows : (source : List ℕ) (spans : List Span) (at byte from : ℕ) (groups : List (Range ℕ))
@@ -438,9 +441,11 @@ windows_within source spans groups within held ordered k d lt =
     let g = get_or groups k d in
     let one = within k d lt in
     let first = held k d lt g.start (omega arith) one.0 in
-    let last = largest_end spans g.start g.end - 1 in
-    (zero-le, omega (arith, first.0, first.1, ordered g.start (record { start = 0; end = 0 }) (omega (arith, one.0, one.1))),
-      row_start_within (length source) (breaks_of source) (row_of (breaks_of source) last + 1 + row_further (breaks_of source) last + 1) (breaks_valid source))
+    let last = largest_end spans g.start g.end - 1 in (
+      zero-le,
+      omega (arith, first.0, first.1, ordered g.start (record { start = 0; end = 0 }) (omega (arith, one.0, one.1))),
+      row_start_within (length source) (breaks_of source) (row_of (breaks_of source) last + 1 + row_further (breaks_of source) last + 1) (breaks_valid source),
+    )
 
 pub texts_once : (tab : ℕ) (source : List ℕ) (labels : List Label) → HaveTextsOnce tab source labels
 unfolding snippets_of groups_of

@@ -170,9 +170,7 @@ fn plan_groups<'a>(
     let spans = spans_of(alloc, labels)?;
     let mut plans = Vec::new(alloc);
     for group in groups {
-        plans.push(plan_snippet(
-            alloc, scanner, labels, &spans, group, tab,
-        )?)?;
+        plans.push(plan_snippet(alloc, scanner, labels, &spans, group, tab)?)?;
     }
     Ok(plans)
 }
@@ -266,10 +264,8 @@ fn place_in<'a>(
     requires from { contents.now.span.start ≤ offset }
     requires upto { offset ≤ span.end }
     requires within { span.end ≤ length scanner.now.input }
-    ensures place {
-        let place = place_of (length scanner.now.input) (breaks_of scanner.now.input) offset in
-        result ≡ (place.row, place.column)
-    }
+    ensures place { let place = place_of (length scanner.now.input) (breaks_of scanner.now.input) offset in
+        result ≡ (place.row, place.column) }
     ensures few { (result.0 ≤ offset) × (result.1 ≤ offset) }
 {
     let bytes = contents.bytes();
@@ -357,7 +353,10 @@ fn joint_span(spans: &[Span], group: &Range<usize>) -> Span
     ensures end { result.end ≡ largest_end spans.now group.now.start group.now.end }
     ensures ordered { result.start ≤ result.end }
 {
-    Span::new(spans[group.start].start, largest_end(&spans[group.start..group.end]))
+    Span::new(
+        spans[group.start].start,
+        largest_end(&spans[group.start..group.end]),
+    )
 }
 
 /// The largest end of spans, and 0 where there is none.
