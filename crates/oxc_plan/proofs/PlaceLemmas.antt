@@ -1,14 +1,14 @@
 -- Rows and columns counted by the bytes that end breaks.
-use Rattle.std.proofs.Common.{◌≡◌, ℕ, zero, suc, ◌+◌, ◌-◌, ◌<◌, ◌≤◌, ◌⊎◌, ◌&&◌, ◌||◌, not, Bool, true, false, List, [], ◌∷◌, ◌++◌, length, get_or, take, drop, slice_range, min, Option, Some, None, refl, sym, ap, subst, ◌∙◌, arith, eqb, ltb, ⊎_elim, inl, inr}
+use Rattle.std.proofs.Common.{◌≡◌, ℕ, zero, suc, ◌+◌, ◌-◌, ◌<◌, ◌≤◌, ◌⊎◌, ◌&&◌, ◌||◌, not, true, false, List, length, get_or, take, drop, slice_range, min, Some, refl, sym, ap, subst, ◌∙◌, arith, eqb, ⊎_elim, inl, inr}
 use Rattle.std.specs.List.{Contains}
-use Rattle.std.proofs.lemmas.Bool.{cases_lt, cases_Bool, false≢true}
+use Rattle.std.proofs.lemmas.Bool.{cases_lt, false≢true}
 use Rattle.std.proofs.lemmas.Bool.Decides.{nat_tests}
-use Rattle.std.proofs.lemmas.List.{get_or_past, get_or_default, get_or-take, get_or-drop, length-take, length-drop}
+use Rattle.std.proofs.lemmas.List.{get_or_past, get_or-take, get_or-drop, length-take, length-drop}
 use Rattle.std.proofs.lemmas.List.Elements.{Contains-append_left, Contains-push}
 use Rattle.oxc_windows.specs.declared.breaks.LineBreak.{LineBreak}
 use Rattle.oxc_windows.specs.Breaks.{break_at, breaks_before, breaks_of, AreBreaks, IsBreakList}
 use Rattle.oxc_windows.specs.Rows.{row_of, row_start, settled}
-use Rattle.oxc_windows.specs.Window.{row_further, window_begin, window_end}
+use Rattle.oxc_windows.specs.Window.{row_further, window_end}
 use Rattle.oxc_windows.proofs.BreaksLemmas.{breaks_before_found, breaks_before_more, breaks_found, breaks_valid}
 use Rattle.oxc_windows.proofs.RowsLemmas.{row_le, ends_before_row, ends_from_row, row_start_after, row_start_past, settled_at, settled_else}
 use Rattle.oxc_windows.specs.Scan.{Contents, contents_of}

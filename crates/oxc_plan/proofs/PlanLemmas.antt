@@ -1,5 +1,5 @@
 -- Lists of views, the rows of a window, and the groups of labels.
-use Rattle.std.proofs.Common.{◌≡◌, ℕ, zero, suc, ◌+◌, ◌-◌, ◌<◌, ◌≤◌, ◌&&◌, Bool, leb, inl, inr, true, false, not, List, [], ◌∷◌, ◌++◌, length, map, get_or, take, drop, slice_range, max, Option, Some, None, eqb, refl, sym, ap, subst, ◌∙◌, arith, All}
+use Rattle.std.proofs.Common.{◌≡◌, ℕ, suc, ◌+◌, ◌-◌, ◌<◌, ◌≤◌, ◌&&◌, Bool, leb, inl, inr, true, List, [], ◌∷◌, ◌++◌, length, map, get_or, take, drop, slice_range, max, Option, eqb, refl, sym, ap, subst, ◌∙◌, arith, All}
 use Rattle.std.specs.List.{filter, filter_map, find, fold, range_with_len}
 use Rattle.std.specs.Option.{option_map, unwrap_or}
 use Rattle.std.specs.List.{take-map, drop-map}
@@ -24,7 +24,7 @@ use Rattle.oxc_plan.specs.declared.plan.Bar.{Bar}
 use Rattle.oxc_plan.specs.declared.plan.Hang.{Hang}
 use Rattle.oxc_plan.specs.declared.plan.OrderedLabel.{OrderedLabel}
 use Rattle.oxc_plan.specs.declared.plan.RowPlan.{RowPlan}
-use Rattle.oxc_plan.specs.Order.{label_at, label_order, span_of, spans_in_order}
+use Rattle.oxc_plan.specs.Order.{label_at, label_order, spans_in_order}
 use Rattle.oxc_plan.specs.Plan.{Ordered, RowPlanView, SnippetView, bar_of, bars_of, ends_of, ends_with_text, gutter_of, hang_of, hangs_of, head_label, in_order, ordered_at, ordered_label, ordered_view, row_plan_of, row_plan_view, row_plans_of, snippet_of, spans_of}
 use Rattle.oxc_windows.specs.Breaks.{breaks_of}
 use Rattle.oxc_windows.specs.Rows.{place_of, row_of}

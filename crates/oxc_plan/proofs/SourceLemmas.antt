@@ -1,14 +1,13 @@
 -- Where CR stands only before LF, the drawn rows are rows of the source, each drawn once.
-use Rattle.std.proofs.Common.{◌≡◌, ℕ, zero, suc, ◌+◌, ◌-◌, ◌<◌, ◌≤◌, ◌&&◌, ◌||◌, not, Bool, true, false, leb, ltb, eqb, cond, List, [], ◌∷◌, ◌++◌, length, map, get_or, max, min, take, drop, slice_range, zero-le, count_by, inl, inr, refl, sym, ap, subst, ◌∙◌, arith, ⊎_elim, All}
-use Rattle.std.specs.List.{flat_map, sum_by, position_or_len}
-use Rattle.std.proofs.lemmas.Bool.{cases_lt, cases_Bool, eqb-true, false≢true}
+use Rattle.std.proofs.Common.{◌≡◌, ℕ, zero, suc, ◌+◌, ◌-◌, ◌<◌, ◌≤◌, ◌&&◌, ◌||◌, not, Bool, true, false, eqb, cond, List, ◌∷◌, length, get_or, min, take, drop, slice_range, refl, sym, ap, subst, ◌∙◌, arith, ⊎_elim, All}
+use Rattle.std.proofs.lemmas.Bool.{cases_lt}
 use Rattle.std.proofs.lemmas.Bool.Decides.{nat_tests}
-use Rattle.std.proofs.lemmas.List.{get_or_past, get_or_default, get_or-map, get_or-take, get_or-drop, length-map, length-take, length-drop, take-take, drop-take, drop-drop}
-use Rattle.std.proofs.lemmas.List.Elements.{All-append, All-cons, All-map, All-nil}
-use Rattle.std.proofs.lemmas.List.Sums.{sum_by-cons, position_or_len_is}
+use Rattle.std.proofs.lemmas.List.{get_or_past, get_or_default, get_or-take, get_or-drop, length-take, length-drop, take-take, drop-take, drop-drop}
+use Rattle.std.proofs.lemmas.List.Elements.{All-cons, All-nil}
+use Rattle.std.proofs.lemmas.List.Sums.{position_or_len_is}
 use Rattle.oxc_windows.specs.declared.breaks.LineBreak.{LineBreak}
-use Rattle.oxc_windows.specs.Breaks.{break_at, breaks_of, AreBreaks}
-use Rattle.oxc_windows.specs.Rows.{row_of, row_start}
+use Rattle.oxc_windows.specs.Breaks.{breaks_of}
+use Rattle.oxc_windows.specs.Rows.{row_start}
 use Rattle.oxc_windows.proofs.BreaksLemmas.{breaks_found, breaks_valid, rising_ends}
 use Rattle.oxc_windows.proofs.RowsLemmas.{row_start_after, row_start_past, row_start_le_settled}
 use Rattle.oxc_windows.proofs.WindowLemmas.{row_start_mono, row_start_within}
@@ -94,7 +93,7 @@ first_len_is source paired r q lt =
     (λ lf. absurd (omega (arith, k_lt, (lf_ends_row source r (a + k) (omega (arith, k_lt, starts, next, high)) (omega arith) lf).1)))
     (λ other. ap p (byte_at source a e k (omega (arith, k_lt, starts, next))) ∙ not_lf (get_or source (a + k) 0) other)
     (number_cases (get_or source (a + k) 0) 10))
-    (λ _. ap p (byte_at source a e (b.end - a) (omega (arith, starts, next, from)) ∙ ap (λ k. get_or source k 0) (omega (arith, from)) ∙ lf_at_end source paired r inside) ) in
+    (λ _. ap p (byte_at source a e (b.end - a) (omega (arith, starts, next, from)) ∙ ap (λ k. get_or source k 0) (omega (arith, from)) ∙ lf_at_end source paired r inside)) in
     omega (arith, place, size, starts, next, from))
     (λ past.
     let starts : row_start len list (r + 1) ≡ len = row_start_past len list (r + 1) (omega (arith, past)) in

@@ -1,5 +1,5 @@
 -- Each text of a label hangs once: counts of places, and of the rows in which a byte lies.
-use Rattle.std.proofs.Common.{◌≡◌, ℕ, zero, suc, ◌+◌, ◌-◌, ◌<◌, ◌≤◌, ◌&&◌, not, Bool, true, false, leb, ltb, eqb, cond, List, [], ◌∷◌, ◌++◌, length, map, get_or, max, min, take, drop, slice_range, zero-le, count_by, Option, Some, None, inl, inr, refl, sym, ap, subst, ◌∙◌, arith, ⊎_elim, All}
+use Rattle.std.proofs.Common.{◌≡◌, ℕ, zero, suc, ◌+◌, ◌-◌, ◌<◌, ◌≤◌, ◌&&◌, not, Bool, true, false, leb, ltb, eqb, cond, List, [], ◌∷◌, ◌++◌, length, map, get_or, max, min, drop, slice_range, zero-le, count_by, inl, inr, refl, sym, ap, subst, ◌∙◌, arith, ⊎_elim, All}
 use Rattle.std.specs.List.Sorted.{IsNonDecreasingBy}
 use Rattle.std.specs.List.{filter, filter_map, flat_map, range_with_len, sum_by}
 use Rattle.std.specs.Option.{is_some}

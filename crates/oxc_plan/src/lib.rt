@@ -3,6 +3,7 @@
 //! Labels go by the order of their starts ([`label_order`]). [`groups`] tells which of them share a snippet, and
 //! [`rows_of`] gives the rows of what a scanner read for one. [`column_of`] tells in which
 //! column an offset of a row stands when the row is drawn, and [`MarkCells`] which cells under a row a label marks.
+//! [`plan_snippets`] puts all this together: what a report's snippets mean before a character is drawn.
 //! Offsets and lengths count bytes.
 #![tactic(auto)]
 
@@ -19,9 +20,7 @@ pub use crate::grouping::{groups, one_grouping};
 pub use crate::laws::{rows_stand_once, texts_hang_once};
 pub use crate::marks::{MarkCells, exact_marks};
 pub use crate::order::{label_order, one_label_order};
-pub use crate::plan::{
-    Bar, BarKind, Hang, OrderedLabel, RowPlan, SnippetPlan, plan_snippets, plan_with_tabs,
-};
+pub use crate::plan::{Bar, BarKind, Hang, RowPlan, SnippetPlan, plan_snippets};
 pub use crate::rows::{Row, rows_of};
 
 #[cfg(test)]

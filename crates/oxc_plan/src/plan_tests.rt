@@ -1,5 +1,7 @@
 // The plans of snippets by example, and that memory suffices for them.
-ghost use Rattle.std.specs.Prelude.{◌+◌, ◌<◌, ◌^◌};
+ghost use Rattle.std.specs.Prelude.{◌≡◌, ◌+◌, ◌<◌, ◌≤◌, ◌↔◌, ◌^◌, All, IfOk, IfSome, IsTrue, length, map};
+ghost use Rattle.oxc_span.specs.Label.{label_end};
+ghost use Rattle.oxc_plan.specs.Plan.{snippet_view, snippets_of};
 
 use crate::{Bar, BarKind, Hang, MarkCells, RowPlan, SnippetPlan, plan_snippets};
 use oxc_span::LabeledSpan;
@@ -7,6 +9,30 @@ use oxc_windows::SpanScanner;
 use std::alloc::{AllocError, Global};
 use std::process::Abort;
 use std::test::Fail;
+
+/// Whether labels end within so many bytes.
+fn all_within(labels: &[LabeledSpan], len: usize) -> bool
+    ensures { IsTrue result ↔ All (λ label. label_end label ≤ len) labels.now }
+{
+    labels.iter().all(|label| label.span().end as usize <= len)
+}
+
+/// The snippets of labels of a text, if all labels end within it.
+fn plans_of<'a>(
+    alloc: Global,
+    text: &'a str,
+    labels: &[LabeledSpan],
+) -> Result<Option<Vec<SnippetPlan<'a>>>, AllocError>
+    requires { length text.now < 4294967295 }
+    ensures { IfOk result (λ found. IfSome found (λ plans. map snippet_view plans.items ≡ snippets_of 4 text.now labels.now)) }
+{
+    if !all_within(labels, text.len()) {
+        return Ok(None);
+    }
+    let mut scanner = SpanScanner::new(alloc, text.as_bytes(), 1, 1);
+    let plans = plan_snippets(alloc, &mut scanner, labels)?;
+    Ok(Some(plans))
+}
 
 /// A label with a text.
 fn label(alloc: Global, start: u32, len: u32, text: &str) -> Result<LabeledSpan, AllocError>
@@ -31,8 +57,7 @@ fn has_head(rt: &impl Abort, plan: &SnippetPlan<'_>, line: usize, column: usize,
 fn a_label_over_rows_has_a_bar_beside_each(rt: HostRuntime) -> Result<(), Fail> {
     let alloc = rt.alloc();
     let labels = [label(alloc, 2, 7, "block")?];
-    let mut scanner = SpanScanner::new(alloc, b"a {\n  b\n}\n", 1, 1);
-    let plans = plan_snippets(alloc, &mut scanner, &labels)?;
+    let plans = plans_of(alloc, "a {\n  b\n}\n", &labels)?.expect(&rt, "labels within the text");
     assert_eq!(rt; plans.len(), 1);
     has_head(&rt, &plans[0], 1, 3, 1);
     let rows = &plans[0].rows;
@@ -48,8 +73,7 @@ fn a_label_over_rows_has_a_bar_beside_each(rt: HostRuntime) -> Result<(), Fail> 
 fn labels_within_a_row_have_marks_and_texts(rt: HostRuntime) -> Result<(), Fail> {
     let alloc = rt.alloc();
     let labels = [label(alloc, 0, 4, "A")?, label(alloc, 2, 4, "B")?];
-    let mut scanner = SpanScanner::new(alloc, b"abcdef", 1, 1);
-    let plans = plan_snippets(alloc, &mut scanner, &labels)?;
+    let plans = plans_of(alloc, "abcdef", &labels)?.expect(&rt, "labels within the text");
     assert_eq!(rt; plans.len(), 1);
     assert_eq!(rt; plans[0].rows.len(), 1);
     let row = &plans[0].rows[0];
@@ -82,8 +106,7 @@ fn labels_within_a_row_have_marks_and_texts(rt: HostRuntime) -> Result<(), Fail>
 fn a_mark_stands_past_a_tab(rt: HostRuntime) -> Result<(), Fail> {
     let alloc = rt.alloc();
     let labels = [LabeledSpan::new(None, 5, 1)];
-    let mut scanner = SpanScanner::new(alloc, "é\txyz".as_bytes(), 1, 1);
-    let plans = plan_snippets(alloc, &mut scanner, &labels)?;
+    let plans = plans_of(alloc, "é\txyz", &labels)?.expect(&rt, "labels within the text");
     assert_eq!(rt; plans.len(), 1);
     assert_eq!(rt; plans[0].rows.len(), 1);
     assert_eq!(rt;
@@ -109,8 +132,7 @@ fn a_head_is_at_the_first_primary_label_and_equal_texts_hang_together(
         label(alloc, 0, 1, "x")?,
         LabeledSpan::primary_at(None, 3, 1),
     ];
-    let mut scanner = SpanScanner::new(alloc, b"a\r\nb", 1, 1);
-    let plans = plan_snippets(alloc, &mut scanner, &labels)?;
+    let plans = plans_of(alloc, "a\r\nb", &labels)?.expect(&rt, "labels within the text");
     assert_eq!(rt; plans.len(), 1);
     has_head(&rt, &plans[0], 2, 1, 0);
     assert_eq!(rt; plans[0].rows.len(), 2);

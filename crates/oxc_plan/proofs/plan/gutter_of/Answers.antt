@@ -1,4 +1,4 @@
-use Rattle.std.proofs.Common.{◌≡◌, ◌∙◌, ap, length, map, max, take, arith}
+use Rattle.std.proofs.Common.{◌≡◌, ◌∙◌, ap, length, map, max, arith}
 use Rattle.std.proofs.lemmas.List.{take_all}
 use Rattle.oxc_plan.specs.Plan.{gutter_of, row_plan_view}
 use Rattle.oxc_plan.proofs.PlanLemmas.{gutter_more}

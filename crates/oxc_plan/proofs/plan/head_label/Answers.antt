@@ -1,4 +1,4 @@
-use Rattle.std.proofs.Common.{◌≡◌, ◌∙◌, sym, Some, None}
+use Rattle.std.proofs.Common.{◌∙◌, sym, Some, None}
 use Rattle.oxc_plan.proofs.PlanLemmas.{head_found}
 use Rattle.oxc_plan.proofs.plan.head_label.Goals as goal
 

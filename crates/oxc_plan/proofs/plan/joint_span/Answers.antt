@@ -1,4 +1,4 @@
-use Rattle.std.proofs.Common.{◌≡◌, ◌∙◌, ◌≤◌, ap, arith}
+use Rattle.std.proofs.Common.{◌∙◌, ap, arith}
 use Rattle.oxc_plan.specs.Groups.{largest_end}
 use Rattle.oxc_plan.proofs.PlanLemmas.{largest_end_from}
 use Rattle.oxc_plan.proofs.plan.joint_span.Goals as goal

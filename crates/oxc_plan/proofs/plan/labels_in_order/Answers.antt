@@ -1,4 +1,4 @@
-use Rattle.std.proofs.Common.{◌≡◌, ◌∙◌, ap, map, take}
+use Rattle.std.proofs.Common.{◌∙◌, ap, map}
 use Rattle.std.proofs.lemmas.List.{take_all}
 use Rattle.oxc_plan.specs.Order.{label_at}
 use Rattle.oxc_plan.specs.Plan.{in_order, ordered_label, ordered_view}

@@ -1,4 +1,4 @@
-use Rattle.std.proofs.Common.{◌≡◌, ◌∙◌, ap, sym, map, List, subst, All, ◌<◌, ◌≤◌, length}
+use Rattle.std.proofs.Common.{sym, map, subst, All, ◌<◌, ◌≤◌, length}
 use Rattle.oxc_plan.specs.Groups.{span_at}
 use Rattle.oxc_plan.specs.Plan.{ordered_view}
 use Rattle.oxc_plan.specs.Rows.{row_view}

@@ -1,4 +1,4 @@
-use Rattle.std.proofs.Common.{◌≡◌, ◌∙◌, ◌≤◌, ℕ, get_or, ap, sym, subst, length, map, All}
+use Rattle.std.proofs.Common.{◌∙◌, ◌≤◌, ℕ, get_or, ap, sym, subst, length, map, All}
 use Rattle.std.specs.Str.{IsUtf8}
 use Rattle.std.proofs.lemmas.List.{take_all}
 use Rattle.std.proofs.lemmas.List.Elements.{All-map}

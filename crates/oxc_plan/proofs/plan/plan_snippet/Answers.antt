@@ -3,9 +3,8 @@ use Rattle.std.proofs.lemmas.List.{length-map}
 use Rattle.oxc_span.specs.declared.span.Span.{Span}
 use Rattle.oxc_windows.specs.Breaks.{breaks_of}
 use Rattle.oxc_windows.specs.Rows.{place_of}
-use Rattle.oxc_windows.specs.Scan.{contents_of}
-use Rattle.oxc_plan.specs.Groups.{largest_end, span_at, window_round}
-use Rattle.oxc_plan.specs.Plan.{gutter_of, head_label, ordered_view, row_plan_of, row_plan_view, spans_of}
+use Rattle.oxc_plan.specs.Groups.{largest_end, span_at}
+use Rattle.oxc_plan.specs.Plan.{gutter_of, ordered_view, row_plan_of, row_plan_view}
 use Rattle.oxc_plan.specs.Rows.{row_view}
 use Rattle.oxc_plan.proofs.PlanLemmas.{head_in, joint_within, snippet_made}
 use Rattle.oxc_plan.proofs.plan.plan_snippet.Goals as goal

@@ -1,9 +1,9 @@
-use Rattle.std.proofs.Common.{◌≡◌, ◌∙◌, ◌<◌, ◌≤◌, ap, sym, subst, length, map, All}
+use Rattle.std.proofs.Common.{◌∙◌, ◌<◌, ◌≤◌, ap, sym, subst, length, map, All}
 use Rattle.std.specs.Str.{IsUtf8}
 use Rattle.std.specs.declared.ops.Range.{Range}
 use Rattle.oxc_windows.specs.Breaks.{breaks_of}
 use Rattle.oxc_plan.specs.declared.plan.OrderedLabel.{OrderedLabel}
-use Rattle.oxc_plan.specs.Groups.{HoldsItsSpans, groups_in}
+use Rattle.oxc_plan.specs.Groups.{HoldsItsSpans}
 use Rattle.oxc_plan.specs.Plan.{in_order, ordered_view, snippet_of, snippets_of, spans_of}
 use Rattle.oxc_plan.proofs.PlanLemmas.{ordered_groups, ordered_valid, spans_same}
 use Rattle.oxc_plan.proofs.plan.plan_with_tabs.Goals as goal

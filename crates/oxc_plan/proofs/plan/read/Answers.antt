@@ -1,4 +1,4 @@
-use Rattle.std.proofs.Common.{◌≡◌, ◌∙◌, sym, length}
+use Rattle.std.proofs.Common.{◌∙◌, sym}
 use Rattle.oxc_windows.proofs.ReadLemmas.{read_known}
 use Rattle.oxc_plan.proofs.plan.read.Goals as goal
 

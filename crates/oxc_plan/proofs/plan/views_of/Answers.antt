@@ -1,4 +1,4 @@
-use Rattle.std.proofs.Common.{◌≡◌, ◌<◌, ap, arith}
+use Rattle.std.proofs.Common.{ap, arith}
 use Rattle.oxc_plan.proofs.PlanLemmas.{rows_small}
 use Rattle.oxc_plan.proofs.plan.views_of.Goals as goal
 
