@@ -20,10 +20,10 @@ use Rattle.oxc_plan.proofs.GroupsLemmas.{largest_end_reaches, largest_end_within
 use Rattle.oxc_plan.specs.Meets.{is_one_row, meets, multi_row_labels, one_row_labels}
 use Rattle.oxc_plan.specs.Marks.{cells_at, placed_marks}
 use Rattle.oxc_plan.specs.declared.marks.MarkCells.{MarkCells}
-use Rattle.oxc_plan.specs.declared.plan.Bar.{Bar}
-use Rattle.oxc_plan.specs.declared.plan.Hang.{Hang}
-use Rattle.oxc_plan.specs.declared.plan.OrderedLabel.{OrderedLabel}
-use Rattle.oxc_plan.specs.declared.plan.RowPlan.{RowPlan}
+use Rattle.oxc_plan.specs.declared.bars.Bar.{Bar}
+use Rattle.oxc_plan.specs.declared.hangs.Hang.{Hang}
+use Rattle.oxc_plan.specs.declared.labels.OrderedLabel.{OrderedLabel}
+use Rattle.oxc_plan.specs.declared.snippets.RowPlan.{RowPlan}
 use Rattle.oxc_plan.specs.Order.{label_at, label_order, spans_in_order}
 use Rattle.oxc_plan.specs.Plan.{Ordered, RowPlanView, SnippetView, bar_of, bars_of, ends_of, ends_with_text, gutter_of, hang_of, hangs_of, head_label, in_order, ordered_at, ordered_label, ordered_view, row_plan_of, row_plan_view, row_plans_of, snippet_of, spans_of}
 use Rattle.oxc_windows.specs.Breaks.{breaks_of}
