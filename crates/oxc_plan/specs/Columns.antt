@@ -4,7 +4,7 @@ use Rattle.std.specs.List.{prefix_len}
 use Rattle.std.specs.Str.{IsAscii}
 use Rattle.oxc_plan.specs.declared.columns.Pen.{Pen}
 use Rattle.oxc_plan.specs.Rows.{RowView}
-use Rattle.oxc_plan.specs.Width.{moved, at_margin, led_text, pen_after, text_width}
+use Rattle.oxc_plan.specs.Width.{moved, at_margin, led_text, text_width}
 
 -- a byte that begins a character
 abbrev pub is_char_start : ℕ → Bool

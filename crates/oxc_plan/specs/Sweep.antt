@@ -1,5 +1,5 @@
 -- What lets the labels of a group alone be tried against its rows, and each against the rows that it meets.
-use Rattle.std.specs.Prelude.{◌≡◌, ℕ, ◌<◌, ◌≤◌, nat_lt, Bool, List, length, All}
+use Rattle.std.specs.Prelude.{ℕ, ◌⊎◌, ◌<◌, ◌≤◌, nat_lt, Bool, List, length, All}
 use Rattle.std.specs.List.Sorted.{IsNonDecreasingBy}
 use Rattle.std.specs.declared.ops.Range.{Range}
 use Rattle.oxc_span.specs.declared.span.Span.{Span}

@@ -1,11 +1,12 @@
 //! The snippets of a report: what they mean before a character is drawn.
 ghost use Rattle.std.specs.Prelude.{◌≡◌, ◌+◌, ◌^◌, ◌<◌, ◌≤◌, IfOk, length, map, filter, fold, max, All};
+ghost use Rattle.std.specs.List.Sorted.{IsNonDecreasingBy};
 ghost use Rattle.std.specs.Str.{IsUtf8};
 ghost use Rattle.oxc_windows.specs.Breaks.{breaks_of};
 ghost use Rattle.oxc_windows.specs.Scan.{IsMeasured, IsNumbered, IsSameReader};
 ghost use Rattle.oxc_plan.specs.Drawable.{IsDrawable};
 ghost use Rattle.oxc_plan.specs.Groups.{AreGroups, largest_end, span_at};
-ghost use Rattle.oxc_plan.specs.Meets.{meeting_labels, meets, multi_row_labels, one_row_labels};
+ghost use Rattle.oxc_plan.specs.Meets.{is_multi_row, is_one_row, meeting_labels, meets, multi_row_labels, one_row_labels};
 ghost use Rattle.oxc_plan.specs.Order.{AreOrderedSpans};
 ghost use Rattle.oxc_plan.specs.Plan.{gutter_of, ordered_view, row_plan_of, row_plan_view, snippet_of, snippet_view, snippets_of, spans_of};
 ghost use Rattle.oxc_plan.specs.Rows.{row_view, rows_of};
@@ -184,19 +185,20 @@ fn plan_rows<'a>(
     requires small { All (λ row. (row.offset + row.length < 2 ^ 32) × (length row.text.now < 2 ^ 32)) rows.now }
     requires ascend { AscendIn (map row_view rows.now) }
     requires spans { spans.now ≡ spans_of (map ordered_view labels.now) }
-    requires ordered { AreOrderedSpans (2 ^ 32) spans.now }
+    requires rising { IsNonDecreasingBy (λ span. span.start) spans.now }
+    requires ordered { All (λ span. span.start ≤ span.end) spans.now }
     requires some { group.now.start ≤ group.now.end }
     requires within { group.now.end ≤ length spans.now }
     requires alone { MeetNoOthers spans.now group.now (map row_view rows.now) }
     ensures { IfOk result (λ plans. map row_plan_view plans.items ≡ map (row_plan_of tabs (map ordered_view labels.now)) (map row_view rows.now)) }
 {
     let mut plans = Vec::new(alloc);
-    let mut open = Vec::new(alloc);
+    let mut active = Vec::new(alloc);
     let mut next = group.start;
     for row in rows {
-        close_before(&mut open, spans, row.offset);
-        next = open_before(&mut open, spans, next, group.end, row.offset + row.length)?;
-        plans.push(plan_row(alloc, row, labels, spans, &open, tabs)?)?;
+        next = open_before(&mut active, spans, next, group.end, row.offset + row.length)?;
+        close_before(&mut active, spans, row.offset);
+        plans.push(plan_row(alloc, row, labels, spans, &active, tabs)?)?;
     }
     Ok(plans)
 }
@@ -207,18 +209,18 @@ fn plan_row<'a>(
     row: &Row<'a>,
     labels: &[OrderedLabel<'_>],
     spans: &[Span],
-    open: &[usize],
+    active: &[usize],
     tabs: TabWidth,
 ) -> Result<RowPlan<'a>, AllocError>
     requires small { row.now.offset + row.now.length < 2 ^ 32 }
     requires fits { length row.now.text.now < 2 ^ 32 }
     requires spans { spans.now ≡ spans_of (map ordered_view labels.now) }
     requires ordered { All (λ span. span.start ≤ span.end) spans.now }
-    requires open { filter (λ at. meets row.now.offset row.now.length (span_at spans.now at)) open.now ≡ meeting_labels row.now.offset row.now.length spans.now }
+    requires among { filter (λ at. meets row.now.offset row.now.length (span_at spans.now at)) active.now ≡ meeting_labels row.now.offset row.now.length spans.now }
     ensures { IfOk result (λ plan. row_plan_view plan ≡ row_plan_of tabs (map ordered_view labels.now) (row_view row.now)) }
 {
-    let within = one_row_labels(alloc, row, spans, open)?;
-    let across = multi_row_labels(alloc, row, spans, open)?;
+    let within = one_row_of(alloc, row, spans, active)?;
+    let across = multi_row_of(alloc, row, spans, active)?;
     plan_at(alloc, row, labels, spans, &within, &across, tabs)
 }
 
@@ -253,20 +255,18 @@ fn plan_at<'a>(
     })
 }
 
-/// The places of the labels that meet a row and lie within it, of places among which are all that meet it.
-#[tactic(auto, unfolding(crate::specs::Meets::one_row_labels))]
-fn one_row_labels(
+/// Those of some places whose labels meet a row and lie within it.
+fn one_row_of(
     alloc: Global,
     row: &Row<'_>,
     spans: &[Span],
-    open: &[usize],
+    active: &[usize],
 ) -> Result<Vec<usize>, AllocError>
     requires range { row.now.offset + row.now.length < 2 ^ 32 }
     requires ordered { All (λ span. span.start ≤ span.end) spans.now }
-    requires open { filter (λ at. meets row.now.offset row.now.length (span_at spans.now at)) open.now ≡ meeting_labels row.now.offset row.now.length spans.now }
-    ensures { IfOk result (λ places. places.items ≡ one_row_labels row.now.offset row.now.length spans.now) }
+    ensures { IfOk result (λ places. places.items ≡ filter (λ at. is_one_row row.now.offset row.now.length (span_at spans.now at)) active.now) }
 {
-    let places = open
+    let places = active
         .iter()
         .copied()
         .filter(|at| is_one_row(row, span_at(spans, *at)))
@@ -274,20 +274,18 @@ fn one_row_labels(
     Ok(places)
 }
 
-/// The places of the labels that meet a row and others, of places among which are all that meet it.
-#[tactic(auto, unfolding(crate::specs::Meets::multi_row_labels))]
-fn multi_row_labels(
+/// Those of some places whose labels meet a row and others.
+fn multi_row_of(
     alloc: Global,
     row: &Row<'_>,
     spans: &[Span],
-    open: &[usize],
+    active: &[usize],
 ) -> Result<Vec<usize>, AllocError>
     requires range { row.now.offset + row.now.length < 2 ^ 32 }
     requires ordered { All (λ span. span.start ≤ span.end) spans.now }
-    requires open { filter (λ at. meets row.now.offset row.now.length (span_at spans.now at)) open.now ≡ meeting_labels row.now.offset row.now.length spans.now }
-    ensures { IfOk result (λ places. places.items ≡ multi_row_labels row.now.offset row.now.length spans.now) }
+    ensures { IfOk result (λ places. places.items ≡ filter (λ at. is_multi_row row.now.offset row.now.length (span_at spans.now at)) active.now) }
 {
-    let places = open
+    let places = active
         .iter()
         .copied()
         .filter(|at| is_multi_row(row, span_at(spans, *at)))

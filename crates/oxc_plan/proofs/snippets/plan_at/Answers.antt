@@ -15,5 +15,5 @@ placed-requires-clause-within c =
 
 pub returns : goal.returns
 returns c =
-    row_plan_made c.args.tab (map ordered_view c.args.labels.now) (row_view c.args.row.now) c.args.spans.now c.args.within.now c.args.across.now _ _ _ _
+    row_plan_made c.args.tabs (map ordered_view c.args.labels.now) (row_view c.args.row.now) c.args.spans.now c.args.within.now c.args.across.now _ _ _ _
     c.requires.spans c.requires.within c.requires.across c.in_ok-bars.ensures c.in_ok-marks.ensures.exact c.in_ok-hangs.ensures c.in_ok-ends.ensures
