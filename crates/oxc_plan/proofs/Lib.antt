@@ -12,3 +12,4 @@ pub mod TextsLemmas
 pub mod SweepLemmas
 pub mod DrawableLemmas
 pub mod ScannedLemmas
+pub mod ClustersLemmas
