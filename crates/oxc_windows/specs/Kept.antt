@@ -1,7 +1,7 @@
 -- The row starts that an index or a scanner keeps from read to read, and the start of the first span that it read.
 use Rattle.std.specs.Prelude.{◌≡◌, ℕ, ◌+◌, ◌-◌, ◌<◌, ◌≤◌, nat_lt, List, [], length, slice_index_or, take, Option, Some, None, if◌then◌else◌}
 use Rattle.oxc_windows.specs.declared.breaks.LineBreak.{LineBreak}
-use Rattle.oxc_windows.specs.Rows.{row_of, row_start}
+use Rattle.oxc_windows.specs.Rows.{row_start}
 use Rattle.oxc_windows.specs.Window.{first_row}
 
 -- the start of the first span that had a window, after a read of a span more: it is set once, by a span that ends within the text
