@@ -201,6 +201,7 @@ impl<Source: SourceText> Files<Source> {
     }
 
     /// What the file is called.
+    #[must_use]
     pub fn name(&self, file_id: FileId) -> &str
         requires { file_id < length self.now }
         ensures { result.now ≡ name_of self.now file_id }
@@ -244,6 +245,7 @@ impl<Source: SourceText> Files<Source> {
     }
 
     /// The source of the file. It has fewer than `u32::MAX` bytes.
+    #[must_use]
     pub fn source(&self, file_id: FileId) -> &Source
         requires { file_id < length self.now }
         ensures text { Source.text result.now ≡ text_of self.now file_id }
