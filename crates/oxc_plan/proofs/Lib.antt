@@ -13,3 +13,4 @@ pub mod SweepLemmas
 pub mod DrawableLemmas
 pub mod ScannedLemmas
 pub mod ClustersLemmas
+pub mod MeasuringLemmas
