@@ -1,5 +1,5 @@
 -- The clusters of the first part of a text: those of the whole, and a part of one.
-use Rattle.std.proofs.Common.{◌≡◌, ℕ, zero, suc, ◌+◌, ◌-◌, ◌<◌, ◌≤◌, ◌&&◌, Bool, true, false, inl, inr, List, [], ◌∷◌, ◌++◌, length, map, get_or, take, drop, fold, refl, sym, ap, subst, ◌∙◌, arith, append_assoc, append-nil, length-append, cond}
+use Rattle.std.proofs.Common.{◌≡◌, ℕ, zero, suc, ◌+◌, ◌-◌, ◌<◌, ◌≤◌, Bool, true, false, inl, inr, List, [], ◌∷◌, ◌++◌, length, map, get_or, take, drop, refl, sym, ap, subst, ◌∙◌, arith, append_assoc, append-nil, length-append, cond}
 use Rattle.std.specs.Prelude.{All, encode_utf8_all}
 use Rattle.std.specs.List.{concat, flat_map}
 use Rattle.std.specs.Str.{chars, IsCharBoundary, IsUtf8}

@@ -14,3 +14,4 @@ pub mod DrawableLemmas
 pub mod ScannedLemmas
 pub mod ClustersLemmas
 pub mod MeasuringLemmas
+pub mod HangsLemmas

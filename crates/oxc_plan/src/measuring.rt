@@ -45,7 +45,12 @@ pub fn measure<'a>(
 
 /// The column of a place in a text that was measured. Before a place that was not asked for it is measured here.
 #[tactic(auto, unfolding(crate::specs::Columns::column_in))]
-pub fn column_known(measured: &MeasuredText<'_>, place: usize, at_start: bool, tabs: TabWidth) -> usize
+pub fn column_known(
+    measured: &MeasuredText<'_>,
+    place: usize,
+    at_start: bool,
+    tabs: TabWidth,
+) -> usize
     requires fits { length measured.now.text.now < 2 ^ 32 }
     requires known { HoldsColumns tabs measured.now }
     ensures exact { result ≡ column_in tabs measured.now.text.now place at_start }
@@ -55,7 +60,11 @@ pub fn column_known(measured: &MeasuredText<'_>, place: usize, at_start: bool, t
     if place > len {
         return width_before(measured, len, tabs) + 1;
     }
-    width_before(measured, boundary_near(measured.text, place, at_start), tabs)
+    width_before(
+        measured,
+        boundary_near(measured.text, place, at_start),
+        tabs,
+    )
 }
 
 /// The columns of a text before a place between two characters.

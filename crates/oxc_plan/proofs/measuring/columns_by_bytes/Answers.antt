@@ -1,5 +1,4 @@
-use Rattle.std.proofs.Common.{◌≡◌, ◌+◌, ◌-◌, ◌*◌, ◌<◌, ◌≤◌, ◌∙◌, ℕ, [], ◌∷◌, ◌++◌, get_or, length-append, ap, length, refl, sym, subst, slice_range, take, arith}
-use Rattle.std.proofs.lemmas.List.{length-take-le}
+use Rattle.std.proofs.Common.{◌≡◌, ◌*◌, ◌<◌, ◌≤◌, ◌∙◌, ℕ, [], ◌∷◌, ◌++◌, get_or, length-append, ap, length, refl, sym, slice_range, take, arith}
 use Rattle.unicode_segmentation.proofs.TextLemmas.{length-slice_range}
 use Rattle.oxc_plan.specs.Width.{at_margin, pen_after, text_width}
 use Rattle.oxc_plan.proofs.AsciiLemmas.{pen_further, take_ascii, width_ascii}

@@ -1,4 +1,4 @@
-use Rattle.std.proofs.Common.{◌≡◌, ◌+◌, ◌*◌, ◌≤◌, true, ap, arith, length, refl, subst, sym}
+use Rattle.std.proofs.Common.{◌≡◌, true, arith, subst, sym}
 use Rattle.unicode_segmentation.specs.Grapheme.{graphemes}
 use Rattle.unicode_segmentation.specs.Iter.{graphemes_left}
 use Rattle.oxc_plan.specs.Measuring.{HaveColumnsUpTo, IsGoneThrough}

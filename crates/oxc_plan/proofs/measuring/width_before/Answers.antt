@@ -1,7 +1,7 @@
 use Rattle.std.proofs.Common.{◌≡◌, ◌<◌, ◌∙◌, get_or, ap, subst, arith, length}
 use Rattle.std.specs.Ordering.{MatchOrdering}
 use Rattle.std.specs.Cmp.{ranks}
-use Rattle.oxc_plan.proofs.MeasuringLemmas.{as_many, column_found}
+use Rattle.oxc_plan.proofs.MeasuringLemmas.{column_found}
 use Rattle.oxc_plan.proofs.measuring.width_before.Goals as goal
 
 pub returns-in-Ok-clause-exact : goal.returns-in-Ok-clause-exact
