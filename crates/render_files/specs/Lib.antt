@@ -1,3 +1,6 @@
+pub mod Given
+pub mod Refusal
+pub mod Shown
 pub mod Report
 pub mod Drawable
 pub mod Drawing

@@ -1,7 +1,7 @@
 -- What contracts see of a report: numbers and texts.
 use Rattle.std.specs.Prelude.{ℕ, List, Option, Bool, map, option_map, string_bytes}
 use Rattle.source_location.specs.declared.SourceLocation.{SourceLocation}
-use Rattle.render_files.specs.declared.report.PlaceLabel.{PlaceLabel}
+use Rattle.render_files.specs.declared.report.PlainLabel.{PlainLabel}
 use Rattle.render_files.specs.declared.report.PlainReport.{PlainReport}
 
 -- the places of its start and end, rows and columns from 1, its text if it has one, and whether it is primary
@@ -17,7 +17,7 @@ pub record Report : Type 0 where
   pub message : List ℕ
   pub labels : List Label
 
-abbrev pub label_view : PlaceLabel → Label
+abbrev pub label_view : PlainLabel → Label
 label_view label = record { start = label.start; end = label.end; text = option_map string_bytes label.text; primary = label.primary }
 
 abbrev pub report_view : PlainReport → Report

@@ -5,7 +5,7 @@ ghost use Rattle.std.specs.Option.{option_map_or};
 ghost use Rattle.render_files.specs.Report.{label_view, report_view};
 ghost use Rattle.render_files.specs.Drawable.{is_plain as is_plain_byte, is_plain_message as says_plainly, has_no_outer_space as begins_and_ends_plainly, is_one_line as has_no_lf, is_plain_source as shows_plainly, is_plain_label as marks_plainly, has_plain_label as marks_one_row, row_at as row_of_source, is_drawable as can_be_drawn};
 
-use crate::report::{PlaceLabel, PlainReport};
+use crate::report::{PlainLabel, PlainReport};
 use crate::rows::row_at;
 use codespan::Files;
 
@@ -70,7 +70,7 @@ fn all_plain_rows(bytes: &[u8]) -> bool
     bytes.iter().all(|byte| *byte == b'\n' || is_plain(*byte))
 }
 
-fn has_plain_label(source: &str, labels: &[PlaceLabel]) -> bool
+fn has_plain_label(source: &str, labels: &[PlainLabel]) -> bool
     ensures { result ≡ marks_one_row source.now (map label_view labels.now) }
 {
     match labels {
@@ -80,7 +80,7 @@ fn has_plain_label(source: &str, labels: &[PlaceLabel]) -> bool
 }
 
 #[tactic(auto, unfolding(crate::specs::Drawable::is_plain_label))]
-fn is_plain_label(source: &str, label: &PlaceLabel) -> bool
+fn is_plain_label(source: &str, label: &PlainLabel) -> bool
     ensures { result ≡ marks_plainly source.now (label_view label.now) }
 {
     !label.primary
@@ -90,7 +90,7 @@ fn is_plain_label(source: &str, label: &PlaceLabel) -> bool
         && ends_in_its_row(source, label)
 }
 
-fn has_plain_text(label: &PlaceLabel) -> bool
+fn has_plain_text(label: &PlainLabel) -> bool
     ensures { result ≡ option_map_or has_no_lf (label_view label.now).text true }
 {
     match &label.text {
@@ -99,7 +99,7 @@ fn has_plain_text(label: &PlaceLabel) -> bool
     }
 }
 
-fn ends_in_its_row(source: &str, label: &PlaceLabel) -> bool
+fn ends_in_its_row(source: &str, label: &PlainLabel) -> bool
     ensures { result ≡ option_map_or (λ row. nat_le label.now.end.column (length row + 1)) (row_of_source source.now (label.now.start.row - 1)) false }
 {
     match row_at(source, label.start.row.to_zero_indexed_usize()) {

@@ -5,7 +5,7 @@ ghost use Rattle.std.specs.Option.{option_copied};
 ghost use Rattle.render_files.specs.Report.{label_view, report_view};
 ghost use Rattle.render_files.specs.Drawing.{spaces, title, numbers, head, shown_row, front, end_cell, bar_cell, mark_at as mark_of, mark_line, hanging_line, hanging_text, close, row_above as row_above_of, number_width as width_of_numbers, lines_of_label, snippet, drawn_report};
 
-use crate::report::{PlaceLabel, PlainReport};
+use crate::report::{PlainLabel, PlainReport};
 use crate::rows::row_at;
 use codespan::Files;
 use itoa::Buffer;
@@ -43,7 +43,7 @@ fn push_snippets(
     out: &mut String,
     name: &str,
     source: &str,
-    labels: &[PlaceLabel],
+    labels: &[PlainLabel],
 ) -> Result<(), AllocError>
     ensures { OnOk result (string_bytes out.new ≡ string_bytes out.old ++ flat_map (snippet name.now source.now) (map label_view labels.now)) }
 {
@@ -58,7 +58,7 @@ fn push_snippet(
     out: &mut String,
     name: &str,
     source: &str,
-    label: &PlaceLabel,
+    label: &PlainLabel,
 ) -> Result<(), AllocError>
     ensures { OnOk result (string_bytes out.new ≡ string_bytes out.old ++ snippet name.now source.now (label_view label.now)) }
 {
@@ -102,7 +102,7 @@ fn push_lines(
     out: &mut String,
     width: usize,
     source: &str,
-    label: &PlaceLabel,
+    label: &PlainLabel,
 ) -> Result<(), AllocError>
     requires { width ≤ 40 }
     ensures { OnOk result (string_bytes out.new ≡ string_bytes out.old ++ lines_of_label width source.now (label_view label.now)) }
@@ -116,7 +116,7 @@ fn push_lines(
 }
 
 #[tactic(auto, unfolding(crate::specs::Drawing::row_above))]
-fn row_above<'a>(source: &'a str, label: &PlaceLabel) -> Option<&'a str>
+fn row_above<'a>(source: &'a str, label: &PlainLabel) -> Option<&'a str>
     ensures { option_copied result ≡ row_above_of source.now (label_view label.now) }
 {
     let number = label.start.row.get() as usize;
@@ -160,7 +160,7 @@ fn push_front(out: &mut String, width: usize) -> Result<(), AllocError>
 }
 
 #[tactic(auto, unfolding(crate::specs::Drawing::mark_line))]
-fn push_marks(out: &mut String, width: usize, label: &PlaceLabel) -> Result<(), AllocError>
+fn push_marks(out: &mut String, width: usize, label: &PlainLabel) -> Result<(), AllocError>
     requires { width ≤ 40 }
     ensures { OnOk result (string_bytes out.new ≡ string_bytes out.old ++ mark_line width (label_view label.now)) }
 {
@@ -171,7 +171,7 @@ fn push_marks(out: &mut String, width: usize, label: &PlaceLabel) -> Result<(), 
 }
 
 #[tactic(auto, using(crate::proofs::Pushes::no_cells, crate::proofs::Pushes::one_more_cell))]
-fn push_cells(out: &mut String, label: &PlaceLabel) -> Result<(), AllocError>
+fn push_cells(out: &mut String, label: &PlainLabel) -> Result<(), AllocError>
     ensures { OnOk result (string_bytes out.new ≡ string_bytes out.old ++ map (mark_of (label_view label.now)) (range_with_len 0 (end_cell (label_view label.now)))) }
 {
     for cell in 0..label.end.column.to_zero_indexed_usize() {
@@ -182,7 +182,7 @@ fn push_cells(out: &mut String, label: &PlaceLabel) -> Result<(), AllocError>
 
 /// What stands at a cell of the line of marks.
 #[tactic(auto, unfolding(crate::specs::Drawing::mark_at))]
-fn mark_at(label: &PlaceLabel, cell: usize) -> char
+fn mark_at(label: &PlainLabel, cell: usize) -> char
     ensures mark { result ≡ mark_of (label_view label.now) cell }
     ensures ascii { result < 128 }
 {
@@ -195,7 +195,7 @@ fn mark_at(label: &PlaceLabel, cell: usize) -> char
     }
 }
 
-fn bar_of(label: &PlaceLabel) -> usize
+fn bar_of(label: &PlainLabel) -> usize
     ensures { result ≡ bar_cell (label_view label.now) }
 {
     let start = label.start.column.to_zero_indexed() as usize;
@@ -205,7 +205,7 @@ fn bar_of(label: &PlaceLabel) -> usize
 
 /// The label's text below its bar, where it has one.
 #[tactic(auto, unfolding(crate::specs::Drawing::hanging_line))]
-fn push_text(out: &mut String, width: usize, label: &PlaceLabel) -> Result<(), AllocError>
+fn push_text(out: &mut String, width: usize, label: &PlainLabel) -> Result<(), AllocError>
     requires { width ≤ 40 }
     ensures { OnOk result (string_bytes out.new ≡ string_bytes out.old ++ hanging_text width (label_view label.now) (label_view label.now).text) }
 {
@@ -232,7 +232,7 @@ fn push_close(out: &mut String, width: usize) -> Result<(), AllocError>
 
 /// The digits of the last number that a snippet shows.
 #[tactic(auto, unfolding(crate::specs::Drawing::number_width))]
-fn number_width(source: &str, label: &PlaceLabel) -> usize
+fn number_width(source: &str, label: &PlainLabel) -> usize
     ensures exact { result ≡ width_of_numbers source.now (label_view label.now) }
     ensures few { result ≤ 40 }
 {

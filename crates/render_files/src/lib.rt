@@ -7,9 +7,11 @@
 
 mod drawable;
 mod drawing;
+mod places;
 mod render;
 mod report;
 mod rows;
 
+pub use places::{FileReport, LabelPlace, PlaceLabel, ReportError};
 pub use render::render_plain;
-pub use report::{PlaceLabel, PlainError, PlainReport};
+pub use report::{PlainError, PlainLabel, PlainReport};

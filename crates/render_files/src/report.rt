@@ -7,7 +7,7 @@ use thiserror::Error;
 
 /// A label from one place of a source to another.
 #[derive(Debug, Drop)]
-pub struct PlaceLabel {
+pub struct PlainLabel {
     /// Where it starts.
     pub start: SourceLocation,
     /// The place past its end.
@@ -26,7 +26,7 @@ pub struct PlainReport {
     /// The title.
     pub message: String,
     /// Where in the file.
-    pub labels: Vec<PlaceLabel>,
+    pub labels: Vec<PlainLabel>,
 }
 
 /// Why reports were not drawn.

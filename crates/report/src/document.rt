@@ -7,7 +7,7 @@ ghost use Rattle.report.specs.Views.{document_view};
 
 use crate::place::{has_only_keys, is_first_in, only_in, place_in, text_in};
 use codespan::{AddError, FileId, Files};
-use render_files::{PlaceLabel, PlainReport};
+use render_files::{PlainLabel, PlainReport};
 use serde_json::Value;
 use std::alloc::{AllocError, Global};
 
@@ -122,7 +122,7 @@ fn read_report(alloc: Global, value: &Value) -> Result<Option<PlainReport>, Allo
 }
 
 #[tactic(auto, unfolding(crate::specs::Document::label_of))]
-fn read_label(alloc: Global, value: &Value) -> Result<Option<PlaceLabel>, AllocError>
+fn read_label(alloc: Global, value: &Value) -> Result<Option<PlainLabel>, AllocError>
     ensures { IfOk result (λ it. option_map label_view it ≡ label_of (view value.now)) }
 {
     if !has_only_keys(value, &["start", "end", "text"]) {
@@ -138,7 +138,7 @@ fn read_label(alloc: Global, value: &Value) -> Result<Option<PlaceLabel>, AllocE
         return Ok(None);
     };
     let text = String::from_str(alloc, text)?;
-    Ok(Some(PlaceLabel {
+    Ok(Some(PlainLabel {
         start,
         end,
         text: Some(text),
