@@ -1,6 +1,8 @@
 pub mod Given
 pub mod Refusal
 pub mod Shown
+pub mod Causes
+pub mod Indexes
 pub mod Report
 pub mod Drawable
 pub mod Drawing

@@ -7,11 +7,14 @@
 
 mod drawable;
 mod drawing;
+mod indexes;
+mod judge;
 mod places;
 mod render;
 mod report;
 mod rows;
 
+pub use judge::place_labels;
 pub use places::{FileReport, LabelPlace, PlaceLabel, ReportError};
 pub use render::render_plain;
 pub use report::{PlainError, PlainLabel, PlainReport};
