@@ -3,6 +3,7 @@ pub mod Refusal
 pub mod Shown
 pub mod Causes
 pub mod Indexes
+pub mod Ties
 pub mod Report
 pub mod Drawable
 pub mod Drawing

@@ -9,12 +9,16 @@ mod drawable;
 mod drawing;
 mod indexes;
 mod judge;
+mod laws;
 mod places;
 mod render;
 mod report;
 mod rows;
 
 pub use judge::place_labels;
+pub use laws::{
+    breaks_are_the_same, line_starts_are_the_same, offsets_show_the_same, places_are_the_same,
+};
 pub use places::{FileReport, LabelPlace, PlaceLabel, ReportError};
 pub use render::render_plain;
 pub use report::{PlainError, PlainLabel, PlainReport};
