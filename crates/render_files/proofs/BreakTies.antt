@@ -3,17 +3,16 @@ use Rattle.std.proofs.Common.{◌≡◌, ℕ, ◌+◌, ◌-◌, ◌==◌, Bool, 
 use Rattle.std.specs.List.{filter_map, range_with_len}
 use Rattle.std.specs.List.{cons_option}
 use Rattle.std.specs.Option.{option_map}
-use Rattle.source_location.specs.Breaks.{LineBreak, break_at, breaks_of}
+use Rattle.source_location.specs.Breaks.{break_at, breaks_of}
 use Rattle.oxc_windows.specs.Breaks.{break_at as window_break_at, breaks_of as window_breaks, breaks_before}
-use Rattle.oxc_windows.specs.declared.breaks.LineBreak.{LineBreak as WindowBreak}
 use Rattle.render_files.specs.Ties.{as_break, AgreeOnBreaks}
 
 -- both are made by the same tests
 same_tests : (is_lf after_cr is_cr before_lf : Bool) (at : ℕ)
     → option_map as_break (cond is_lf (cond after_cr None (Some (record { start = at; end = at })))
-      (cond is_cr (cond before_lf (Some (record { start = at; end = at + 1 })) (Some (record { start = at; end = at }))) None))
+    (cond is_cr (cond before_lf (Some (record { start = at; end = at + 1 })) (Some (record { start = at; end = at }))) None))
     ≡ cond is_lf (cond after_cr None (Some (record { start = at; end = at })))
-      (cond is_cr (cond before_lf (Some (record { start = at; end = at + 1 })) (Some (record { start = at; end = at }))) None)
+    (cond is_cr (cond before_lf (Some (record { start = at; end = at + 1 })) (Some (record { start = at; end = at }))) None)
 same_tests true true is_cr before_lf at = refl
 same_tests true false is_cr before_lf at = refl
 same_tests false after_cr true true at = refl

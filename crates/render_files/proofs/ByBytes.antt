@@ -1,5 +1,5 @@
 -- Places by row and column, replaced by their offsets.
-use Rattle.std.proofs.Common.{◌≡◌, ℕ, ◌+◌, ◌-◌, ◌<◌, ◌≤◌, ◌⊎◌, inl, inr, Bool, true, false, cond, ◌&&◌, nat_le, nat_lt, List, [], ◌∷◌, length, map, Option, Some, None, refl, sym, ap, subst, ◌∙◌, unwrap_or, if◌then◌else◌, arith}
+use Rattle.std.proofs.Common.{◌≡◌, ℕ, ◌+◌, ◌-◌, inl, inr, Bool, true, false, cond, ◌&&◌, nat_le, nat_lt, List, [], ◌∷◌, length, map, Option, Some, None, refl, sym, ap, subst, ◌∙◌, unwrap_or, if◌then◌else◌, arith}
 use Rattle.std.specs.List.{AllZip}
 use Rattle.std.specs.Option.{is_none, option_or}
 use Rattle.source_location.specs.Locations.{IsOffsetAt, is_boundary, offset_at}
@@ -12,7 +12,7 @@ use Rattle.render_files.specs.declared.places.LabelPlace.TheVariants.{Rows, Byte
 use Rattle.render_files.specs.declared.places.ReportError.{ReportError}
 use Rattle.render_files.specs.declared.places.ReportError.TheVariants.{UnknownFile, PositionOutside, LabelReversed}
 use Rattle.render_files.specs.Given.{GivenLabel, GivenReport}
-use Rattle.render_files.specs.Refusal.{boundary_at, start_in, end_in, start_offset, end_offset, first_at, outside, reversed, refusal_in, refusal_of}
+use Rattle.render_files.specs.Refusal.{boundary_at, start_in, end_in, first_at, outside, reversed, refusal_in, refusal_of}
 use Rattle.render_files.specs.Shown.{placed, placed_labels, view_of}
 use Rattle.render_files.specs.Ties.{IsLabelByBytes, IsByBytes}
 use Rattle.render_files.proofs.Offsets.{boundary_there}
@@ -103,8 +103,8 @@ labels_same text report at (x ∷ xs) (y ∷ ys) fine by =
       outside = λ i. option_or (judged report at (same.start i) (same.end i)) (rest.outside i);
       reversed = λ i. option_or (turned report at (unwrap_or (same.start i) 0) (unwrap_or (same.end i) 0)) (rest.reversed i);
       placed = λ i.
-        record { text = same.text_of_it i; offset = unwrap_or (same.start i) 0; len = unwrap_or (same.end i) 0 - unwrap_or (same.start i) 0; primary = same.primary i }
-        ∷ rest.placed i;
+          record { text = same.text_of_it i; offset = unwrap_or (same.start i) 0; len = unwrap_or (same.end i) 0 - unwrap_or (same.start i) 0; primary = same.primary i }
+          ∷ rest.placed i;
     }
 
 record SameReport (files : List NamedText) (at : ℕ) (report other : GivenReport) : Type 0 where
@@ -121,20 +121,20 @@ unfolding refusal_in placed_labels
 report_same files at report other fine by =
     let text = text_of files report.file in
     let parts = neither (first_at (outside text at) 0 report.labels) (first_at (reversed text at) 0 report.labels)
-        (known (nat_lt report.file (length files)) _ (UnknownFile at) fine) in
+    (known (nat_lt report.file (length files)) _ (UnknownFile at) fine) in
     let same = labels_same text at 0 report.labels other.labels parts.0 by.labels in
     let outside_same : first_at (outside (text_of files other.file) at) 0 other.labels ≡ first_at (outside text at) 0 report.labels =
-        ap (λ f. first_at (outside (text_of files f) at) 0 other.labels) by.file ∙ same.outside in
+    ap (λ f. first_at (outside (text_of files f) at) 0 other.labels) by.file ∙ same.outside in
     let reversed_same : first_at (reversed (text_of files other.file) at) 0 other.labels ≡ first_at (reversed text at) 0 report.labels =
-        ap (λ f. first_at (reversed (text_of files f) at) 0 other.labels) by.file ∙ same.reversed in
+    ap (λ f. first_at (reversed (text_of files f) at) 0 other.labels) by.file ∙ same.reversed in
     let placed_same : map (placed (text_of files other.file)) other.labels ≡ map (placed text) report.labels =
-        ap (λ f. map (placed (text_of files f)) other.labels) by.file ∙ same.placed in
+    ap (λ f. map (placed (text_of files f)) other.labels) by.file ∙ same.placed in
     record {
       refusal = λ i. cond (nat_lt (by.file i) (length files)) (option_or (outside_same i) (reversed_same i)) (Some (UnknownFile at));
       view = λ i.
-        record (parts_with (by.diagnostic i) (Some (record { bytes = text_of files (by.file i); name = Some (name_of files (by.file i)) }))) {
-          labels = placed_same i;
-        };
+          record (parts_with (by.diagnostic i) (Some (record { bytes = text_of files (by.file i); name = Some (name_of files (by.file i)) }))) {
+            labels = placed_same i;
+          };
     }
 
 pub reports_same : (files : List NamedText) (at : ℕ) (reports others : List GivenReport) → first_at (refusal_in files) at reports ≡ None

@@ -1,5 +1,5 @@
 -- Where CR stands only before LF, lines under LF start where rows start.
-use Rattle.std.proofs.Common.{◌≡◌, ℕ, zero, suc, ◌+◌, ◌-◌, ◌<◌, ◌≤◌, ◌==◌, Bool, true, false, cond, List, [], ◌∷◌, ◌++◌, length, map, get_or, slice_index, Option, Some, None, refl, sym, ap, ◌∙◌, arith, append-nil, append_assoc}
+use Rattle.std.proofs.Common.{◌≡◌, ℕ, zero, suc, ◌+◌, ◌-◌, ◌==◌, Bool, true, false, cond, List, [], ◌∷◌, ◌++◌, length, map, slice_index, Some, None, refl, sym, ap, ◌∙◌, arith, append-nil, append_assoc}
 use Rattle.std.specs.List.{filter, filter_map, range_with_len}
 use Rattle.std.specs.List.{cons_option}
 use Rattle.std.proofs.lemmas.Bool.{eqb-true, false≢true}
@@ -48,8 +48,8 @@ feeds_more text n =
 one_more : (n : ℕ) (pending is_lf after_cr is_cr before_lf : Bool)
     → (is_lf ≡ true → after_cr ≡ pending) → (pending ≡ true → is_lf ≡ true) → (is_cr ≡ true → before_lf ≡ true) → (is_lf ≡ true → is_cr ≡ false)
     → cond pending ((n + 1) ∷ []) []
-      ++ map behind (cons_option (cond is_lf (cond after_cr None (Some (record { start = n; end = n })))
-        (cond is_cr (cond before_lf (Some (record { start = n; end = n + 1 })) (Some (record { start = n; end = n }))) None)) [])
+    ++ map behind (cons_option (cond is_lf (cond after_cr None (Some (record { start = n; end = n })))
+    (cond is_cr (cond before_lf (Some (record { start = n; end = n + 1 })) (Some (record { start = n; end = n }))) None)) [])
     ≡ map (λ at. at + 1) (cond is_lf (n ∷ []) []) ++ cond is_cr ((suc n + 1) ∷ []) []
 one_more n pending true after_cr true before_lf same lf paired apart = absurd (false≢true (sym (apart refl)))
 one_more n true true true false before_lf same lf paired apart = refl

@@ -1,6 +1,5 @@
 -- Rows and places of windows are those of rows.
 use Rattle.std.proofs.Common.{◌≡◌, ℕ, ◌+◌, ◌-◌, ◌==◌, ◌&&◌, ◌||◌, nat_lt, cond, List, [], ◌∷◌, length, map, slice_index_or, refl, sym, ap, ◌∙◌}
-use Rattle.std.specs.List.{list_any}
 use Rattle.codespan.proofs.Counting.{count_by_map}
 use Rattle.source_location.specs.Rows as rows
 use Rattle.oxc_windows.specs.Rows as windows
