@@ -1,0 +1,11 @@
+//! Drawn reports: from a diagnostic, its source and its labels to the text that a person sees.
+//!
+//! A [`GraphicalReportHandler`] draws by a [`GraphicalTheme`], filled to a width, with a distance of the tab stops.
+//! What it draws is a [`DiagnosticView`]: the parts of a diagnostic, all of them borrowed.
+#![tactic(auto)]
+
+mod theme;
+mod view;
+
+pub use crate::theme::GraphicalTheme;
+pub use crate::view::{DiagnosticView, RenderError};
