@@ -49,13 +49,17 @@ impl GraphicalTheme {
     /// # Errors
     ///
     /// Want of memory. The text is as it was then.
+    #[tactic(auto, unfolding(crate::specs::Theme::styled))]
     pub fn write_warning(&self, out: &mut String, value: &str) -> Result<(), AllocError>
         ensures ok { OnOk result (string_bytes out.new ≡ string_bytes out.old ++ styled self.now.styles.warning value.now) }
         ensures err { OnErr result (string_bytes out.new ≡ string_bytes out.old) }
     {
-        let style = self.styles.warning;
-        out.reserve(style.prefix().len() + value.len() + style.reset().len())?;
-        style.write(out, value)
+        let prefix = self.styles.warning.prefix();
+        let reset = self.styles.warning.reset();
+        out.reserve(prefix.len() + value.len() + reset.len())?;
+        out.push_str(prefix)?;
+        out.push_str(value)?;
+        out.push_str(reset)
     }
 }
 
