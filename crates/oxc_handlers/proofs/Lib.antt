@@ -1,0 +1,4 @@
+mod JsonEscapeLemmas
+mod JsonPlaceLemmas
+mod JsonSpaced
+mod JsonReading

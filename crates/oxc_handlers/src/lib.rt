@@ -4,8 +4,13 @@
 //! What it draws is a [`DiagnosticView`]: the parts of a diagnostic, all of them borrowed.
 #![tactic(auto)]
 
+mod json;
 mod theme;
 mod view;
 
+pub use crate::json::{JSONReportHandler, escaped_text_comes_back, push_json};
 pub use crate::theme::GraphicalTheme;
 pub use crate::view::{DiagnosticView, RenderError};
+
+#[cfg(test)]
+mod json_tests;
