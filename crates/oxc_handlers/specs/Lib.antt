@@ -1,1 +1,10 @@
 pub mod Theme
+pub mod Cells
+pub mod Setting
+pub mod Marks
+pub mod Gutters
+pub mod Hangs
+pub mod Texts
+pub mod RowLines
+pub mod Snippet
+pub mod Report

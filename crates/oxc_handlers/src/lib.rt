@@ -4,6 +4,11 @@
 //! What it draws is a [`DiagnosticView`]: the parts of a diagnostic, all of them borrowed.
 #![tactic(auto)]
 
+mod gutter;
+mod marks;
+mod runs;
+mod setting;
+mod span;
 mod theme;
 mod view;
 
