@@ -1,4 +1,3 @@
-pub mod Theme
 pub mod JsonEscape
 pub mod JsonText
 pub mod JsonPlaces
@@ -6,3 +5,14 @@ pub mod JsonRange
 pub mod JsonValue
 pub mod JsonSent
 pub mod JsonView
+pub mod Theme
+pub mod Cells
+pub mod Setting
+pub mod Marks
+pub mod Gutters
+pub mod Hangs
+pub mod Texts
+pub mod RowLines
+pub mod Snippet
+pub mod Report
+pub mod Colors

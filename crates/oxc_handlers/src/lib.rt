@@ -4,11 +4,18 @@
 //! What it draws is a [`DiagnosticView`]: the parts of a diagnostic, all of them borrowed.
 #![tactic(auto)]
 
+mod gutter;
 mod json;
+mod laws;
+mod marks;
+mod runs;
+mod setting;
+mod span;
 mod theme;
 mod view;
 
 pub use crate::json::{JSONReportHandler, escaped_text_comes_back, push_json};
+pub use crate::laws::colors_only;
 pub use crate::theme::GraphicalTheme;
 pub use crate::view::{DiagnosticView, RenderError};
 

@@ -220,7 +220,7 @@ fn over_cluster(mut pen: Pen, cluster: &str, tab: usize) -> Pen
 }
 
 /// The pen after a character, which leads its cluster with so many columns.
-fn moved_over(pen: Pen, lead: usize, c: char, tab: usize) -> Pen
+pub fn moved_over(pen: Pen, lead: usize, c: char, tab: usize) -> Pen
     requires room { pen.column + lead + 16 < 2 ^ 64 }
     requires some { 1 ≤ tab }
     requires most { tab ≤ 16 }

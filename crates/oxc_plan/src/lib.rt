@@ -15,7 +15,7 @@ mod order;
 mod plan;
 mod rows;
 
-pub use crate::columns::{column_of, columns_as_drawn};
+pub use crate::columns::{Pen, column_of, columns_as_drawn, moved_over};
 pub use crate::grouping::{groups, one_grouping};
 pub use crate::laws::{rows_stand_once, texts_hang_once};
 pub use crate::marks::{MarkCells, exact_marks};
