@@ -1,9 +1,13 @@
 // Reports as JSON by example.
-use crate::JSONReportHandler;
+ghost use Rattle.std.specs.Prelude.{◌≡◌, ◌++◌, IfOk, codes, string_bytes};
+ghost use Rattle.oxc_handlers.specs.Report.{view_parts};
+ghost use Rattle.oxc_handlers.specs.JsonText.{json_of};
+
+use crate::{DiagnosticView, JSONReportHandler, push_json};
 use oxc_protocol::{
     Diagnostic, LabeledSpan, MemorySink, NamedSource, OxcDiagnostic, Severity, TextSource,
 };
-use std::alloc::Global;
+use std::alloc::{AllocError, Global};
 use std::test::Fail;
 
 // Whether the handler sends exactly this text.
@@ -11,6 +15,35 @@ fn gives(alloc: Global, diagnostic: &dyn Diagnostic, want: &str) -> Result<bool,
     let mut sink = MemorySink::new(alloc, 1000, 100, Vec::new(alloc))?;
     JSONReportHandler::new().render_report(alloc, &mut sink, diagnostic)?;
     Ok(sink.received() == want.as_bytes())
+}
+
+/// A report without a url as JSON, on a line of its own.
+fn json_line(alloc: Global, view: &DiagnosticView<'_>) -> Result<String, AllocError>
+    ensures { IfOk result (λ line. string_bytes line ≡ json_of (view_parts view.now) ++ codes "\n") }
+{
+    let mut line = String::new(alloc);
+    push_json(&mut line, alloc, view, None)?;
+    line.push_str("\n")?;
+    Ok(line)
+}
+
+#[test]
+fn a_view_stands_on_a_line_of_its_own(rt: HostRuntime) -> Result<(), Fail> {
+    let view = DiagnosticView {
+        message: "m",
+        code: None,
+        severity: None,
+        help: Some("h"),
+        note: None,
+        source: None,
+        labels: &[],
+    };
+    let line = json_line(rt.alloc(), &view)?;
+    assert!(rt;
+        line.as_str()
+            == "{\"message\": \"m\",\"severity\": \"error\",\"help\": \"h\",\"labels\": []}\n"
+    );
+    Ok(())
 }
 
 #[test]
