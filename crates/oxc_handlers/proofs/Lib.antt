@@ -4,3 +4,4 @@ pub mod MarksLemmas
 pub mod GuttersLemmas
 pub mod HangsLemmas
 pub mod LinesLemmas
+pub mod TextsLemmas

@@ -5,6 +5,8 @@
 #![tactic(auto)]
 
 mod gutter;
+mod label;
+mod line;
 mod marks;
 mod runs;
 mod setting;
