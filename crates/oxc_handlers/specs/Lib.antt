@@ -8,3 +8,4 @@ pub mod Texts
 pub mod RowLines
 pub mod Snippet
 pub mod Report
+pub mod Handler

@@ -1,8 +1,8 @@
 //! The handler that draws reports.
 ghost use Rattle.std.specs.Prelude.{◌≡◌};
 
+use crate::tabs::TabWidth;
 use crate::theme::GraphicalTheme;
-use oxc_plan::TabWidth;
 use std::marker::Model;
 
 /// Draws reports by a theme, filled to a width, where tabs stop at multiples of a number of columns.
@@ -19,6 +19,8 @@ impl Model for GraphicalReportHandler {
     ghost Value = { Handler };
 
     ghost view = { λ handler. record { theme = handler.theme; width = handler.termwidth; tab = handler.tabs } };
+
+    ghost inverse = { λ handler. record { termwidth = handler.width; theme = handler.theme; tabs = handler.tab } };
 }
 
 impl GraphicalReportHandler {

@@ -5,14 +5,19 @@
 #![tactic(auto)]
 
 mod gutter;
+mod handler;
 mod label;
 mod line;
 mod marks;
+mod report;
 mod runs;
 mod setting;
+mod snippet;
 mod span;
+mod tabs;
 mod theme;
 mod view;
 
+pub use crate::handler::GraphicalReportHandler;
 pub use crate::theme::GraphicalTheme;
 pub use crate::view::{DiagnosticView, RenderError};
