@@ -1,8 +1,11 @@
--- Lists of views.
-use Rattle.std.proofs.Common.{◌≡◌, ℕ, ◌<◌, ◌≤◌, List, [], ◌∷◌, length, map, get_or, refl, zero, suc, arith, All, subst, sym}
+-- Lists of views, and labels in label order.
+use Rattle.std.proofs.Common.{◌≡◌, ℕ, ◌<◌, ◌≤◌, List, [], ◌∷◌, length, map, get_or, refl, zero, suc, arith, All, subst, sym, ap}
 use Rattle.std.proofs.lemmas.List.{length-map}
 use Rattle.std.specs.List.{slice_get}
 use Rattle.std.specs.Option.{option_map}
+use Rattle.oxc_span.specs.Label.{Label}
+use Rattle.oxc_plan.specs.Order.{label_at, label_order}
+use Rattle.oxc_plan.specs.Plan.{Ordered, in_order, ordered_label}
 
 pub get_map : {A B : Type 0} (f : A → B) (xs : List A) (i : ℕ) → slice_get (map f xs) i ≡ option_map f (slice_get xs i)
 get_map f [] i = refl
@@ -24,3 +27,8 @@ all_map_at P f xs i x all lt e =
     let size : i < length (map f xs) = rw length-map lt in
     let here : P (f (get_or xs i x)) = subst P (get_or_map f xs i x (f x) lt) (all i (f x) size) in
     subst (λ y. P (f y)) (sym e) here
+
+-- the labels at the places of the label order are the labels in label order
+pub labels_in_order : (labels : List Label) (order : List ℕ) → order ≡ label_order labels → map (λ at. ordered_label (label_at labels at)) order ≡ in_order labels
+unfolding in_order
+labels_in_order labels order e = ap (map (λ at. ordered_label (label_at labels at))) e

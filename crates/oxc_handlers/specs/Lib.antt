@@ -5,6 +5,7 @@ pub mod JsonRange
 pub mod JsonValue
 pub mod JsonSent
 pub mod JsonView
+pub mod Colors
 pub mod Theme
 pub mod Cells
 pub mod Setting
@@ -15,4 +16,4 @@ pub mod Texts
 pub mod RowLines
 pub mod Snippet
 pub mod Report
-pub mod Colors
+pub mod Handler

@@ -41,9 +41,21 @@ pub record Plan : Type 0 where
   pub help : Option (List ℕ)
   pub note : Option (List ℕ)
 
+-- the code, if there is one, and what parts it from the message
+abbrev pub code_part : Option (List ℕ) → List ℕ
+code_part code = option_map_or (λ code. code ++ codes ": ") code []
+
 -- the code, if there is one, and the message
 unfoldable pub title_of : Parts → List ℕ
-title_of parts = option_map_or (λ code. code ++ codes ": ") parts.code [] ++ parts.message
+title_of parts = code_part parts.code ++ parts.message
+
+-- an error where nothing is said
+unfoldable pub severity_in : Parts → Severity
+severity_in parts = unwrap_or parts.severity Error
+
+-- the name of the source, if there is one
+unfoldable pub name_in : Parts → Option (List ℕ)
+name_in parts = option_and_then (λ source. source.name) parts.source
 
 -- the snippets: none where there is no source, or no label
 unfoldable pub snippets_in : ℕ → Parts → List SnippetView
@@ -55,8 +67,8 @@ plan_of tab parts =
     record {
       tab = tab;
       title = title_of parts;
-      severity = unwrap_or parts.severity Error;
-      name = option_and_then (λ source. source.name) parts.source;
+      severity = severity_in parts;
+      name = name_in parts;
       labels = in_order parts.labels;
       snippets = snippets_in tab parts;
       help = parts.help;
@@ -64,12 +76,12 @@ plan_of tab parts =
     }
 
 -- the style of a severity, and its icon
-abbrev pub severity_style : GraphicalTheme → Severity → Style
+unfoldable pub severity_style : GraphicalTheme → Severity → Style
 severity_style theme Error = theme.styles.error
 severity_style theme Warning = theme.styles.warning
 severity_style theme Advice = theme.styles.advice
 
-abbrev pub icon : GraphicalTheme → Severity → ℕ
+unfoldable pub icon : GraphicalTheme → Severity → ℕ
 icon theme Error = theme.characters.error
 icon theme Warning = theme.characters.warning
 icon theme Advice = theme.characters.advice
@@ -87,15 +99,15 @@ title theme width plan =
     (styled (severity_style theme plan.severity) plan.title)
     ++ lf
 
--- a text under its heading, filled to the width less four
-unfoldable pub footer : ℕ → Style → List ℕ → List ℕ → List ℕ → List ℕ
-footer width style heading later text = filled (width - 4) (styled style heading) later text ++ lf
+-- a text behind its heading, filled to the width less four; nothing where there is no text
+unfoldable pub footer : ℕ → Style → List ℕ → List ℕ → Option (List ℕ) → List ℕ
+footer width style heading later text = option_map_or (λ text. filled (width - 4) (styled style heading) later text ++ lf) text []
 
-abbrev pub help_footer : GraphicalTheme → ℕ → List ℕ → List ℕ
-help_footer theme width text = footer width theme.styles.help (codes "  help: ") (codes "        ") text
+unfoldable pub help_of : GraphicalTheme → ℕ → Plan → List ℕ
+help_of theme width plan = footer width theme.styles.help (codes "  help: ") (codes "        ") plan.help
 
-abbrev pub note_footer : GraphicalTheme → ℕ → List ℕ → List ℕ
-note_footer theme width text = footer width theme.styles.note (codes "  note: ") (codes "           ") text
+unfoldable pub note_of : GraphicalTheme → ℕ → Plan → List ℕ
+note_of theme width plan = footer width theme.styles.note (codes "  note: ") (codes "           ") plan.note
 
 -- the drawn snippets of a plan
 unfoldable pub drawn_snippets : GraphicalTheme → Plan → List ℕ
@@ -104,7 +116,4 @@ drawn_snippets theme plan = flat_map (drawn_snippet theme plan.tab plan.labels p
 -- the drawn report
 unfoldable pub drawn : GraphicalTheme → ℕ → Plan → List ℕ
 drawn theme width plan =
-    lf ++ title theme width plan
-    ++ drawn_snippets theme plan
-    ++ option_map_or (help_footer theme width) plan.help []
-    ++ option_map_or (note_footer theme width) plan.note []
+    lf ++ title theme width plan ++ drawn_snippets theme plan ++ help_of theme width plan ++ note_of theme width plan

@@ -26,6 +26,10 @@ setting_view s =
       digits = s.digits;
     }
 
+-- the setting of a report, before what depends on a snippet is set
+abbrev pub setting_for : GraphicalTheme → ℕ → List Ordered → SettingView
+setting_for theme tab labels = record { theme = theme; labels = labels; tab = tab; gutter = 0; digits = 1 }
+
 -- the text of a label, by its place in label order
 unfoldable pub text_at : List Ordered → ℕ → Option (List ℕ)
 text_at labels at = (ordered_at labels at).text

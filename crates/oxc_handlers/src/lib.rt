@@ -5,15 +5,22 @@
 #![tactic(auto)]
 
 mod gutter;
+mod handler;
 mod json;
+mod label;
 mod laws;
+mod line;
 mod marks;
+mod report;
 mod runs;
 mod setting;
+mod snippet;
 mod span;
+mod tabs;
 mod theme;
 mod view;
 
+pub use crate::handler::GraphicalReportHandler;
 pub use crate::json::{JSONReportHandler, escaped_text_comes_back, push_json};
 pub use crate::laws::colors_only;
 pub use crate::theme::GraphicalTheme;

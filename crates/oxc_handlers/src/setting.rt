@@ -1,7 +1,9 @@
 //! What the lines of a snippet are drawn by.
 ghost use Rattle.std.specs.Prelude.{◌≡◌};
 ghost use Rattle.std.specs.Option.{option_copied};
-ghost use Rattle.oxc_handlers.specs.Setting.{highlight, is_empty_at, setting_view, text_at};
+ghost use Rattle.oxc_plan.specs.Order.{label_order};
+ghost use Rattle.oxc_plan.specs.Plan.{in_order};
+ghost use Rattle.oxc_handlers.specs.Setting.{highlight, is_empty_at, setting_for, setting_view, text_at};
 
 use crate::theme::{GraphicalTheme, Style};
 use oxc_protocol::LabeledSpan;
@@ -23,6 +25,27 @@ pub(crate) struct Setting<'a> {
 }
 
 impl<'a> Setting<'a> {
+    /// The setting of a report, of whose labels the places in label order are given. What depends on a snippet is still to be
+    /// set: there are no bars, and numbers of one digit.
+    pub(crate) fn new(
+        theme: GraphicalTheme,
+        labels: &'a [LabeledSpan],
+        order: &'a [usize],
+        tab: usize,
+    ) -> Self
+        requires { order.now ≡ label_order labels.now }
+        ensures { setting_view result ≡ setting_for theme tab (in_order labels.now) }
+    {
+        Setting {
+            theme,
+            labels,
+            order,
+            tab,
+            gutter: 0,
+            digits: 1,
+        }
+    }
+
     /// The text of a label.
     #[tactic(auto, unfolding(crate::specs::Setting::text_at), using(crate::proofs::SettingLemmas::get_or_map, crate::proofs::SettingLemmas::get_past_map))]
     pub(crate) fn text_at(&self, label: usize) -> Option<&'a str>
