@@ -1,12 +1,11 @@
 -- The column of a window is no larger than the start of its span.
-use Rattle.std.proofs.Common.{◌≡◌, ℕ, ◌+◌, ◌-◌, ◌<◌, ◌≤◌, ◌==◌, Bool, true, false, List, length, Option, Some, None, IfSome, if◌then◌else◌, sym, subst, ap, ◌∙◌, arith, ⊎_elim}
+use Rattle.std.proofs.Common.{◌≡◌, ℕ, ◌-◌, ◌≤◌, ◌==◌, Bool, true, false, List, length, Option, Some, IfSome, if◌then◌else◌, sym, subst, ◌∙◌, arith, ⊎_elim}
 use Rattle.std.proofs.lemmas.Bool.{cases_lt}
 use Rattle.oxc_span.specs.declared.span.Span.{Span}
 use Rattle.oxc_windows.specs.declared.breaks.LineBreak.{LineBreak}
 use Rattle.oxc_windows.specs.Breaks.{breaks_of}
 use Rattle.oxc_windows.specs.Rows.{is_second_byte, settled, row_start, row_of, byte_column}
-use Rattle.oxc_windows.specs.Window.{window_column, window_of}
-use Rattle.oxc_windows.specs.Scan.{Scan, Contents, contents_of, contents_read}
+use Rattle.oxc_windows.specs.Scan.{Scan, Contents, contents_read}
 use Rattle.oxc_windows.proofs.WindowLemmas.{window_of_inside, window_of_past}
 
 settled_low : (second : Bool) (offset start : ℕ) → (if second then offset - 1 else offset) - start ≤ offset

@@ -1,5 +1,5 @@
 -- A colored snippet without its escapes.
-use Rattle.std.proofs.Common.{◌≡◌, ℕ, ◌/◌, ◌%◌, ◌+◌, ◌-◌, ◌<◌, Bool, true, false, List, [], ◌∷◌, ◌++◌, length, reverse, eqb, Some, None, Option, refl, ◌∙◌, arith, zero, suc, All, IfSome, not, cond, if◌then◌else◌}
+use Rattle.std.proofs.Common.{◌≡◌, ℕ, ◌/◌, ◌%◌, ◌+◌, ◌-◌, Bool, true, false, List, [], ◌∷◌, length, reverse, eqb, Some, None, Option, refl, arith, zero, suc, All, IfSome, cond, if◌then◌else◌}
 use Rattle.std.specs.Prelude.{decimal, nat_le}
 use Rattle.std.specs.Fmt.{digits, digits_onto, digit_glyph}
 use Rattle.std.specs.List.{onto_first}
@@ -15,7 +15,7 @@ use Rattle.oxc_handlers.specs.Setting.{SettingView, text_at}
 use Rattle.oxc_handlers.specs.Texts.{shown_text}
 use Rattle.oxc_handlers.specs.RowLines.{padded, row_front, row_line, modes_from, first_mode, with_modes, lines_of, label_lines, hang_line, hang_lines, end_line, end_lines, row_lines}
 use Rattle.oxc_handlers.specs.Snippet.{setting_of, location, head_text, head, close, drawn_snippet}
-use Rattle.oxc_handlers.specs.Colors.{has_no_escape, ArePlain, DiffersInColorsOnly}
+use Rattle.oxc_handlers.specs.Colors.{has_no_escape, DiffersInColorsOnly}
 use Rattle.oxc_handlers.proofs.ShownColors.{clean_shown}
 use Rattle.oxc_handlers.proofs.StripsColors.{Strips, strips-append, strips-clean, strips-whole, strips-repeated, strips-flat_map, strips-flat_map_all, strips-styled}
 use Rattle.oxc_handlers.proofs.LinesColors.{colored, bare, strips-if, strips-spaces, strips-gutter, strips-marks_line, strips-hang_line, strips-end_line, clean-20, clean-0A, clean-3A, clean-5B, clean-5D, clean-2502, clean-256D, clean-2500, clean-2570}
