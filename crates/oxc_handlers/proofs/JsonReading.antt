@@ -10,7 +10,7 @@ use Rattle.json.proofs.Printed.Decimals.{IsNumber-decimal}
 use Rattle.serde_json.specs.Data.{Data, number, string, array, object, item, Members, no_members, put}
 use Rattle.serde_json.specs.Read.{read, of_json, of_items, of_members, max_depth}
 use Rattle.serde_json.proofs.Numbers.{number_of-decimal}
-use Rattle.oxc_handlers.specs.declared.json.places.Place.{Place}
+use Rattle.oxc_handlers.specs.declared.json_report.places.Place.{Place}
 use Rattle.oxc_handlers.specs.JsonEscape.{hex_escape, escape_byte, escape}
 use Rattle.oxc_span.specs.Label.{Label}
 use Rattle.oxc_protocol.specs.Parts.{Parts}

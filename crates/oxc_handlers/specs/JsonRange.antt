@@ -1,7 +1,7 @@
 -- Numbers that a JSON reader takes as whole numbers of 64 bits.
 use Rattle.std.specs.Prelude.{ℕ, ◌^◌, ◌<◌, ⊤, List, Option, Some, None}
 use Rattle.oxc_span.specs.Label.{Label}
-use Rattle.oxc_handlers.specs.declared.json.places.Place.{Place}
+use Rattle.oxc_handlers.specs.declared.json_report.places.Place.{Place}
 use Rattle.oxc_handlers.specs.JsonText.{label_place}
 
 abbrev pub IsPlaceInRange : Option Place → Type 0

@@ -9,7 +9,7 @@ use Rattle.oxc_protocol.specs.Parts.{Parts}
 use Rattle.oxc_protocol.specs.Source.{SourceParts}
 use Rattle.oxc_protocol.specs.declared.protocol.Severity.{Severity}
 use Rattle.oxc_protocol.specs.declared.protocol.Severity.TheVariants.{Error, Warning, Advice}
-use Rattle.oxc_handlers.specs.declared.json.places.Place.{Place}
+use Rattle.oxc_handlers.specs.declared.json_report.places.Place.{Place}
 use Rattle.oxc_handlers.specs.JsonEscape.{escape}
 
 -- the word for a severity; one that is missing is an error

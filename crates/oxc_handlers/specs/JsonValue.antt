@@ -4,7 +4,7 @@ use Rattle.serde_json.specs.Data.{Data, null, number, string, array, object, Ite
 use Rattle.serde_json.specs.Read.{read}
 use Rattle.oxc_span.specs.Label.{Label}
 use Rattle.oxc_protocol.specs.Parts.{Parts}
-use Rattle.oxc_handlers.specs.declared.json.places.Place.{Place}
+use Rattle.oxc_handlers.specs.declared.json_report.places.Place.{Place}
 use Rattle.oxc_handlers.specs.JsonText.{severity_name, file_name, source_bytes, label_place, json_of}
 
 -- the members, with a text under a key where there is one

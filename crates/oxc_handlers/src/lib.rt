@@ -6,7 +6,7 @@
 
 mod gutter;
 mod handler;
-mod json;
+mod json_report;
 mod label;
 mod laws;
 mod line;
@@ -21,10 +21,10 @@ mod theme;
 mod view;
 
 pub use crate::handler::GraphicalReportHandler;
-pub use crate::json::{JSONReportHandler, escaped_text_comes_back, push_json};
+pub use crate::json_report::{JSONReportHandler, escaped_text_comes_back, push_json};
 pub use crate::laws::colors_only;
 pub use crate::theme::GraphicalTheme;
 pub use crate::view::{DiagnosticView, RenderError};
 
 #[cfg(test)]
-mod json_tests;
+mod json_report_tests;

@@ -4,7 +4,7 @@ use Rattle.std.specs.List.{flat_map}
 use Rattle.oxc_span.specs.Label.{Label}
 use Rattle.oxc_handlers.specs.JsonText.{later_label}
 use Rattle.oxc_handlers.specs.JsonRange.{IsInRange}
-use Rattle.oxc_handlers.proofs.json.labels.push_later_labels.Given as goal
+use Rattle.oxc_handlers.proofs.json_report.labels.push_later_labels.Given as goal
 
 abbrev pub invariant-loop-label : goal.invariant-loop-label
 invariant-loop-label l = record {

@@ -1,7 +1,7 @@
 use Rattle.std.proofs.Common.{subst}
 use Rattle.std.specs.Str.{IsUtf8}
 use Rattle.std.proofs.lemmas.Str.{IsCharBoundary-after_ascii}
-use Rattle.oxc_handlers.proofs.json.escape.push_escaped.Goals as goal
+use Rattle.oxc_handlers.proofs.json_report.escape.push_escaped.Goals as goal
 
 -- an ASCII byte ends a character
 pub range_from-rest-requires : goal.range_from-rest-requires

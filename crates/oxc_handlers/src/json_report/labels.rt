@@ -5,8 +5,8 @@ ghost use Rattle.oxc_protocol.specs.SourceViews.{ref_views};
 ghost use Rattle.oxc_handlers.specs.JsonText.{label_list, label_object, label_place, labels_member, later_label, place_members, source_bytes, span_object};
 ghost use Rattle.oxc_handlers.specs.JsonRange.{IsInRange};
 
-use crate::json::members::{push_key, push_number, push_number_member, push_optional};
-use crate::json::places::{Place, Places};
+use crate::json_report::members::{push_key, push_number, push_number_member, push_optional};
+use crate::json_report::places::{Place, Places};
 use oxc_protocol::{LabeledSpan, SourceRef};
 use std::alloc::{AllocError, Global};
 

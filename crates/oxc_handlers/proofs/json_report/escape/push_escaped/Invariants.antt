@@ -2,7 +2,7 @@ use Rattle.std.proofs.Common.{◌≡◌, ◌++◌, length, string_bytes}
 use denote.Text.{Utf8}
 use denote.Shadow.{shadow}
 use Rattle.oxc_handlers.specs.JsonEscape.{escape}
-use Rattle.oxc_handlers.proofs.json.escape.push_escaped.Given as goal
+use Rattle.oxc_handlers.proofs.json_report.escape.push_escaped.Given as goal
 
 -- what is left comes next
 abbrev pub invariant-loop-at : goal.invariant-loop-at

@@ -15,9 +15,9 @@ mod labels;
 mod members;
 mod places;
 
-pub use crate::json::escape::escaped_text_comes_back;
-use crate::json::labels::push_labels_member;
-use crate::json::members::{push_optional, push_text};
+pub use crate::json_report::escape::escaped_text_comes_back;
+use crate::json_report::labels::push_labels_member;
+use crate::json_report::members::{push_optional, push_text};
 use crate::{DiagnosticView, RenderError};
 use oxc_protocol::{Diagnostic, Severity, Sink, SourceRef, write_all};
 use std::alloc::{AllocError, Global};
@@ -28,7 +28,9 @@ pub struct JSONReportHandler;
 
 impl JSONReportHandler {
     /// The handler.
-    pub fn new() -> Self {
+    pub fn new() -> Self
+        ensures { result ≡ record {} }
+    {
         JSONReportHandler
     }
 

@@ -2,7 +2,7 @@
 use Rattle.std.specs.Option.{option_copied}
 use Rattle.oxc_handlers.specs.JsonView.{with_url}
 use Rattle.oxc_handlers.proofs.JsonReading.{reads_back_on_ok}
-use Rattle.oxc_handlers.proofs.json.push_json.Goals as goal
+use Rattle.oxc_handlers.proofs.json_report.push_json.Goals as goal
 
 pub returns-clause-reads_back : goal.returns-clause-reads_back
 returns-clause-reads_back c =

@@ -3,7 +3,7 @@ ghost use Rattle.std.specs.Prelude.{◌≡◌, ◌++◌, OnOk, decimal, string_b
 ghost use Rattle.std.specs.Option.{option_copied};
 ghost use Rattle.oxc_handlers.specs.JsonText.{key_text, number_member, optional_member, text_member};
 
-use crate::json::escape::push_escaped;
+use crate::json_report::escape::push_escaped;
 use itoa::Buffer;
 use std::alloc::AllocError;
 
