@@ -1,0 +1,67 @@
+//! The text of a row as it is drawn.
+ghost use Rattle.std.specs.Prelude.{◌≡◌, ◌++◌, ◌+◌, ◌*◌, ◌^◌, ◌<◌, ◌≤◌, IfOk, OnOk, fold, length, string_bytes};
+ghost use Rattle.oxc_plan.specs.Width.{led, moved};
+ghost use Rattle.oxc_handlers.specs.Texts.{shown_char, shown_from, shown_text};
+
+use crate::runs::write_repeated_char;
+use oxc_plan::{Pen, moved_over};
+use std::alloc::AllocError;
+use unicode_segmentation::UnicodeSegmentation;
+use unicode_width::UnicodeWidthStr;
+
+/// Appends the text of a row: each tab as its advance in spaces, and as nothing in an escape, all else as it is.
+#[tactic(auto, using(crate::proofs::TextsLemmas::shown_cluster, crate::proofs::TextsLemmas::shown_none))]
+pub(crate) fn render_line_text(out: &mut String, text: &str, tab: usize) -> Result<(), AllocError>
+    requires fits { length text.now < 2 ^ 32 }
+    requires some { 1 ≤ tab }
+    requires most { tab ≤ 16 }
+    ensures { OnOk result (string_bytes out.new ≡ string_bytes out.old ++ shown_text tab text.now) }
+{
+    let mut pen = Pen {
+        column: 0,
+        in_escape: false,
+    };
+    for cluster in text.graphemes(true) {
+        pen = write_cluster(out, pen, cluster, tab)?;
+    }
+    Ok(())
+}
+
+/// Appends the characters of a cluster, and answers the pen behind them.
+fn write_cluster(
+    out: &mut String,
+    pen: Pen,
+    cluster: &str,
+    tab: usize,
+) -> Result<Pen, AllocError>
+    requires room { pen.column + 18 * length cluster.now < 2 ^ 64 }
+    requires some { 1 ≤ tab }
+    requires most { tab ≤ 16 }
+    ensures exact { IfOk result (λ p. p ≡ fold (moved tab) pen (led cluster.now)) }
+    ensures bound { IfOk result (λ p. p.column ≤ pen.column + 18 * length cluster.now) }
+    ensures text { OnOk result (string_bytes out.new ≡ string_bytes out.old ++ shown_from tab pen (led cluster.now)) }
+{
+    let mut at = pen;
+    let mut lead = cluster.width();
+    for c in cluster.chars() {
+        write_char(out, at, c, tab)?;
+        at = moved_over(at, lead, c, tab);
+        lead = 0;
+    }
+    Ok(at)
+}
+
+/// Appends a character, or the spaces of a tab.
+#[tactic(auto, unfolding(crate::specs::Texts::shown_char))]
+fn write_char(out: &mut String, pen: Pen, c: char, tab: usize) -> Result<(), AllocError>
+    requires { 1 ≤ tab }
+    ensures { OnOk result (string_bytes out.new ≡ string_bytes out.old ++ shown_char tab pen c) }
+{
+    if c != '\t' {
+        return out.push(c);
+    }
+    if pen.in_escape {
+        return Ok(());
+    }
+    write_repeated_char(out, ' ', tab - pen.column % tab)
+}

@@ -1,0 +1,243 @@
+//! Drawn reports: a title, the snippets, help and note.
+ghost use Rattle.std.specs.Prelude.{◌≡◌, ◌++◌, ◌-◌, All, IfOk, OnOk, map, string_bytes};
+ghost use Rattle.std.specs.Option.{option_copied};
+ghost use Rattle.oxc_plan.specs.Plan.{in_order, snippet_view};
+ghost use Rattle.oxc_handlers.specs.Report.{code_part, drawn, drawn_snippets, footer, help_of, icon, name_in, note_of, plan_of, severity_in, severity_style, snippets_in, title, title_indent, title_of, view_parts};
+ghost use Rattle.oxc_handlers.specs.RowLines.{lf};
+ghost use Rattle.oxc_handlers.specs.Snippet.{IsSnippet};
+ghost use Rattle.oxc_handlers.specs.Theme.{styled};
+ghost use Rattle.textwrap.specs.Filled.{filled};
+
+use crate::handler::GraphicalReportHandler;
+use crate::setting::Setting;
+use crate::snippet::render_snippets;
+use crate::theme::{GraphicalTheme, Style};
+use crate::view::DiagnosticView;
+use oxc_plan::{SnippetPlan, label_order};
+use oxc_protocol::Severity;
+use std::alloc::{AllocError, Global};
+use textwrap::{Options, fill};
+
+impl GraphicalReportHandler {
+    /// The report of a view, whose snippets are given.
+    #[tactic(auto, unfolding(crate::specs::Report::drawn))]
+    pub(crate) fn render_planned(
+        &self,
+        alloc: Global,
+        view: &DiagnosticView<'_>,
+        snippets: &[SnippetPlan<'_>],
+    ) -> Result<String, AllocError>
+        requires planned { map snippet_view snippets.now ≡ snippets_in self.now.tab (view_parts view.now) }
+        requires drawable { All (IsSnippet self.now.theme self.now.tab (in_order view.now.labels.now)) (map snippet_view snippets.now) }
+        ensures { IfOk result (λ text. string_bytes text ≡ drawn self.now.theme self.now.width (plan_of self.now.tab (view_parts view.now))) }
+    {
+        let mut out = String::new(alloc);
+        out.push('\n')?;
+        self.render_title(alloc, &mut out, view)?;
+        self.render_planned_snippets(alloc, &mut out, view, snippets)?;
+        self.render_help(alloc, &mut out, view)?;
+        self.render_note(alloc, &mut out, view)?;
+        Ok(out)
+    }
+
+    /// Appends the title of a report.
+    #[tactic(auto, unfolding(crate::specs::Report::title, crate::specs::Report::plan_of))]
+    fn render_title(
+        &self,
+        alloc: Global,
+        out: &mut String,
+        view: &DiagnosticView<'_>,
+    ) -> Result<(), AllocError>
+        ensures { OnOk result (string_bytes out.new ≡ string_bytes out.old ++ title self.now.theme self.now.width (plan_of self.now.tab (view_parts view.now))) }
+    {
+        let severity = severity_of(view);
+        let first = title_indent(alloc, &self.theme, severity, icon_of(&self.theme, severity))?;
+        let later = title_indent(alloc, &self.theme, severity, self.theme.characters.vbar)?;
+        let text = title_text(alloc, &self.theme, severity, view)?;
+        let width = self.termwidth.saturating_sub(2);
+        write_fill(alloc, out, width, &first, &later, &text)
+    }
+
+    /// Appends the snippets of a report.
+    #[tactic(auto, unfolding(crate::specs::Report::drawn_snippets, crate::specs::Report::plan_of, crate::specs::Report::snippets_in))]
+    fn render_planned_snippets(
+        &self,
+        alloc: Global,
+        out: &mut String,
+        view: &DiagnosticView<'_>,
+        snippets: &[SnippetPlan<'_>],
+    ) -> Result<(), AllocError>
+        requires planned { map snippet_view snippets.now ≡ snippets_in self.now.tab (view_parts view.now) }
+        requires drawable { All (IsSnippet self.now.theme self.now.tab (in_order view.now.labels.now)) (map snippet_view snippets.now) }
+        ensures { OnOk result (string_bytes out.new ≡ string_bytes out.old ++ drawn_snippets self.now.theme (plan_of self.now.tab (view_parts view.now))) }
+    {
+        let order = label_order(alloc, view.labels)?;
+        let setting = Setting::new(self.theme, view.labels, &order, self.tabs.get());
+        let name = source_name(view);
+        render_snippets(out, &setting, name, snippets)
+    }
+
+    /// Appends the help of a report, if it has one.
+    #[tactic(auto, unfolding(crate::specs::Report::help_of, crate::specs::Report::plan_of))]
+    fn render_help(
+        &self,
+        alloc: Global,
+        out: &mut String,
+        view: &DiagnosticView<'_>,
+    ) -> Result<(), AllocError>
+        ensures { OnOk result (string_bytes out.new ≡ string_bytes out.old ++ help_of self.now.theme self.now.width (plan_of self.now.tab (view_parts view.now))) }
+    {
+        let style = self.theme.styles.help;
+        self.render_footer(alloc, out, style, "  help: ", "        ", view.help)
+    }
+
+    /// Appends the note of a report, if it has one.
+    #[tactic(auto, unfolding(crate::specs::Report::note_of, crate::specs::Report::plan_of))]
+    fn render_note(
+        &self,
+        alloc: Global,
+        out: &mut String,
+        view: &DiagnosticView<'_>,
+    ) -> Result<(), AllocError>
+        ensures { OnOk result (string_bytes out.new ≡ string_bytes out.old ++ note_of self.now.theme self.now.width (plan_of self.now.tab (view_parts view.now))) }
+    {
+        let style = self.theme.styles.note;
+        self.render_footer(alloc, out, style, "  note: ", "           ", view.note)
+    }
+
+    /// Appends a text behind its heading, if there is one.
+    #[tactic(auto, unfolding(crate::specs::Report::footer))]
+    fn render_footer(
+        &self,
+        alloc: Global,
+        out: &mut String,
+        style: Style,
+        heading: &str,
+        later: &str,
+        text: Option<&str>,
+    ) -> Result<(), AllocError>
+        ensures { OnOk result (string_bytes out.new ≡ string_bytes out.old ++ footer self.now.width style heading.now later.now (option_copied text.entry)) }
+    {
+        match text {
+            Some(text) => {
+                let mut first = String::new(alloc);
+                style.write(&mut first, heading)?;
+                let width = self.termwidth.saturating_sub(4);
+                write_fill(alloc, out, width, &first, later, text)
+            }
+            None => Ok(()),
+        }
+    }
+}
+
+/// How grave a view's diagnostic is: an error where nothing is said.
+#[tactic(auto, unfolding(crate::specs::Report::severity_in))]
+fn severity_of(view: &DiagnosticView<'_>) -> Severity
+    ensures { result ≡ severity_in (view_parts view.now) }
+{
+    view.severity.unwrap_or(Severity::Error)
+}
+
+/// The name of a view's source.
+#[tactic(auto, unfolding(crate::specs::Report::name_in))]
+fn source_name<'a>(view: &DiagnosticView<'a>) -> Option<&'a str>
+    ensures { option_copied result ≡ name_in (view_parts view.now) }
+{
+    match &view.source {
+        Some(source) => source.name(),
+        None => None,
+    }
+}
+
+/// The style of a severity.
+#[tactic(auto, unfolding(crate::specs::Report::severity_style))]
+fn style_of(theme: &GraphicalTheme, severity: Severity) -> Style
+    ensures { result ≡ severity_style theme.now severity }
+{
+    match severity {
+        Severity::Error => theme.styles.error,
+        Severity::Warning => theme.styles.warning,
+        Severity::Advice => theme.styles.advice,
+    }
+}
+
+/// The icon of a severity.
+#[tactic(auto, unfolding(crate::specs::Report::icon))]
+fn icon_of(theme: &GraphicalTheme, severity: Severity) -> char
+    ensures { result ≡ icon theme.now severity }
+{
+    match severity {
+        Severity::Error => theme.characters.error,
+        Severity::Warning => theme.characters.warning,
+        Severity::Advice => theme.characters.advice,
+    }
+}
+
+/// What stands before a line of the title.
+#[tactic(auto, unfolding(crate::specs::Report::title_indent, crate::specs::Theme::styled))]
+fn title_indent(
+    alloc: Global,
+    theme: &GraphicalTheme,
+    severity: Severity,
+    c: char,
+) -> Result<String, AllocError>
+    ensures { IfOk result (λ text. string_bytes text ≡ title_indent theme.now severity c) }
+{
+    let style = style_of(theme, severity);
+    let mut text = String::new(alloc);
+    text.push_str("  ")?;
+    text.push_str(style.prefix())?;
+    text.push(c)?;
+    text.push_str(style.reset())?;
+    text.push_str(" ")?;
+    Ok(text)
+}
+
+/// The text of the title, in the style of its severity.
+#[tactic(auto, unfolding(crate::specs::Report::title_of, crate::specs::Theme::styled))]
+fn title_text(
+    alloc: Global,
+    theme: &GraphicalTheme,
+    severity: Severity,
+    view: &DiagnosticView<'_>,
+) -> Result<String, AllocError>
+    ensures { IfOk result (λ text. string_bytes text ≡ styled (severity_style theme.now severity) (title_of (view_parts view.now))) }
+{
+    let style = style_of(theme, severity);
+    let mut text = String::new(alloc);
+    text.push_str(style.prefix())?;
+    write_code(&mut text, view.code)?;
+    text.push_str(view.message)?;
+    text.push_str(style.reset())?;
+    Ok(text)
+}
+
+/// Appends a code, if there is one, and what parts it from the message.
+fn write_code(out: &mut String, code: Option<&str>) -> Result<(), AllocError>
+    ensures { OnOk result (string_bytes out.new ≡ string_bytes out.old ++ code_part (option_copied code.entry)) }
+{
+    if let Some(code) = code {
+        out.push_str(code)?;
+        out.push_str(": ")?;
+    }
+    Ok(())
+}
+
+/// Appends a text that is filled to a width, and an LF.
+fn write_fill(
+    alloc: Global,
+    out: &mut String,
+    width: usize,
+    first: &str,
+    later: &str,
+    text: &str,
+) -> Result<(), AllocError>
+    ensures { OnOk result (string_bytes out.new ≡ string_bytes out.old ++ (filled width first.now later.now text.now ++ lf)) }
+{
+    let options = Options::new(width)
+        .initial_indent(first)
+        .subsequent_indent(later);
+    let lines = fill(alloc, text, &options)?;
+    out.push_str(&lines)?;
+    out.push('\n')
+}
