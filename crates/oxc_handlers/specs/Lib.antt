@@ -9,3 +9,5 @@ pub mod RowLines
 pub mod Snippet
 pub mod Report
 pub mod Handler
+pub mod Refusals
+pub mod Scanners

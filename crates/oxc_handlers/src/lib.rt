@@ -14,7 +14,6 @@ mod runs;
 mod setting;
 mod snippet;
 mod span;
-mod tabs;
 mod theme;
 mod view;
 
