@@ -1,7 +1,7 @@
 use Rattle.std.proofs.Common.{◌≡◌, ◌+◌, ◌^◌, ◌≤◌, ◌++◌, drop}
 use Rattle.oxc_plan.specs.Rows.{row_view}
 use Rattle.oxc_plan.specs.Marks.{cells_at, placed_marks}
-use Rattle.oxc_plan.proofs.marks.placed.Given as goal
+use Rattle.oxc_plan.proofs.marks.placed_in_turn.Given as goal
 
 -- the labels that are left have the marks that are left
 abbrev pub invariant-loop-at : goal.invariant-loop-at
