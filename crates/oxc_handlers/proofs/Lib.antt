@@ -7,3 +7,4 @@ pub mod LinesLemmas
 pub mod TextsLemmas
 pub mod DrawableLemmas
 pub mod ReportLemmas
+pub mod PlainTexts
