@@ -20,3 +20,6 @@ mod view;
 pub use crate::handler::GraphicalReportHandler;
 pub use crate::theme::GraphicalTheme;
 pub use crate::view::{DiagnosticView, RenderError};
+
+#[cfg(test)]
+mod tests;
