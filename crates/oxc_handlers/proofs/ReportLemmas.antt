@@ -118,3 +118,20 @@ pub leaves_on_ok : {T E : Type 0} (r : Result T E) (parts : Parts) (source : Sou
 leaves_on_ok r parts source bytes held handed_in taken new there same was is on holds =
     let here : IsTaken source.bytes handed_in taken = subst (λ bs. IsTaken bs handed_in taken) same (subst (λ h. IsTaken bytes h taken) was is) in
     on_ok (HoldsLabels taken.input parts.labels taken new) (IsDrawerOf parts handed_in (Some new)) (λ h. leaves parts source handed_in taken new there here on h) r holds
+
+-- what can be drawn is not refused
+pub not_outside : {Q : Type 0} (parts : Parts) (label : ℕ) → IsFaultless parts → outside_in parts ≡ Some label → Q
+unfolding outside_in
+not_outside {Q = Q} parts label is found =
+    elim parts.source as (λ v. parts.source ≡ v → Q) [
+      | Some source ↦ λ there.
+          let within : All (λ l. label_end l ≤ length source.bytes) parts.labels = (rw there at is.within) in
+          let some : first_outside (length source.bytes) parts.labels ≡ Some label = (rw there at found) in
+          let no : None ≡ Some label = sym (none_fail (length source.bytes) parts.labels within) ∙ some in cc
+      | None ↦ λ there. let no : None ≡ Some label = (rw there at found) in cc
+    ] refl
+
+pub not_no_text : {Q : Type 0} (parts : Parts) (source : SourceParts) (upto : ℕ) → parts.source ≡ Some source → IsFaultless parts → 0 < length parts.labels → ¬ IsUtf8 source.bytes → Q
+not_no_text parts source upto there is some other =
+    let text : IsUtf8 source.bytes = (rw there at is.text some) in
+    absurd (other text)

@@ -1,5 +1,5 @@
 //! Drawn reports: a title, the snippets, help and note.
-ghost use Rattle.std.specs.Prelude.{◌≡◌, ◌++◌, ◌-◌, ◌<◌, ◌≤◌, All, IfOk, IfSome, IsSome, MatchResult, OnOk, Some, length, map, string_bytes};
+ghost use Rattle.std.specs.Prelude.{◌≡◌, ◌++◌, ◌-◌, ◌<◌, ◌≤◌, All, IfOk, IfSome, IsOkUnless, IsSome, MatchResult, OnOk, Some, length, map, string_bytes};
 ghost use Rattle.std.specs.Option.{option_copied};
 ghost use Rattle.oxc_span.specs.Label.{label_end};
 ghost use Rattle.oxc_plan.specs.Keeping.{ReadsOn};
@@ -45,6 +45,7 @@ impl GraphicalReportHandler {
         requires { ReadsRoundIfThere scanner.old }
         ensures text { IfOk result (λ text. string_bytes text ≡ drawn self.now.theme self.now.width (plan_of self.now.tab (view_parts view.now))) }
         ensures cause { MatchResult result (λ _. IsFaultless (view_parts view.now)) (IsRefusal 0 (view_parts view.now)) }
+        ensures complete { IsFaultless (view_parts view.now) → IsOkUnless result RenderError.OutOfMemory }
         // the scanner that is left
         ensures round { ReadsRoundIfThere scanner.new }
         ensures drawer { OnOk result (IsDrawerOf (view_parts view.now) scanner.old scanner.new) }
@@ -78,6 +79,7 @@ impl GraphicalReportHandler {
         requires some { 0 < length view.now.labels.now }
         ensures text { IfOk result (λ text. string_bytes text ≡ drawn self.now.theme self.now.width (plan_of self.now.tab (view_parts view.now))) }
         ensures cause { MatchResult result (λ _. IsFaultless (view_parts view.now)) (IsRefusal 0 (view_parts view.now)) }
+        ensures complete { IsFaultless (view_parts view.now) → IsOkUnless result RenderError.OutOfMemory }
         ensures on { ReadsOn scanner.old scanner.new }
         ensures holds { OnOk result (HoldsLabels scanner.old.input view.now.labels.now scanner.old scanner.new) }
     {

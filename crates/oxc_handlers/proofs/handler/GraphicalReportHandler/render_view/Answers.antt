@@ -3,7 +3,7 @@ use Rattle.std.proofs.lemmas.Bool.Decides.{nat_tests}
 use Rattle.oxc_span.specs.Label.{label_end}
 use Rattle.oxc_protocol.specs.SourceViews.{ref_view, ref_views}
 use Rattle.oxc_handlers.specs.Report.{view_parts}
-use Rattle.oxc_handlers.proofs.ReportLemmas.{leaves_on_ok, no_label_snippets, no_snippets, none_outside, outside_there, whole_source}
+use Rattle.oxc_handlers.proofs.ReportLemmas.{leaves_on_ok, no_label_snippets, no_snippets, none_outside, not_outside, outside_there, whole_source}
 use Rattle.oxc_handlers.proofs.handler.GraphicalReportHandler.render_view.Goals as goal
 
 pub render_planned-requires-clause-planned : goal.render_planned-requires-clause-planned
@@ -33,3 +33,9 @@ pub returns-clause-drawer : goal.returns-clause-drawer
 returns-clause-drawer c =
     leaves_on_ok c.render_text-answer.result (view_parts c.args.view.now) (ref_view c.in-Some.source) c.bytes-2.result.now c.take.result c.args.scanner.now c.reader_of-reader.result c.render_text-answer.new.scanner
     (ap ref_views c.in-Some.is) c.bytes-2.ensures.value c.take.ensures.value c.reader_of-reader.ensures.taken c.render_text-answer.ensures.on c.render_text-answer.ensures.holds
+
+pub returns-in-Some-first_outside-clause-complete : goal.returns-in-Some-first_outside-clause-complete
+returns-in-Some-first_outside-clause-complete c =
+    λ is. not_outside (view_parts c.args.view.now) c.in-Some-first_outside.label is
+    (outside_there (view_parts c.args.view.now) (ref_view c.in-Some.source) c.bytes.result.now c.in-Some-first_outside.label (ap ref_views c.in-Some.is) c.bytes.ensures.value
+    (sym c.first_outside.ensures ∙ c.in-Some-first_outside.is)).1
