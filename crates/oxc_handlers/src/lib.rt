@@ -27,3 +27,5 @@ pub use crate::view::{DiagnosticView, RenderError};
 
 #[cfg(test)]
 mod json_report_tests;
+#[cfg(test)]
+mod tests;
