@@ -2,7 +2,7 @@
 use Rattle.std.proofs.Common.{◌≡◌, ℕ, ◌+◌, ◌-◌, ◌<◌, ◌≤◌, true, false, List, ◌++◌, length, drop, get_or, encode_utf8, eqb, refl, sym, ap, ◌∙◌, arith, append_assoc, append-nil}
 use Rattle.std.proofs.lemmas.Bool.Decides.{nat_tests}
 use Rattle.std.proofs.lemmas.List.{at_drop_more, drop_all}
-use Rattle.oxc_plan.specs.declared.plan.Bar.{Bar}
+use Rattle.oxc_plan.specs.declared.bars.Bar.{Bar}
 use Rattle.oxc_handlers.specs.declared.span.LabelRenderMode.{LabelRenderMode}
 use Rattle.oxc_handlers.specs.Setting.{SettingView}
 use Rattle.oxc_handlers.specs.Cells.{repeated}

@@ -13,3 +13,5 @@ pub mod GuttersLemmas
 pub mod HangsLemmas
 pub mod LinesLemmas
 pub mod TextsLemmas
+pub mod DrawableLemmas
+pub mod ReportLemmas

@@ -3,10 +3,9 @@ use Rattle.std.proofs.Common.{◌≡◌, ℕ, ◌+◌, ◌≤◌, Bool, List, []
 use Rattle.std.specs.Prelude.{encode_utf8}
 use Rattle.std.specs.List.{flat_map}
 use Rattle.std.specs.Str.{chars, IsUtf8}
-use Rattle.std.proofs.lemmas.Bool.Decides.{nat_tests}
 use Rattle.std.proofs.lemmas.Str.{chars_past_char, encodes-chars, length-le-encodes}
 use Rattle.oxc_plan.specs.declared.columns.Pen.{Pen}
-use Rattle.oxc_plan.specs.Width.{advance_of, with_lead, led, moved}
+use Rattle.oxc_plan.specs.Width.{with_lead, led, moved}
 use Rattle.oxc_handlers.specs.Texts.{shown_char, shown_from}
 
 pub shown_none : (tab : ℕ) (pen : Pen) (out : List ℕ) → out ++ shown_from tab pen [] ≡ out
@@ -44,9 +43,6 @@ char_step tab pen lead c bytes rest utf8 e = ap (λ cs. fold (moved tab) pen (wi
 
 pub one_char_less : (c : ℕ) (bytes rest : List ℕ) → IsUtf8 bytes → bytes ≡ encode_utf8 c ++ rest → length (chars bytes) ≡ length (chars rest) + 1
 one_char_less c bytes rest utf8 e = omega (arith, ap length (chars_past_char bytes rest c utf8 e))
-
-pub advance_of-le : (tab : ℕ) (in_escape : Bool) (column lead c : ℕ) → tab ≤ 16 → advance_of tab in_escape column lead c ≤ lead + 16
-advance_of-le tab in_escape column lead c most = grind (arith, nat_tests)
 
 pub few_chars : (bytes : List ℕ) → IsUtf8 bytes → length (chars bytes) ≤ length bytes
 few_chars bytes utf8 = omega (arith, length-le-encodes (chars bytes), ap length (encodes-chars bytes utf8))

@@ -1,9 +1,9 @@
 -- The gutters of rows, and those of the lines under them.
 use Rattle.std.specs.Prelude.{ℕ, Bool, true, false, ◌+◌, ◌-◌, ◌==◌, List, [], ◌∷◌, ◌++◌, encode_utf8, if◌then◌else◌}
 use Rattle.std.specs.Option.{is_some}
-use Rattle.oxc_plan.specs.declared.plan.Bar.{Bar}
-use Rattle.oxc_plan.specs.declared.plan.BarKind.{BarKind}
-use Rattle.oxc_plan.specs.declared.plan.BarKind.TheVariants.{Passes, Starts, Ends}
+use Rattle.oxc_plan.specs.declared.bars.Bar.{Bar}
+use Rattle.oxc_plan.specs.declared.bars.BarKind.{BarKind}
+use Rattle.oxc_plan.specs.declared.bars.BarKind.TheVariants.{Passes, Starts, Ends}
 use Rattle.oxc_handlers.specs.declared.span.LabelRenderMode.{LabelRenderMode}
 use Rattle.oxc_handlers.specs.declared.span.LabelRenderMode.TheVariants.{SingleLine, BlockFirst, BlockRest}
 use Rattle.oxc_handlers.specs.Cells.{repeated}

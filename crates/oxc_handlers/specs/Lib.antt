@@ -17,3 +17,5 @@ pub mod RowLines
 pub mod Snippet
 pub mod Report
 pub mod Handler
+pub mod Refusals
+pub mod Scanners

@@ -3,7 +3,7 @@ use Rattle.std.specs.Prelude.{ℕ, true, ◌+◌, ◌-◌, ◌≤◌, ◌<◌, �
 use Rattle.std.specs.List.{flat_map, slice_split}
 use Rattle.std.specs.Option.{option_map_or}
 use Rattle.oxc_plan.specs.Plan.{RowPlanView}
-use Rattle.oxc_plan.specs.declared.plan.Hang.{Hang}
+use Rattle.oxc_plan.specs.declared.hangs.Hang.{Hang}
 use Rattle.oxc_handlers.specs.declared.span.LabelRenderMode.{LabelRenderMode}
 use Rattle.oxc_handlers.specs.declared.span.LabelRenderMode.TheVariants.{SingleLine, BlockFirst, BlockRest}
 use Rattle.oxc_handlers.specs.Cells.{repeated}
@@ -97,7 +97,5 @@ pub record IsRow (setting : SettingView) (row : RowPlanView) : Type 0 where
   pub ordered : AreOrdered 0 row.marks
   pub hangs : All (λ h. has_mark h.at row.marks ≡ true) row.hangs
   pub text : length row.row.text < 2 ^ 32
-  pub gutter : setting.gutter < 2 ^ 62
+  pub gutter : setting.gutter < 2 ^ 63
   pub digits : setting.digits < 2 ^ 62
-  pub some : 1 ≤ setting.tab
-  pub most : setting.tab ≤ 16

@@ -21,7 +21,7 @@ setting_view s =
     record {
       theme = s.theme;
       labels = map (λ at. ordered_label (label_at s.labels.now at)) s.order.now;
-      tab = s.tab;
+      tab = s.tabs;
       gutter = s.gutter;
       digits = s.digits;
     }

@@ -1,7 +1,8 @@
 -- A drawn snippet.
-use Rattle.std.specs.Prelude.{ℕ, ◌-◌, ◌+◌, List, ◌++◌, All, Option, Some, None, encode_utf8, decimal, length, nat_le, if◌then◌else◌}
+use Rattle.std.specs.Prelude.{ℕ, ◌-◌, ◌+◌, ◌<◌, ◌^◌, List, ◌++◌, All, Option, Some, None, encode_utf8, decimal, length, nat_le, if◌then◌else◌}
 use Rattle.std.specs.List.{flat_map, slice_get}
 use Rattle.std.specs.Option.{option_map_or}
+use Rattle.oxc_plan.specs.Drawable.{IsDrawable}
 use Rattle.oxc_plan.specs.Plan.{Ordered, RowPlanView, SnippetView}
 use Rattle.oxc_handlers.specs.declared.theme.GraphicalTheme.{GraphicalTheme}
 use Rattle.oxc_handlers.specs.Cells.{repeated}
@@ -48,3 +49,7 @@ drawn_snippet theme tab labels name snippet = drawn_by (setting_of theme tab lab
 -- a snippet that can be drawn
 abbrev pub IsSnippet : GraphicalTheme → ℕ → List Ordered → SnippetView → Type 0
 IsSnippet theme tab labels snippet = All (IsRow (setting_of theme tab labels snippet)) snippet.rows
+
+-- snippets of a short source that can be drawn, where there are so many labels
+abbrev pub AreDrawable : ℕ → List SnippetView → Type 0
+AreDrawable count snippets = (len : ℕ) × (len < 2 ^ 32) × All (IsDrawable len count) snippets

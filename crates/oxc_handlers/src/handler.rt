@@ -1,8 +1,8 @@
 //! The handler that draws reports.
 ghost use Rattle.std.specs.Prelude.{◌≡◌};
 
-use crate::tabs::TabWidth;
 use crate::theme::GraphicalTheme;
+use oxc_plan::TabWidth;
 use std::marker::Model;
 
 /// Draws reports by a theme, filled to a width, where tabs stop at multiples of a number of columns.

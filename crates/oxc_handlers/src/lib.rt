@@ -16,7 +16,6 @@ mod runs;
 mod setting;
 mod snippet;
 mod span;
-mod tabs;
 mod theme;
 mod view;
 

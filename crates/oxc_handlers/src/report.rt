@@ -1,10 +1,15 @@
 //! Drawn reports: a title, the snippets, help and note.
-ghost use Rattle.std.specs.Prelude.{◌≡◌, ◌++◌, ◌-◌, All, IfOk, OnOk, map, string_bytes};
+ghost use Rattle.std.specs.Prelude.{◌≡◌, ◌++◌, ◌-◌, ◌<◌, ◌≤◌, All, IfOk, IfSome, MatchResult, OnOk, Some, length, map, string_bytes};
 ghost use Rattle.std.specs.Option.{option_copied};
-ghost use Rattle.oxc_plan.specs.Plan.{in_order, snippet_view};
+ghost use Rattle.oxc_span.specs.Label.{label_end};
+ghost use Rattle.oxc_windows.specs.Scan.{IsSameReader};
+ghost use Rattle.oxc_plan.specs.Scanned.{ReadsRound};
+ghost use Rattle.oxc_handlers.specs.Refusals.{IsFaultless, IsRefusal, first_outside};
+ghost use Rattle.oxc_handlers.specs.Scanners.{CanDraw, IsReaderOf, ReadsRoundIfThere};
+ghost use Rattle.oxc_plan.specs.Plan.{snippet_view};
 ghost use Rattle.oxc_handlers.specs.Report.{code_part, drawn, drawn_snippets, footer, help_of, icon, name_in, note_of, plan_of, severity_in, severity_style, snippets_in, title, title_indent, title_of, view_parts};
 ghost use Rattle.oxc_handlers.specs.RowLines.{lf};
-ghost use Rattle.oxc_handlers.specs.Snippet.{IsSnippet};
+ghost use Rattle.oxc_handlers.specs.Snippet.{AreDrawable};
 ghost use Rattle.oxc_handlers.specs.Theme.{styled};
 ghost use Rattle.textwrap.specs.Filled.{filled};
 
@@ -12,13 +17,100 @@ use crate::handler::GraphicalReportHandler;
 use crate::setting::Setting;
 use crate::snippet::render_snippets;
 use crate::theme::{GraphicalTheme, Style};
-use crate::view::DiagnosticView;
-use oxc_plan::{SnippetPlan, label_order};
-use oxc_protocol::Severity;
+use crate::view::{DiagnosticView, RenderError};
+use oxc_plan::{SnippetPlan, label_order, plan_snippets};
+use oxc_protocol::{LabeledSpan, Severity};
+use oxc_windows::SpanScanner;
 use std::alloc::{AllocError, Global};
 use textwrap::{Options, fill};
 
 impl GraphicalReportHandler {
+    /// The report of a view: an LF, the title, the snippets, help and note.
+    ///
+    /// A scanner that is handed in reads one row of context before a span and one after. It is used again where it
+    /// reads the view's source, and replaced by one that does so else. A view without labels or without a source has no
+    /// snippets, and leaves the scanner as it is.
+    ///
+    /// # Errors
+    ///
+    /// [`RenderError::LabelOutside`] exactly where a label ends past the source: the first of them, as given; the scanner
+    /// is as it was. [`RenderError::NotUtf8`] exactly where no label does, there is a label, and the source is no UTF-8. Both
+    /// are judged before anything is drawn, and name the report 0. [`RenderError::OutOfMemory`] at any time.
+    pub fn render_view<'a>(
+        &self,
+        alloc: Global,
+        view: &DiagnosticView<'a>,
+        scanner: &mut Option<SpanScanner<'a>>,
+    ) -> Result<String, RenderError>
+        requires { ReadsRoundIfThere scanner.old }
+        ensures text { IfOk result (λ text. string_bytes text ≡ drawn self.now.theme self.now.width (plan_of self.now.tab (view_parts view.now))) }
+        ensures cause { MatchResult result (λ _. IsFaultless (view_parts view.now)) (IsRefusal 0 (view_parts view.now)) }
+        ensures round { ReadsRoundIfThere scanner.new }
+        ensures reader { OnOk result (IsReaderOf (view_parts view.now) scanner.new) }
+    {
+        let Some(source) = &view.source else {
+            return Ok(self.render_planned(alloc, view, &[])?);
+        };
+        if view.labels.is_empty() {
+            return Ok(self.render_planned(alloc, view, &[])?);
+        }
+        if let Some(label) = first_outside(view.labels, source.bytes().len()) {
+            return Err(RenderError::LabelOutside { report: 0, label });
+        }
+        let mut reader = reader_of(alloc, scanner.take(), source.bytes());
+        let answer = self.render_text(alloc, view, &mut reader);
+        *scanner = Some(reader);
+        answer
+    }
+
+    /// The report of a view, all of whose labels end within its source, if that is a text.
+    fn render_text<'a>(
+        &self,
+        alloc: Global,
+        view: &DiagnosticView<'a>,
+        scanner: &mut SpanScanner<'a>,
+    ) -> Result<String, RenderError>
+        requires round { ReadsRound scanner.old }
+        requires source { (view_parts view.now).source ≡ Some (record { bytes = scanner.old.input; name = name_in (view_parts view.now) }) }
+        requires within { All (λ label. label_end label ≤ length scanner.old.input) view.now.labels.now }
+        requires some { 0 < length view.now.labels.now }
+        ensures text { IfOk result (λ text. string_bytes text ≡ drawn self.now.theme self.now.width (plan_of self.now.tab (view_parts view.now))) }
+        ensures cause { MatchResult result (λ _. IsFaultless (view_parts view.now)) (IsRefusal 0 (view_parts view.now)) }
+        ensures same { IsSameReader scanner.old scanner.new }
+    {
+        match scanner.text() {
+            Ok(_) => Ok(self.render_view_with_scanner(alloc, view, scanner)?),
+            Err(valid_up_to) => Err(RenderError::NotUtf8 {
+                report: 0,
+                valid_up_to,
+            }),
+        }
+    }
+
+    /// The report of a view, as [`render_view`](GraphicalReportHandler::render_view) gives it, without its tests: the scanner
+    /// reads the view's source, with one row of context before a span and one after, that source is UTF-8, and every label
+    /// ends within it.
+    ///
+    /// # Errors
+    ///
+    /// Want of memory.
+    pub fn render_view_with_scanner<'a>(
+        &self,
+        alloc: Global,
+        view: &DiagnosticView<'a>,
+        scanner: &mut SpanScanner<'a>,
+    ) -> Result<String, AllocError>
+        requires { CanDraw scanner.old (view_parts view.now) }
+        ensures text { IfOk result (λ text. string_bytes text ≡ drawn self.now.theme self.now.width (plan_of self.now.tab (view_parts view.now))) }
+        ensures same { IsSameReader scanner.old scanner.new }
+    {
+        let Some(_source) = &view.source else {
+            return self.render_planned(alloc, view, &[]);
+        };
+        let snippets = plan_snippets(alloc, scanner, view.labels, self.tabs)?;
+        self.render_planned(alloc, view, &snippets)
+    }
+
     /// The report of a view, whose snippets are given.
     #[tactic(auto, unfolding(crate::specs::Report::drawn))]
     pub(crate) fn render_planned(
@@ -28,7 +120,7 @@ impl GraphicalReportHandler {
         snippets: &[SnippetPlan<'_>],
     ) -> Result<String, AllocError>
         requires planned { map snippet_view snippets.now ≡ snippets_in self.now.tab (view_parts view.now) }
-        requires drawable { All (IsSnippet self.now.theme self.now.tab (in_order view.now.labels.now)) (map snippet_view snippets.now) }
+        requires drawable { AreDrawable (length view.now.labels.now) (map snippet_view snippets.now) }
         ensures { IfOk result (λ text. string_bytes text ≡ drawn self.now.theme self.now.width (plan_of self.now.tab (view_parts view.now))) }
     {
         let mut out = String::new(alloc);
@@ -68,11 +160,11 @@ impl GraphicalReportHandler {
         snippets: &[SnippetPlan<'_>],
     ) -> Result<(), AllocError>
         requires planned { map snippet_view snippets.now ≡ snippets_in self.now.tab (view_parts view.now) }
-        requires drawable { All (IsSnippet self.now.theme self.now.tab (in_order view.now.labels.now)) (map snippet_view snippets.now) }
+        requires drawable { AreDrawable (length view.now.labels.now) (map snippet_view snippets.now) }
         ensures { OnOk result (string_bytes out.new ≡ string_bytes out.old ++ drawn_snippets self.now.theme (plan_of self.now.tab (view_parts view.now))) }
     {
         let order = label_order(alloc, view.labels)?;
-        let setting = Setting::new(self.theme, view.labels, &order, self.tabs.get());
+        let setting = Setting::new(self.theme, view.labels, &order, self.tabs);
         let name = source_name(view);
         render_snippets(out, &setting, name, snippets)
     }
@@ -127,6 +219,33 @@ impl GraphicalReportHandler {
             }
             None => Ok(()),
         }
+    }
+}
+
+/// The place of the first label that ends past a source of so many bytes.
+fn first_outside(labels: &[LabeledSpan], len: usize) -> Option<usize>
+    ensures { result ≡ first_outside len labels.now }
+{
+    labels
+        .iter()
+        .position(|label| label.span().end as usize > len)
+}
+
+/// A scanner of a source: the one at hand, where it reads that source, or else a new one.
+fn reader_of<'a>(
+    alloc: Global,
+    held: Option<SpanScanner<'a>>,
+    source: &'a [u8],
+) -> SpanScanner<'a>
+    requires fits { length source.now < 4294967295 }
+    requires round { ReadsRoundIfThere held }
+    ensures source { result.input ≡ source.now }
+    ensures round { ReadsRound result }
+    ensures again { IfSome held.entry (λ scan. scan.input ≡ source.now → result ≡ scan) }
+{
+    match held {
+        Some(scanner) if scanner.is_for(source) => scanner,
+        _ => SpanScanner::new(alloc, source, 1, 1),
     }
 }
 

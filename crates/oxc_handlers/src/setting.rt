@@ -6,6 +6,7 @@ ghost use Rattle.oxc_plan.specs.Plan.{in_order};
 ghost use Rattle.oxc_handlers.specs.Setting.{highlight, is_empty_at, setting_for, setting_view, text_at};
 
 use crate::theme::{GraphicalTheme, Style};
+use oxc_plan::TabWidth;
 use oxc_protocol::LabeledSpan;
 
 /// What the lines of a snippet are drawn by. Labels are named by their places in label order.
@@ -17,7 +18,7 @@ pub(crate) struct Setting<'a> {
     /// Their places in label order.
     pub(crate) order: &'a [usize],
     /// The distance of the tab stops.
-    pub(crate) tab: usize,
+    pub(crate) tabs: TabWidth,
     /// The most bars that stand beside one row.
     pub(crate) gutter: usize,
     /// The digits of the row numbers.
@@ -31,16 +32,16 @@ impl<'a> Setting<'a> {
         theme: GraphicalTheme,
         labels: &'a [LabeledSpan],
         order: &'a [usize],
-        tab: usize,
+        tabs: TabWidth,
     ) -> Self
         requires { order.now ≡ label_order labels.now }
-        ensures { setting_view result ≡ setting_for theme tab (in_order labels.now) }
+        ensures { setting_view result ≡ setting_for theme tabs (in_order labels.now) }
     {
         Setting {
             theme,
             labels,
             order,
-            tab,
+            tabs,
             gutter: 0,
             digits: 1,
         }

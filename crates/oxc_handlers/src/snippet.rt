@@ -172,7 +172,7 @@ fn render_line(
 {
     write_linum(out, setting, row.row.number)?;
     render_line_gutter(out, setting, &row.bars)?;
-    render_line_text(out, row.row.text, setting.tab)?;
+    render_line_text(out, row.row.text, setting.tabs)?;
     out.push('\n')
 }
 

@@ -26,8 +26,8 @@ loop-cluster-preserved c =
       can_next = tt;
       is_finite = tt;
       drawn = rw (c.in_ok-pen.ensures.text, c.in_ok-pen.ensures.exact)
-          (shown_cluster (string_bytes c.loop-cluster.out) c.args.tab c.loop-cluster.pen c.in-Some.cluster.now (graphemes_left c.next.new.self)
-          ∙ ap (λ gs. string_bytes c.loop-cluster.out ++ shown_from c.args.tab c.loop-cluster.pen (flat_map led gs)) (sym c.in-Some.ensures.steps)
+          (shown_cluster (string_bytes c.loop-cluster.out) c.args.tabs c.loop-cluster.pen c.in-Some.cluster.now (graphemes_left c.next.new.self)
+          ∙ ap (λ gs. string_bytes c.loop-cluster.out ++ shown_from c.args.tabs c.loop-cluster.pen (flat_map led gs)) (sym c.in-Some.ensures.steps)
           ∙ c.loop-cluster.invariant.drawn);
       room = grind (arith, common_steps);
     }

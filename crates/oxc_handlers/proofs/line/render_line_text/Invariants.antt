@@ -12,6 +12,6 @@ invariant-loop-cluster l =
     record {
       can_next : (goal.iterator-loop-cluster).can_next l.cluster-iterator;
       is_finite : (goal.iterator-loop-cluster).is_finite l.cluster-iterator;
-      drawn : string_bytes l.out ++ shown_from l.tab l.pen (flat_map led rest) ≡ string_bytes l.initial.out ++ shown_text l.tab l.text;
+      drawn : string_bytes l.out ++ shown_from l.tabs l.pen (flat_map led rest) ≡ string_bytes l.initial.out ++ shown_text l.tabs l.text;
       room : l.pen.column + 18 * length (concat rest) ≤ 18 * length l.text;
     }
