@@ -275,3 +275,15 @@ nearest_keeps text o answer utf8 (b, whole) is =
     not_past : {place other : Place16} → IsBefore place other → other.line ≡ place.line → other.unit ≤ place.unit → ⊥
     not_past (inl earlier) line unit = omega (arith, earlier, line)
     not_past (inr (same, earlier)) line unit = omega (arith, earlier, unit)
+
+-- the same of a place that is known to be a boundary's
+pub leads_back_to : (text : List ℕ) (o : ℕ) (place : Place16) (answer : Option ℕ) → IsUtf8 text → IsCharBoundary text o → place ≡ utf16_place text o → IsOffsetOf text place answer → answer ≡ Some o
+leads_back_to text o place answer utf8 b e is = leads_back text o answer utf8 b (subst (λ p. IsOffsetOf text p answer) e is)
+
+pub nearest_keeps_to : (text : List ℕ) (o : ℕ) (place : Place16) (answer : ℕ) → IsUtf8 text → PartsNoCrlf text o → place ≡ utf16_place text o → IsNearest text place answer → answer ≡ o
+nearest_keeps_to text o place answer utf8 whole e is = nearest_keeps text o answer utf8 whole (subst (λ p. IsNearest text p answer) e is)
+
+-- what is nearest is a boundary
+pub nearest_boundary : (text : List ℕ) (place : Place16) (answer : ℕ) → IsNearest text place answer → IsCharBoundary text answer
+nearest_boundary text place answer is =
+    ⊎_elim (λ past. subst (λ k. IsCharBoundary text k) (sym (is.past past)) (IsCharBoundary-end text)) (λ within. (is.up_to within).boundary) (cases_lt (length (breaks_of text)) place.line)

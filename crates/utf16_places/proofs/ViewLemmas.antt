@@ -7,10 +7,12 @@ use Rattle.source_location.specs.Breaks.{LineBreak, breaks_of}
 use Rattle.source_location.specs.Rows.{row_of, line_starts}
 use Rattle.source_location.proofs.BreaksLemmas.{breaks_valid}
 use Rattle.source_location.proofs.IndexLemmas.{starts_rise}
+use Rattle.utf16_places.specs.Places.{IsNearest}
+use Rattle.utf16_places.specs.declared.place.Place16.{Place16}
 use Rattle.utf16_places.specs.declared.wide.WideCharacter.{WideCharacter}
 use Rattle.utf16_places.specs.Index.{Utf16View, IsIndexOf, AreWideOf, AreWideWithPart}
 use Rattle.utf16_places.proofs.LineLemmas.{starts_at}
-use Rattle.utf16_places.proofs.PlaceLemmas.{part_of}
+use Rattle.utf16_places.proofs.PlaceLemmas.{part_of, nearest_past}
 
 pub known_now : (view now : Utf16View) (text : List ℕ) → view ≡ now → IsIndexOf view text → IsIndexOf now text
 known_now view now text e known = subst (λ v. IsIndexOf v text) e known
@@ -31,3 +33,9 @@ with_part text wide line start limit are b row is = record {
   known = are;
   part = part_of text line limit start b row is;
 }
+
+-- past the last line the text's end is nearest
+pub end_nearest : (view now : Utf16View) (text : List ℕ) (place : Place16) (lines : ℕ) → view ≡ now → IsIndexOf now text → lines ≡ length view.line_starts → lines ≤ place.line → IsNearest text place view.end
+end_nearest view now text place lines same known count past =
+    nearest_past text place view.end (ap (λ (v : Utf16View). v.end) same ∙ known.end)
+    (omega (arith, line_count view.line_starts text (ap (λ (v : Utf16View). v.line_starts) same ∙ known.starts), count, past))

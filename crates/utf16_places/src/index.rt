@@ -1,5 +1,5 @@
 // The index that turns offsets into places and back.
-ghost use Rattle.std.specs.Prelude.{◌≡◌, ◌+◌, ◌-◌, ◌^◌, ◌<◌, ◌≤◌, ◌↔◌, ℕ, List, [], ◌∷◌, IsTrue, IfOk, length, take, count_by, nat_le};
+ghost use Rattle.std.specs.Prelude.{◌≡◌, ◌+◌, ◌-◌, ◌^◌, ◌<◌, ◌≤◌, ◌↔◌, ℕ, List, [], ◌∷◌, IsTrue, Some, IfOk, length, take, count_by, nat_le};
 ghost use Rattle.std.specs.List.Sorted.{IsNonDecreasing};
 ghost use Rattle.std.specs.Option.{option_map};
 ghost use Rattle.std.specs.Str.{IsCharBoundary};
@@ -7,7 +7,7 @@ ghost use Rattle.source_location.specs.Breaks.{breaks_of};
 ghost use Rattle.source_location.specs.Rows.{row_of, row_start};
 ghost use Rattle.source_location.specs.Locations.{offset_at};
 ghost use Rattle.source_location.specs.Index.{Fits, index_of};
-ghost use Rattle.utf16_places.specs.Places.{utf16_place, line_start_of, line_end, IsOffsetOf, IsNearest};
+ghost use Rattle.utf16_places.specs.Places.{utf16_place, line_start_of, line_end, IsOffsetOf, IsNearest, PartsNoCrlf};
 ghost use Rattle.utf16_places.specs.Index.{IsIndexOf, IsLastIn};
 
 use crate::Place16;
@@ -91,7 +91,8 @@ impl Utf16Index {
     /// The boundary with the place; None exactly where no boundary has it, as inside a character past U+FFFF, behind a line's
     /// end, or past the last line.
     pub fn offset_of(&self, place: Place16) -> Option<TextSize>
-        ensures { (text : List ℕ) → IsIndexOf self.now text → IsOffsetOf text place result }
+        ensures only { (text : List ℕ) → IsIndexOf self.now text → IsOffsetOf text place result }
+        ensures back { (text : List ℕ) (offset : ℕ) → IsIndexOf self.now text → IsCharBoundary text offset → place ≡ utf16_place text offset → result ≡ Some offset }
     {
         let line = place.line as usize;
         if line >= self.line_starts.len() {
@@ -113,7 +114,9 @@ impl Utf16Index {
     /// The boundary nearest to a place: past the last line the text's end; in a line the largest boundary not behind where its
     /// break begins whose unit is at most the asked one.
     pub fn nearest(&self, place: Place16) -> TextSize
-        ensures { (text : List ℕ) → IsIndexOf self.now text → IsNearest text place result }
+        ensures nearest { (text : List ℕ) → IsIndexOf self.now text → IsNearest text place result }
+        ensures boundary { (text : List ℕ) → IsIndexOf self.now text → IsCharBoundary text result }
+        ensures back { (text : List ℕ) (offset : ℕ) → IsIndexOf self.now text → PartsNoCrlf text offset → place ≡ utf16_place text offset → result ≡ offset }
     {
         let line = place.line as usize;
         if line >= self.line_starts.len() {
