@@ -29,6 +29,9 @@ pub(crate) fn mark_line(
     ensures { OnOk result (AreWideBefore text.now end wide.new.items) }
 {
     let bytes = text.as_bytes();
+    if bytes[start..end].is_ascii() {
+        return Ok(());
+    }
     let mut at = start;
     let mut unit = 0;
     while let Some(skipped) = first_past_ascii(&bytes[at..end]) {
@@ -77,8 +80,19 @@ fn ascii_blocks(bytes: &[u8]) -> usize
     passed
 }
 
-/// The place of the first byte past ASCII, which is looked for by blocks.
+/// The place of the first byte past ASCII, which often is the first one.
 fn first_past_ascii(bytes: &[u8]) -> Option<usize>
+    ensures { IsFirstPastAscii bytes.now result }
+{
+    if !bytes.is_empty() && bytes[0] >= 128 {
+        Some(0)
+    } else {
+        later_past_ascii(bytes)
+    }
+}
+
+/// The same by blocks.
+fn later_past_ascii(bytes: &[u8]) -> Option<usize>
     ensures { IsFirstPastAscii bytes.now result }
 {
     let passed = ascii_blocks(bytes);

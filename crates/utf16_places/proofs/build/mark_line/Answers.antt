@@ -1,4 +1,4 @@
-use Rattle.std.proofs.Common.{◌≡◌, ◌+◌, ◌<◌, ◌^◌, arith, refl}
+use Rattle.std.proofs.Common.{◌≡◌, ◌+◌, ◌<◌, ◌≤◌, ◌^◌, arith, refl}
 use Rattle.utf16_places.proofs.MarkLemmas.{next_read, marked_read}
 use Rattle.utf16_places.proofs.build.mark_line.Goals as goal
 
@@ -84,3 +84,20 @@ returns c =
       marked = kept.marked;
     })
     c.in_default.ensures
+
+pub returns-then-is_ascii : goal.returns-then-is_ascii
+returns-then-is_ascii c =
+    let same : c.args.start ≤ c.args.start = omega arith in
+    marked_read c.args.text.now c.as_bytes-bytes.result.now c.args.start c.args.start c.args.end 0 c.args.wide.now.items c.as_bytes-bytes.ensures.value
+    (record {
+      utf8 = c.utf8.text;
+      begin = c.requires.start;
+      limit = c.requires.end;
+      line = c.requires.line;
+      from = same;
+      up_to = c.requires.ordered;
+      boundary = c.requires.start;
+      units = omega arith;
+      marked = c.requires.marked;
+    })
+    (λ k h. c.if-is_ascii.ensures.cases k)

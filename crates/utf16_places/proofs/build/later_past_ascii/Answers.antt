@@ -1,6 +1,6 @@
 use Rattle.std.proofs.Common.{sym, ◌∙◌}
 use Rattle.utf16_places.proofs.MarkLemmas.{past_found, past_missing}
-use Rattle.utf16_places.proofs.build.first_past_ascii.Goals as goal
+use Rattle.utf16_places.proofs.build.later_past_ascii.Goals as goal
 
 pub returns-in-Some : goal.returns-in-Some
 returns-in-Some c =
