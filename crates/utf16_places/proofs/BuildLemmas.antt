@@ -1,14 +1,13 @@
 -- The lines of a text, one after another.
-use Rattle.std.proofs.Common.{◌≡◌, ℕ, ◌+◌, ◌-◌, ◌≤◌, ◌<◌, List, [], ◌∷◌, ◌++◌, length, take, drop, get_or, map, refl, sym, ap, subst, ◌∙◌, arith, suc, add-one, append_assoc, append-nil, ⊎_elim, All}
+use Rattle.std.proofs.Common.{◌≡◌, ℕ, ◌+◌, ◌-◌, ◌≤◌, ◌<◌, List, [], ◌∷◌, ◌++◌, length, drop, get_or, map, refl, sym, ap, subst, ◌∙◌, arith, append_assoc}
 use Rattle.std.specs.Str.{IsUtf8, IsCharBoundary}
-use Rattle.std.proofs.lemmas.Bool.{cases_lt}
-use Rattle.std.proofs.lemmas.List.{length-map, length-append, length-drop, get_or-map, get_or_past, get_or_default}
+use Rattle.std.proofs.lemmas.List.{length-map, length-append}
 use Rattle.std.proofs.lemmas.Str.{IsCharBoundary-from_rest}
 use Rattle.std.proofs.Math.ListN.{get_or-append}
 use Rattle.std.proofs.Math.Seq.{get_or-append_seam, get_or-append_right, drop-drop}
 use Rattle.source_location.specs.declared.newlines.LineEnding.{LineEnding}
 use Rattle.source_location.specs.Breaks.{LineBreak, breaks_of, moved}
-use Rattle.source_location.specs.Rows.{row_of, line_starts}
+use Rattle.source_location.specs.Rows.{line_starts}
 use Rattle.source_location.specs.Newlines.{ending_bytes, IsFirstBreak}
 use Rattle.source_location.proofs.BreaksLemmas.{breaks_valid}
 use Rattle.source_location.proofs.CutLemmas.{length-ending}

@@ -1,17 +1,16 @@
 -- Characters of a text by their bytes.
-use Rattle.std.proofs.Common.{◌≡◌, ℕ, ◌+◌, ◌-◌, ◌≤◌, ◌<◌, ◌⊎◌, true, false, cond, ltb, List, [], ◌∷◌, ◌++◌, length, take, drop, get_or, refl, sym, ap, subst, ◌∙◌, arith, zero, suc, ⊎_elim}
+use Rattle.std.proofs.Common.{◌≡◌, ℕ, ◌+◌, ◌≤◌, ◌<◌, true, List, [], ◌∷◌, ◌++◌, length, drop, get_or, refl, sym, ap, ◌∙◌, arith, zero, suc}
 use Rattle.std.specs.Char.{IsScalar, len_utf8}
 use Rattle.std.specs.Str.{IsUtf8, IsCharBoundary}
 use Rattle.std.specs.Str.Pattern.{HasCharAt}
-use Rattle.std.proofs.lemmas.Bool.{and_parts, cases_lt}
+use Rattle.std.proofs.lemmas.Bool.{and_parts}
 use Rattle.std.proofs.lemmas.Bool.Decides.{nat_tests}
 use Rattle.std.proofs.lemmas.List.{length-drop, get_or-drop}
 use Rattle.std.proofs.Math.ListN.{get_or-append}
-use Rattle.std.proofs.lemmas.Str.{IsUtf8-drop, IsCharBoundary-past_char, IsCharBoundary-after_ascii, drop_past_char, length-encode, len_utf8_bounds, byte_from_char}
+use Rattle.std.proofs.lemmas.Str.{IsUtf8-drop, IsCharBoundary-past_char, drop_past_char, length-encode, len_utf8_bounds, byte_from_char}
 use lib.Utf8.{scalar, scalars, encode, encodes}
 use Rattle.utf16_places.specs.Units.{units_of}
 use Rattle.utf16_places.specs.Bytes.{bytes_by, units_by}
-use Rattle.utf16_places.proofs.UnitsLemmas.{units_begun, before, before-more, scalar_low}
 
 -- the character at a boundary
 pub record CharacterAt (text : List ℕ) (p : ℕ) : Type 0 where

@@ -1,15 +1,15 @@
 -- Parts of lines.
-use Rattle.std.proofs.Common.{◌≡◌, ℕ, ◌+◌, ◌-◌, ◌≤◌, ◌<◌, List, length, take, drop, get_or, map, refl, sym, ap, subst, ◌∙◌, arith, add-one, zero, suc, ⊎_elim, slice_range}
+use Rattle.std.proofs.Common.{◌≡◌, ℕ, ◌+◌, ◌≤◌, ◌<◌, List, length, refl, sym, ap, subst, ◌∙◌, arith, add-one, slice_range}
 use Rattle.std.specs.Str.{IsUtf8, IsCharBoundary}
-use Rattle.std.proofs.lemmas.Bool.{cases_lt}
-use Rattle.source_location.specs.Breaks.{LineBreak, breaks_of, AreBreaks}
+use Rattle.source_location.specs.Breaks.{LineBreak, breaks_of}
 use Rattle.source_location.specs.Rows.{row_of, row_start}
 use Rattle.source_location.proofs.BreaksLemmas.{breaks_valid}
 use Rattle.source_location.proofs.RowsLemmas.{row_le, row_start_le, row_start_after, row_of-between, ends_from_row}
 use Rattle.source_location.proofs.LocationsLemmas.{row_start_boundary}
 use Rattle.utf16_places.specs.Units.{utf16_units}
 use Rattle.utf16_places.specs.Places.{line_start_of}
-use Rattle.utf16_places.specs.Index.{IsLinePart, IsCounted, IsWideIn}
+use Rattle.utf16_places.specs.Index.{IsWideIn}
+use Rattle.utf16_places.specs.Parts.{IsLinePart, IsCounted}
 use Rattle.utf16_places.specs.declared.wide.Counted.{Counted}
 use Rattle.utf16_places.specs.declared.wide.WideCharacter.{WideCharacter}
 use Rattle.utf16_places.proofs.UnitsLemmas.{before, units-between}

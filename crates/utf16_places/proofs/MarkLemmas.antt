@@ -1,7 +1,7 @@
 -- Marking the characters past ASCII of a line.
-use Rattle.std.proofs.Common.{◌≡◌, ℕ, ◌+◌, ◌-◌, ◌≤◌, ◌<◌, Bool, true, false, not, cond, ltb, leb, List, [], ◌∷◌, ◌++◌, length, take, drop, get_or, refl, sym, ap, subst, ◌∙◌, arith, ⊎_elim, slice_range, Option, Some, None, All, AllPairs, position}
+use Rattle.std.proofs.Common.{◌≡◌, ℕ, ◌+◌, ◌-◌, ◌≤◌, ◌<◌, Bool, true, false, not, cond, ltb, leb, List, [], ◌∷◌, ◌++◌, length, take, drop, get_or, refl, sym, ap, subst, ◌∙◌, arith, ⊎_elim, slice_range, Some, None, position}
 use Rattle.std.specs.Char.{len_utf8}
-use Rattle.std.specs.List.{position_or_len, prefix_len}
+use Rattle.std.specs.List.{position_or_len}
 use Rattle.std.specs.Str.{IsUtf8, IsCharBoundary}
 use Rattle.std.specs.Str.Pattern.{HasCharAt}
 use Rattle.std.proofs.lemmas.Bool.{cases_lt, cases_eq, false≢true}
@@ -20,7 +20,7 @@ use Rattle.utf16_places.specs.Places.{line_start_of}
 use Rattle.utf16_places.specs.declared.wide.WideCharacter.{WideCharacter}
 use Rattle.utf16_places.specs.Index.{IsWideIn, AreWideBefore}
 use Rattle.utf16_places.proofs.UnitsLemmas.{begun, begun-encode, before, before-between, units-between, units-le-between, scalar_low}
-use Rattle.utf16_places.proofs.CharacterLemmas.{CharacterAt, character_at, byte_of, encode_first}
+use Rattle.utf16_places.proofs.CharacterLemmas.{character_at, byte_of, encode_first}
 use Rattle.utf16_places.proofs.WideLemmas.{IsWideSpan, wide_span, past_span, plain}
 
 -- a byte of a part

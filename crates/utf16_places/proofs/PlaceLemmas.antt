@@ -1,5 +1,5 @@
 -- Places and the ways back.
-use Rattle.std.proofs.Common.{◌≡◌, ◌⊎◌, inl, inr, ◌==◌, ◌&&◌, Bool, true, false, ltb, ℕ, ◌+◌, ◌-◌, ◌≤◌, ◌<◌, List, length, take, drop, get_or, map, refl, sym, ap, subst, ◌∙◌, arith, add-one, zero, suc, ⊎_elim, slice_range, Option, Some, None}
+use Rattle.std.proofs.Common.{◌≡◌, ◌⊎◌, inl, inr, ◌==◌, ◌&&◌, true, false, ltb, ℕ, ◌+◌, ◌≤◌, ◌<◌, List, length, get_or, map, refl, sym, ap, subst, ◌∙◌, arith, add-one, zero, suc, ⊎_elim, slice_range, Option, Some, None}
 use Rattle.std.specs.Str.{IsUtf8, IsCharBoundary}
 use Rattle.std.proofs.lemmas.Bool.{cases_lt, false≢true}
 use Rattle.std.proofs.lemmas.List.Folds.{list_any_at}
@@ -7,17 +7,17 @@ use Rattle.std.proofs.lemmas.Bool.Decides.{nat_tests}
 use Rattle.std.proofs.lemmas.List.{length-map, get_or-map, get_or_past, get_or_default}
 use Rattle.std.proofs.lemmas.Str.{IsCharBoundary-before_ascii, IsCharBoundary-end}
 use Rattle.source_location.specs.Breaks.{LineBreak, break_at, breaks_of}
-use Rattle.source_location.specs.Rows.{row_of, row_start, line_starts, is_second_byte}
+use Rattle.source_location.specs.Rows.{row_of, line_starts, is_second_byte}
 use Rattle.source_location.proofs.BreaksLemmas.{breaks_valid, breaks_found, break_ends_ascii}
 use Rattle.source_location.proofs.IndexLemmas.{start_at}
-use Rattle.source_location.proofs.RowsLemmas.{row_le, row_start-le, row_start_after, row_start_first, row_of-between, row_of-start, ends_before_row, ends_from_row}
+use Rattle.source_location.proofs.RowsLemmas.{row_le, row_start-le, row_start_after, row_start_first, row_of-between, ends_before_row, ends_from_row}
 use Rattle.utf16_places.specs.Units.{utf16_units}
 use Rattle.utf16_places.specs.Places.{line_start_of, utf16_place, IsBefore, IsOffsetOf, line_end, IsUpTo, IsNearest, PartsNoCrlf}
-use Rattle.utf16_places.specs.Index.{IsLinePart, IsCounted, IsLastIn}
+use Rattle.utf16_places.specs.Parts.{IsLinePart, IsCounted, IsLastIn}
 use Rattle.utf16_places.specs.declared.place.Place16.{Place16}
 use Rattle.utf16_places.specs.declared.wide.Counted.{Counted}
 use Rattle.utf16_places.proofs.UnitsLemmas.{before, before-le, before-lt, units-between}
-use Rattle.utf16_places.proofs.LineLemmas.{starts_at, line_start-row, line_start-le, line_start-boundary, row_between, in_part, part_start, counted_units}
+use Rattle.utf16_places.proofs.LineLemmas.{starts_at, line_start-row, line_start-le, line_start-boundary, row_between, in_part, counted_units}
 
 pub place-line : (text : List ℕ) (o : ℕ) → (utf16_place text o).line ≡ row_of (breaks_of text) o
 unfolding utf16_place

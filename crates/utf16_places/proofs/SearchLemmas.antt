@@ -1,14 +1,15 @@
 -- What the searches over the characters past ASCII find.
-use Rattle.std.proofs.Common.{◌≡◌, ℕ, ◌+◌, ◌-◌, ◌≤◌, ◌<◌, ◌⊎◌, ◌||◌, ◌&&◌, inl, inr, Bool, true, false, cond, ltb, leb, min, List, length, take, drop, get_or, refl, sym, ap, subst, ◌∙◌, arith, ⊎_elim, slice_range}
+use Rattle.std.proofs.Common.{◌≡◌, ℕ, ◌+◌, ◌-◌, ◌≤◌, ◌<◌, ◌⊎◌, ◌||◌, ◌&&◌, inl, inr, Bool, true, false, ltb, leb, min, List, length, get_or, ap, subst, ◌∙◌, arith, ⊎_elim, slice_range}
 use Rattle.std.specs.Ordering.{is_le, nat_cmp}
 use Rattle.std.specs.List.Sorted.{IsPartitionedBy}
 use Rattle.std.specs.Str.{IsUtf8, IsCharBoundary}
-use Rattle.std.proofs.lemmas.Bool.{cases_lt, false≢true}
+use Rattle.std.proofs.lemmas.Bool.{cases_lt}
 use Rattle.std.proofs.lemmas.Bool.Decides.{nat_tests}
 use Rattle.std.proofs.lemmas.List.{get_or_default}
 use Rattle.utf16_places.specs.Units.{utf16_units}
 use Rattle.utf16_places.specs.Places.{line_start_of}
-use Rattle.utf16_places.specs.Index.{IsWideIn, AreWideBefore, AreWideOf, IsLinePart, IsCounted}
+use Rattle.utf16_places.specs.Index.{AreWideOf}
+use Rattle.utf16_places.specs.Parts.{IsLinePart, IsCounted}
 use Rattle.utf16_places.specs.declared.wide.WideCharacter.{WideCharacter}
 use Rattle.utf16_places.specs.declared.wide.Counted.{Counted}
 use Rattle.utf16_places.proofs.UnitsLemmas.{before, before-le, before-lt, units-between, units-le-between}

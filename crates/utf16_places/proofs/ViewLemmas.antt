@@ -1,5 +1,5 @@
 -- What an index says of its text.
-use Rattle.std.proofs.Common.{◌≡◌, ℕ, ◌+◌, ◌-◌, ◌≤◌, ◌<◌, List, length, map, get_or, refl, sym, ap, subst, ◌∙◌, arith}
+use Rattle.std.proofs.Common.{◌≡◌, ℕ, ◌+◌, ◌≤◌, List, length, sym, ap, subst, ◌∙◌, arith}
 use Rattle.std.specs.Str.{IsCharBoundary}
 use Rattle.std.specs.List.Sorted.{IsNonDecreasing}
 use Rattle.std.proofs.lemmas.List.{length-map}
@@ -10,7 +10,8 @@ use Rattle.source_location.proofs.IndexLemmas.{starts_rise}
 use Rattle.utf16_places.specs.Places.{IsNearest}
 use Rattle.utf16_places.specs.declared.place.Place16.{Place16}
 use Rattle.utf16_places.specs.declared.wide.WideCharacter.{WideCharacter}
-use Rattle.utf16_places.specs.Index.{Utf16View, IsIndexOf, AreWideOf, AreWideWithPart}
+use Rattle.utf16_places.specs.Index.{Utf16View, IsIndexOf, AreWideOf}
+use Rattle.utf16_places.specs.Parts.{AreWideWithPart}
 use Rattle.utf16_places.proofs.LineLemmas.{starts_at}
 use Rattle.utf16_places.proofs.PlaceLemmas.{part_of, nearest_past}
 

@@ -1,17 +1,15 @@
 -- Characters past ASCII, and what stands between them.
-use Rattle.std.proofs.Common.{◌≡◌, ℕ, ◌+◌, ◌-◌, ◌≤◌, ◌<◌, ◌⊎◌, inl, inr, true, false, cond, ltb, List, [], ◌∷◌, ◌++◌, length, take, drop, get_or, refl, sym, ap, subst, ◌∙◌, arith, zero, suc, ⊎_elim, All, AllPairs}
+use Rattle.std.proofs.Common.{◌≡◌, ℕ, ◌+◌, ◌-◌, ◌≤◌, ◌<◌, List, length, get_or, sym, ap, subst, ◌∙◌, arith, zero, suc, ⊎_elim, AllPairs}
 use Rattle.std.specs.Char.{IsScalar, len_utf8}
 use Rattle.std.specs.Str.{IsUtf8, IsCharBoundary}
 use Rattle.std.specs.Str.Pattern.{HasCharAt}
 use Rattle.std.proofs.lemmas.Bool.{cases_lt}
 use Rattle.std.proofs.lemmas.Bool.Decides.{nat_tests}
 use Rattle.std.proofs.lemmas.Str.{IsCharBoundary-after_ascii, len_utf8_bounds}
-use lib.Utf8.{encode}
-use Rattle.utf16_places.specs.Bytes.{bytes_by, units_by}
 use Rattle.utf16_places.specs.declared.wide.WideCharacter.{WideCharacter}
-use Rattle.utf16_places.specs.Index.{IsWideIn, AreWideBefore, AreWideOf}
+use Rattle.utf16_places.specs.Index.{IsWideIn, AreWideBefore}
 use Rattle.utf16_places.proofs.UnitsLemmas.{units_begun, before, before-more, scalar_low}
-use Rattle.utf16_places.proofs.CharacterLemmas.{CharacterAt, character_at, byte_of, encode_first, encode_inner}
+use Rattle.utf16_places.proofs.CharacterLemmas.{byte_of, encode_first, encode_inner}
 
 -- a character by its bytes
 pub record IsWideSpan (text : List ℕ) (start end : ℕ) : Type 0 where

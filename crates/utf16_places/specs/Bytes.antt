@@ -1,5 +1,5 @@
 -- What bytes tell of characters.
-use Rattle.std.specs.Prelude.{ℕ, ◌<◌, ◌≤◌, nat_lt, List, length, slice_index, All, Option, MatchOption, if◌then◌else◌}
+use Rattle.std.specs.Prelude.{ℕ, ◌<◌, ◌≤◌, nat_lt, List, length, slice_index, Option, MatchOption, if◌then◌else◌}
 
 -- how many bytes a character past ASCII has, by its first one
 abbrev pub bytes_by : ℕ → ℕ

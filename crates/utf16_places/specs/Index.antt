@@ -1,15 +1,14 @@
 -- What the index of a text knows of it.
 use Rattle.std.specs.Prelude.{◌≡◌, ℕ, ◌<◌, ◌≤◌, List, length, map, slice_index, slice_index_or, slice_range, All, AllPairs}
 use Rattle.std.specs.Char.{IsScalar}
-use Rattle.std.specs.Str.{IsUtf8, IsCharBoundary}
+use Rattle.std.specs.Str.{IsUtf8}
 use Rattle.std.specs.Str.Pattern.{HasCharAt}
 use Rattle.source_location.specs.Breaks.{breaks_of}
-use Rattle.source_location.specs.Rows.{line_starts, row_of}
+use Rattle.source_location.specs.Rows.{line_starts}
 use Rattle.source_location.specs.Index.{Fits}
 use Rattle.utf16_places.specs.Units.{utf16_units}
 use Rattle.utf16_places.specs.Places.{line_start_of}
 use Rattle.utf16_places.specs.declared.wide.WideCharacter.{WideCharacter}
-use Rattle.utf16_places.specs.declared.wide.Counted.{Counted}
 
 -- a character past ASCII stands there in the text, and that many units of its row are before its end
 pub record IsWideIn (text : List ℕ) (wide : WideCharacter) : Type 0 where
@@ -50,32 +49,3 @@ pub record IsIndexOf (index : Utf16View) (text : List ℕ) : Type 0 where
 pub record IsIndex (index : Utf16View) : Type 0 where
   pub text : List ℕ
   pub known : IsIndexOf index text
-
--- a part of a line: from where it starts up to a boundary of it
-pub record IsLinePart (text : List ℕ) (start limit : ℕ) : Type 0 where
-  pub boundary : IsCharBoundary text limit
-  pub line : line_start_of text limit ≡ start
-
--- a boundary of such a part, and how many units of the line are before it
-pub record IsCounted (text : List ℕ) (start limit : ℕ) (counted : Counted) : Type 0 where
-  pub boundary : IsCharBoundary text counted.offset
-  pub from : start ≤ counted.offset
-  pub up_to : counted.offset ≤ limit
-  pub unit : counted.unit ≡ utf16_units (slice_range text start counted.offset)
-
--- the characters are those of some text
-pub record AreWide (wide : List WideCharacter) : Type 0 where
-  pub text : List ℕ
-  pub known : AreWideOf text wide
-
--- the characters are those of some text, of which that is a part of a line
-pub record AreWideWithPart (wide : List WideCharacter) (start limit : ℕ) : Type 0 where
-  pub text : List ℕ
-  pub known : AreWideOf text wide
-  pub part : IsLinePart text start limit
-
--- the last offset in a line, and a boundary
-pub record IsLastIn (text : List ℕ) (line offset : ℕ) : Type 0 where
-  pub boundary : IsCharBoundary text offset
-  pub row : row_of (breaks_of text) offset ≡ line
-  pub last : (other : ℕ) → other ≤ length text → row_of (breaks_of text) other ≡ line → other ≤ offset

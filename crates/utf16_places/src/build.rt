@@ -1,5 +1,5 @@
 // One pass over the lines of a text, which marks the characters past ASCII.
-ghost use Rattle.std.specs.Prelude.{◌≡◌, ◌+◌, ◌<◌, ◌≤◌, ℕ, OnOk, OnErr, length, slice_index, position, nat_le};
+ghost use Rattle.std.specs.Prelude.{◌≡◌, ◌<◌, ◌≤◌, ℕ, OnOk, length, slice_index, position, nat_le};
 ghost use Rattle.std.specs.Str.{IsCharBoundary};
 ghost use Rattle.source_location.specs.Index.{Fits};
 ghost use Rattle.utf16_places.specs.Places.{line_start_of};

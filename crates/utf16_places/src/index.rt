@@ -1,5 +1,5 @@
 // The index that turns offsets into places and back.
-ghost use Rattle.std.specs.Prelude.{◌≡◌, ◌+◌, ◌-◌, ◌^◌, ◌<◌, ◌≤◌, ◌↔◌, ℕ, List, [], ◌∷◌, IsTrue, Some, IfOk, length, take, count_by, nat_le};
+ghost use Rattle.std.specs.Prelude.{◌≡◌, ◌^◌, ◌<◌, ◌≤◌, ◌↔◌, ℕ, List, [], ◌∷◌, IsTrue, Some, IfOk, length, take, count_by, nat_le};
 ghost use Rattle.std.specs.List.Sorted.{IsNonDecreasing};
 ghost use Rattle.std.specs.Option.{option_map};
 ghost use Rattle.std.specs.Str.{IsCharBoundary};
@@ -7,8 +7,9 @@ ghost use Rattle.source_location.specs.Breaks.{breaks_of};
 ghost use Rattle.source_location.specs.Rows.{row_of, row_start};
 ghost use Rattle.source_location.specs.Locations.{offset_at};
 ghost use Rattle.source_location.specs.Index.{Fits, index_of};
-ghost use Rattle.utf16_places.specs.Places.{utf16_place, line_start_of, line_end, IsOffsetOf, IsNearest, PartsNoCrlf};
-ghost use Rattle.utf16_places.specs.Index.{IsIndexOf, IsLastIn};
+ghost use Rattle.utf16_places.specs.Places.{utf16_place, line_end, IsOffsetOf, IsNearest, PartsNoCrlf};
+ghost use Rattle.utf16_places.specs.Index.{IsIndexOf};
+ghost use Rattle.utf16_places.specs.Parts.{IsLastIn};
 
 use crate::Place16;
 use crate::build::mark_line;
@@ -41,7 +42,7 @@ impl Model for Utf16Index {
 }
 
 impl Utf16Index {
-    /// Builds the index of a text that fits, in one pass over it.
+    /// Builds the index of a text that fits (`source_location::fits` tests it), in one pass over it. It fails for want of memory alone.
     pub fn new(alloc: Global, text: &str) -> Result<Utf16Index, AllocError>
         requires { Fits text.now }
         ensures { IfOk result (λ index. IsIndexOf index text.now) }
@@ -69,7 +70,7 @@ impl Utf16Index {
         })
     }
 
-    /// The place of a boundary of the text.
+    /// The place of a boundary of the text. Of an offset that is none (`is_boundary` tests it) the place isn't said.
     pub fn place_of(&self, offset: TextSize) -> Place16
         ensures { (text : List ℕ) → IsIndexOf self.now text → IsCharBoundary text offset → result ≡ utf16_place text offset }
     {
@@ -131,7 +132,7 @@ impl Utf16Index {
         .offset
     }
 
-    /// The places of both ends of a range, which are boundaries of the text.
+    /// The places of both ends of a range, each of which is a boundary of the text.
     pub fn range_of(&self, range: TextRange) -> (Place16, Place16)
         ensures start { (text : List ℕ) → IsIndexOf self.now text → IsCharBoundary text range.0 → result.0 ≡ utf16_place text range.0 }
         ensures end { (text : List ℕ) → IsIndexOf self.now text → IsCharBoundary text range.1 → result.1 ≡ utf16_place text range.1 }

@@ -1,10 +1,10 @@
 // The characters past ASCII of a text, and how lines are counted by them.
-ghost use Rattle.std.specs.Prelude.{◌≡◌, ◌⊎◌, ◌+◌, ◌-◌, ◌<◌, ◌≤◌, ◌↔◌, ◌||◌, ◌&&◌, ℕ, List, IsTrue, true, false, nat_lt, nat_le, length, slice_range, slice_index_or};
+ghost use Rattle.std.specs.Prelude.{◌≡◌, ◌⊎◌, ◌-◌, ◌<◌, ◌≤◌, ◌||◌, ◌&&◌, ℕ, List, true, false, nat_lt, nat_le, length, slice_range, slice_index_or};
 ghost use Rattle.std.specs.List.Sorted.{IsPartitionPoint};
 ghost use Rattle.std.specs.Str.{IsCharBoundary};
 ghost use Rattle.utf16_places.specs.Units.{utf16_units};
-ghost use Rattle.utf16_places.specs.Places.{line_start_of};
-ghost use Rattle.utf16_places.specs.Index.{AreWide, AreWideOf, AreWideWithPart, IsLinePart, IsCounted};
+ghost use Rattle.utf16_places.specs.Index.{AreWideOf};
+ghost use Rattle.utf16_places.specs.Parts.{AreWide, AreWideWithPart, IsLinePart, IsCounted};
 ghost use Rattle.utf16_places.specs.declared.wide.WideCharacter.{WideCharacter};
 
 use text_size::TextSize;

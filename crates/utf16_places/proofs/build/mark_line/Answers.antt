@@ -1,4 +1,4 @@
-use Rattle.std.proofs.Common.{◌≡◌, ◌+◌, ◌<◌, ◌≤◌, ◌^◌, arith, refl}
+use Rattle.std.proofs.Common.{◌≤◌, arith, refl}
 use Rattle.utf16_places.proofs.MarkLemmas.{next_read, marked_read}
 use Rattle.utf16_places.proofs.build.mark_line.Goals as goal
 

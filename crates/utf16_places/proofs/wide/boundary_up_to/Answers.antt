@@ -1,5 +1,5 @@
-use Rattle.std.proofs.Common.{◌≡◌, ℕ, ◌+◌, ◌-◌, ◌<◌, ◌≤◌, List, arith, subst, sym, ap, min, ◌∙◌}
-use Rattle.utf16_places.specs.Index.{AreWideOf, IsLinePart, IsCounted}
+use Rattle.std.proofs.Common.{◌≡◌, ◌+◌, ◌-◌, arith, subst, sym, ap, min, ◌∙◌}
+use Rattle.utf16_places.specs.Parts.{IsCounted}
 use Rattle.utf16_places.proofs.SearchLemmas.{few_counted, step_of, step_room, step_counted, step_largest}
 use Rattle.utf16_places.proofs.wide.boundary_up_to.Goals as goal
 

@@ -1,5 +1,5 @@
 use Rattle.std.proofs.Common.{◌-◌, ◌<◌, arith, ap, sym, subst, length}
-use Rattle.utf16_places.specs.Index.{IsCounted}
+use Rattle.utf16_places.specs.Parts.{IsCounted}
 use Rattle.utf16_places.specs.declared.wide.WideCharacter.{WideCharacter}
 use Rattle.utf16_places.proofs.SearchLemmas.{counted_last, counted_start, few_before, behind_last, behind_start}
 use Rattle.utf16_places.proofs.wide.counted_to.Goals as goal

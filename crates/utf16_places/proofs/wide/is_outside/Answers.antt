@@ -1,6 +1,5 @@
-use Rattle.std.proofs.Common.{◌≡◌, refl, ◌-◌, ◌<◌, arith, ap, sym, get_or, length}
+use Rattle.std.proofs.Common.{refl, ◌-◌, ◌<◌, arith, get_or, length}
 use Rattle.std.proofs.lemmas.Str.{IsCharBoundary-start}
-use Rattle.utf16_places.specs.declared.wide.WideCharacter.{WideCharacter}
 use Rattle.utf16_places.proofs.WideLemmas.{past_span}
 use Rattle.utf16_places.proofs.SearchLemmas.{outside, span_at, behind_last, le_true, true_le}
 use Rattle.utf16_places.proofs.wide.is_outside.Goals as goal

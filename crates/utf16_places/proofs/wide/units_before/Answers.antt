@@ -1,4 +1,4 @@
-use Rattle.std.proofs.Common.{◌≡◌, ◌+◌, ◌-◌, ◌<◌, arith}
+use Rattle.std.proofs.Common.{arith}
 use Rattle.utf16_places.proofs.SearchLemmas.{units_from}
 use Rattle.utf16_places.proofs.wide.units_before.Goals as goal
 

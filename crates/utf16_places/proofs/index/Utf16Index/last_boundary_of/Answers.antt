@@ -1,6 +1,7 @@
-use Rattle.std.proofs.Common.{◌≡◌, ◌+◌, arith, ap, subst, sym, length, ◌∙◌, get_or}
+use Rattle.std.proofs.Common.{◌≡◌, arith, ap, subst, sym, length, ◌∙◌, get_or}
 use Rattle.source_location.specs.Breaks.{LineBreak, breaks_of}
-use Rattle.utf16_places.specs.Index.{Utf16View, IsLastIn}
+use Rattle.utf16_places.specs.Index.{Utf16View}
+use Rattle.utf16_places.specs.Parts.{IsLastIn}
 use Rattle.utf16_places.proofs.ViewLemmas.{line_count}
 use Rattle.utf16_places.proofs.PlaceLemmas.{next_start, break_ends, text_ends}
 use Rattle.utf16_places.proofs.index.Utf16Index.last_boundary_of.Goals as goal

@@ -1,4 +1,4 @@
-use Rattle.std.proofs.Common.{◌≡◌, ◌<◌, arith, ap, subst, sym, length, ◌∙◌, count_by, leb}
+use Rattle.std.proofs.Common.{arith, ap, length, ◌∙◌, count_by, leb}
 use Rattle.source_location.proofs.IndexLemmas.{count_starts, few_starts}
 use Rattle.source_location.specs.Breaks.{breaks_of}
 use Rattle.utf16_places.specs.Index.{Utf16View}

@@ -1,4 +1,4 @@
-use Rattle.std.proofs.Common.{◌≡◌, arith, ap, length, ◌∙◌}
+use Rattle.std.proofs.Common.{arith, ap, ◌∙◌}
 use Rattle.utf16_places.specs.Index.{Utf16View}
 use Rattle.utf16_places.proofs.PlaceLemmas.{line_end-at, line_end-past}
 use Rattle.utf16_places.proofs.index.Utf16Index.line_end.Goals as goal

@@ -1,4 +1,4 @@
-use Rattle.std.proofs.Common.{◌≡◌, arith, ap, length, ◌∙◌}
+use Rattle.std.proofs.Common.{arith, ap, length, ◌∙◌}
 use Rattle.source_location.proofs.IndexLemmas.{start_at}
 use Rattle.utf16_places.specs.Index.{Utf16View}
 use Rattle.utf16_places.proofs.index.Utf16Index.line_start.Goals as goal

@@ -1,6 +1,5 @@
-use Rattle.std.proofs.Common.{◌≡◌, ℕ, List, Some, None, ◌≤◌, arith, ap, sym, length, ◌∙◌}
+use Rattle.std.proofs.Common.{ℕ, List, Some, None, arith, ap, ◌∙◌}
 use Rattle.utf16_places.specs.Places.{IsOffsetOf}
-use Rattle.source_location.specs.Breaks.{breaks_of}
 use Rattle.utf16_places.specs.Index.{Utf16View, IsIndexOf}
 use Rattle.utf16_places.proofs.ViewLemmas.{known_now, wide_now, line_count, with_part}
 use Rattle.utf16_places.proofs.PlaceLemmas.{leads_back_to, offset_past, offset_found, offset_missing, part_of}

@@ -1,11 +1,10 @@
-use Rattle.std.proofs.Common.{◌≡◌, arith, ap, sym, ◌∙◌, slice_range}
+use Rattle.std.proofs.Common.{arith, ap, sym, ◌∙◌, slice_range}
 use Rattle.source_location.specs.Breaks.{breaks_of}
 use Rattle.source_location.proofs.BreaksLemmas.{breaks_valid}
 use Rattle.source_location.proofs.RowsLemmas.{row_start_le}
 use Rattle.std.proofs.Common.{length}
 use Rattle.utf16_places.specs.Units.{utf16_units}
 use Rattle.utf16_places.specs.Index.{Utf16View}
-use Rattle.utf16_places.proofs.LineLemmas.{starts_at, line_start-row}
 use Rattle.utf16_places.proofs.ViewLemmas.{known_now, wide_now}
 use Rattle.utf16_places.proofs.PlaceLemmas.{place_is, part_of}
 use Rattle.utf16_places.proofs.index.Utf16Index.place_of.Goals as goal
