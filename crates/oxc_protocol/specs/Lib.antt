@@ -11,3 +11,7 @@ pub mod LendingList
 pub mod Faults
 pub mod Sink
 pub mod MemorySink
+pub mod Reporters
+pub mod Counts
+pub mod Places
+pub mod Info

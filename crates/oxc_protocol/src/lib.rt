@@ -13,7 +13,9 @@ mod diagnostic;
 mod diagnostics;
 mod memory;
 mod named_source;
+mod place;
 mod protocol;
+mod reporter;
 mod sink;
 mod source_impls;
 
@@ -23,6 +25,7 @@ pub use crate::diagnostics::{Diagnostics, Errors, Warnings};
 pub use crate::memory::MemorySink;
 pub use crate::named_source::NamedSource;
 pub use crate::protocol::{Diagnostic, Severity, SourceCode, SourceRef};
+pub use crate::reporter::{DiagnosticReporter, DiagnosticResult, Info, InfoPosition};
 pub use crate::sink::{Failed, Sink, write_all};
 pub use crate::source_impls::TextSource;
 pub use oxc_span::LabeledSpan;
