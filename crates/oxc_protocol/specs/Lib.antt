@@ -15,3 +15,4 @@ pub mod Reporters
 pub mod Counts
 pub mod Places
 pub mod Info
+pub mod Laws

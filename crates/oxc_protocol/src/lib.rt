@@ -11,6 +11,7 @@
 mod code;
 mod diagnostic;
 mod diagnostics;
+pub mod laws;
 mod memory;
 mod named_source;
 mod place;
@@ -43,5 +44,7 @@ pub type Labels = SmallVec<LabeledSpan, 2, Global>;
 
 #[cfg(test)]
 mod record_tests;
+#[cfg(test)]
+mod reporter_tests;
 #[cfg(test)]
 mod tests;
