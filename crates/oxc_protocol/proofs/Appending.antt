@@ -1,9 +1,8 @@
 -- What known bytes are after several writes.
-use Rattle.std.proofs.Common.{◌≡◌, ℕ, ◌-◌, List, [], ◌++◌, Option, Some, None, append_assoc, append-nil, refl, sym, ◌∙◌, ap, length, take, drop, arith, length-drop}
+use Rattle.std.proofs.Common.{◌≡◌, ℕ, ◌-◌, List, ◌++◌, Option, Some, None, append_assoc, ◌∙◌, ap, length, take, drop, arith, length-drop}
 use Rattle.std.proofs.lemmas.Grind.{common_steps}
 use Rattle.std.proofs.lemmas.List.{take-append-drop}
-use Rattle.std.specs.Io.KnownBytes.{Appends, Keeps}
-use Rattle.oxc_protocol.specs.Sink.{AppendsPrefix}
+use Rattle.std.specs.Io.KnownBytes.{Appends}
 
 -- two writes one after the other
 pub Appends-trans : (a b c : Option (List ℕ)) (xs ys : List ℕ) → Appends a b xs → Appends b c ys → Appends a c (xs ++ ys)

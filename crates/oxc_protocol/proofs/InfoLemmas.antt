@@ -1,5 +1,5 @@
 -- The row that is told of a diagnostic, and the one that a scanner without context reads.
-use Rattle.std.proofs.Common.{◌≡◌, ℕ, ◌+◌, ◌-◌, ◌≤◌, Bool, true, false, nat_le, nat_lt, List, ◌∷◌, length, Option, Some, None, refl, ap, sym, ◌∙◌, arith}
+use Rattle.std.proofs.Common.{◌≡◌, ℕ, ◌+◌, ◌≤◌, Bool, true, false, nat_le, nat_lt, List, ◌∷◌, length, Some, refl, ap, ◌∙◌, arith}
 use Rattle.std.proofs.lemmas.Bool.Decides.{nat_tests}
 use Rattle.oxc_span.specs.Label.{Label, label_end}
 use Rattle.oxc_span.specs.declared.span.Span.{Span}
@@ -9,8 +9,8 @@ use Rattle.oxc_windows.specs.Window.{window_of}
 use Rattle.oxc_windows.specs.Scan.{Contents, Scan, contents_read}
 use Rattle.oxc_protocol.specs.Source.{SourceParts}
 use Rattle.oxc_protocol.specs.Parts.{Parts}
-use Rattle.oxc_protocol.specs.Info.{info_of, position_of, positions_of}
-use Rattle.oxc_protocol.specs.Laws.{PointsTo, TellOneRow}
+use Rattle.oxc_protocol.specs.Info.{info_of}
+use Rattle.oxc_protocol.specs.Laws.{TellOneRow}
 
 le_passes : (a b : ℕ) → a ≤ b → nat_le a b ≡ true
 le_passes a b le = grind (arith, nat_tests)

@@ -1,6 +1,6 @@
 -- How many breaks end in a part of a source, and where the row of an offset starts.
-use Rattle.std.proofs.Common.{◌≡◌, ℕ, zero, suc, ◌+◌, ◌-◌, ◌<◌, ◌≤◌, ◌⊎◌, ◌&&◌, ◌||◌, not, Bool, true, false, cond, List, ◌∷◌, [], length, get_or, take, drop, slice_range, Option, Some, None, refl, sym, ap, subst, ◌∙◌, arith, eqb, ⊎_elim, count_by}
-use Rattle.std.proofs.lemmas.Bool.{cases_lt, false≢true}
+use Rattle.std.proofs.Common.{◌≡◌, ℕ, zero, suc, ◌+◌, ◌-◌, ◌<◌, ◌≤◌, ◌&&◌, ◌||◌, not, Bool, true, false, cond, List, ◌∷◌, [], length, get_or, take, drop, slice_range, Some, None, refl, sym, ap, subst, ◌∙◌, arith, eqb, ⊎_elim, count_by}
+use Rattle.std.proofs.lemmas.Bool.{cases_lt}
 use Rattle.std.proofs.lemmas.Bool.Decides.{nat_tests}
 use Rattle.std.proofs.lemmas.List.{get_or_past, drop_more, get_or-take, get_or-drop, length-take, length-drop, take_all}
 use Rattle.std.proofs.Math.ListN.{drop_of_length-le}

@@ -1,5 +1,5 @@
 -- Runs of a reporter over a list, one diagnostic at a time.
-use Rattle.std.proofs.Common.{◌≡◌, ℕ, Bool, true, false, List, [], ◌∷◌, ◌++◌, Option, Some, None, Result, Ok, Err, OnOk, OnErr, map, length, refl, ap, sym, subst, arith, inl, inr, ⊎_elim}
+use Rattle.std.proofs.Common.{◌≡◌, ℕ, Bool, true, false, List, [], ◌∷◌, Option, Some, None, Result, Ok, Err, OnOk, OnErr, map, length, refl, ap, sym, subst, arith, inl, inr, ⊎_elim}
 use Rattle.oxc_protocol.specs.Source.{source_name}
 use Rattle.oxc_protocol.specs.Parts.{Parts}
 use Rattle.oxc_protocol.specs.Reporters.{KeepsEach, KeepsFront, Offer, RendersAll, RendersFront, RendersUntil, StopsAt}

@@ -1,5 +1,5 @@
 -- What follows of a whole list for a reporter whose answer depends on the diagnostic alone, and for a closure that gathers.
-use Rattle.std.proofs.Common.{◌≡◌, ℕ, List, [], ◌∷◌, ◌++◌, Option, map, refl, sym, ap, ◌∙◌, append_assoc, append-nil}
+use Rattle.std.proofs.Common.{◌≡◌, ℕ, List, [], ◌∷◌, ◌++◌, Option, map, refl, append_assoc, append-nil}
 use Rattle.std.specs.List.{concat}
 use Rattle.oxc_protocol.specs.Parts.{Parts}
 use Rattle.oxc_protocol.specs.Reporters.{Answers, HandsOn, RendersAll, texts_in}

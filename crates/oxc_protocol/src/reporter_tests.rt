@@ -7,8 +7,8 @@ ghost use Rattle.oxc_protocol.specs.Reporters.{texts_in};
 ghost use Rattle.oxc_protocol.specs.Source.{Fits};
 
 use crate::{
-    DiagnosticReporter, DiagnosticResult, DiagnosticWithSource, Error, Info, InfoPosition, LabeledSpan, NamedSource,
-    OxcDiagnostic, Severity, TextSource,
+    DiagnosticReporter, DiagnosticResult, DiagnosticWithSource, Error, Info, InfoPosition,
+    LabeledSpan, NamedSource, OxcDiagnostic, Severity, TextSource,
 };
 use std::alloc::{AllocError, Global};
 use std::cmp::Ordering;
@@ -98,7 +98,11 @@ fn texts_are_handed_on_in_order(rt: HostRuntime) -> Result<(), Fail> {
 #[test]
 fn a_text_that_is_not_kept_is_the_last(rt: HostRuntime) -> Result<(), Fail> {
     let alloc = rt.alloc();
-    for (last, offered) in [("a", "a.js a "), ("b", "a.js a - b "), ("z", "a.js a - b - c ")] {
+    for (last, offered) in [
+        ("a", "a.js a "),
+        ("b", "a.js a - b "),
+        ("z", "a.js a - b - c "),
+    ] {
         let mut errors: Vec<Error> = Vec::new(alloc);
         errors.push(Box::new(alloc, sourced(alloc, "a", 0, 1)?)?)?;
         for message in ["skip", "b", "c"] {
@@ -118,7 +122,9 @@ fn a_text_that_is_not_kept_is_the_last(rt: HostRuntime) -> Result<(), Fail> {
 #[test]
 fn a_result_keeps_its_numbers(rt: HostRuntime) -> Result<(), Fail> {
     let counts = DiagnosticResult::new(1, 2, true);
-    assert!(rt; counts.warnings_count() == 1 && counts.errors_count() == 2 && counts.max_warnings_exceeded());
+    assert!(rt;
+        counts.warnings_count() == 1 && counts.errors_count() == 2 && counts.max_warnings_exceeded()
+    );
     assert!(rt; keeps_fallback());
     Ok(())
 }
@@ -135,9 +141,11 @@ fn sourced(
     let source = TextSource::new(String::from_str(alloc, "foo\nbar\nbaz")?);
     let named = NamedSource::new(String::from_str(alloc, "a.js")?, source);
     let label = LabeledSpan::new(None, offset, len);
-    Ok(OxcDiagnostic::error(alloc, message)?
-        .with_label(alloc, label)?
-        .with_source_code(named))
+    Ok(
+        OxcDiagnostic::error(alloc, message)?
+            .with_label(alloc, label)?
+            .with_source_code(named),
+    )
 }
 
 /// What is told of a label of a text.
@@ -176,7 +184,13 @@ fn positions_are_rows_and_byte_columns_from_1(rt: HostRuntime) -> Result<(), Fai
     Ok(())
 }
 
-fn says(info: &Info, filename: &str, message: &str, severity: Severity, rule: Option<&str>) -> bool {
+fn says(
+    info: &Info,
+    filename: &str,
+    message: &str,
+    severity: Severity,
+    rule: Option<&str>,
+) -> bool {
     info.filename.as_str() == filename
         && info.message.as_str() == message
         && info.severity == severity
@@ -192,6 +206,8 @@ fn without_a_position_it_is_a_warning_with_no_message(rt: HostRuntime) -> Result
     assert!(rt; is_at(&past, (0, 0), (0, 0)) && says(&past, "a.js", "", Severity::Warning, None));
     let coded = OxcDiagnostic::error(alloc, "m")?.with_error_code(alloc, "s", "1")?;
     let bare = Info::new(alloc, &coded)?;
-    assert!(rt; is_at(&bare, (0, 0), (0, 0)) && says(&bare, "", "", Severity::Warning, Some("s(1)")));
+    assert!(rt;
+        is_at(&bare, (0, 0), (0, 0)) && says(&bare, "", "", Severity::Warning, Some("s(1)"))
+    );
     Ok(())
 }

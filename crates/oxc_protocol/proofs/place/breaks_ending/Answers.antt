@@ -1,6 +1,4 @@
-use Rattle.std.proofs.Common.{◌≡◌, ◌+◌, length, ap, ◌∙◌, arith}
-use Rattle.oxc_windows.specs.Breaks.{breaks_of}
-use Rattle.oxc_windows.specs.Rows.{row_of}
+use Rattle.std.proofs.Common.{arith}
 use Rattle.oxc_protocol.proofs.PlaceLemmas.{ended_in, row_small}
 use Rattle.oxc_protocol.proofs.place.breaks_ending.Goals as goal
 

@@ -1,6 +1,4 @@
-use Rattle.std.proofs.Common.{◌≡◌, sym, ◌∙◌, arith}
-use Rattle.oxc_windows.specs.Breaks.{breaks_of}
-use Rattle.oxc_windows.specs.Rows.{row_of}
+use Rattle.std.proofs.Common.{arith}
 use Rattle.oxc_protocol.proofs.PlaceLemmas.{row_first, row_small}
 use Rattle.oxc_protocol.proofs.place.positions.Goals as goal
 

@@ -1,7 +1,7 @@
-use Rattle.std.proofs.Common.{◌≡◌, refl, sym, subst, ◌∙◌, rules, arith}
+use Rattle.std.proofs.Common.{refl, sym, subst, ◌∙◌, rules, arith}
 use denote.Param.Always.{mut_next}
 use Rattle.oxc_protocol.specs.Reporters.{KeptAt}
-use Rattle.oxc_protocol.proofs.RendersLemmas.{Leads, ends_until, keeps_front, kept_leads, on_err, silent_leads, until_refused}
+use Rattle.oxc_protocol.proofs.RendersLemmas.{ends_until, keeps_front, kept_leads, on_err, silent_leads, until_refused}
 use Rattle.oxc_protocol.proofs.reporter.DiagnosticReporter.render_errors_until_into.Goals as goal
 use Rattle.oxc_protocol.proofs.reporter.DiagnosticReporter.render_errors_until_into.Goals.{in-Some-2+else-not-wanted, in_default}
 
