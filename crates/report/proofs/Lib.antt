@@ -1,2 +1,4 @@
 pub mod Consuming
-pub mod Documents
+pub mod FirstLemmas
+pub mod KeyLemmas
+pub mod KindLemmas

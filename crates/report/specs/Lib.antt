@@ -1,6 +1,9 @@
 pub mod Reading
 pub mod MemorySource
+pub mod Kinds
 pub mod Document
 pub mod Views
+pub mod First
+pub mod FirstViews
 pub mod Code
 pub mod Run

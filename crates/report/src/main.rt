@@ -5,14 +5,18 @@
 #![tactic(auto)]
 
 mod document;
+mod fields;
+mod first;
 mod memory;
-mod place;
+mod first_values;
 mod source;
 mod status;
 mod streams;
 mod top;
+mod values;
 
-pub use document::{Document, read_document};
+pub use document::Document;
+pub use first::{FirstDocument, read_first};
 pub use memory::MemorySource;
 pub use source::{Reading, Source, read_all};
 pub use status::Status;
