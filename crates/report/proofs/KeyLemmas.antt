@@ -1,5 +1,5 @@
 -- Members that are taken out of an object one after another.
-use Rattle.std.proofs.Common.{◌≡◌, ℕ, List, [], ◌∷◌, length, map, ◌||◌, ◌&&◌, if◌then◌else◌, Option, Some, None, option_map, String, Global, string_bytes, nat_cmp, Ordering, Less, Equal, Greater, is_eq, cond, Bool, true, false, true≢false, bytes_eq, refl, sym, ap, ◌∙◌, ◌≢◌, arith}
+use Rattle.std.proofs.Common.{◌≡◌, is_some, ℕ, List, [], ◌∷◌, length, map, ◌||◌, ◌&&◌, if◌then◌else◌, Option, Some, None, option_map, String, Global, string_bytes, nat_cmp, Ordering, Less, Equal, Greater, is_eq, cond, Bool, true, false, true≢false, bytes_eq, refl, sym, ap, ◌∙◌, ◌≢◌, arith}
 use Rattle.std.proofs.lemmas.Map.Text.{is_eq-slice_cmp}
 use Rattle.std.specs.Cmp.Lexicographic.{slice_cmp, nat_list_eq_equiv}
 use Rattle.std.specs.List.{list_any}
@@ -62,7 +62,7 @@ unequal_either Less v rest unlike = refl
 unequal_either Equal v rest unlike = absurd (true≢false unlike)
 unequal_either Greater v rest unlike = refl
 
-skips : (name l : List ℕ) (v : Data) (rest : Members) → bytes_eq name l ≡ false → get_member name (member l v rest) ≡ get_member name rest
+pub skips : (name l : List ℕ) (v : Data) (rest : Members) → bytes_eq name l ≡ false → get_member name (member l v rest) ≡ get_member name rest
 skips name l v rest unlike = unequal_either (slice_cmp nat_cmp name l) v (get_member name rest) (is_eq-slice_cmp name l ∙ unlike)
 
 left_of : (first name l : List ℕ) (v : Data) (rest others : Members) (b : Bool) → bytes_eq first l ≡ b → bytes_eq first name ≡ false
@@ -119,3 +119,11 @@ some_left (e ∷ es) some = refl
 pub only_all : (keys : List Key) (ms : Members) → only_keys keys ms ≡ only_keys [] (all_without (map (λ key. key.name) keys) ms)
 only_all [] ms = refl
 only_all (key ∷ keys) ms = only_keys_without key keys ms ∙ only_all keys (without key.name ms)
+
+is_some-map : {A B : Type 0} (f : A → B) (found : Option A) → is_some (option_map f found) ≡ is_some found
+is_some-map f None = refl
+is_some-map f (Some x) = refl
+
+-- whether the map has the key
+pub has_key : (name : List ℕ) (es : List Entry) → is_some (lookup (at_name name) es) ≡ is_some (get_member name (members_view es))
+has_key name es = sym (is_some-map view (lookup (at_name name) es)) ∙ ap is_some (view-lookup name es)

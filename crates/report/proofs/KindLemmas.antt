@@ -1,9 +1,15 @@
 -- What the arrays and objects of a document say.
-use Rattle.std.proofs.Common.{◌≡◌, ◌≢◌, ℕ, List, [], ◌∷◌, length, Option, Some, None, refl}
-use Rattle.serde_json.specs.Data.{Data}
+use Rattle.std.proofs.Common.{◌≡◌, ◌≢◌, ℕ, List, [], ◌∷◌, ◌∙◌, length, Bool, true, false, true≢false, ◌&&◌, if◌then◌else◌, bytes_eq, codes, is_some, Option, Some, None, refl, sym, ap, subst}
+use Rattle.std.proofs.lemmas.Slice.Eq.{bytes_eq-Decides}
+use Rattle.std.specs.List.{list_any, list_all}
+use Rattle.std.specs.Option.{option_or}
+use Rattle.serde_json.specs.Data.{Data, object, Members, no_members, member}
+use Rattle.serde_json.specs.Find.{get, get_member}
 use Rattle.serde_json.specs.View.{items_view}
 use Rattle.serde_json.specs.declared.value.Value.{Value}
-use Rattle.report.specs.Kinds.{pair_in}
+use Rattle.report.specs.Kinds.{Key, only_keys, pair_in}
+use Rattle.report.specs.Document.{row_keys, label_by_rows, label_by_bytes}
+use Rattle.report.proofs.KeyLemmas.{skips}
 
 -- a list that isn't of two values
 pub no_pair : {A : Type 0} (kind : Data → Option A) (values : List Value) → length values ≢ 2 → pair_in kind (items_view values) ≡ None
@@ -11,3 +17,51 @@ no_pair kind [] other = refl
 no_pair kind (first ∷ []) other = refl
 no_pair kind (first ∷ second ∷ []) other = absurd (other refl)
 no_pair kind (first ∷ second ∷ third ∷ rest) other = refl
+
+-- ---- labels
+
+never : (a : Bool) → (a && false) ≡ false
+never true = refl
+never false = refl
+
+stranger_here : (keys : List Key) (name l : List ℕ) (v : Data) (rest : Members) (b : Bool) → bytes_eq name l ≡ b
+    → list_any (λ key. bytes_eq key.name name) keys ≡ false → is_some (get_member name (member l v rest)) ≡ true
+    → (is_some (get_member name rest) ≡ true → only_keys keys rest ≡ false)
+    → only_keys keys (member l v rest) ≡ false
+stranger_here keys name l v rest true is apart there later =
+    let same : name ≡ l = (bytes_eq-Decides name l).0 is in
+    let none : list_any (λ key. bytes_eq key.name l) keys ≡ false = subst (λ n. list_any (λ key. bytes_eq key.name n) keys ≡ false) same apart in
+    rw none refl
+stranger_here keys name l v rest false is apart there later =
+    let found : is_some (get_member name rest) ≡ true = ap is_some (sym (skips name l v rest is)) ∙ there in
+    rw (later found) (never (list_any (λ key. bytes_eq key.name l) keys))
+
+-- an object with a key that the table hasn't
+stranger : (keys : List Key) (name : List ℕ) (ms : Members) → list_any (λ key. bytes_eq key.name name) keys ≡ false
+    → is_some (get_member name ms) ≡ true → only_keys keys ms ≡ false
+stranger keys name no_members apart there = absurd (true≢false (sym there))
+stranger keys name (member l v rest) apart there =
+    stranger_here keys name l v rest (bytes_eq name l) refl apart there (λ found. stranger keys name rest apart found)
+
+not_there : {A : Type 0} (found : Option A) → is_some found ≡ false → found ≡ None
+not_there None none = refl
+not_there (Some x) none = absurd (true≢false none)
+
+if_never : {A : Type 0} (a : Bool) (meaning : A) → (if a && false then Some meaning else None) ≡ None
+if_never true meaning = refl
+if_never false meaning = refl
+
+-- with a place by bytes, a label isn't one by rows and columns
+pub rows_refused : (ms : Members) → is_some (get_member (codes "bytes") ms) ≡ true → label_by_rows (object ms) ≡ None
+unfolding label_by_rows
+rows_refused ms there =
+    rw (stranger row_keys (codes "bytes") ms refl there) (if_never (list_all (λ key. key.allows (get key.name (object ms))) row_keys) _)
+
+-- without one, it isn't one by bytes
+pub bytes_refused : (ms : Members) → is_some (get_member (codes "bytes") ms) ≡ false → label_by_bytes (object ms) ≡ None
+unfolding label_by_bytes
+bytes_refused ms none = rw (not_there (get_member (codes "bytes") ms) none) refl
+
+pub either_kind : {A : Type 0} (found : Option A) → option_or found None ≡ found
+either_kind None = refl
+either_kind (Some x) = refl

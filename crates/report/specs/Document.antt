@@ -8,6 +8,7 @@ use Rattle.serde_json.specs.Read.{read}
 use Rattle.source_location.specs.declared.SourceLocation.{SourceLocation}
 use Rattle.codespan.specs.Texts.{NamedText}
 use Rattle.oxc_protocol.specs.declared.protocol.Severity.TheVariants.{Error}
+use Rattle.oxc_protocol.specs.Parts.{OxcParts}
 use Rattle.render_files.specs.declared.places.LabelPlace.{LabelPlace}
 use Rattle.render_files.specs.declared.places.LabelPlace.TheVariants.{Rows, Bytes}
 use Rattle.render_files.specs.Given.{GivenLabel, GivenReport}
@@ -67,33 +68,41 @@ abbrev pub label : Version → Data → Option GivenLabel
 label One it = label_by_rows it
 label Two it = option_or (label_by_rows it) (label_by_bytes it)
 
--- a report
+-- where a report is
 abbrev pub file_number : Data → Option ℕ
 file_number value = whole 0 (2 ^ 32 - 2) value
 
 abbrev pub labels : Version → Data → Option (List GivenLabel)
 labels version value = array_of (label version) value
 
-abbrev pub report_keys : Version → List Key
-report_keys version =
-    must (codes "file") file_number ∷ must (codes "message") text ∷ may (codes "severity") severity
+-- what a report says
+abbrev pub said_keys : List Key
+said_keys =
+    must (codes "message") text ∷ may (codes "severity") severity
     ∷ may (codes "scope") some_text ∷ may (codes "number") some_text
-    ∷ may (codes "help") text ∷ may (codes "note") text ∷ may (codes "url") text
-    ∷ may (codes "labels") (labels version) ∷ []
+    ∷ may (codes "help") text ∷ may (codes "note") text ∷ may (codes "url") text ∷ []
+
+abbrev pub said_in : Data → OxcParts
+said_in it =
+    record {
+      message = unwrap_or (under (codes "message") text it) [];
+      severity = unwrap_or (under (codes "severity") severity it) Error;
+      code = record { scope = under (codes "scope") some_text it; number = under (codes "number") some_text it };
+      help = under (codes "help") text it;
+      note = under (codes "note") text it;
+      url = under (codes "url") text it;
+      labels = [];
+    }
+
+-- a report: on which file, where, and what it says
+abbrev pub report_keys : Version → List Key
+report_keys version = must (codes "file") file_number ∷ may (codes "labels") (labels version) ∷ said_keys
 
 unfoldable pub report : Version → Data → Option GivenReport
 report version it =
     object_of (report_keys version) (record {
       file = unwrap_or (under (codes "file") file_number it) 0;
-      diagnostic = record {
-        message = unwrap_or (under (codes "message") text it) [];
-        severity = unwrap_or (under (codes "severity") severity it) Error;
-        code = record { scope = under (codes "scope") some_text it; number = under (codes "number") some_text it };
-        help = under (codes "help") text it;
-        note = under (codes "note") text it;
-        url = under (codes "url") text it;
-        labels = [];
-      };
+      diagnostic = said_in it;
       labels = unwrap_or (under (codes "labels") (labels version) it) [];
     }) it
 

@@ -83,9 +83,13 @@ pub record Key : Type 0 where
 abbrev pub must : {A : Type 0} → List ℕ → (Data → Option A) → Key
 must name kind = record { name = name; allows = λ found. is_some (option_and_then kind found) }
 
+-- nothing is found, or a value of the kind
+abbrev pub is_allowed : {A : Type 0} → (Data → Option A) → Option Data → Bool
+is_allowed kind found = is_none found || is_some (option_and_then kind found)
+
 -- a key that may be left out
 abbrev pub may : {A : Type 0} → List ℕ → (Data → Option A) → Key
-may name kind = record { name = name; allows = λ found. is_none found || is_some (option_and_then kind found) }
+may name kind = record { name = name; allows = is_allowed kind }
 
 -- each key of the members is one of the table's
 abbrev pub only_keys : List Key → Members → Bool
@@ -99,11 +103,6 @@ has_keys keys it = list_all (λ key. key.allows (get key.name it)) keys && unwra
 -- an object by the table of its keys, and what it means
 abbrev pub object_of : {A : Type 0} → List Key → A → Data → Option A
 object_of keys meaning it = if has_keys keys it then Some meaning else None
-
--- what is found under a key that may be left out, as a value of a kind; none where it is of another
-abbrev pub optional : {A : Type 0} → (Data → Option A) → Option Data → Option (Option A)
-optional kind None = Some None
-optional kind (Some value) = option_map (λ meant. Some meant) (kind value)
 
 -- what stands under a key, as a value of a kind
 abbrev pub under : {A : Type 0} → List ℕ → (Data → Option A) → Data → Option A

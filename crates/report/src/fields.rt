@@ -1,8 +1,9 @@
 // The values of an object, taken out of it by their keys.
-ghost use Rattle.std.specs.Prelude.{◌≡◌, [], codes, option_map};
+ghost use Rattle.std.specs.Prelude.{◌≡◌, [], codes, is_some, option_map};
 ghost use Rattle.serde_json.specs.View.{view, members_view};
 ghost use Rattle.serde_json.specs.Find.{get_member};
 ghost use Rattle.report.specs.Kinds.{only_keys, without};
+ghost use Rattle.report.specs.declared.document.Version.{Version};
 ghost use Rattle.report.specs.declared.document.Version.{Version};
 ghost use Rattle.report.specs.Document.{byte_keys, document_keys, file_keys, report_keys, row_keys};
 
@@ -83,10 +84,17 @@ pub(crate) fn byte_fields(mut members: Map<String, Value>) -> ByteFields
     }
 }
 
-/// What stands under the keys of a report, and whether these are all its keys.
+/// What stands under the keys of a report.
 #[derive(Drop)]
 pub(crate) struct ReportFields {
     pub(crate) file: Found,
+    pub(crate) labels: Found,
+    pub(crate) said: SaidFields,
+}
+
+/// What stands under the keys by which a report says something, and whether the report has no other key.
+#[derive(Drop)]
+pub(crate) struct SaidFields {
     pub(crate) message: Found,
     pub(crate) severity: Found,
     pub(crate) scope: Found,
@@ -94,33 +102,34 @@ pub(crate) struct ReportFields {
     pub(crate) help: Found,
     pub(crate) note: Found,
     pub(crate) url: Found,
-    pub(crate) labels: Found,
     pub(crate) are_all: bool,
 }
 
 pub(crate) fn report_fields(mut members: Map<String, Value>) -> ReportFields
     ensures file { option_map view result.file.value ≡ get_member (codes "file") (members_view members.entries) }
-    ensures message { option_map view result.message.value ≡ get_member (codes "message") (members_view members.entries) }
-    ensures severity { option_map view result.severity.value ≡ get_member (codes "severity") (members_view members.entries) }
-    ensures scope { option_map view result.scope.value ≡ get_member (codes "scope") (members_view members.entries) }
-    ensures number { option_map view result.number.value ≡ get_member (codes "number") (members_view members.entries) }
-    ensures help { option_map view result.help.value ≡ get_member (codes "help") (members_view members.entries) }
-    ensures note { option_map view result.note.value ≡ get_member (codes "note") (members_view members.entries) }
-    ensures url { option_map view result.url.value ≡ get_member (codes "url") (members_view members.entries) }
     ensures labels { option_map view result.labels.value ≡ get_member (codes "labels") (members_view members.entries) }
-    ensures all { (version : Version) → result.are_all ≡ only_keys (report_keys version) (members_view members.entries) }
+    ensures message { option_map view result.said.message.value ≡ get_member (codes "message") (members_view members.entries) }
+    ensures severity { option_map view result.said.severity.value ≡ get_member (codes "severity") (members_view members.entries) }
+    ensures scope { option_map view result.said.scope.value ≡ get_member (codes "scope") (members_view members.entries) }
+    ensures number { option_map view result.said.number.value ≡ get_member (codes "number") (members_view members.entries) }
+    ensures help { option_map view result.said.help.value ≡ get_member (codes "help") (members_view members.entries) }
+    ensures note { option_map view result.said.note.value ≡ get_member (codes "note") (members_view members.entries) }
+    ensures url { option_map view result.said.url.value ≡ get_member (codes "url") (members_view members.entries) }
+    ensures all { (version : Version) → result.said.are_all ≡ only_keys (report_keys version) (members_view members.entries) }
 {
     ReportFields {
         file: take(&mut members, "file"),
-        message: take(&mut members, "message"),
-        severity: take(&mut members, "severity"),
-        scope: take(&mut members, "scope"),
-        number: take(&mut members, "number"),
-        help: take(&mut members, "help"),
-        note: take(&mut members, "note"),
-        url: take(&mut members, "url"),
         labels: take(&mut members, "labels"),
-        are_all: is_empty(&members),
+        said: SaidFields {
+            message: take(&mut members, "message"),
+            severity: take(&mut members, "severity"),
+            scope: take(&mut members, "scope"),
+            number: take(&mut members, "number"),
+            help: take(&mut members, "help"),
+            note: take(&mut members, "note"),
+            url: take(&mut members, "url"),
+            are_all: is_empty(&members),
+        },
     }
 }
 
@@ -145,6 +154,13 @@ pub(crate) fn document_fields(mut members: Map<String, Value>) -> DocumentFields
         reports: take(&mut members, "reports"),
         are_all: is_empty(&members),
     }
+}
+
+/// Whether there is such a key.
+pub(crate) fn has_key(members: &Map<String, Value>, key: &str) -> bool
+    ensures { result ≡ is_some (get_member key.now (members_view members.now.entries)) }
+{
+    members.contains_key(key)
 }
 
 // Takes out what stands under the key.

@@ -1,9 +1,8 @@
 // Single values of a document, by their kinds. Texts are moved out of the JSON values.
-ghost use Rattle.std.specs.Prelude.{◌≡◌, ◌^◌, ◌-◌, option_map, option_and_then, unwrap_or, false, string_bytes};
-ghost use Rattle.oxc_protocol.specs.declared.protocol.Severity.TheVariants.{Error};
+ghost use Rattle.std.specs.Prelude.{◌≡◌, ◌^◌, ◌-◌, is_some, IfSome, option_map, option_and_then, string_bytes};
 ghost use Rattle.oxc_span.specs.Views.{text_bytes};
 ghost use Rattle.serde_json.specs.View.{view, items_view};
-ghost use Rattle.report.specs.Kinds.{bytes_pair as two_numbers, optional, pair_in, place as row_and_column, severity as severity_in, severity_named as severity_of_name, some_text as filled_text, source as short_text, text as text_in, truth as truth_in, whole as whole_in};
+ghost use Rattle.report.specs.Kinds.{bytes_pair as two_numbers, is_allowed, pair_in, place as row_and_column, severity as severity_in, severity_named as severity_of_name, some_text as filled_text, source as short_text, text as text_in, truth as truth_in, whole as whole_in};
 
 use oxc_protocol::Severity;
 use serde_json::Value;
@@ -41,7 +40,8 @@ pub(crate) fn source(value: Value) -> Option<String>
 
 /// A text that may be left out: `None` where something else stands there.
 pub(crate) fn optional_text(found: Option<Value>) -> Option<Option<String>>
-    ensures { option_map text_bytes result ≡ optional text_in (option_map view found) }
+    ensures allowed { is_some result ≡ is_allowed text_in (option_map view found) }
+    ensures value { IfSome result (λ it. text_bytes it ≡ option_and_then text_in (option_map view found)) }
 {
     match found {
         Some(value) => Some(Some(text(value)?)),
@@ -51,7 +51,8 @@ pub(crate) fn optional_text(found: Option<Value>) -> Option<Option<String>>
 
 /// A text that may be left out and isn't empty.
 pub(crate) fn optional_some_text(found: Option<Value>) -> Option<Option<String>>
-    ensures { option_map text_bytes result ≡ optional filled_text (option_map view found) }
+    ensures allowed { is_some result ≡ is_allowed filled_text (option_map view found) }
+    ensures value { IfSome result (λ it. text_bytes it ≡ option_and_then filled_text (option_map view found)) }
 {
     match found {
         Some(value) => Some(Some(some_text(value)?)),
@@ -59,23 +60,25 @@ pub(crate) fn optional_some_text(found: Option<Value>) -> Option<Option<String>>
     }
 }
 
-/// A truth value, `false` where it is left out.
-pub(crate) fn truth(found: &Option<Value>) -> Option<bool>
-    ensures { result ≡ option_map (λ truth. unwrap_or truth false) (optional truth_in (option_map view found.now)) }
+/// A truth value that may be left out.
+pub(crate) fn optional_truth(found: &Option<Value>) -> Option<Option<bool>>
+    ensures allowed { is_some result ≡ is_allowed truth_in (option_map view found.now) }
+    ensures value { IfSome result (λ it. it ≡ option_and_then truth_in (option_map view found.now)) }
 {
     match found {
-        Some(value) => value.as_bool(),
-        None => Some(false),
+        Some(value) => Some(Some(value.as_bool()?)),
+        None => Some(None),
     }
 }
 
-/// How grave a report is, an error where it is left out.
-pub(crate) fn severity(found: &Option<Value>) -> Option<Severity>
-    ensures { result ≡ option_map (λ severity. unwrap_or severity Error) (optional severity_in (option_map view found.now)) }
+/// How grave a report is, which may be left out.
+pub(crate) fn optional_severity(found: &Option<Value>) -> Option<Option<Severity>>
+    ensures allowed { is_some result ≡ is_allowed severity_in (option_map view found.now) }
+    ensures value { IfSome result (λ it. it ≡ option_and_then severity_in (option_map view found.now)) }
 {
     match found {
-        Some(value) => severity_named(value.as_str()?),
-        None => Some(Severity::Error),
+        Some(value) => Some(Some(severity_named(value.as_str()?)?)),
+        None => Some(None),
     }
 }
 
