@@ -1,14 +1,18 @@
 -- What the arrays and objects of a document say.
-use Rattle.std.proofs.Common.{◌≡◌, ◌≢◌, ℕ, List, [], ◌∷◌, ◌∙◌, length, Bool, true, false, true≢false, ◌&&◌, if◌then◌else◌, bytes_eq, codes, is_some, Option, Some, None, refl, sym, ap, subst}
+use Rattle.std.proofs.Common.{◌≡◌, ◌≢◌, ℕ, suc, ◌<◌, ◌≤◌, ◌^◌, nat_lt, arith, option_map, option_and_then, List, [], ◌∷◌, ◌∙◌, length, Bool, true, false, true≢false, ◌&&◌, if◌then◌else◌, bytes_eq, codes, is_some, Option, Some, None, refl, sym, ap, subst}
 use Rattle.std.proofs.lemmas.Slice.Eq.{bytes_eq-Decides}
+use Rattle.std.proofs.lemmas.Bool.{lt-ltb, le-ltb}
+use Rattle.std.proofs.lemmas.Str.{is_utf8-from_IsUtf8, IsUtf8-from_is_utf8}
+use Rattle.std.specs.Str.{IsUtf8, is_utf8}
+use Rattle.serde_json.specs.Read.{read}
 use Rattle.std.specs.List.{list_any, list_all}
 use Rattle.std.specs.Option.{option_or}
 use Rattle.serde_json.specs.Data.{Data, object, Members, no_members, member}
 use Rattle.serde_json.specs.Find.{get, get_member}
-use Rattle.serde_json.specs.View.{items_view}
+use Rattle.serde_json.specs.View.{view, items_view}
 use Rattle.serde_json.specs.declared.value.Value.{Value}
-use Rattle.report.specs.Kinds.{Key, only_keys, pair_in}
-use Rattle.report.specs.Document.{row_keys, label_by_rows, label_by_bytes}
+use Rattle.report.specs.Kinds.{Key, all_of, only_if, only_keys, pair_in}
+use Rattle.report.specs.Document.{document_of, form_of, file, row_keys, label_by_rows, label_by_bytes}
 use Rattle.report.proofs.KeyLemmas.{skips}
 
 -- a list that isn't of two values
@@ -65,3 +69,50 @@ bytes_refused ms none = rw (not_there (get_member (codes "bytes") ms) none) refl
 pub either_kind : {A : Type 0} (found : Option A) → option_or found None ≡ found
 either_kind None = refl
 either_kind (Some x) = refl
+
+-- ---- files
+
+abbrev HasLength : {A : Type 0} → ℕ → Option (List A) → Type 0
+HasLength n None = Unit {0}
+HasLength n (Some list) = length list ≡ n
+
+one_more : {A : Type 0} (n : ℕ) (first : Option A) (others : Option (List A)) → HasLength n others
+    → HasLength (suc n) (option_and_then (λ x. option_map (λ list. x ∷ list) others) first)
+one_more n None others more = tt
+one_more n (Some x) None more = tt
+one_more n (Some x) (Some list) more = ap suc more
+
+-- a list has as many members as the array has values
+all_of-length : {A : Type 0} (kind : Data → Option A) (values : List Value) → HasLength (length values) (all_of kind (items_view values))
+all_of-length kind [] = refl
+all_of-length kind (value ∷ values) = one_more (length values) (kind (view value)) (all_of kind (items_view values)) (all_of-length kind values)
+
+too_long : {A : Type 0} (n most : ℕ) (said : Option (List A)) → HasLength n said → most ≤ n → option_and_then (only_if (λ list. nat_lt (length list) most)) said ≡ None
+too_long n most None is long = refl
+too_long n most (Some list) is long = rw (le-ltb (length list) most (omega (arith, is, long))) refl
+
+short_enough : {A : Type 0} (n most : ℕ) (said : Option (List A)) → HasLength n said → n < most → option_and_then (only_if (λ list. nat_lt (length list) most)) said ≡ said
+short_enough n most None is short = refl
+short_enough n most (Some list) is short = rw (lt-ltb (length list) most (omega (arith, is, short))) refl
+
+pub too_many : (values : List Value) → 2 ^ 32 ≤ length values → option_and_then (only_if (λ list. nat_lt (length list) (2 ^ 32))) (all_of file (items_view values)) ≡ None
+too_many values long = too_long (length values) (2 ^ 32) (all_of file (items_view values)) (all_of-length file values) long
+
+pub few_enough : (values : List Value) → length values < 2 ^ 32 → option_and_then (only_if (λ list. nat_lt (length list) (2 ^ 32))) (all_of file (items_view values)) ≡ all_of file (items_view values)
+few_enough values short = short_enough (length values) (2 ^ 32) (all_of file (items_view values)) (all_of-length file values) short
+
+-- ---- the whole input
+
+-- an input that was read
+pub document_read : (bytes : List ℕ) (value : Data) → IsUtf8 bytes → read bytes ≡ Some value → document_of bytes ≡ form_of value
+unfolding document_of
+document_read bytes value utf8 is = rw (is_utf8-from_IsUtf8 bytes utf8, is) refl
+
+none_by_test : (bytes : List ℕ) (b : Bool) → is_utf8 bytes ≡ b → (IsUtf8 bytes → read bytes ≡ None) → document_of bytes ≡ None
+unfolding document_of
+none_by_test bytes true utf8 none = rw (utf8, none (IsUtf8-from_is_utf8 bytes utf8)) refl
+none_by_test bytes false utf8 none = rw utf8 refl
+
+-- an input that can't be read
+pub document_unread : (bytes : List ℕ) → (IsUtf8 bytes → read bytes ≡ None) → document_of bytes ≡ None
+document_unread bytes none = none_by_test bytes (is_utf8 bytes) refl none

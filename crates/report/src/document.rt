@@ -1,18 +1,19 @@
 // The document: source files, and reports on them.
-ghost use Rattle.std.specs.Prelude.{◌≡◌, [], is_some, map, option_and_then, option_map, unwrap_or, IfOk, IfSome};
+ghost use Rattle.std.specs.Prelude.{◌≡◌, ◌<◌, ◌^◌, [], is_some, length, map, nat_lt, string_bytes, option_and_then, option_map, unwrap_or, IfOk, IfSome};
+ghost use Rattle.codespan.specs.Texts.{Fits};
 ghost use Rattle.serde_json.specs.View.{view, items_view, members_view};
 ghost use Rattle.serde_json.specs.Data.{object};
 ghost use Rattle.oxc_protocol.specs.Views.{inner_parts};
 ghost use Rattle.render_files.specs.Given.{given_label, given_report};
-ghost use Rattle.report.specs.declared.document.Version.TheVariants.{Two};
-ghost use Rattle.report.specs.Kinds.{all_of, is_allowed};
-ghost use Rattle.report.specs.Document.{file, file_number, label, label_by_rows, label_by_bytes, labels, report};
+ghost use Rattle.report.specs.declared.document.Version.TheVariants.{One, Two};
+ghost use Rattle.report.specs.Kinds.{all_of, is_allowed, only_if};
+ghost use Rattle.report.specs.Document.{document_of, file, file_number, files_in, form_of, label, label_by_rows, label_by_bytes, labels, report, reports_in, version_in};
 ghost use Rattle.report.specs.Fields.{are_said, said};
-ghost use Rattle.report.specs.Views.{named_text};
+ghost use Rattle.report.specs.Views.{document_view, named_text};
 
-use crate::fields::{SaidFields, byte_fields, file_fields, has_key, report_fields, row_fields};
+use crate::fields::{SaidFields, byte_fields, document_fields, file_fields, has_key, report_fields, row_fields};
 use crate::values::{bytes_pair, optional_severity, optional_some_text, optional_text, optional_truth, place, source, text, whole};
-use codespan::{FileId, Files};
+use codespan::{AddError, FileId, Files};
 use oxc_protocol::{Labels, OxcCode, OxcDiagnostic, OxcDiagnosticInner, Severity};
 use render_files::{FileReport, LabelPlace, PlaceLabel};
 use serde_json::{Map, Value};
@@ -36,10 +37,118 @@ pub(crate) enum Version {
     Two,
 }
 
+/// The document that the bytes are, or none: exactly where the whole input is JSON of the form that
+/// `docs/DOCUMENT.md` states.
+///
+/// Texts are moved out of the JSON value that was read.
+pub fn read_document(alloc: Global, bytes: &[u8]) -> Result<Option<Document>, AllocError>
+    ensures { IfOk result (λ it. option_map document_view it ≡ document_of bytes.now) }
+{
+    match Value::from_slice(alloc, bytes) {
+        Ok(value) => read_form(alloc, value),
+        Err(e) => {
+            if e.is_memory() {
+                Err(AllocError)
+            } else {
+                Ok(None)
+            }
+        }
+    }
+}
+
+#[tactic(auto, unfolding(crate::specs::Document::form_of))]
+fn read_form(alloc: Global, value: Value) -> Result<Option<Document>, AllocError>
+    ensures { IfOk result (λ it. option_map document_view it ≡ form_of (view value)) }
+{
+    let Value::Object(members) = value else {
+        return Ok(None);
+    };
+    let fields = document_fields(members);
+    let Some(version) = read_version(&fields.version.value) else {
+        return Ok(None);
+    };
+    let Some(files) = found_files(alloc, fields.files.value)? else {
+        return Ok(None);
+    };
+    let Some(reports) = found_reports(alloc, version, fields.reports.value)? else {
+        return Ok(None);
+    };
+    if !fields.are_all {
+        return Ok(None);
+    }
+    Ok(Some(Document { files, reports }))
+}
+
+// The version, which may be left out.
+fn read_version(found: &Option<Value>) -> Option<Version>
+    ensures allowed { is_some result ≡ is_allowed version_in (option_map view found.now) }
+    ensures value { IfSome result (λ it. it ≡ unwrap_or (option_and_then version_in (option_map view found.now)) One) }
+{
+    match found {
+        Some(value) => match whole(1, 2, value)? {
+            1 => Some(Version::One),
+            _ => Some(Version::Two),
+        },
+        None => Some(Version::One),
+    }
+}
+
+fn found_files(alloc: Global, found: Option<Value>) -> Result<Option<Files<String>>, AllocError>
+    ensures { IfOk result (λ it. option_map (λ files. files) it ≡ option_and_then files_in (option_map view found)) }
+{
+    match found {
+        Some(Value::Array(values)) => read_files(alloc, values),
+        _ => Ok(None),
+    }
+}
+
+fn found_reports(
+    alloc: Global,
+    version: Version,
+    found: Option<Value>,
+) -> Result<Option<Vec<FileReport>>, AllocError>
+    ensures { IfOk result (λ it. option_map (λ list. map given_report list.items) it ≡ option_and_then (reports_in version) (option_map view found)) }
+{
+    match found {
+        Some(Value::Array(values)) => read_reports(alloc, version, values),
+        _ => Ok(None),
+    }
+}
+
+// The files of a document, which are fewer than a database could not hold.
+#[tactic(auto, using(crate::proofs::KindLemmas::too_many, crate::proofs::KindLemmas::few_enough))]
+fn read_files(alloc: Global, values: Vec<Value>) -> Result<Option<Files<String>>, AllocError>
+    ensures { IfOk result (λ it. option_map (λ files. files) it ≡ option_and_then (only_if (λ list. nat_lt (length list) (2 ^ 32))) (all_of file (items_view values.items))) }
+{
+    if values.len() > u32::MAX as usize {
+        return Ok(None);
+    }
+    add_files(alloc, values)
+}
+
+fn add_files(alloc: Global, values: Vec<Value>) -> Result<Option<Files<String>>, AllocError>
+    requires { length values.items < 2 ^ 32 }
+    ensures { IfOk result (λ it. option_map (λ files. files) it ≡ all_of file (items_view values.items)) }
+{
+    let mut files = Files::new(alloc);
+    for value in values {
+        let Some((name, source)) = read_file(value) else {
+            return Ok(None);
+        };
+        match files.add(name, source) {
+            Ok(_) => {}
+            Err(AddError::OutOfMemory) => return Err(AllocError),
+            Err(AddError::SourceTooLong { .. } | AddError::TooManyFiles) => unreachable!(),
+        }
+    }
+    Ok(Some(files))
+}
+
 // A file's name and its source.
 #[tactic(auto, unfolding(crate::specs::Document::file))]
 fn read_file(value: Value) -> Option<(String, String)>
-    ensures { option_map named_text result ≡ file (view value) }
+    ensures value { option_map named_text result ≡ file (view value) }
+    ensures fits { IfSome result (λ file. Fits (string_bytes file.1)) }
 {
     let Value::Object(members) = value else {
         return None;

@@ -1,6 +1,7 @@
 // Single values of a document, by their kinds. Texts are moved out of the JSON values.
 ghost use Rattle.std.specs.Prelude.{◌≡◌, ◌^◌, ◌-◌, is_some, IfSome, option_map, option_and_then, string_bytes};
 ghost use Rattle.oxc_span.specs.Views.{text_bytes};
+ghost use Rattle.codespan.specs.Texts.{Fits};
 ghost use Rattle.serde_json.specs.View.{view, items_view};
 ghost use Rattle.report.specs.Kinds.{bytes_pair as two_numbers, is_allowed, pair_in, place as row_and_column, severity as severity_in, severity_named as severity_of_name, some_text as filled_text, source as short_text, text as text_in, truth as truth_in, whole as whole_in};
 
@@ -28,7 +29,8 @@ pub(crate) fn some_text(value: Value) -> Option<String>
 
 /// A text of fewer than `u32::MAX` bytes.
 pub(crate) fn source(value: Value) -> Option<String>
-    ensures { option_map string_bytes result ≡ short_text (view value) }
+    ensures value { option_map string_bytes result ≡ short_text (view value) }
+    ensures fits { IfSome result (λ text. Fits (string_bytes text)) }
 {
     let text = text(value)?;
     if text.len() < u32::MAX as usize {
