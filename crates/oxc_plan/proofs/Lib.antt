@@ -9,3 +9,6 @@ pub mod PlaceLemmas
 pub mod PlanLemmas
 pub mod SourceLemmas
 pub mod TextsLemmas
+pub mod SweepLemmas
+pub mod DrawableLemmas
+pub mod ScannedLemmas

@@ -15,13 +15,13 @@ use Rattle.oxc_plan.specs.Meets.{multi_row_labels, one_row_labels}
 use Rattle.oxc_plan.specs.Order.{label_at, label_order, span_of}
 use Rattle.oxc_plan.specs.Rows.{RowView, row_view, rows_in}
 use Rattle.oxc_plan.specs.declared.marks.MarkCells.{MarkCells}
-use Rattle.oxc_plan.specs.declared.plan.Bar.{Bar}
-use Rattle.oxc_plan.specs.declared.plan.BarKind.{BarKind}
-use Rattle.oxc_plan.specs.declared.plan.BarKind.TheVariants.{Passes, Starts, Ends}
-use Rattle.oxc_plan.specs.declared.plan.Hang.{Hang}
-use Rattle.oxc_plan.specs.declared.plan.OrderedLabel.{OrderedLabel}
-use Rattle.oxc_plan.specs.declared.plan.RowPlan.{RowPlan}
-use Rattle.oxc_plan.specs.declared.plan.SnippetPlan.{SnippetPlan}
+use Rattle.oxc_plan.specs.declared.bars.Bar.{Bar}
+use Rattle.oxc_plan.specs.declared.bars.BarKind.{BarKind}
+use Rattle.oxc_plan.specs.declared.bars.BarKind.TheVariants.{Passes, Starts, Ends}
+use Rattle.oxc_plan.specs.declared.hangs.Hang.{Hang}
+use Rattle.oxc_plan.specs.declared.labels.OrderedLabel.{OrderedLabel}
+use Rattle.oxc_plan.specs.declared.snippets.RowPlan.{RowPlan}
+use Rattle.oxc_plan.specs.declared.snippets.SnippetPlan.{SnippetPlan}
 
 -- a label that stands in label order: its span, its text, if it has one, and whether it is a primary one
 pub record Ordered : Type 0 where

@@ -13,6 +13,12 @@ pub record Scan : Type 0 where
   pub before : ℕ
   pub after : ℕ
 
+-- the same source, and as many rows of context: what stays of a scanner whatever is read
+pub record IsSameReader (old new : Scan) : Type 0 where
+  pub input : new.input ≡ old.input
+  pub before : new.before ≡ old.before
+  pub after : new.after ≡ old.after
+
 -- bytes, where they stand in their source, and the numbers of their window
 pub record Contents : Type 0 where
   pub bytes : List ℕ

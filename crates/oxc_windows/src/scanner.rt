@@ -1,7 +1,7 @@
 //! The scanner, which reads windows of one source.
 ghost use Rattle.std.specs.Prelude.{◌≡◌, ◌<◌, ◌≤◌, ◌↔◌, length, IfOk, IfSome, IsNone, IsTrue};
 ghost use Rattle.std.specs.Str.{IsUtf8};
-ghost use Rattle.oxc_windows.specs.Scan.{IsMeasured, IsNumbered, IsReadInRows, contents_read};
+ghost use Rattle.oxc_windows.specs.Scan.{IsMeasured, IsNumbered, IsReadInRows, IsSameReader, contents_read};
 
 use crate::SpanContents;
 use crate::breaks::line_breaks;
@@ -75,7 +75,7 @@ impl<'a> SpanScanner<'a> {
         ensures text { IsReadInRows self.old → IfOk result (λ found. IfSome found (λ contents. IsUtf8 contents.bytes)) }
         ensures measured { IfOk result (λ found. IfSome found IsMeasured) }
         ensures numbered { IfOk result (λ found. IfSome found IsNumbered) }
-        ensures unchanged { self.new ≡ self.old }
+        ensures unchanged { IsSameReader self.old self.new }
     {
         let len = self.input.len();
         let end = span.end as usize;

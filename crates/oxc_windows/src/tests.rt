@@ -3,6 +3,7 @@ ghost use Rattle.std.specs.Prelude.{◌≡◌, ◌≤◌, length, IfOk};
 ghost use Rattle.std.specs.Option.{SomeIff};
 ghost use Rattle.oxc_windows.specs.Breaks.{breaks_of};
 ghost use Rattle.oxc_windows.specs.Rows.{row_of, byte_column};
+ghost use Rattle.oxc_windows.specs.Scan.{IsSameReader};
 
 use crate::{SpanContents, SpanScanner};
 use oxc_span::Span;
@@ -96,7 +97,7 @@ fn place(scanner: &mut SpanScanner<'_>, span: Span) -> Result<Option<(usize, usi
     requires bare { scanner.old.before ≡ 0 }
     requires ordered { span.start ≤ span.end }
     ensures place { IfOk result (λ found. SomeIff found (span.end ≤ length scanner.old.input) (row_of (breaks_of scanner.old.input) span.start, byte_column (length scanner.old.input) (breaks_of scanner.old.input) span.start)) }
-    ensures unchanged { scanner.new ≡ scanner.old }
+    ensures unchanged { IsSameReader scanner.old scanner.new }
 {
     match scanner.read_span(span)? {
         Some(contents) => Ok(Some((contents.line(), contents.column()))),
