@@ -2,7 +2,7 @@
 use codespan::FileId;
 use oxc_protocol::{Failed, OxcDiagnostic};
 use source_location::SourceLocation;
-use std::alloc::AllocError;
+use std::alloc::{AllocError, AllocFailed};
 use thiserror::Error;
 
 /// Where a label starts and ends in its file's source, in one of two measures.
@@ -96,6 +96,17 @@ impl From<AllocError> for ReportError {
     ghost from_gives = { λ _ error. error ≡ OutOfMemory };
 
     fn from(_error: AllocError) -> ReportError {
+        ReportError::OutOfMemory
+    }
+}
+
+impl<T: Drop> From<AllocFailed<T>> for ReportError {
+    ghost use Rattle.std.specs.Prelude.{◌≡◌};
+    ghost use Rattle.render_files.specs.declared.places.ReportError.TheVariants.{OutOfMemory};
+
+    ghost from_gives = { λ _ error. error ≡ OutOfMemory };
+
+    fn from(_error: AllocFailed<T>) -> ReportError {
         ReportError::OutOfMemory
     }
 }
