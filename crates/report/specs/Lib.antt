@@ -4,6 +4,8 @@ pub mod Kinds
 pub mod Document
 pub mod Fields
 pub mod Views
+pub mod Words
+pub mod Settled
 pub mod First
 pub mod FirstViews
 pub mod Code

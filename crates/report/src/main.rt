@@ -14,6 +14,7 @@ mod status;
 mod streams;
 mod top;
 mod values;
+mod words;
 
 pub use document::Document;
 pub use first::{FirstDocument, read_first};
@@ -29,6 +30,7 @@ use std::io::ErrorKind;
 use std::process::ExitCode;
 pub use streams::{ReaderSource, StderrSink, StdinSource, StdoutSink, WriterSink};
 pub use top::run;
+pub use words::{Command, ThemeName, read_words};
 
 /// The system gave no words, for another cause than memory.
 const NO_WORDS: u8 = 9;
