@@ -4,6 +4,7 @@ pub mod Kinds
 pub mod Document
 pub mod Fields
 pub mod Views
+pub mod Generated
 pub mod Words
 pub mod Settled
 pub mod First

@@ -7,6 +7,7 @@
 mod document;
 mod fields;
 mod first;
+mod generate;
 mod memory;
 mod first_values;
 mod source;
@@ -18,6 +19,7 @@ mod words;
 
 pub use document::Document;
 pub use first::{FirstDocument, read_first};
+pub use generate::generate;
 pub use memory::MemorySource;
 pub use source::{Reading, Source, read_all};
 pub use status::Status;
