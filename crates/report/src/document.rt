@@ -11,8 +11,13 @@ ghost use Rattle.report.specs.Document.{document_of, file, file_number, files_in
 ghost use Rattle.report.specs.Fields.{are_said, said};
 ghost use Rattle.report.specs.Views.{document_view, named_text};
 
-use crate::fields::{SaidFields, byte_fields, document_fields, file_fields, has_key, report_fields, row_fields};
-use crate::values::{bytes_pair, optional_severity, optional_some_text, optional_text, optional_truth, place, source, text, whole};
+use crate::fields::{
+    SaidFields, byte_fields, document_fields, file_fields, has_key, report_fields, row_fields,
+};
+use crate::values::{
+    bytes_pair, optional_severity, optional_some_text, optional_text, optional_truth, place,
+    source, text, whole,
+};
 use codespan::{AddError, FileId, Files};
 use oxc_protocol::{Labels, OxcCode, OxcDiagnostic, OxcDiagnosticInner, Severity};
 use render_files::{FileReport, LabelPlace, PlaceLabel};

@@ -7,9 +7,9 @@
 mod document;
 mod fields;
 mod first;
+mod first_values;
 mod generate;
 mod memory;
-mod first_values;
 mod source;
 mod status;
 mod streams;
@@ -17,13 +17,15 @@ mod top;
 mod values;
 mod words;
 
-pub use document::Document;
+pub use document::{Document, read_document};
 pub use first::{FirstDocument, read_first};
 pub use generate::generate;
 pub use memory::MemorySource;
 pub use source::{Reading, Source, read_all};
 pub use status::Status;
 
+#[cfg(test)]
+mod document_tests;
 #[cfg(test)]
 mod tests;
 
