@@ -10,4 +10,5 @@ pub mod Settled
 pub mod First
 pub mod FirstViews
 pub mod Code
+pub mod Ending
 pub mod Run

@@ -5,6 +5,7 @@
 #![tactic(auto)]
 
 mod document;
+mod ending;
 mod fields;
 mod first;
 mod first_values;
