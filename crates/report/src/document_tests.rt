@@ -20,58 +20,60 @@ fn one_report(alloc: Global, members: &str, report: &str) -> Result<String, Allo
     )
 }
 
+// Inputs, and whether they are documents.
+const INPUTS: [(&str, bool); 29] = [
+    ("{\"files\":[],\"reports\":[]}", true),
+    (" {\"reports\":[],\n\t\"files\":[]}\r\n", true),
+    ("{\"files\":[],\"reports\":[],\"version\":1}", true),
+    ("{\"files\":[],\"reports\":[],\"version\":2}", true),
+    ("{\"files\":[],\"reports\":[],\"version\":3}", false),
+    ("{\"files\":[],\"reports\":[],\"version\":0}", false),
+    ("{\"files\":[],\"reports\":[],\"version\":1.0}", false),
+    ("{\"files\":[],\"reports\":[],\"version\":\"1\"}", false),
+    ("{\"files\":[],\"reports\":[],\"version\":null}", false),
+    ("{\"files\":[],\"reports\":[]}x", false),
+    ("{\"files\":[],\"reports\":[]}{}", false),
+    ("{\"files\":[],\"reports\":[],\"more\":0}", false),
+    ("{\"files\":[]}", false),
+    ("{\"reports\":[]}", false),
+    ("{\"files\":{},\"reports\":[]}", false),
+    ("{\"files\":[", false),
+    ("[]", false),
+    ("", false),
+    ("\u{FEFF}{\"files\":[],\"reports\":[]}", false),
+    (
+        "{\"files\":[{\"name\":\"\",\"source\":\"\"}],\"reports\":[]}",
+        true,
+    ),
+    ("{\"files\":[{\"name\":\"\"}],\"reports\":[]}", false),
+    (
+        "{\"files\":[{\"name\":\"\",\"source\":\"\",\"text\":\"\"}],\"reports\":[]}",
+        false,
+    ),
+    (
+        "{\"files\":[{\"name\":\"\",\"source\":null}],\"reports\":[]}",
+        false,
+    ),
+    (
+        "{\"files\":[],\"reports\":[{\"file\":4294967294,\"message\":\"\"}]}",
+        true,
+    ),
+    (
+        "{\"files\":[],\"reports\":[{\"file\":4294967295,\"message\":\"\"}]}",
+        false,
+    ),
+    (
+        "{\"files\":[],\"reports\":[{\"file\":-1,\"message\":\"\"}]}",
+        false,
+    ),
+    ("{\"files\":[],\"reports\":[{\"file\":0}]}", false),
+    ("{\"files\":0,\"files\":[],\"reports\":[]}", true),
+    ("{\"files\":[],\"files\":0,\"reports\":[]}", false),
+];
+
 #[test]
 fn an_input_is_a_document_or_none(rt: HostRuntime) -> Result<(), Fail> {
-    let inputs = [
-        ("{\"files\":[],\"reports\":[]}", true),
-        (" {\"reports\":[],\n\t\"files\":[]}\r\n", true),
-        ("{\"files\":[],\"reports\":[],\"version\":1}", true),
-        ("{\"files\":[],\"reports\":[],\"version\":2}", true),
-        ("{\"files\":[],\"reports\":[],\"version\":3}", false),
-        ("{\"files\":[],\"reports\":[],\"version\":0}", false),
-        ("{\"files\":[],\"reports\":[],\"version\":1.0}", false),
-        ("{\"files\":[],\"reports\":[],\"version\":\"1\"}", false),
-        ("{\"files\":[],\"reports\":[],\"version\":null}", false),
-        ("{\"files\":[],\"reports\":[]}x", false),
-        ("{\"files\":[],\"reports\":[]}{}", false),
-        ("{\"files\":[],\"reports\":[],\"more\":0}", false),
-        ("{\"files\":[]}", false),
-        ("{\"reports\":[]}", false),
-        ("{\"files\":{},\"reports\":[]}", false),
-        ("{\"files\":[", false),
-        ("[]", false),
-        ("", false),
-        ("\u{FEFF}{\"files\":[],\"reports\":[]}", false),
-        (
-            "{\"files\":[{\"name\":\"\",\"source\":\"\"}],\"reports\":[]}",
-            true,
-        ),
-        ("{\"files\":[{\"name\":\"\"}],\"reports\":[]}", false),
-        (
-            "{\"files\":[{\"name\":\"\",\"source\":\"\",\"text\":\"\"}],\"reports\":[]}",
-            false,
-        ),
-        (
-            "{\"files\":[{\"name\":\"\",\"source\":null}],\"reports\":[]}",
-            false,
-        ),
-        (
-            "{\"files\":[],\"reports\":[{\"file\":4294967294,\"message\":\"\"}]}",
-            true,
-        ),
-        (
-            "{\"files\":[],\"reports\":[{\"file\":4294967295,\"message\":\"\"}]}",
-            false,
-        ),
-        (
-            "{\"files\":[],\"reports\":[{\"file\":-1,\"message\":\"\"}]}",
-            false,
-        ),
-        ("{\"files\":[],\"reports\":[{\"file\":0}]}", false),
-        ("{\"files\":0,\"files\":[],\"reports\":[]}", true),
-        ("{\"files\":[],\"files\":0,\"reports\":[]}", false),
-    ];
-    for (input, want) in inputs {
+    for (input, want) in INPUTS {
         assert_eq!(rt; is_document(rt.alloc(), input)?, want, "{input}");
     }
     Ok(())
@@ -149,64 +151,59 @@ fn refusal(alloc: Global, input: &str) -> Result<Option<ReportError>, AllocError
     }
 }
 
+// An input of the version with one file of this source, and one report with this label.
+fn labelled(alloc: Global, version: u32, source: &str, label: &str) -> Result<String, AllocError> {
+    format!(in alloc;
+        "{{\"version\":{version},\"files\":[{{\"name\":\"a\",\"source\":\"{source}\"}}],\"reports\":[{{\"file\":0,\"message\":\"m\",\"labels\":[{{{label}}}]}}]}}"
+    )
+}
+
+fn outside(at_end: bool) -> Option<ReportError> {
+    Some(ReportError::PositionOutside {
+        report: 0,
+        label: 0,
+        at_end,
+    })
+}
+
+fn reversed(start: u32, end: u32) -> Option<ReportError> {
+    Some(ReportError::LabelReversed {
+        report: 0,
+        label: 0,
+        start,
+        end,
+    })
+}
+
 #[test]
-fn a_document_is_refused_by_its_first_fault(rt: HostRuntime) -> Result<(), Fail> {
-    let inputs = [
-        (
-            "{\"files\":[{\"name\":\"a\",\"source\":\"ab\"}],\"reports\":[{\"file\":0,\"message\":\"m\",\"labels\":[{\"start\":[1,99],\"end\":[1,99]}]},{\"file\":5,\"message\":\"m\"}]}",
-            Some(ReportError::PositionOutside {
-                report: 0,
-                label: 0,
-                at_end: false,
-            }),
-        ),
-        (
-            "{\"files\":[{\"name\":\"a\",\"source\":\"ab\"}],\"reports\":[{\"file\":0,\"message\":\"m\",\"labels\":[{\"start\":[1,3],\"end\":[1,1]}]}]}",
-            Some(ReportError::LabelReversed {
-                report: 0,
-                label: 0,
-                start: 2,
-                end: 0,
-            }),
-        ),
-        (
-            "{\"files\":[{\"name\":\"a\",\"source\":\"ab\"}],\"reports\":[{\"file\":7,\"message\":\"m\",\"labels\":[{\"start\":[9,9],\"end\":[9,9]}]}]}",
-            Some(ReportError::UnknownFile { report: 0 }),
-        ),
-        (
-            "{\"version\":2,\"files\":[{\"name\":\"a\",\"source\":\"é\"}],\"reports\":[{\"file\":0,\"message\":\"m\",\"labels\":[{\"bytes\":[1,2]}]}]}",
-            Some(ReportError::PositionOutside {
-                report: 0,
-                label: 0,
-                at_end: false,
-            }),
-        ),
-        (
-            "{\"version\":2,\"files\":[{\"name\":\"a\",\"source\":\"abcd\"}],\"reports\":[{\"file\":0,\"message\":\"m\",\"labels\":[{\"bytes\":[3,2]}]}]}",
-            Some(ReportError::LabelReversed {
-                report: 0,
-                label: 0,
-                start: 3,
-                end: 2,
-            }),
-        ),
-        (
-            "{\"version\":2,\"files\":[{\"name\":\"a\",\"source\":\"\\uFEFFab\"}],\"reports\":[{\"file\":0,\"message\":\"m\",\"labels\":[{\"bytes\":[0,1]}]}]}",
-            Some(ReportError::PositionOutside {
-                report: 0,
-                label: 0,
-                at_end: true,
-            }),
-        ),
-        (
-            "{\"version\":2,\"files\":[{\"name\":\"a\",\"source\":\"\\uFEFFab\"}],\"reports\":[{\"file\":0,\"message\":\"m\",\"labels\":[{\"bytes\":[0,3]}]}]}",
-            None,
-        ),
+fn a_label_is_refused_by_its_places(rt: HostRuntime) -> Result<(), Fail> {
+    let labels = [
+        (1, "ab", "\"start\":[1,3],\"end\":[1,1]", reversed(2, 0)),
+        (1, "ab", "\"start\":[1,99],\"end\":[1,99]", outside(false)),
+        (2, "é", "\"bytes\":[1,2]", outside(false)),
+        (2, "abcd", "\"bytes\":[3,2]", reversed(3, 2)),
+        (2, "\\uFEFFab", "\"bytes\":[0,1]", outside(true)),
+        (2, "\\uFEFFab", "\"bytes\":[0,3]", None),
     ];
-    for (input, want) in inputs {
-        assert!(rt; is_document(rt.alloc(), input)?, "{input}");
-        assert!(rt; refusal(rt.alloc(), input)? == want, "{input}");
+    for (version, source, label, want) in labels {
+        let input = labelled(rt.alloc(), version, source, label)?;
+        assert!(rt; is_document(rt.alloc(), &input)?, "{label}");
+        assert!(rt; refusal(rt.alloc(), &input)? == want, "{label}");
     }
+    Ok(())
+}
+
+const TWO_FAULTS: &str =
+    "{\"files\":[{\"name\":\"a\",\"source\":\"ab\"}],\"reports\":[{\"file\":0,\"message\":\"m\",\"labels\":[{\"start\":[1,99],\"end\":[1,99]}]},{\"file\":5,\"message\":\"m\"}]}";
+
+const NO_FILE: &str =
+    "{\"files\":[{\"name\":\"a\",\"source\":\"ab\"}],\"reports\":[{\"file\":7,\"message\":\"m\",\"labels\":[{\"start\":[9,9],\"end\":[9,9]}]}]}";
+
+#[test]
+fn the_first_fault_decides(rt: HostRuntime) -> Result<(), Fail> {
+    assert!(rt; refusal(rt.alloc(), TWO_FAULTS)? == outside(false));
+    let unknown = Some(ReportError::UnknownFile { report: 0 });
+    assert!(rt; refusal(rt.alloc(), NO_FILE)? == unknown);
     Ok(())
 }
 
@@ -265,7 +262,7 @@ fn draw(theme: ThemeName, width: usize, tabs: usize, json: bool) -> Option<Comma
 }
 
 #[test]
-fn words_are_a_command_or_none(rt: HostRuntime) -> Result<(), Fail> {
+fn words_are_a_command(rt: HostRuntime) -> Result<(), Fail> {
     let lines = [
         ("--theme none", draw(ThemeName::Plain, 80, 4, false)),
         ("--theme unicode", draw(ThemeName::Unicode, 80, 4, false)),
@@ -279,33 +276,45 @@ fn words_are_a_command_or_none(rt: HostRuntime) -> Result<(), Fail> {
         ),
         ("--make 0", Some(Command::Make { count: 0 })),
         ("--make 5000", Some(Command::Make { count: 5000 })),
-        ("--make 5001", None),
-        ("--make", None),
-        ("--make 1 --json", None),
-        ("--json --make 1", None),
-        ("--width x", None),
-        ("--width 080", None),
-        ("--width 00", None),
-        ("--width +8", None),
-        ("--width 1000000000", None),
-        ("--width ", None),
-        ("--width", None),
-        ("--width=80", None),
-        ("--theme none --theme none", None),
-        ("--theme plain", None),
-        ("--tabs 0", None),
-        ("--tabs 17", None),
-        ("--tabs", None),
-        ("--tabs 4 --tabs 4", None),
-        ("--json --json", None),
-        ("--", None),
-        ("", None),
     ];
     for (line, want) in lines {
         assert!(rt; command(rt.alloc(), line)? == want, "{line}");
     }
     let none: Vec<String> = Vec::new(rt.alloc());
     assert!(rt; read_words(&none) == draw(ThemeName::Plain, 80, 4, false));
+    Ok(())
+}
+
+// Words that are no command.
+const NO_COMMANDS: [&str; 21] = [
+    "--make 5001",
+    "--make",
+    "--make 1 --json",
+    "--json --make 1",
+    "--width x",
+    "--width 080",
+    "--width 00",
+    "--width +8",
+    "--width 1000000000",
+    "--width ",
+    "--width",
+    "--width=80",
+    "--theme none --theme none",
+    "--theme plain",
+    "--tabs 0",
+    "--tabs 17",
+    "--tabs",
+    "--tabs 4 --tabs 4",
+    "--json --json",
+    "--",
+    "",
+];
+
+#[test]
+fn other_words_are_none(rt: HostRuntime) -> Result<(), Fail> {
+    for line in NO_COMMANDS {
+        assert!(rt; command(rt.alloc(), line)?.is_none(), "{line}");
+    }
     Ok(())
 }
 
