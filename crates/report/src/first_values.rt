@@ -5,7 +5,7 @@ ghost use Rattle.std.specs.Option.{option_copied};
 ghost use Rattle.std.specs.Str.{bytes_eq};
 ghost use Rattle.std.specs.BTreeMap.{keys};
 ghost use Rattle.serde_json.specs.View.{view, items_view};
-ghost use Rattle.report.specs.Document.{has_only_keys as holds_only_keys, text_in as text_under, only_item as item_of_one, only_in as item_under, counted as counting_number, pair_of as place_of_pair, place_in as place_under, is_first_in as is_zero_under};
+ghost use Rattle.report.specs.First.{has_only_keys as holds_only_keys, text_in as text_under, only_item as item_of_one, only_in as item_under, counted as counting_number, pair_of as place_of_pair, place_in as place_under, is_first_in as is_zero_under};
 
 use serde_json::{Map, Value};
 use source_location::{OneIndexed, SourceLocation};
@@ -46,7 +46,7 @@ pub(crate) fn only_in<'v>(value: &'v Value, key: &str) -> Option<&'v Value>
     only_item(value.get(key)?.as_array()?)
 }
 
-#[tactic(auto, using(crate::proofs::Documents::not_one))]
+#[tactic(auto, using(crate::proofs::FirstLemmas::not_one))]
 fn only_item(values: &[Value]) -> Option<&Value>
     ensures { option_map (λ item. view item.now) result ≡ item_of_one (items_view values.now) }
 {
@@ -73,7 +73,7 @@ pub(crate) fn place_in(value: &Value, key: &str) -> Option<SourceLocation>
     place_of(value.get(key)?.as_array()?)
 }
 
-#[tactic(auto, using(crate::proofs::Documents::no_pair))]
+#[tactic(auto, using(crate::proofs::FirstLemmas::no_pair))]
 fn place_of(values: &[Value]) -> Option<SourceLocation>
     ensures { result ≡ place_of_pair (items_view values.now) }
 {

@@ -11,7 +11,7 @@ use Rattle.serde_json.specs.Read.{read}
 use Rattle.serde_json.specs.View.{members_view, items_view}
 use Rattle.serde_json.specs.declared.value.Value.{Value}
 use Rattle.render_files.specs.Drawable.{first_undrawable}
-use Rattle.report.specs.Document.{Document, only_keys, only_item, pair_of, form_of, form_in, document_of}
+use Rattle.report.specs.First.{Document, only_keys, only_item, pair_of, form_of, form_in, document_of}
 
 -- the names, one after another
 any_now : (key : List ℕ) (names : List (Bor (List ℕ))) → list_any (λ name. bytes_eq name key) (map (λ name. name.now) names) ≡ list_any (λ name. bytes_eq name.now key) names
