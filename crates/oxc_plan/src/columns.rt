@@ -122,7 +122,7 @@ pub fn over_cluster(mut pen: Pen, cluster: &str, tabs: TabWidth) -> Pen
 }
 
 /// The pen after a character, which leads its cluster with so many columns.
-fn moved_over(pen: Pen, lead: usize, c: char, tabs: TabWidth) -> Pen
+pub fn moved_over(pen: Pen, lead: usize, c: char, tabs: TabWidth) -> Pen
     requires room { pen.column + lead + 16 < 2 ^ 64 }
     ensures exact { result ≡ moved tabs pen (lead, c) }
     ensures bound { result.column ≤ pen.column + lead + 16 }

@@ -24,7 +24,7 @@ mod sweep;
 mod tabs;
 
 pub use crate::bars::{Bar, BarKind};
-pub use crate::columns::{column_of, columns_as_drawn};
+pub use crate::columns::{Pen, column_of, columns_as_drawn, moved_over};
 pub use crate::grouping::{groups, one_grouping};
 pub use crate::hangs::Hang;
 pub use crate::laws::{rows_stand_once, texts_hang_once};
