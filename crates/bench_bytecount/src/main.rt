@@ -1,8 +1,10 @@
-//! How fast the counts are. With the word `--measure` it counts in 64 MiB of text, and prints the best times of some
-//! rounds in microseconds, and by how much the plain counts are slower. With no word it does nothing.
+//! How fast the counts are. With the word `--measure` it counts in 64 MiB of text, in parts of three sizes, and prints the
+//! best times of some rounds in microseconds, and by how much the plain counts are slower. With no word it counts in a
+//! short text, and prints what each count gives.
 #![tactic(auto)]
 
 ghost use Rattle.std.specs.Prelude.{◌≡◌, ◌*◌, ◌/◌, ◌<◌, ◌^◌, max};
+ghost use Rattle.bench_bytecount.specs.Counted.{counted};
 
 use bytecount::integer_simd::{chunk_count, chunk_num_chars};
 use bytecount::{count, naive_count, naive_num_chars, num_chars};
@@ -12,7 +14,9 @@ use std::time::{Clock, Instant};
 
 const LINE: &str =
     "A line of the text, as long as lines are: größer als nötig, and no longer than that.\n";
-/// As many as give 64 MiB.
+/// How many bytes are counted in a round: 64 MiB.
+const WHOLE: usize = 64 * 1024 * 1024;
+/// As many lines as give so many bytes.
 const LINES: usize = 762_601;
 
 const ROUNDS: usize = 15;
@@ -28,32 +32,52 @@ enum Count {
     WholeChars,
 }
 
-fn hits(which: Count, text: &[u8]) -> usize {
+/// What a count gives of a text: its line feeds, or its characters.
+fn hits(which: Count, text: &[u8]) -> usize
+    ensures { result ≡ counted which text.now }
+{
     match which {
         Count::Naive => naive_count(text, b'\n'),
         Count::Words if text.len() >= 8 => chunk_count(text, b'\n'),
+        Count::Words | Count::Whole => count(text, b'\n'),
         Count::NaiveChars => naive_num_chars(text),
         Count::WordChars if text.len() >= 8 => chunk_num_chars(text),
-        Count::WholeChars => num_chars(text),
-        _ => count(text, b'\n'),
+        Count::WordChars | Count::WholeChars => num_chars(text),
     }
 }
 
-/// The best time of a count in microseconds, and what it counted.
-fn best(clock: &impl Clock, which: Count, text: &[u8]) -> anyhow::Result<(u128, usize)> {
+/// Counts in parts of a text of that many bytes, each a byte further on than the one before, and sums up.
+fn count_in_parts(which: Count, text: &[u8], size: usize, parts: usize) -> usize {
+    let mut sum: usize = 0;
+    for part in 0..parts {
+        let from = part % 64;
+        if size <= text.len() && from <= text.len() - size {
+            sum = sum.wrapping_add(hits(which, &text[from..from + size]));
+        }
+    }
+    sum
+}
+
+/// The best time in microseconds of counting in parts of that many bytes, and the sum of what was counted.
+fn best(
+    clock: &impl Clock,
+    which: Count,
+    text: &[u8],
+    size: usize,
+) -> anyhow::Result<(u128, usize)> {
     let mut best = u128::MAX;
     let mut counted = 0;
     for _ in 0..ROUNDS {
         let start = Instant::now(clock)?;
-        counted = hits(which, text);
+        counted = count_in_parts(which, text, size, WHOLE / size.max(1));
         best = best.min(start.elapsed(clock)?.as_micros());
     }
     Ok((best, counted))
 }
 
-fn text_of_lines(alloc: Global) -> Result<Vec<u8>, AllocError> {
+fn text_of_lines(alloc: Global, lines: usize) -> Result<Vec<u8>, AllocError> {
     let mut text = Vec::new(alloc);
-    for _ in 0..LINES {
+    for _ in 0..lines {
         text.extend_from_slice(LINE.as_bytes())?;
     }
     Ok(text)
@@ -67,31 +91,48 @@ fn hundredths(slow: u128, fast: u128) -> u128
 }
 
 /// A plain count, the same by words, and the one that callers use.
-fn compare(rt: HostRuntime, name: &str, counts: [Count; 3], text: &[u8]) -> anyhow::Result<()> {
-    let (naive, a) = best(&rt, counts[0], text)?;
-    let (words, b) = best(&rt, counts[1], text)?;
-    let (whole, c) = best(&rt, counts[2], text)?;
-    println!(rt; "{name}: {a} {b} {c}, plain {naive} us, by words {words} us, public {whole} us")?;
+fn compare(
+    rt: HostRuntime,
+    name: &str,
+    counts: [Count; 3],
+    text: &[u8],
+    size: usize,
+) -> anyhow::Result<()> {
+    let (naive, a) = best(&rt, counts[0], text, size)?;
+    let (words, b) = best(&rt, counts[1], text, size)?;
+    let (whole, c) = best(&rt, counts[2], text, size)?;
+    println!(rt; "{name}, {size} bytes at a time: {a} {b} {c}")?;
+    println!(rt; "plain {naive} us, by words {words} us, public {whole} us")?;
     let by_words = hundredths(naive, words);
     let public = hundredths(naive, whole);
     println!(rt; "{name}: plain is {by_words} % of by words, {public} % of public")?;
     Ok(())
 }
 
+/// The counts of characters and of line feeds.
+const OF_LINE_FEEDS: [Count; 3] = [Count::Naive, Count::Words, Count::Whole];
+
+const OF_CHARACTERS: [Count; 3] = [Count::NaiveChars, Count::WordChars, Count::WholeChars];
+
 fn measure(rt: HostRuntime) -> anyhow::Result<()> {
-    let text = text_of_lines(rt.alloc())?;
-    compare(
-        rt,
-        "count",
-        [Count::Naive, Count::Words, Count::Whole],
-        &text,
-    )?;
-    compare(
-        rt,
-        "num_chars",
-        [Count::NaiveChars, Count::WordChars, Count::WholeChars],
-        &text,
-    )
+    let text = text_of_lines(rt.alloc(), LINES)?;
+    for size in [4 * 1024, 64 * 1024, WHOLE] {
+        compare(rt, "count", OF_LINE_FEEDS, &text, size)?;
+        compare(rt, "num_chars", OF_CHARACTERS, &text, size)?;
+    }
+    Ok(())
+}
+
+/// What each count gives of a text of 240 lines.
+fn check(rt: HostRuntime) -> anyhow::Result<()> {
+    let text = text_of_lines(rt.alloc(), 240)?;
+    for (name, counts) in [("count", OF_LINE_FEEDS), ("num_chars", OF_CHARACTERS)] {
+        let a = hits(counts[0], &text);
+        let b = hits(counts[1], &text);
+        let c = hits(counts[2], &text);
+        println!(rt; "{name}: plain {a}, by words {b}, public {c}")?;
+    }
+    Ok(())
 }
 
 fn main(rt: HostRuntime) -> anyhow::Result<()> {
@@ -100,5 +141,5 @@ fn main(rt: HostRuntime) -> anyhow::Result<()> {
             return measure(rt);
         }
     }
-    Ok(())
+    check(rt)
 }

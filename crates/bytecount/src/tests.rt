@@ -59,6 +59,7 @@ fn characters_are_counted(rt: HostRuntime) -> Result<(), Fail> {
         assert_eq!(rt; naive_num_chars(text.as_bytes()), want);
     }
     assert_eq!(rt; chunk_num_chars(&[0x80; 9]), 0);
+    assert_eq!(rt; chunk_num_chars("größer als nötig".as_bytes()), 16);
     assert_eq!(rt; characters_and_line_feeds("メカ\nジキ\n"), (6, 2));
     Ok(())
 }

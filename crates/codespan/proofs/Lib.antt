@@ -1,4 +1,3 @@
-pub mod CharsLemmas
 pub mod Counting
 pub mod LinesLemmas
 pub mod TextsLemmas

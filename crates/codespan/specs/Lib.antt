@@ -1,4 +1,3 @@
-pub mod Chars
 pub mod Texts
 pub mod Causes
 pub mod Laws

@@ -6,11 +6,11 @@ ghost use Rattle.codespan_reporting.specs.Causes.{IsLineRefusal, IsPlaceRefusal,
 ghost use Rattle.codespan_reporting.specs.Lines.{line_at};
 ghost use Rattle.codespan.specs.Lines.{LinesJoin, line_count, line_extent, line_of, line_starts_lf, start_of_line};
 ghost use Rattle.codespan.specs.Places.{IsLocation, IsSlice};
-ghost use Rattle.codespan.specs.Chars.{begins_character, character_count};
 ghost use Rattle.codespan.specs.Texts.{Fits, NamedText, name_of, text_of, with_text};
 ghost use Rattle.codespan.specs.Causes.{HasRoom, IsCauseToKeep, IsCauseToRefuse};
 
 use crate::{ByteIndex, ColumnIndex, LineIndex, Location, RawIndex, Span};
+use bytecount::num_chars;
 use codespan_reporting::files;
 use codespan_reporting::files::Error;
 use memchr::memchr_iter;
@@ -81,16 +81,19 @@ impl FileId {
 }
 
 /// Why a source was not taken.
-#[derive(Clone, Copy, Debug, PartialEq, Eq)]
+#[derive(Clone, Copy, Debug, thiserror::Error, PartialEq, Eq)]
 pub enum AddError {
     /// The source has `u32::MAX` bytes or more.
+    #[error("the source has {length} bytes, and no place past 4294967294 can be named")]
     SourceTooLong {
         /// The source's length in bytes.
         length: usize,
     },
     /// The database holds `u32::MAX` files.
+    #[error("the database is full")]
     TooManyFiles,
     /// There was no memory left.
+    #[error("out of memory")]
     OutOfMemory,
 }
 
@@ -198,6 +201,7 @@ impl<Source: SourceText> Files<Source> {
     }
 
     /// What the file is called.
+    #[must_use]
     pub fn name(&self, file_id: FileId) -> &str
         requires { file_id < length self.now }
         ensures { result.now ≡ name_of self.now file_id }
@@ -241,6 +245,7 @@ impl<Source: SourceText> Files<Source> {
     }
 
     /// The source of the file. It has fewer than `u32::MAX` bytes.
+    #[must_use]
     pub fn source(&self, file_id: FileId) -> &Source
         requires { file_id < length self.now }
         ensures text { Source.text result.now ≡ text_of self.now file_id }
@@ -492,23 +497,7 @@ fn characters_in(text: &str) -> usize
     ensures exact { result ≡ length (chars text.now) }
     ensures bound { result ≤ length text.now }
 {
-    first_bytes_in(text.as_bytes())
-}
-
-/// How many of the bytes begin a character.
-#[tactic(auto, unfolding(crate::specs::Chars::character_count))]
-fn first_bytes_in(bytes: &[u8]) -> usize
-    ensures exact { result ≡ character_count bytes.now }
-    ensures bound { result ≤ length bytes.now }
-{
-    bytes.iter().filter(|byte| begins_character(**byte)).count()
-}
-
-/// Whether the byte's top bits are not 10.
-fn begins_character(byte: u8) -> bool
-    ensures { result ≡ begins_character byte }
-{
-    byte < 128 || byte >= 192
+    num_chars(text.as_bytes())
 }
 
 /// The text between two places, the first not after the second.

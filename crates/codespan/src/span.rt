@@ -29,6 +29,7 @@ impl Model for Span {
 
 impl Span {
     /// The span with these ends. The start is not after the end.
+    #[must_use]
     pub fn new(start: ByteIndex, end: ByteIndex) -> Span
         requires { start.0 ≤ end.0 }
         ensures { result ≡ record { start = start.0; end = end.0 } }
@@ -53,6 +54,7 @@ impl Span {
     }
 
     /// The empty span at the start of a source.
+    #[must_use]
     pub fn initial() -> Span
         ensures { result ≡ record { start = 0; end = 0 } }
     {
@@ -60,6 +62,7 @@ impl Span {
     }
 
     /// The span of a whole text of at most `u32::MAX` bytes.
+    #[must_use]
     pub fn from_str(s: &str) -> Span
         requires { length s.now ≤ u32.MAX }
         ensures { result ≡ record { start = 0; end = length s.now } }
@@ -68,6 +71,7 @@ impl Span {
     }
 
     /// The least span that contains both, and with them what lies between.
+    #[must_use]
     pub fn merge(self, other: Span) -> Span
         ensures merged { result ≡ merged self other }
         ensures covers { Covers result self × Covers result other }
@@ -80,6 +84,7 @@ impl Span {
 
     /// Whether the spans have no byte in common: one ends no later than the other starts, either way
     /// round. An empty span is disjoint from one at whose end it stands.
+    #[must_use]
     pub fn disjoint(self, other: Span) -> bool
         ensures exact { IsTrue result ↔ AreDisjoint self other }
         ensures symmetric { IsTrue result ↔ AreDisjoint other self }

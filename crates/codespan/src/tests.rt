@@ -1,14 +1,15 @@
 //! Values from outside, and callers that are proved from the contracts alone.
-ghost use Rattle.std.specs.Prelude.{◌≡◌, ◌++◌, ◌↔◌, IfOk, IsTrue, codes, length, string_bytes};
+ghost use Rattle.std.specs.Prelude.{◌≡◌, ◌++◌, ◌↔◌, ◌+ℤ◌, pos, IfOk, IsTrue, codes, length, string_bytes};
+ghost use Rattle.std.specs.Int.{w32, FitsUnsigned};
 ghost use Rattle.std.specs.Fmt.{decimal, signed_decimal};
 ghost use Rattle.std.specs.Ordering.{int_cmp, nat_cmp, ordering_then};
-ghost use Rattle.std.specs.Hash.{u32 as hash_of_u32};
+ghost use Rattle.std.specs.Hash.{u32 as hash_of_u32, i64 as hash_of_i64};
 ghost use Rattle.std.specs.List.{fold};
 ghost use Rattle.codespan.specs.Texts.{name_of, text_of};
 
 use crate::{
     AddError, ByteIndex, ByteOffset, ColumnIndex, ColumnOffset, FileId, Files, Index, LineIndex,
-    LineNumber, LineOffset, Location, SourceText, Span,
+    LineNumber, LineOffset, Location, RawIndex, RawOffset, SourceText, Span,
 };
 use codespan_reporting::files;
 use codespan_reporting::files::{Error, line_text};
@@ -96,6 +97,153 @@ fn order_of_ways(a: ByteOffset, b: ByteOffset) -> Ordering
     ensures { result ≡ int_cmp a.0 b.0 }
 {
     a.cmp(&b)
+}
+
+fn hash_id<H: Hasher>(id: FileId, state: &mut H)
+    ensures { state.new ≡ fold H.write state.old (hash_of_u32 id) }
+{
+    id.hash(state);
+}
+
+fn is_same_id(a: FileId, b: FileId) -> bool
+    ensures { IsTrue result ↔ (a ≡ b) }
+{
+    a == b
+}
+
+fn hash_span<H: Hasher>(span: Span, state: &mut H)
+    ensures { state.new ≡ fold H.write state.old (hash_of_u32 span.start ++ hash_of_u32 span.end) }
+{
+    span.hash(state);
+}
+
+fn is_same_location(a: Location, b: Location) -> bool
+    ensures { IsTrue result ↔ ((a.line.0 ≡ b.line.0) × (a.column.0 ≡ b.column.0)) }
+{
+    a == b
+}
+
+fn hash_location<H: Hasher>(location: Location, state: &mut H)
+    ensures { state.new ≡ fold H.write state.old (hash_of_u32 location.line.0 ++ hash_of_u32 location.column.0) }
+{
+    location.hash(state);
+}
+
+/// How two are ordered, and whether they are equal.
+fn compare_line_indexes(a: LineIndex, b: LineIndex) -> (Ordering, bool)
+    ensures order { result.0 ≡ nat_cmp a.0 b.0 }
+    ensures equal { IsTrue result.1 ↔ (a.0 ≡ b.0) }
+{
+    (a.cmp(&b), a == b)
+}
+
+fn hash_line_index<H: Hasher>(index: LineIndex, state: &mut H)
+    ensures { state.new ≡ fold H.write state.old (hash_of_u32 index.0) }
+{
+    index.hash(state);
+}
+
+fn first_line() -> LineIndex
+    ensures { result.0 ≡ 0 }
+{
+    LineIndex::default()
+}
+
+/// How two are ordered, and whether they are equal.
+fn compare_column_indexes(a: ColumnIndex, b: ColumnIndex) -> (Ordering, bool)
+    ensures order { result.0 ≡ nat_cmp a.0 b.0 }
+    ensures equal { IsTrue result.1 ↔ (a.0 ≡ b.0) }
+{
+    (a.cmp(&b), a == b)
+}
+
+fn hash_column_index<H: Hasher>(index: ColumnIndex, state: &mut H)
+    ensures { state.new ≡ fold H.write state.old (hash_of_u32 index.0) }
+{
+    index.hash(state);
+}
+
+fn first_column() -> ColumnIndex
+    ensures { result.0 ≡ 0 }
+{
+    ColumnIndex::default()
+}
+
+/// How two are ordered, and whether they are equal.
+fn compare_byte_indexes(a: ByteIndex, b: ByteIndex) -> (Ordering, bool)
+    ensures order { result.0 ≡ nat_cmp a.0 b.0 }
+    ensures equal { IsTrue result.1 ↔ (a.0 ≡ b.0) }
+{
+    (a.cmp(&b), a == b)
+}
+
+fn hash_byte_index<H: Hasher>(index: ByteIndex, state: &mut H)
+    ensures { state.new ≡ fold H.write state.old (hash_of_u32 index.0) }
+{
+    index.hash(state);
+}
+
+fn first_byte() -> ByteIndex
+    ensures { result.0 ≡ 0 }
+{
+    ByteIndex::default()
+}
+
+fn compare_lines(a: LineOffset, b: LineOffset) -> (Ordering, bool)
+    ensures order { result.0 ≡ int_cmp a.0 b.0 }
+    ensures equal { IsTrue result.1 ↔ (a.0 ≡ b.0) }
+{
+    (a.cmp(&b), a == b)
+}
+
+fn hash_lines<H: Hasher>(way: LineOffset, state: &mut H)
+    ensures { state.new ≡ fold H.write state.old (hash_of_i64 way.0) }
+{
+    way.hash(state);
+}
+
+fn no_lines() -> LineOffset
+    ensures { result.0 ≡ pos 0 }
+{
+    LineOffset::default()
+}
+
+fn compare_columns(a: ColumnOffset, b: ColumnOffset) -> (Ordering, bool)
+    ensures order { result.0 ≡ int_cmp a.0 b.0 }
+    ensures equal { IsTrue result.1 ↔ (a.0 ≡ b.0) }
+{
+    (a.cmp(&b), a == b)
+}
+
+fn hash_columns<H: Hasher>(way: ColumnOffset, state: &mut H)
+    ensures { state.new ≡ fold H.write state.old (hash_of_i64 way.0) }
+{
+    way.hash(state);
+}
+
+fn no_columns() -> ColumnOffset
+    ensures { result.0 ≡ pos 0 }
+{
+    ColumnOffset::default()
+}
+
+fn compare_bytes(a: ByteOffset, b: ByteOffset) -> (Ordering, bool)
+    ensures order { result.0 ≡ int_cmp a.0 b.0 }
+    ensures equal { IsTrue result.1 ↔ (a.0 ≡ b.0) }
+{
+    (a.cmp(&b), a == b)
+}
+
+fn hash_bytes<H: Hasher>(way: ByteOffset, state: &mut H)
+    ensures { state.new ≡ fold H.write state.old (hash_of_i64 way.0) }
+{
+    way.hash(state);
+}
+
+fn no_bytes() -> ByteOffset
+    ensures { result.0 ≡ pos 0 }
+{
+    ByteOffset::default()
 }
 
 fn hash_number<H: Hasher>(number: LineNumber, state: &mut H)
@@ -239,6 +387,32 @@ fn there_and_back_at_any_kind_of_place(rt: HostRuntime) {
     );
 }
 
+/// A place moved by a way and back, where both sums are in range.
+fn moved(mut place: ByteIndex, way: ByteOffset) -> ByteIndex
+    requires { FitsUnsigned w32 (pos place.0 +ℤ way.0) }
+{
+    place += way;
+    place
+}
+
+#[test]
+fn positions_move_and_convert(rt: HostRuntime) {
+    assert!(rt; moved(ByteIndex(7), ByteOffset(-3)) == ByteIndex(4));
+    let mut line = LineIndex(3);
+    line -= LineOffset(1);
+    assert!(rt; line == LineIndex(2) && line.to_usize() == 2);
+    let mut way = ColumnOffset(2);
+    way += ColumnOffset(1);
+    way -= ColumnOffset(5);
+    assert!(rt; way == ColumnOffset(-2) && -way == ColumnOffset(2));
+    assert!(rt; RawOffset::from(-way) == 2 && ColumnOffset::from(2) == -way);
+    assert!(rt; ByteIndex::from(4) == ByteIndex(4) && RawIndex::from(ByteIndex(4)) == 4);
+    assert!(rt; usize::from(ByteIndex(4)) == 4 && ByteOffset(4).to_usize() == 4);
+    assert!(rt;
+        LineIndex(1).number().to_usize() == 2 && ColumnIndex(0).number() < ColumnIndex(1).number()
+    );
+}
+
 #[test]
 fn lengths_and_numbers(rt: HostRuntime) -> Result<(), Fail> {
     let alloc = rt.alloc();
@@ -260,7 +434,7 @@ fn a_tool_asks_the_database(rt: HostRuntime) -> Result<(), Fail> {
     let files = two_files(alloc)?;
     for (index, text) in [(0, Ok("new")), (1, Ok("other"))] {
         if let Some(id) = FileId::from_index(index) {
-            assert!(rt; files.contains(id));
+            assert!(rt; files.contains(id) && files::Files::contains(&files, id));
             assert_eq!(rt; line_text(&files, id, 0), text);
             assert_eq!(rt;
                 line_text(&files, id, 1),

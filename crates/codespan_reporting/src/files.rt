@@ -8,9 +8,10 @@ ghost use Rattle.std.specs.Str.{IsUtf8};
 use std::ops::Range;
 
 /// Why a question about a file was refused.
-#[derive(Clone, Copy, Debug, PartialEq, Eq)]
+#[derive(Clone, Copy, Debug, thiserror::Error, PartialEq, Eq)]
 pub enum Error {
     /// A place past the end of the source.
+    #[error("place {given} is past the last one, {max}")]
     IndexTooLarge {
         /// The place that was given, in bytes.
         given: usize,
@@ -18,6 +19,7 @@ pub enum Error {
         max: usize,
     },
     /// A line past the last one.
+    #[error("line {given} is not among the {max} lines")]
     LineTooLarge {
         /// The line that was given, from 0, or the one after it where it is the first that isn't there.
         given: usize,
@@ -25,6 +27,7 @@ pub enum Error {
         max: usize,
     },
     /// A place inside a character.
+    #[error("place {given} is inside a character")]
     InvalidCharBoundary {
         /// The place that was given, in bytes.
         given: usize,

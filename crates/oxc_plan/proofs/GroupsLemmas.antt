@@ -1,5 +1,5 @@
 -- Groups: there is one division into them, and their windows lie apart.
-use Rattle.std.proofs.Common.{◌≡◌, ℕ, zero, suc, ◌+◌, ◌-◌, ◌<◌, ◌≤◌, List, [], ◌∷◌, length, get_or, take, drop, fold, max, refl, ap, subst, ◌∙◌, arith, ⊎_elim, inl, inr, Bool, true, false, not, ltb, All}
+use Rattle.std.proofs.Common.{◌≡◌, ℕ, zero, suc, ◌+◌, ◌-◌, ◌<◌, ◌≤◌, List, [], ◌∷◌, length, ◌++◌, append_assoc, get_or, take, drop, fold, max, refl, sym, ap, subst, ◌∙◌, arith, ⊎_elim, inl, inr, Bool, true, false, not, ltb, All}
 use Rattle.std.specs.List.{position_or_len, range_with_len}
 use Rattle.std.specs.List.Sorted.{IsNonDecreasingBy}
 use Rattle.std.specs.declared.ops.Range.{Range}
@@ -102,7 +102,7 @@ row_of_mono breaks a b len ok le =
     (λ ge. ge) (cases_lt (row_of breaks b) (row_of breaks a))
 
 -- a window with one row of context round a span: where it begins and ends
-begin_before : (len : ℕ) (breaks : List LineBreak) (start : ℕ) → IsBreakList len breaks → window_begin len breaks 1 start ≤ start
+pub begin_before : (len : ℕ) (breaks : List LineBreak) (start : ℕ) → IsBreakList len breaks → window_begin len breaks 1 start ≤ start
 begin_before len breaks start ok = row_start_before len breaks start (row_of breaks start - 1) ok (omega arith)
 
 begin_mono : (len : ℕ) (breaks : List LineBreak) (a b : ℕ) → IsBreakList len breaks → a ≤ b → window_begin len breaks 1 a ≤ window_begin len breaks 1 b
@@ -121,7 +121,7 @@ abbrev pub AreInOrder : ℕ → List Span → Type 0
 AreInOrder len spans = IsNonDecreasingBy (λ s. s.start) spans × All (λ s. (s.start ≤ s.end) × (s.end ≤ len)) spans
 
 -- the window of a group ends no later than that of any span after the group begins
-group_before : (len : ℕ) (breaks : List LineBreak) (spans : List Span) (first past at : ℕ) → IsBreakList len breaks → AreInOrder len spans
+pub group_before : (len : ℕ) (breaks : List LineBreak) (spans : List Span) (first past at : ℕ) → IsBreakList len breaks → AreInOrder len spans
     → IsGroup len breaks spans first past → past ≤ at → at < length spans
     → window_end len breaks 1 (largest_end spans first past) ≤ window_begin len breaks 1 (span_at spans at).start
 group_before len breaks spans first past at ok order group le lt =
@@ -210,3 +210,10 @@ groups_from_are len breaks spans (suc most) from le enough =
 pub groups_of_are : (len : ℕ) (breaks : List LineBreak) (spans : List Span) → AreGroups len breaks spans 0 (groups_of len breaks spans)
 unfolding groups_of
 groups_of_are len breaks spans = groups_from_are len breaks spans (length spans) 0 (omega arith) (omega arith)
+
+-- one group more
+pub group_added : (len : ℕ) (breaks : List LineBreak) (spans : List Span) (first past : ℕ) (found rest : List (Range ℕ)) → IsGroup len breaks spans first past
+    → ((more : List (Range ℕ)) → AreGroups len breaks spans first more → AreGroups len breaks spans 0 (found ++ more))
+    → AreGroups len breaks spans past rest → AreGroups len breaks spans 0 ((found ++ record { start = first; end = past } ∷ []) ++ rest)
+group_added len breaks spans first past found rest is ahead are =
+    subst (AreGroups len breaks spans 0) (sym (append_assoc found (record { start = first; end = past } ∷ []) rest)) (ahead (record { start = first; end = past } ∷ rest) (refl, is, are))

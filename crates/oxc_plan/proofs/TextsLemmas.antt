@@ -27,7 +27,7 @@ use Rattle.oxc_plan.proofs.PlaceLemmas.{window_reaches}
 use Rattle.oxc_plan.specs.Meets.{is_multi_row, is_one_row, label_past, multi_row_labels, one_row_labels}
 use Rattle.oxc_plan.specs.Rows.{RowView, numbered, pieces, row_of_piece, rows_in}
 use Rattle.oxc_plan.proofs.PlanLemmas.{groups_within, spans_ordered, total, total_pieces}
-use Rattle.oxc_plan.specs.declared.plan.Hang.{Hang}
+use Rattle.oxc_plan.specs.declared.hangs.Hang.{Hang}
 use Rattle.oxc_plan.specs.Plan.{Ordered, RowPlanView, ends_of, ends_with_text, hang_of, hang_place, hangs_of, in_order, ordered_at, row_plan_of, row_plans_of, snippet_of, snippets_of, spans_of}
 
 -- one more element of a sum and of a count

@@ -1,5 +1,5 @@
 -- The label order: by start, equal starts as given.
-use Rattle.std.specs.Prelude.{◌≡◌, ℕ, ◌==◌, nat_lt, List, [], ◌∷◌, length, map, filter, None, false, slice_index_or, if◌then◌else◌}
+use Rattle.std.specs.Prelude.{◌≡◌, ℕ, ◌≤◌, ◌==◌, nat_lt, List, [], ◌∷◌, length, map, filter, None, false, slice_index_or, if◌then◌else◌, All}
 use Rattle.std.specs.List.{range_with_len}
 use Rattle.std.specs.List.Sorted.{IsNonDecreasingBy}
 use Rattle.oxc_span.specs.declared.span.Span.{Span}
@@ -52,3 +52,8 @@ spans_in_order labels = map (λ at. span_of (label_at labels at)) (label_order l
 -- the law: labels have no two label orders
 abbrev pub HasOneOrder : List Label → Type 0
 HasOneOrder labels = (xs ys : List ℕ) → IsLabelOrder labels xs → IsLabelOrder labels ys → xs ≡ ys
+
+-- spans whose starts ascend, none of which ends before it starts or past a length
+pub record AreOrderedSpans (len : ℕ) (spans : List Span) : Type 0 where
+  pub ascend : IsNonDecreasingBy (λ span. span.start) spans
+  pub within : All (λ span. (span.start ≤ span.end) × (span.end ≤ len)) spans

@@ -3,7 +3,7 @@ ghost use Rattle.std.specs.Prelude.{◌≡◌, ◌+◌, ◌<◌, ◌≤◌, ◌�
 ghost use Rattle.oxc_span.specs.Label.{label_end};
 ghost use Rattle.oxc_plan.specs.Plan.{snippet_view, snippets_of};
 
-use crate::{Bar, BarKind, Hang, MarkCells, RowPlan, SnippetPlan, plan_snippets};
+use crate::{Bar, BarKind, Hang, MarkCells, RowPlan, SnippetPlan, TabWidth, plan_snippets};
 use oxc_span::LabeledSpan;
 use oxc_windows::SpanScanner;
 use std::alloc::{AllocError, Global};
@@ -30,7 +30,7 @@ fn plans_of<'a>(
         return Ok(None);
     }
     let mut scanner = SpanScanner::new(alloc, text.as_bytes(), 1, 1);
-    let plans = plan_snippets(alloc, &mut scanner, labels)?;
+    let plans = plan_snippets(alloc, &mut scanner, labels, TabWidth::default())?;
     Ok(Some(plans))
 }
 

@@ -1,5 +1,5 @@
 -- Counts of characters.
-use Rattle.std.proofs.Common.{◌≡◌, ℕ, ◌+◌, ◌-◌, ◌≤◌, ◌<◌, true, false, cond, List, [], ◌∷◌, ◌++◌, length, take, drop, get_or, refl, sym, ap, ◌∙◌, arith, slice_range}
+use Rattle.std.proofs.Common.{◌≡◌, ℕ, ◌+◌, ◌-◌, ◌≤◌, ◌<◌, true, false, cond, count_by, List, [], ◌∷◌, ◌++◌, length, take, drop, get_or, refl, sym, ap, ◌∙◌, arith, slice_range}
 use Rattle.std.specs.Str.{chars, IsUtf8, IsCharBoundary}
 use Rattle.std.proofs.lemmas.Bool.Decides.{nat_tests}
 use Rattle.std.proofs.lemmas.List.{take_all, length-take}
@@ -7,7 +7,16 @@ use Rattle.std.proofs.lemmas.List.Sums.{sum_by-append, count_by_more_yes, count_
 use Rattle.std.proofs.lemmas.Str.{encodes-chars}
 use Rattle.std.proofs.Math.Seq.{take-add}
 use lib.Utf8.{encode, encodes}
+use Rattle.bytecount.specs.Counts.{begins_char, char_count as first_bytes}
 use Rattle.source_location.specs.Characters.{is_char_start, char_count}
+
+-- the crate that counts says in its own words which bytes begin a character
+begins_alike : (x : ℕ) → begins_char x ≡ is_char_start x
+begins_alike x = grind (arith, nat_tests)
+
+pub counted_alike : (bytes : List ℕ) → first_bytes bytes ≡ char_count bytes
+unfolding char_count first_bytes
+counted_alike bytes = ap (λ test. count_by test bytes) (λ i x. begins_alike x i)
 
 pub char_count-append : (xs ys : List ℕ) → char_count (xs ++ ys) ≡ char_count xs + char_count ys
 unfolding char_count

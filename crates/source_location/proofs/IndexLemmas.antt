@@ -66,6 +66,10 @@ index_row index text o e = ap (count_by (λ s. leb s o)) (starts_of index text e
 pub index_few : (index : IndexView) → IsIndex index → length index.line_starts < 2 ^ 32
 index_few index known = omega (arith, few_starts index.line_starts known.text (starts_of index known.text known.same), known.fits)
 
+-- the text of an index fits
+pub index_fits : (index : IndexView) → IsIndex index → (text : List ℕ) → index ≡ index_of text → length text < 2 ^ 32 - 1
+index_fits index known text e = omega (arith, ap (λ (i : IndexView). i.length) e, ap (λ (i : IndexView). i.length) known.same, known.fits)
+
 -- a row start that the index holds
 pub start_at : (starts text : List ℕ) (row d : ℕ) → starts ≡ line_starts (breaks_of text) → row < length starts → get_or starts row d ≡ row_start (length text) (breaks_of text) row
 unfolding row_start

@@ -14,14 +14,15 @@ Fits text = length text < 2 ^ 32 - 1
 unfoldable pub is_ascii : List ℕ → Bool
 is_ascii text = list_all (λ byte. nat_lt byte 128) text
 
--- where the rows start, and whether each byte is ASCII
+-- where the rows start, how many bytes there are, and whether each is ASCII
 pub record IndexView : Type 0 where
   pub line_starts : List ℕ
+  pub length : ℕ
   pub is_ascii : Bool
 
 -- the index of a text
 abbrev pub index_of : List ℕ → IndexView
-index_of text = record { line_starts = line_starts (breaks_of text); is_ascii = is_ascii text }
+index_of text = record { line_starts = line_starts (breaks_of text); length = length text; is_ascii = is_ascii text }
 
 -- an index is that of some text
 pub record IsIndex (index : IndexView) : Type 0 where

@@ -44,14 +44,13 @@ impl<'src, 'index> Model for SourceCode<'src, 'index> {
 
     ghost view = { λ code. code.text.now };
 
-    ghost invariant = { λ code. (code.index.now ≡ index_of code.text.now) × Fits code.text.now };
+    ghost invariant = { λ code. code.index.now ≡ index_of code.text.now };
 }
 
 impl<'src, 'index> SourceCode<'src, 'index> {
-    /// A text that fits, and the index that was made of it.
+    /// A text, and the index that was made of it.
     pub fn new(content: &'src str, index: &'index LineIndex) -> Self
-        requires indexed { index.now ≡ index_of content.now }
-        requires fits { Fits content.now }
+        requires { index.now ≡ index_of content.now }
         ensures { result ≡ content.now }
     {
         SourceCode {

@@ -11,6 +11,7 @@ ghost use Rattle.source_location.specs.Locations.{begins_with_mark, counted_from
 ghost use Rattle.source_location.specs.Index.{Fits, index_of, is_ascii, is_ascii_kind};
 
 use crate::{SourceLocation, find_newline};
+use bytecount::num_chars;
 use std::alloc::{AllocError, Global};
 use std::fmt;
 use std::fmt::{Debug, Display, Formatter, Write};
@@ -31,6 +32,7 @@ pub fn fits(text: &str) -> bool
 #[derive(Debug, Drop)]
 pub struct LineIndex {
     line_starts: Vec<TextSize>,
+    length: TextSize,
     kind: IndexKind,
 }
 
@@ -39,9 +41,9 @@ impl Model for LineIndex {
 
     ghost Value = { IndexView };
 
-    ghost view = { λ index. record { line_starts = index.line_starts.items; is_ascii = is_ascii_kind index.kind } };
+    ghost view = { λ index. record { line_starts = index.line_starts.items; length = index.length; is_ascii = is_ascii_kind index.kind } };
 
-    ghost invariant = { λ index. IsIndex (record { line_starts = index.line_starts.items; is_ascii = is_ascii_kind index.kind }) };
+    ghost invariant = { λ index. IsIndex (record { line_starts = index.line_starts.items; length = index.length; is_ascii = is_ascii_kind index.kind }) };
 }
 
 impl LineIndex {
@@ -64,6 +66,7 @@ impl LineIndex {
         }
         Ok(LineIndex {
             line_starts,
+            length: TextSize::new(text.len() as u32),
             kind: kind.with(rest),
         })
     }
@@ -74,6 +77,7 @@ impl LineIndex {
     {
         Ok(LineIndex {
             line_starts: Vec::from_slice(alloc, self.line_starts.as_slice())?,
+            length: self.length,
             kind: self.kind,
         })
     }
@@ -83,7 +87,6 @@ impl LineIndex {
     /// A byte order mark at the text's beginning is no column.
     pub fn source_location(&self, offset: TextSize, content: &str) -> SourceLocation
         requires indexed { self.now ≡ index_of content.now }
-        requires fits { Fits content.now }
         requires boundary { IsCharBoundary content.now offset }
         ensures { result ≡ location_of content.now offset }
     {
@@ -100,7 +103,6 @@ impl LineIndex {
     /// Behind a byte order mark the first column is at 3.
     pub fn offset_of(&self, text: &str, location: SourceLocation) -> Option<TextSize>
         requires indexed { self.now ≡ index_of text.now }
-        requires fits { Fits text.now }
         ensures largest { IsOffsetAt text.now location result }
         ensures value { result ≡ offset_at text.now location }
     {
@@ -128,7 +130,6 @@ impl LineIndex {
     /// Where a row starts; past the last row, where the text ends.
     pub(crate) fn line_start(&self, line: OneIndexed, contents: &str) -> TextSize
         requires indexed { self.now ≡ index_of contents.now }
-        requires fits { Fits contents.now }
         ensures { result ≡ row_start (length contents.now) (breaks_of contents.now) (line - 1) }
     {
         TextSize::new(self.start_of(line.to_zero_indexed_usize(), contents) as u32)
@@ -137,7 +138,6 @@ impl LineIndex {
     /// Where a row with its break ends.
     pub(crate) fn line_end(&self, line: OneIndexed, contents: &str) -> TextSize
         requires indexed { self.now ≡ index_of contents.now }
-        requires fits { Fits contents.now }
         ensures { result ≡ row_start (length contents.now) (breaks_of contents.now) line }
     {
         TextSize::new(self.start_of(line.to_usize(), contents) as u32)
@@ -146,7 +146,6 @@ impl LineIndex {
     /// A row with its break.
     pub(crate) fn line_range(&self, line: OneIndexed, contents: &str) -> TextRange
         requires indexed { self.now ≡ index_of contents.now }
-        requires fits { Fits contents.now }
         ensures { result ≡ (row_start (length contents.now) (breaks_of contents.now) (line - 1), row_start (length contents.now) (breaks_of contents.now) line) }
     {
         TextRange::new(
@@ -161,6 +160,7 @@ impl LineIndex {
         ensures first { take 1 result.now ≡ 0 ∷ [] }
         ensures rise { IsNonDecreasing result.now }
         ensures few { length result.now < 2 ^ 32 }
+        ensures fits { (text : List ℕ) → self.now ≡ index_of text → Fits text }
     {
         self.line_starts.as_slice()
     }
@@ -168,7 +168,8 @@ impl LineIndex {
     /// The largest boundary with the location.
     fn boundary_with(&self, location: SourceLocation, text: &str) -> Option<usize>
         requires { self.now ≡ index_of text.now }
-        ensures { IsOffsetAt text.now location result }
+        ensures largest { IsOffsetAt text.now location result }
+        ensures fits { Fits text.now }
     {
         let row = location.row.to_zero_indexed_usize();
         let rows = self.line_starts().len();
@@ -195,6 +196,7 @@ impl LineIndex {
         ensures row { (text : List ℕ) → self.now ≡ index_of text → result ≡ row_of (breaks_of text) offset }
         ensures within { result < length self.now.line_starts }
         ensures few { length self.now.line_starts < 2 ^ 32 }
+        ensures fits { (text : List ℕ) → self.now ≡ index_of text → Fits text }
     {
         rows_started(self.line_starts(), offset) - 1
     }
@@ -217,7 +219,8 @@ impl LineIndex {
     /// Where a row starts; past the last row, where the text ends.
     fn start_of(&self, row: usize, text: &str) -> usize
         requires { self.now ≡ index_of text.now }
-        ensures { result ≡ row_start (length text.now) (breaks_of text.now) row }
+        ensures start { result ≡ row_start (length text.now) (breaks_of text.now) row }
+        ensures fits { Fits text.now }
     {
         let starts = self.line_starts();
         if row < starts.len() {
@@ -313,11 +316,11 @@ impl IndexKind {
 }
 
 /// How many characters begin in the bytes.
-#[tactic(auto, unfolding(crate::specs::Characters::char_count))]
+#[tactic(auto, using(crate::proofs::CharactersLemmas::counted_alike))]
 fn character_count(bytes: &[u8]) -> usize
     ensures { result ≡ char_count bytes.now }
 {
-    bytes.iter().filter(|byte| begins_character(**byte)).count()
+    num_chars(bytes)
 }
 
 /// The same for any row, by a walk over its bytes.

@@ -166,6 +166,7 @@ impl TextRange {
 
     /// The least range that holds both ranges.
     #[inline]
+    #[must_use]
     pub fn cover(self, other: TextRange) -> TextRange
         ensures least { IsLeastHolding result self other }
         ensures ends { result ≡ (min self.0 other.0, max self.1 other.1) }
@@ -177,6 +178,7 @@ impl TextRange {
 
     /// The least range that holds this range and the empty range at `offset`.
     #[inline]
+    #[must_use]
     pub fn cover_offset(self, offset: TextSize) -> TextRange
         ensures least { IsLeastHolding result self (offset, offset) }
         ensures ends { result ≡ (min self.0 offset, max self.1 offset) }
@@ -225,6 +227,7 @@ impl TextRange {
 
     /// The range with its start moved down by `amount`, which is at most the start.
     #[inline]
+    #[must_use]
     pub fn sub_start(&self, amount: TextSize) -> TextRange
         requires { amount ≤ self.now.0 }
         ensures { result ≡ (self.now.0 - amount, self.now.1) }
@@ -234,6 +237,7 @@ impl TextRange {
 
     /// The range with its start moved up by `amount`, at most to its end.
     #[inline]
+    #[must_use]
     pub fn add_start(&self, amount: TextSize) -> TextRange
         requires { self.now.0 + amount ≤ self.now.1 }
         ensures { result ≡ (self.now.0 + amount, self.now.1) }
@@ -244,6 +248,7 @@ impl TextRange {
 
     /// The range with its end moved down by `amount`, at most to its start.
     #[inline]
+    #[must_use]
     pub fn sub_end(&self, amount: TextSize) -> TextRange
         requires { self.now.0 + amount ≤ self.now.1 }
         ensures { result ≡ (self.now.0, self.now.1 - amount) }
@@ -253,6 +258,7 @@ impl TextRange {
 
     /// The range with its end moved up by `amount`, at most to `u32::MAX`.
     #[inline]
+    #[must_use]
     pub fn add_end(&self, amount: TextSize) -> TextRange
         requires { self.now.1 + amount < 2 ^ 32 }
         ensures { result ≡ (self.now.0, self.now.1 + amount) }

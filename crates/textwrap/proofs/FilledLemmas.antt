@@ -8,7 +8,7 @@ use Rattle.textwrap.specs.declared.lines.Line.{Line}
 use Rattle.textwrap.specs.Pieces.{PieceView, pieces}
 use Rattle.textwrap.specs.Lines.{joined, first_fit}
 use Rattle.textwrap.specs.Filled.{spaces, room, line_text, lines_of, part_lines, joined_by_breaks, parts_of, IsPartFilled, ArePartsFilled, IsFilled, filled_part, later_part, filled_parts, filled}
-use Rattle.textwrap.specs.Layout.{placed, line_behind, continued, laid_out}
+use Rattle.textwrap.specs.Layout.{appended, line_behind, continued, laid_out}
 use Rattle.textwrap.proofs.LinesLemmas.{same_lines}
 use Rattle.textwrap.proofs.FirstFit.{nothing, left_at, next_is, rest_is, first_fit_is}
 
@@ -46,7 +46,7 @@ line_text_more pieces count p more gap some left behind =
 told : (first later : List ℕ) (line : Line) (later_room count : ℕ) (pieces rest : List PieceView) → 1 ≤ count → line.gap ≡ (get_or pieces (count - 1) nothing).gap → drop count pieces ≡ rest
     → broken (lines_of first later pieces (joined line.room later_room line.used line.gap count rest))
     ≡ 0x0A ∷ ((first ++ line_text (take count pieces)) ++ continued later later_room line rest)
-unfolding joined lines_of continued placed line_behind line_text
+unfolding joined lines_of continued appended line_behind line_text
 told first later line later_room count pieces [] some behind left = refl
 told first later line later_room count pieces (p ∷ more) some behind left =
     let used : ℕ = line.used + line.gap + p.width in

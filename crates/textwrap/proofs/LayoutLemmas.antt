@@ -5,7 +5,7 @@ use Rattle.std.proofs.lemmas.List.Sums.{sum_by-cons}
 use Rattle.textwrap.specs.declared.lines.Line.{Line}
 use Rattle.textwrap.specs.declared.pieces.Piece.{Piece}
 use Rattle.textwrap.specs.Pieces.{PieceView, extent, piece_view}
-use Rattle.textwrap.specs.Layout.{placed, line_behind, continued}
+use Rattle.textwrap.specs.Layout.{appended, line_behind, continued}
 
 views_more : (pieces : List Piece) (i : ℕ) (d : Piece) → i < length pieces → map piece_view (drop i pieces) ≡ piece_view (get_or pieces i d) ∷ map piece_view (drop (i + 1) pieces)
 views_more pieces i d lt = ap (map piece_view) (drop_more pieces i d lt)
@@ -13,13 +13,13 @@ views_more pieces i d lt = ap (map piece_view) (drop_more pieces i d lt)
 -- one piece more is put down
 pub continued_more : (done indent : List ℕ) (later : ℕ) (line next : Line) (pieces : List Piece) (i : ℕ) (d : Piece) → i < length pieces
     → next ≡ line_behind later line (piece_view (get_or pieces i d))
-    → (done ++ placed indent line (piece_view (get_or pieces i d))) ++ continued indent later next (map piece_view (drop (i + 1) pieces))
+    → (done ++ appended indent line (piece_view (get_or pieces i d))) ++ continued indent later next (map piece_view (drop (i + 1) pieces))
     ≡ done ++ continued indent later line (map piece_view (drop i pieces))
 unfolding continued
 continued_more done indent later line next pieces i d lt is_next =
     let p : PieceView = piece_view (get_or pieces i d) in
-    append_assoc done (placed indent line p) (continued indent later next (map piece_view (drop (i + 1) pieces)))
-    ∙ ap (λ n. done ++ (placed indent line p ++ continued indent later n (map piece_view (drop (i + 1) pieces)))) is_next
+    append_assoc done (appended indent line p) (continued indent later next (map piece_view (drop (i + 1) pieces)))
+    ∙ ap (λ n. done ++ (appended indent line p ++ continued indent later n (map piece_view (drop (i + 1) pieces)))) is_next
     ∙ ap (λ ps. done ++ continued indent later line ps) (sym (views_more pieces i d lt))
 
 pub continued_none : (done indent : List ℕ) (later : ℕ) (line : Line) (pieces : List Piece) (i : ℕ) → length pieces ≤ i

@@ -9,8 +9,8 @@ abbrev pub joins : Line → PieceView → Bool
 joins line p = nat_le (line.used + line.gap + p.width) line.room
 
 -- what a piece adds to the text: its gap and itself, or a break and an indent before it
-unfoldable pub placed : List ℕ → Line → PieceView → List ℕ
-placed indent line p =
+unfoldable pub appended : List ℕ → Line → PieceView → List ℕ
+appended indent line p =
     if joins line p then spaces line.gap ++ p.text
     else encode_utf8 0x0A ++ indent ++ p.text
 
@@ -23,7 +23,7 @@ line_behind later line p =
 -- what pieces add to the text
 unfoldable pub continued : List ℕ → ℕ → Line → List PieceView → List ℕ
 continued indent later line [] = []
-continued indent later line (p ∷ more) = placed indent line p ++ continued indent later (line_behind later line p) more
+continued indent later line (p ∷ more) = appended indent line p ++ continued indent later (line_behind later line p) more
 
 -- pieces behind an indent
 unfoldable pub laid_out : List ℕ → ℕ → ℕ → List PieceView → List ℕ

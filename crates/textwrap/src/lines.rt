@@ -2,7 +2,7 @@
 ghost use Rattle.std.specs.Prelude.{◌≡◌, ◌++◌, ◌+◌, ◌^◌, ◌<◌, IfOk, OnOk, map, string_bytes};
 ghost use Rattle.textwrap.specs.Pieces.{extent, piece_view};
 ghost use Rattle.textwrap.specs.Filled.{spaces};
-ghost use Rattle.textwrap.specs.Layout.{continued, laid_out, line_behind, placed};
+ghost use Rattle.textwrap.specs.Layout.{continued, laid_out, line_behind, appended};
 
 use crate::pieces::Piece;
 use std::alloc::AllocError;
@@ -61,7 +61,7 @@ fn push_more(
 }
 
 /// Puts a piece into the line where it fits, and else into the next one.
-#[tactic(auto, unfolding(crate::specs::Layout::placed, crate::specs::Layout::line_behind))]
+#[tactic(auto, unfolding(crate::specs::Layout::appended, crate::specs::Layout::line_behind))]
 fn push_piece(
     out: &mut String,
     line: Line,
@@ -71,7 +71,7 @@ fn push_piece(
 ) -> Result<Line, AllocError>
     requires { line.used + line.gap + piece.now.width < 2 ^ 64 }
     ensures line { IfOk result (λ next. next ≡ line_behind later line (piece_view piece.now)) }
-    ensures text { OnOk result (string_bytes out.new ≡ string_bytes out.old ++ placed indent.now line (piece_view piece.now)) }
+    ensures text { OnOk result (string_bytes out.new ≡ string_bytes out.old ++ appended indent.now line (piece_view piece.now)) }
 {
     let used = line.used + line.gap + piece.width;
     if used <= line.room {

@@ -44,7 +44,7 @@ pub fn moved_over(pen: Pen, c: char) -> Pen
 {
     Pen {
         escape: escape_after(pen.escape, c),
-        width: pen.width + cells_of(pen.escape, c),
+        width: pen.width + width_of(pen.escape, c),
     }
 }
 
@@ -68,7 +68,7 @@ fn escape_after(escape: Escape, c: char) -> Escape
 
 /// The cells of a character.
 #[tactic(auto, using(crate::proofs::WidthLemmas::cells_le))]
-fn cells_of(escape: Escape, c: char) -> usize
+fn width_of(escape: Escape, c: char) -> usize
     ensures exact { result ≡ cells escape c }
     ensures bound { result ≤ 2 * length (encode_utf8 c) }
 {

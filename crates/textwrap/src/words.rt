@@ -6,13 +6,13 @@ ghost use Rattle.textwrap.specs.Words.{is_inner_hyphen, is_letter_or_digit, word
 
 /// The bytes of a word, and the spaces behind it.
 #[derive(Clone, Copy, Debug, PartialEq, Eq)]
-pub struct Extent {
+pub struct WordLength {
     pub len: usize,
     pub gap: usize,
 }
 
 /// The first word of a part, which may be empty where spaces stand behind it.
-pub fn first_word(part: &[u8]) -> Extent
+pub fn first_word(part: &[u8]) -> WordLength
     requires text { IsUtf8 part.now }
     requires some { 0 < length part.now }
     ensures first { words part.now ≡ record { text = take result.len part.now; gap = result.gap } ∷ words (drop (result.len + result.gap) part.now) }
@@ -22,19 +22,19 @@ pub fn first_word(part: &[u8]) -> Extent
 {
     for at in 0..part.len() {
         if part[at] == b' ' {
-            return Extent {
+            return WordLength {
                 len: at,
                 gap: leading_spaces(&part[at..]),
             };
         }
         if is_cut_behind(part, at) {
-            return Extent {
+            return WordLength {
                 len: at + 1,
                 gap: 0,
             };
         }
     }
-    Extent {
+    WordLength {
         len: part.len(),
         gap: 0,
     }

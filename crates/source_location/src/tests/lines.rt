@@ -8,6 +8,7 @@ use crate::{
 use std::alloc::Global;
 use std::process::Abort;
 use std::test::Fail;
+use text_size::{TextRange, TextSize};
 
 // Whether a line came, with that text and at that offset.
 fn is_line(line: &Option<Line<'_>>, text: &str, start: u32) -> bool {
@@ -46,6 +47,7 @@ fn start_forwards(text: &str, starts: &[u32]) -> bool
 #[test]
 fn lines_come_forwards(rt: HostRuntime) {
     assert!(rt; start_forwards("", &[]));
+    assert!(rt; start_forwards("foo\nbar\n\r\nbaz\rbop", &[0, 4, 8, 10, 14]));
     assert!(rt; start_forwards("foo\nbar\n\r\nbaz\rbop\n", &[0, 4, 8, 10, 14]));
     assert!(rt; start_forwards("foo\nbar\n\r\nbaz\rbop\n\n", &[0, 4, 8, 10, 14, 18]));
 }
@@ -94,6 +96,45 @@ fn file(rt: &impl Abort, alloc: Global, name: &str, text: &str) -> Result<Source
             .line_index(index)
             .finish(alloc)?,
     )
+}
+
+// Where a line starts and ends, with its break and without.
+fn has_ranges(line: &Line<'_>, start: u32, end: u32, full_end: u32) -> bool {
+    let range = line.range();
+    let full = line.full_range();
+    line.start().to_u32() == start
+        && line.end().to_u32() == end
+        && line.full_end().to_u32() == full_end
+        && range.start() == full.start()
+        && range.end() == line.end()
+        && full.end() == line.full_end()
+}
+
+#[test]
+fn a_line_has_its_ranges(rt: HostRuntime) {
+    match UniversalNewlineIterator::from("ab\r\ncd").next() {
+        Some(line) => assert!(rt; has_ranges(&line, 0, 2, 4)),
+        None => assert!(rt; false),
+    }
+}
+
+#[test]
+fn parts_of_a_file(rt: HostRuntime) -> Result<(), Fail> {
+    let name = String::from_str(rt.alloc(), "a")?;
+    let code = String::from_str(rt.alloc(), "ab\ncd")?;
+    let index = LineIndex::from_source_text(rt.alloc(), "ab\ncd")?;
+    let mut builder = SourceFileBuilder::new(name, code);
+    builder.set_line_index(index);
+    let made = builder.finish(rt.alloc())?;
+    let code = made.to_source_code();
+    let at = TextSize::new(3);
+    let two = OneIndexed::from_zero_indexed(1);
+    assert!(rt; code.text().is_char_boundary(3) && code.text().is_char_boundary(5));
+    assert!(rt; code.up_to(at) == "ab\n" && code.after(at) == "cd");
+    assert!(rt; code.slice(TextRange::new(at, TextSize::new(5))) == "cd");
+    assert!(rt; two.to_usize() <= code.line_count());
+    assert!(rt; code.line_start(two) == at && code.line_range(two).start() == at);
+    Ok(())
 }
 
 #[test]

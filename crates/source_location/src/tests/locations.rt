@@ -1,11 +1,14 @@
-ghost use Rattle.std.specs.Prelude.{◌≡◌, ◌<◌, ◌≤◌, ◌⊎◌, ◌↔◌, IsTrue};
+ghost use Rattle.std.specs.Prelude.{◌≡◌, ◌<◌, ◌≤◌, ◌++◌, ◌⊎◌, ◌↔◌, IsTrue};
+ghost use Rattle.std.specs.Hash as fed;
+ghost use Rattle.std.specs.List.{fold};
 ghost use Rattle.std.specs.Ordering.{nat_cmp};
-ghost use Rattle.source_location.specs.Index.{Fits, index_of};
+ghost use Rattle.source_location.specs.Index.{index_of};
 ghost use Rattle.source_location.specs.Locations.{offset_at};
 
 use crate::{LineIndex, OneIndexed, SourceLocation, fits};
 use std::alloc::Global;
 use std::cmp::Ordering;
+use std::hash::{Hash, Hasher};
 use std::process::Abort;
 use std::test::Fail;
 use text_size::TextSize;
@@ -135,8 +138,7 @@ fn places_without_a_boundary(rt: HostRuntime) -> Result<(), Fail> {
 
 // Where the first column of a row is, if the text has that row.
 fn row_begins_at(index: &LineIndex, text: &str, row: OneIndexed) -> Option<TextSize>
-    requires indexed { index.now ≡ index_of text.now }
-    requires fits { Fits text.now }
+    requires { index.now ≡ index_of text.now }
     ensures { result ≡ offset_at text.now (record { row = row; column = 1 }) }
 {
     let place = SourceLocation {
@@ -212,4 +214,45 @@ fn locations_are_ordered_by_row(rt: HostRuntime) {
             SourceLocation::default()
         )
     );
+}
+
+// The least number is 1.
+fn least() -> OneIndexed
+    ensures { result ≡ 1 }
+{
+    OneIndexed::MIN
+}
+
+// The greatest number is that of a `u32`.
+fn greatest() -> OneIndexed
+    ensures { result ≡ 4294967295 }
+{
+    OneIndexed::MAX
+}
+
+// Two numbers are equal where they count the same.
+fn is_same_number(a: OneIndexed, b: OneIndexed) -> bool
+    ensures { IsTrue result ↔ (a ≡ b) }
+{
+    a == b
+}
+
+// A number is hashed as it is.
+fn hash_number<H: Hasher>(number: OneIndexed, state: &mut H)
+    ensures { state.new ≡ fold H.write state.old (fed.u32 number) }
+{
+    number.hash(state);
+}
+
+// A location is hashed as its row and then its column.
+fn hash_location<H: Hasher>(place: SourceLocation, state: &mut H)
+    ensures { state.new ≡ fold H.write state.old (fed.u32 place.row ++ fed.u32 place.column) }
+{
+    place.hash(state);
+}
+
+#[test]
+fn numbers_end_at_both_ends(rt: HostRuntime) {
+    assert!(rt; is_same_number(least(), OneIndexed::from_zero_indexed(0)));
+    assert!(rt; is_same_number(greatest(), least().saturating_add(u32::MAX)));
 }

@@ -1,6 +1,6 @@
-use Rattle.std.proofs.Common.{◌<◌, sym, subst, ◌≡◌, [], ◌∷◌, take, length}
+use Rattle.std.proofs.Common.{◌<◌, ◌∙◌, sym, subst, ◌≡◌, [], ◌∷◌, take, length}
 use Rattle.std.specs.List.Sorted.{IsNonDecreasing}
-use Rattle.source_location.proofs.IndexLemmas.{index_rises, index_few, first_start}
+use Rattle.source_location.proofs.IndexLemmas.{index_rises, index_few, index_fits, first_start}
 use Rattle.source_location.proofs.line_index.LineIndex.line_starts.Goals as goal
 
 pub returns-clause-first : goal.returns-clause-first
@@ -11,3 +11,6 @@ returns-clause-rise c = subst IsNonDecreasing (sym c.as_slice.ensures.value) (in
 
 pub returns-clause-few : goal.returns-clause-few
 returns-clause-few c = subst (λ starts. length starts < 4294967296) (sym c.as_slice.ensures.value) (index_few _ c.self.invariant)
+
+pub returns-clause-fits : goal.returns-clause-fits
+returns-clause-fits c text e = index_fits _ c.self.invariant text (c.self.view_is ∙ e)

@@ -20,5 +20,5 @@ returns c =
     c.column_at-column.ensures ∙ ap (λ r. char_count (slice_range text (counted_from text r) c.to_usize.result)) here
     ∙ ap (λ o. char_count (slice_range text (counted_from text (row_of (breaks_of text) c.args.offset)) o)) c.to_usize.ensures.number in
     let column : c.from_zero_indexed-2.result ≡ char_count (slice_range text (counted_from text (row_of (breaks_of text) c.args.offset)) c.args.offset) + 1 =
-    omega (arith, c.from_zero_indexed-2.ensures, count, char_count-le-offset text (counted_from text (row_of (breaks_of text) c.args.offset)) c.args.offset, c.requires.boundary.0, c.requires.fits) in
+    omega (arith, c.from_zero_indexed-2.ensures, count, char_count-le-offset text (counted_from text (row_of (breaks_of text) c.args.offset)) c.args.offset, c.requires.boundary.0, c.row_at-row.ensures.fits c.args.content.now c.requires.indexed) in
     rw (row, column) refl
