@@ -287,6 +287,9 @@ pub length_in_order : (labels : List Label) → length (in_order labels) ≡ len
 unfolding in_order label_order
 length_in_order labels = length-map (ordered labels (places labels)) _ ∙ length_ordered labels (places labels) ∙ length-range_with_len 0 (length labels)
 
+pub spans_as_many : (labels : List Label) → length (spans_in_order labels) ≡ length labels
+spans_as_many labels = ap length (sym (spans_ordered labels)) ∙ spans_count (in_order labels) ∙ length_in_order labels
+
 -- the head lies within the source
 settled_le : (list : List LineBreak) (o : ℕ) → settled list o ≤ o
 unfolding settled

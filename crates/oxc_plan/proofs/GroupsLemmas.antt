@@ -1,5 +1,5 @@
 -- Groups: there is one division into them, and their windows lie apart.
-use Rattle.std.proofs.Common.{◌≡◌, ℕ, zero, suc, ◌+◌, ◌-◌, ◌<◌, ◌≤◌, List, [], ◌∷◌, length, get_or, take, drop, fold, max, refl, ap, subst, ◌∙◌, arith, ⊎_elim, inl, inr, Bool, true, false, not, ltb, All}
+use Rattle.std.proofs.Common.{◌≡◌, ℕ, zero, suc, ◌+◌, ◌-◌, ◌<◌, ◌≤◌, List, [], ◌∷◌, length, ◌++◌, append_assoc, get_or, take, drop, fold, max, refl, sym, ap, subst, ◌∙◌, arith, ⊎_elim, inl, inr, Bool, true, false, not, ltb, All}
 use Rattle.std.specs.List.{position_or_len, range_with_len}
 use Rattle.std.specs.List.Sorted.{IsNonDecreasingBy}
 use Rattle.std.specs.declared.ops.Range.{Range}
@@ -210,3 +210,10 @@ groups_from_are len breaks spans (suc most) from le enough =
 pub groups_of_are : (len : ℕ) (breaks : List LineBreak) (spans : List Span) → AreGroups len breaks spans 0 (groups_of len breaks spans)
 unfolding groups_of
 groups_of_are len breaks spans = groups_from_are len breaks spans (length spans) 0 (omega arith) (omega arith)
+
+-- one group more
+pub group_added : (len : ℕ) (breaks : List LineBreak) (spans : List Span) (first past : ℕ) (found rest : List (Range ℕ)) → IsGroup len breaks spans first past
+    → ((more : List (Range ℕ)) → AreGroups len breaks spans first more → AreGroups len breaks spans 0 (found ++ more))
+    → AreGroups len breaks spans past rest → AreGroups len breaks spans 0 ((found ++ record { start = first; end = past } ∷ []) ++ rest)
+group_added len breaks spans first past found rest is ahead are =
+    subst (AreGroups len breaks spans 0) (sym (append_assoc found (record { start = first; end = past } ∷ []) rest)) (ahead (record { start = first; end = past } ∷ rest) (refl, is, are))

@@ -11,3 +11,4 @@ pub mod Laws
 pub mod Scanned
 pub mod Sweep
 pub mod Drawable
+pub mod Keeping

@@ -3,7 +3,7 @@ use Rattle.std.specs.List.{flat_map, concat}
 use Rattle.unicode_segmentation.specs.Iter.{graphemes_left}
 use Rattle.oxc_plan.specs.Width.{led}
 use Rattle.oxc_handlers.specs.Texts.{shown_from, shown_text}
-use Rattle.oxc_handlers.proofs.line.render_line_text.Given as goal
+use Rattle.oxc_handlers.proofs.line.write_clusters.Given as goal
 
 -- the clusters that are left are drawn next, and there is room for them
 abbrev pub invariant-loop-cluster : goal.invariant-loop-cluster
