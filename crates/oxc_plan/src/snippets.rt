@@ -221,6 +221,7 @@ fn plan_row<'a>(
     requires small { row.now.offset + row.now.length < 2 ^ 32 }
     requires fits { length row.now.text.now < 2 ^ 32 }
     requires spans { spans.now ≡ spans_of (map ordered_view labels.now) }
+    requires rising { IsNonDecreasingBy (λ span. span.start) spans.now }
     requires ordered { All (λ span. span.start ≤ span.end) spans.now }
     requires among { filter (λ at. meets row.now.offset row.now.length (span_at spans.now at)) active.now ≡ meeting_labels row.now.offset row.now.length spans.now }
     ensures { IfOk result (λ plan. row_plan_view plan ≡ row_plan_of tabs (map ordered_view labels.now) (row_view row.now)) }
@@ -243,6 +244,7 @@ fn plan_at<'a>(
     requires small { row.now.offset + row.now.length < 2 ^ 32 }
     requires fits { length row.now.text.now < 2 ^ 32 }
     requires spans { spans.now ≡ spans_of (map ordered_view labels.now) }
+    requires rising { IsNonDecreasingBy (λ span. span.start) spans.now }
     requires ordered { All (λ span. span.start ≤ span.end) spans.now }
     requires within { within.now ≡ one_row_labels row.now.offset row.now.length spans.now }
     requires across { across.now ≡ multi_row_labels row.now.offset row.now.length spans.now }

@@ -4,7 +4,7 @@ use Rattle.oxc_span.specs.declared.span.Span.{Span}
 use Rattle.oxc_windows.specs.Breaks.{breaks_of}
 use Rattle.oxc_plan.specs.Groups.{largest_end, reach, span_window}
 use Rattle.oxc_plan.proofs.GroupsLemmas.{largest_end_one, largest_end_more}
-use Rattle.oxc_plan.proofs.ScannedLemmas.{keeps_later, on_then, round_after}
+use Rattle.oxc_plan.proofs.ScannedLemmas.{on_then, round_after}
 use Rattle.oxc_plan.proofs.grouping.group_end.Goals as goal
 
 pub loop-past-init : goal.loop-past-init

@@ -1,4 +1,4 @@
-use Rattle.std.proofs.Common.{◌∙◌, ◌<◌, All, Some, ap, arith, length, subst, refl}
+use Rattle.std.proofs.Common.{◌∙◌, All, Some, ap, arith, length, subst, refl}
 use Rattle.std.specs.Option.{unwrap_or}
 use Rattle.oxc_windows.specs.Breaks.{breaks_of}
 use Rattle.oxc_windows.proofs.BreaksLemmas.{breaks_valid}

@@ -1,14 +1,14 @@
-use Rattle.std.proofs.Common.{◌≡◌, ◌<◌, ◌≤◌, ◌∙◌, ℕ, [], ◌∷◌, Some, inl, inr, length, refl, sym, ap, subst, arith, append-nil, All, ⊎_elim}
+use Rattle.std.proofs.Common.{◌≡◌, ◌≤◌, ◌∙◌, ℕ, [], ◌∷◌, Some, length, refl, sym, ap, subst, arith, append-nil, All, ⊎_elim}
 use Rattle.std.specs.Option.{unwrap_or}
 use Rattle.std.specs.declared.ops.Range.{Range}
 use Rattle.std.proofs.lemmas.Bool.{cases_lt}
 use Rattle.std.proofs.lemmas.List.Elements.{All-append, All-cons, All-nil}
 use Rattle.oxc_span.specs.declared.span.Span.{Span}
 use Rattle.oxc_windows.specs.Breaks.{breaks_of}
-use Rattle.oxc_plan.specs.Groups.{AreGroups, IsGroup, group_window, span_at}
+use Rattle.oxc_plan.specs.Groups.{IsGroup, group_window, span_at}
 use Rattle.oxc_plan.specs.Keeping.{KeepsRows}
 use Rattle.oxc_plan.proofs.GroupsLemmas.{group_added}
-use Rattle.oxc_plan.proofs.ScannedLemmas.{first_still, keeps_later, on_self, on_then, round_after}
+use Rattle.oxc_plan.proofs.ScannedLemmas.{keeps_later, on_self, on_then, round_after}
 use Rattle.oxc_plan.proofs.grouping.groups_of_spans.Goals as goal
 
 pub loop-first-init : goal.loop-first-init
