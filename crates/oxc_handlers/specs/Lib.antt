@@ -11,3 +11,5 @@ pub mod Report
 pub mod Handler
 pub mod Refusals
 pub mod Scanners
+pub mod Reports
+pub mod Keeping

@@ -9,7 +9,9 @@ mod handler;
 mod label;
 mod line;
 mod marks;
+mod rendering;
 mod report;
+mod reports;
 mod runs;
 mod setting;
 mod snippet;
@@ -18,6 +20,8 @@ mod theme;
 mod view;
 
 pub use crate::handler::GraphicalReportHandler;
+pub use crate::rendering::{render, render_with_source_code};
+pub use crate::reports::Keep;
 pub use crate::theme::GraphicalTheme;
 pub use crate::view::{DiagnosticView, RenderError};
 
