@@ -16,3 +16,5 @@ pub mod TextsLemmas
 pub mod DrawableLemmas
 pub mod ReportLemmas
 pub mod PlainTexts
+pub mod ReportsLemmas
+pub mod KeepsLemmas

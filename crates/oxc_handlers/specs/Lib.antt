@@ -19,3 +19,5 @@ pub mod Report
 pub mod Handler
 pub mod Refusals
 pub mod Scanners
+pub mod Reports
+pub mod Keeping
