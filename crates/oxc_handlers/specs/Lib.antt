@@ -13,3 +13,4 @@ pub mod Refusals
 pub mod Scanners
 pub mod Reports
 pub mod Keeping
+pub mod Places

@@ -9,6 +9,7 @@ mod handler;
 mod label;
 mod line;
 mod marks;
+mod places;
 mod rendering;
 mod report;
 mod reports;
@@ -20,10 +21,13 @@ mod theme;
 mod view;
 
 pub use crate::handler::GraphicalReportHandler;
+pub use crate::places::{gutter_by_places, marks_by_columns};
 pub use crate::rendering::{render, render_with_source_code};
 pub use crate::reports::Keep;
 pub use crate::theme::GraphicalTheme;
 pub use crate::view::{DiagnosticView, RenderError};
 
+#[cfg(test)]
+mod report_tests;
 #[cfg(test)]
 mod tests;
