@@ -18,3 +18,5 @@ pub mod ReportLemmas
 pub mod PlainTexts
 pub mod ReportsLemmas
 pub mod KeepsLemmas
+pub mod PlacesLemmas
+pub mod PlainLemmas

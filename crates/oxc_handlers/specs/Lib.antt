@@ -21,3 +21,4 @@ pub mod Refusals
 pub mod Scanners
 pub mod Reports
 pub mod Keeping
+pub mod Places

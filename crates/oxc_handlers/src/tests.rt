@@ -1,6 +1,9 @@
 // Drawn reports by example, and that memory suffices for them. What is expected was worked out by hand.
-ghost use Rattle.std.specs.Prelude.{◌<◌, ◌+◌, ◌^◌, length};
+ghost use Rattle.std.specs.Prelude.{◌≡◌, ◌<◌, ◌+◌, ◌^◌, IfOk, MatchResult, length, string_bytes};
+ghost use Rattle.oxc_handlers.specs.Refusals.{IsFaultless, IsRefusal};
+ghost use Rattle.oxc_handlers.specs.Report.{drawn, plan_of, view_parts};
 ghost use Rattle.oxc_handlers.specs.Scanners.{ReadsRoundIfThere};
+ghost use Rattle.oxc_handlers.specs.Theme.{unicode_theme};
 
 use crate::{DiagnosticView, GraphicalReportHandler, GraphicalTheme, RenderError};
 use oxc_plan::TabWidth;
@@ -48,6 +51,20 @@ fn is_drawn(
     Ok(drawn.as_str() == text)
 }
 
+/// Whether a message alone is drawn for a terminal as a text.
+fn is_on_terminal(alloc: Global, message: &str, text: &str) -> Result<bool, RenderError> {
+    let view = DiagnosticView {
+        message,
+        code: None,
+        severity: None,
+        help: None,
+        note: None,
+        source: None,
+        labels: &[],
+    };
+    Ok(for_terminal(alloc, &view)?.as_str() == text)
+}
+
 /// Whether a case is not drawn for that reason.
 fn is_refused(
     alloc: Global,
@@ -61,6 +78,16 @@ fn is_refused(
         Ok(_) => false,
         Err(error) => error == reason,
     }
+}
+
+/// A diagnostic for a terminal of 120 columns.
+fn for_terminal(alloc: Global, view: &DiagnosticView<'_>) -> Result<String, RenderError>
+    ensures text { IfOk result (λ text. string_bytes text ≡ drawn unicode_theme 120 (plan_of 4 (view_parts view.now))) }
+    ensures cause { MatchResult result (λ _. IsFaultless (view_parts view.now)) (IsRefusal 0 (view_parts view.now)) }
+{
+    let handler = GraphicalReportHandler::new_themed(GraphicalTheme::unicode()).with_width(120);
+    let mut scanner = None;
+    handler.render_view(alloc, view, &mut scanner)
 }
 
 fn plain() -> GraphicalReportHandler {
@@ -217,6 +244,8 @@ fn a_theme_gives_characters_and_colors(rt: HostRuntime) -> Result<(), Fail> {
     };
     let colors = plain().with_theme(GraphicalTheme::unicode());
     assert!(rt; is_drawn(alloc, &colors, &block, COLORED)?);
+    let text = "\n  \u{1b}[38;2;225;80;80;1m×\u{1b}[0m \u{1b}[38;2;225;80;80;1mm\u{1b}[0m\n";
+    assert!(rt; is_on_terminal(alloc, "m", text)?);
     Ok(())
 }
 
