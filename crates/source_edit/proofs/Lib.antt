@@ -1,0 +1,5 @@
+mod RangesLemmas
+mod StartsLemmas
+mod StepsLemmas
+mod FoundLemmas
+mod AllLemmas
