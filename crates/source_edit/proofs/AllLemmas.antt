@@ -1,6 +1,7 @@
 -- Lists of edits.
-use Rattle.std.proofs.Common.{◌≡◌, ℕ, ◌+◌, ◌-◌, ◌<◌, ◌≤◌, List, [], ◌∷◌, ◌++◌, length, take, drop, map, get_or, inr, subst, Bool, true, false, refl, sym, ap, ◌∙◌, arith, suc}
+use Rattle.std.proofs.Common.{◌≡◌, ℕ, ◌+◌, ◌-◌, ◌<◌, ◌≤◌, List, [], ◌∷◌, ◌++◌, length, take, drop, map, get_or, inr, subst, Bool, true, false, nat_lt, refl, sym, ap, ◌∙◌, arith, suc}
 use Rattle.std.specs.Bool.{MatchBool}
+use Rattle.std.proofs.lemmas.Bool.Decides.{nat_tests}
 use Rattle.std.proofs.lemmas.List.{length-append, take_all, drop_more, drop_all}
 use Rattle.std.proofs.Math.Seq.{take-suc}
 use Rattle.source_edit.specs.Edits.{Change, Editing, change_of, edited, after_edit, after_edits}
@@ -33,6 +34,25 @@ back_from old new before change true went e =
     let same = same_last new.history before.history new.text before.text (sym went ∙ ap (λ (editing : Editing). editing.history) e) in
     (refl, λ i. record { text = same.1 i; history = same.0 i })
 back_from old new before change false went e = absurd (not_empty before.history before.text (sym (ap (λ (editing : Editing). editing.history) e) ∙ went.0))
+
+some_lt : (n : ℕ) → 0 < n → nat_lt 0 n ≡ true
+some_lt n h = grind (arith, nat_tests)
+
+none_lt : (n : ℕ) → n ≡ 0 → nat_lt 0 n ≡ false
+none_lt n e = grind (arith, nat_tests)
+
+-- whether there was something to go back to
+pub said_is : (old new : Editing) (some : Bool) → MatchBool some (old.history ≡ new.history ++ new.text ∷ []) ((old.history ≡ []) × (new ≡ old)) → some ≡ nat_lt 0 (length old.history)
+said_is old new true went = sym (some_lt (length old.history) (omega (arith, ap length went, length-append new.history (new.text ∷ []))))
+said_is old new false went = sym (none_lt (length old.history) (ap length went.0))
+
+pub latest_is : (old new : Editing) (some : Bool) → MatchBool some (old.history ≡ new.history ++ new.text ∷ []) ((old.history ≡ []) × (new ≡ old)) → 0 < length old.history → old.history ≡ new.history ++ new.text ∷ []
+latest_is old new true went h = went
+latest_is old new false went h = absurd (omega (arith, ap length went.0, h))
+
+pub nothing_is : (old new : Editing) (some : Bool) → MatchBool some (old.history ≡ new.history ++ new.text ∷ []) ((old.history ≡ []) × (new ≡ old)) → old.history ≡ [] → new ≡ old
+nothing_is old new true went e = absurd (not_empty new.history new.text (sym went ∙ e))
+nothing_is old new false went e = went.1
 
 -- so does going back from each of a list, one after another
 pub back_one : (old new before : Editing) (changes : List Change) (done count : ℕ) (some : Bool) → MatchBool some (old.history ≡ new.history ++ new.text ∷ []) ((old.history ≡ []) × (new ≡ old))
@@ -67,7 +87,7 @@ applied_more initial now next edits rest change place known ok e =
       accepted = λ h. known.accepted (ok, h);
       after = known.after;
       cause = λ error h. known.cause error (inr (ok, h));
-      back = (changes ++ change ∷ [], omega (arith, length-append changes (change ∷ []), known.back.1.0), ap (λ s. after_edit s change) known.back.1.1 ∙ sym (after_more initial changes change));
+      back = (changes ++ change ∷ [], omega (arith, length-append changes (change ∷ []), known.back.1), ap (λ s. after_edit s change) known.back.2 ∙ sym (after_more initial changes change));
     })
 
 -- the edits that are left

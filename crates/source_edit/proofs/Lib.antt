@@ -3,3 +3,4 @@ mod StartsLemmas
 mod StepsLemmas
 mod FoundLemmas
 mod AllLemmas
+mod LabelsLemmas

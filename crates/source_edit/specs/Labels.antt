@@ -1,8 +1,7 @@
 -- Where labels lie after an edit.
-use Rattle.std.specs.Prelude.{◌≡◌, ℕ, ◌+◌, ◌-◌, ◌≤◌, ◌==◌, ◌&&◌, nat_lt, nat_le, max, List, length, slice_range, if◌then◌else◌}
-use Rattle.std.specs.Str.{IsCharBoundary}
+use Rattle.std.specs.Prelude.{ℕ, ◌+◌, ◌-◌, ◌==◌, ◌&&◌, nat_lt, nat_le, max, length, if◌then◌else◌}
 use Rattle.oxc_span.specs.Label.{Label, label_end}
-use Rattle.source_edit.specs.Edits.{Change, edited}
+use Rattle.source_edit.specs.Edits.{Change}
 use Rattle.oxc_span.specs.declared.span.Span.{Span}
 
 -- a place behind the range, by what the text grew or shrank

@@ -1,5 +1,5 @@
 // A text that is edited in place.
-ghost use Rattle.std.specs.Prelude.{◌≡◌, ℕ, ◌+◌, ◌-◌, ◌^◌, ◌<◌, ◌≤◌, ◌++◌, ◌∷◌, [], true, false, Ok, IsOk, IfOk, OnOk, OnErr, MatchBool, MatchResult, List, length, map, take, string_bytes, string_len, string_capacity, vec_len, vec_capacity};
+ghost use Rattle.std.specs.Prelude.{◌≡◌, ℕ, ◌+◌, ◌-◌, ◌^◌, ◌<◌, ◌≤◌, ◌++◌, ◌∷◌, [], true, false, Ok, IsOk, IfOk, OnOk, OnErr, MatchBool, MatchResult, List, length, nat_lt, map, take, string_bytes, string_len, string_capacity, vec_len, vec_capacity};
 ghost use Rattle.std.specs.Str.{IsCharBoundary};
 ghost use Rattle.source_location.specs.Breaks.{breaks_of};
 ghost use Rattle.source_location.specs.Rows.{line_starts as row_starts};
@@ -124,10 +124,12 @@ impl EditText {
 
     /// Goes back to the latest text of the history; false exactly where there is none.
     ///
-    /// It needs no memory: what an edit took room for is kept.
+    /// It always succeeds: what it needs of memory was taken by the edit.
     pub fn undo(&mut self) -> Result<bool, AllocError>
-        ensures some { (before : Editing) (text : List ℕ) → self.old ≡ record { text = text; history = before.history ++ before.text ∷ [] } → (result ≡ Ok true) × (self.new ≡ before) }
-        ensures none { self.old.history ≡ [] → (result ≡ Ok false) × (self.new ≡ self.old) }
+        ensures said { result ≡ Ok (nat_lt 0 (length self.old.history)) }
+        ensures latest { 0 < length self.old.history → self.old.history ≡ self.new.history ++ self.new.text ∷ [] }
+        ensures reverts { (before : Editing) (change : Change) → self.old ≡ after_edit before change → self.new ≡ before }
+        ensures none { self.old.history ≡ [] → self.new ≡ self.old }
     {
         Ok(self.step_back())
     }

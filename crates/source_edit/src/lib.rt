@@ -15,3 +15,6 @@ pub use edit::{Edit, EditError};
 pub use edit_text::EditText;
 pub use edited_file::edit_file;
 pub use labels::move_label;
+
+#[cfg(test)]
+mod tests;
