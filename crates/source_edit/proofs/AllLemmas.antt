@@ -4,8 +4,8 @@ use Rattle.std.specs.Bool.{MatchBool}
 use Rattle.std.proofs.lemmas.Bool.Decides.{nat_tests}
 use Rattle.std.proofs.lemmas.List.{length-append, take_all, drop_more, drop_all}
 use Rattle.std.proofs.Math.Seq.{take-suc}
-use Rattle.source_edit.specs.Edits.{Change, Editing, change_of, edited, after_edit, after_edits}
-use Rattle.source_edit.specs.Causes.{IsAcceptable, AreAcceptable, IsCause, IsCauseAmong}
+use Rattle.source_edit.specs.Edits.{Change, Editing, change_of, after_edit, after_edits}
+use Rattle.source_edit.specs.Causes.{IsAcceptable, AreAcceptable, IsCauseAmong}
 use Rattle.source_edit.specs.declared.edit.Edit.{Edit}
 use Rattle.source_edit.specs.declared.edit.EditError.{EditError}
 

@@ -1,5 +1,5 @@
 -- Where labels lie after an edit.
-use Rattle.std.proofs.Common.{◌≡◌, ℕ, ◌+◌, ◌-◌, ◌<◌, ◌≤◌, Bool, true, false, cond, ◌&&◌, ◌==◌, nat_le, nat_lt, max, ◌⊎◌, inl, inr, List, ◌++◌, length, take, drop, get_or, slice_range, refl, sym, ap, subst, ◌∙◌, arith, ⊎_elim, if◌then◌else◌}
+use Rattle.std.proofs.Common.{◌≡◌, ℕ, ◌+◌, ◌-◌, ◌<◌, ◌≤◌, ◌^◌, Bool, true, false, cond, ◌&&◌, ◌==◌, nat_le, nat_lt, max, ◌⊎◌, inl, inr, List, ◌++◌, length, take, drop, get_or, slice_range, refl, sym, ap, subst, ◌∙◌, arith, ⊎_elim}
 use Rattle.std.specs.Str.{IsUtf8, IsCharBoundary}
 use Rattle.std.proofs.lemmas.Bool.{cases_lt}
 use Rattle.std.proofs.lemmas.Bool.Decides.{nat_tests}
@@ -156,3 +156,14 @@ behind_covers text change start end le within ordered behind =
     ⊎_elim (λ lt. omega (arith, first, end_behind change end lt (omega arith) le)) (λ ge. omega (arith, first, end_before change end ge)) (cases_lt change.start end) in
     none_taken (edited text change) text (moved_start change start) (max (moved_start change start) (moved_end change end)) start end (omega (arith, low)) (omega arith))
     (cases_lt start end)
+
+-- a label within a text that takes an edit stays in range
+pub moved_start_fits : (text : List ℕ) (change : Change) (start : ℕ) → change.start ≤ change.end → IsAcceptable text change → start ≤ length text → moved_start change start < 2 ^ 32
+moved_start_fits text change start le ok within =
+    let size = edited_length text change le ok.within in
+    ⊎_elim (λ before. omega (arith, before.0, before.1, size, ok.fits)) (⊎_elim (λ inside. omega (arith, inside, size, ok.fits)) (λ behind. omega (arith, behind.0, behind.1, within, size, ok.fits))) (start_cases change start le)
+
+pub moved_end_fits : (text : List ℕ) (change : Change) (end : ℕ) → change.start ≤ change.end → IsAcceptable text change → end ≤ length text → moved_end change end < 2 ^ 32
+moved_end_fits text change end le ok within =
+    let size = edited_length text change le ok.within in
+    ⊎_elim (λ before. omega (arith, before.0, before.1, size, ok.fits)) (⊎_elim (λ inside. omega (arith, inside, size, ok.fits)) (λ behind. omega (arith, behind.0, behind.1, within, size, ok.fits))) (end_cases change end)

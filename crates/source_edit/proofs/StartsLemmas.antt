@@ -1,11 +1,11 @@
 -- Where rows start, told by two bytes at each place, and so near an edit and far from it.
-use Rattle.std.proofs.Common.{◌≡◌, ℕ, ◌+◌, ◌-◌, ◌<◌, ◌≤◌, Bool, true, false, cond, ◌&&◌, nat_le, nat_lt, List, [], ◌∷◌, ◌++◌, length, map, take, drop, get_or, slice_range, Option, Some, None, refl, sym, ap, subst, ◌∙◌, arith, suc, zero, count_by, add-one, append_assoc, append-nil, ◌==◌, if◌then◌else◌}
-use Rattle.std.specs.List.{filter, filter_map, range_with_len, cons_option, replace_range}
+use Rattle.std.proofs.Common.{◌≡◌, ℕ, ◌+◌, ◌-◌, ◌<◌, ◌≤◌, Bool, true, false, cond, ◌&&◌, nat_le, nat_lt, List, [], ◌∷◌, ◌++◌, length, map, take, drop, get_or, slice_range, Some, None, refl, sym, ap, subst, ◌∙◌, arith, suc, zero, count_by, add-one, append_assoc, append-nil, ◌==◌, if◌then◌else◌}
+use Rattle.std.specs.List.{filter, filter_map, range_with_len, cons_option}
 use Rattle.std.proofs.lemmas.Bool.Decides.{nat_tests}
 use Rattle.std.proofs.lemmas.List.{map-append, get_or_past, get_or_append_left, get_or-append-add, get_or-take, get_or-drop, length-append, length-take, length-drop, take_at, drop_at}
 use Rattle.std.proofs.lemmas.List.Elements.{filter-append}
 use Rattle.std.proofs.lemmas.List.Sums.{sum_by-append}
-use Rattle.source_location.specs.Breaks.{LineBreak, break_with, break_at, breaks_of}
+use Rattle.source_location.specs.Breaks.{LineBreak, break_at, breaks_of}
 use Rattle.source_location.specs.Rows.{line_starts}
 use Rattle.source_location.proofs.BreaksLemmas.{breaks_before, breaks_before_more, breaks_before_start}
 use Rattle.source_location.proofs.CutLemmas.{range_with_len-append}
@@ -150,18 +150,24 @@ counted_split text from to place le within =
 pub front_count : (text : List ℕ) (from to : ℕ) → from ≤ to → to ≤ length text → starts_before_place text from ≡ length (front_starts text from)
 front_count text from to le within =
     let q : ℕ → Bool = λ start. nat_lt start from in
-    omega (arith, counted_split text from to from le within,
-    count-all q (is_start text) 0 from (λ i low high. below i from (omega arith)),
-    count-none q (is_start text) from (to - from + 1) (λ i low high. not_below i from low),
-    count-none q (is_start text) (to + 1) (length text - to) (λ i low high. not_below i from (omega arith)))
+    omega (
+      arith,
+      counted_split text from to from le within,
+      count-all q (is_start text) 0 from (λ i low high. below i from (omega arith)),
+      count-none q (is_start text) from (to - from + 1) (λ i low high. not_below i from low),
+      count-none q (is_start text) (to + 1) (length text - to) (λ i low high. not_below i from (omega arith)),
+    )
 
 pub near_count : (text : List ℕ) (from to : ℕ) → from ≤ to → to ≤ length text → starts_before_place text (to + 1) ≡ length (front_starts text from) + length (near_starts text from to)
 near_count text from to le within =
     let q : ℕ → Bool = λ start. nat_lt start (to + 1) in
-    omega (arith, counted_split text from to (to + 1) le within,
-    count-all q (is_start text) 0 from (λ i low high. below i (to + 1) (omega arith)),
-    count-all q (is_start text) from (to - from + 1) (λ i low high. below i (to + 1) (omega arith)),
-    count-none q (is_start text) (to + 1) (length text - to) (λ i low high. not_below i (to + 1) low))
+    omega (
+      arith,
+      counted_split text from to (to + 1) le within,
+      count-all q (is_start text) 0 from (λ i low high. below i (to + 1) (omega arith)),
+      count-all q (is_start text) from (to - from + 1) (λ i low high. below i (to + 1) (omega arith)),
+      count-none q (is_start text) (to + 1) (length text - to) (λ i low high. not_below i (to + 1) low),
+    )
 
 -- what a search for the two counts cuts off
 pub front_cut : (text : List ℕ) (from to : ℕ) → from ≤ to → to ≤ length text → take (starts_before_place text from) (line_starts (breaks_of text)) ≡ front_starts text from

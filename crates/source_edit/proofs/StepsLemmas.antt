@@ -1,5 +1,5 @@
 -- How a step leads back.
-use Rattle.std.proofs.Common.{◌≡◌, ℕ, ◌+◌, ◌-◌, ◌<◌, ◌≤◌, List, [], ◌∷◌, ◌++◌, length, take, drop, map, reverse, get_or, slice_range, string_bytes, refl, sym, ap, subst, ◌∙◌, arith, append_assoc, append-nil, ⊎_elim}
+use Rattle.std.proofs.Common.{◌≡◌, ℕ, ◌+◌, ◌-◌, ◌≤◌, List, [], ◌∷◌, ◌++◌, length, take, drop, map, reverse, get_or, slice_range, string_bytes, refl, sym, ap, subst, ◌∙◌, arith, ⊎_elim}
 use Rattle.std.specs.Str.{IsUtf8, IsCharBoundary}
 use Rattle.std.proofs.lemmas.Bool.{cases_lt}
 use Rattle.std.proofs.lemmas.List.{take-append-drop, take-append-le, take_all, drop_at, length-append, length-take, length-drop, length-map, length-reverse, reverse-append, get_or_append_left, get_or-append-add}
@@ -75,8 +75,17 @@ starts_count text change le within =
     ap length (mended text change le within)
     ∙ ap (λ l. length (l ++ (near ++ map moved (drop (starts_before_place text (change.end + 1)) (line_starts (breaks_of text)))))) (front_cut text change.start change.end le within)
     ∙ ap (λ l. length (front ++ (near ++ map moved l))) (back_cut text change.start change.end le within) in
-    omega (arith, old, gone, new, length-append front (near ++ map moved back), length-append near (map moved back), length-map back moved,
-    length-append front (near_starts text change.start change.end ++ back), length-append (near_starts text change.start change.end) back)
+    omega (
+      arith,
+      old,
+      gone,
+      new,
+      length-append front (near ++ map moved back),
+      length-append near (map moved back),
+      length-map back moved,
+      length-append front (near_starts text change.start change.end ++ back),
+      length-append (near_starts text change.start change.end) back,
+    )
 
 -- what was made ready leads back
 pub same_step : (text_room starts_room : ℕ) (text : List ℕ) (change : Change) (starts : List ℕ) (step : Step) → IsReady text_room starts_room text change starts step → backwards step ≡ undoing text change
@@ -105,8 +114,8 @@ leads_back text_room starts_room text change starts step ok fits ready start end
         fits = subst Fits (sym back) fits;
       };
       starts =
-        let till : step.written.0 + length (string_bytes step.removed) ≡ change.end = omega (arith, first, removed) in
-        ready.keeps.gone ∙ ap (λ l. starts_between l change.start change.end) (sym back) ∙ ap (λ k. starts_between (edited (edited text change) (backwards step)) k change.end) (sym first) ∙ ap (starts_between (edited (edited text change) (backwards step)) step.written.0) (sym till);
+          let till : step.written.0 + length (string_bytes step.removed) ≡ change.end = omega (arith, first, removed) in
+          ready.keeps.gone ∙ ap (λ l. starts_between l change.start change.end) (sym back) ∙ ap (λ k. starts_between (edited (edited text change) (backwards step)) k change.end) (sym first) ∙ ap (starts_between (edited (edited text change) (backwards step)) step.written.0) (sym till);
       text_fits = omega (arith, size, removed, ready.text_fits);
       starts_fit = omega (arith, starts_count text change le ok.within, ap length ready.near, ap length ready.keeps.gone, ready.starts_fit);
     }

@@ -145,8 +145,7 @@ impl EditText {
         if self.steps.reserve(1).is_err() {
             return Err(EditError::OutOfMemory { edit: place });
         }
-        let Ok((starts, step)) =
-            prepare(self.alloc, &mut self.text, &mut self.line_starts, edit)
+        let Ok((starts, step)) = prepare(self.alloc, &mut self.text, &mut self.line_starts, edit)
         else {
             return Err(EditError::OutOfMemory { edit: place });
         };
@@ -241,7 +240,12 @@ fn starts_near(alloc: Global, text: &str, edit: &Edit) -> Result<Vec<TextSize>, 
 {
     let (start, end) = (edit.range.start().to_usize(), edit.range.end().to_usize());
     let bytes = text.as_bytes();
-    starts_in(alloc, &bytes[..start], edit.insert.as_bytes(), &bytes[end..])
+    starts_in(
+        alloc,
+        &bytes[..start],
+        edit.insert.as_bytes(),
+        &bytes[end..],
+    )
 }
 
 /// Puts bytes in the place of a range of a text, and mends its row starts by those near what is inserted. There is

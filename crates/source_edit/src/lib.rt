@@ -9,12 +9,14 @@ mod edit;
 mod edit_text;
 mod edited_file;
 mod labels;
+mod laws;
 mod starts;
 
 pub use edit::{Edit, EditError};
 pub use edit_text::EditText;
 pub use edited_file::edit_file;
 pub use labels::move_label;
+pub use laws::label_stays_in_range;
 
 #[cfg(test)]
 mod tests;

@@ -43,19 +43,17 @@ fn stands(text: &EditText, reads: &str, starts: &[u32], depth: usize) -> bool {
     text.text() == reads
         && text.depth() == depth
         && rows.len() == starts.len()
-        && rows.iter().zip(starts).all(|(row, start)| row.to_u32() == *start)
-}
-
-/// Whether the edit is accepted.
-fn is_done(result: Result<(), EditError>) -> bool {
-    result.is_ok()
+        && rows
+            .iter()
+            .zip(starts)
+            .all(|(row, start)| row.to_u32() == *start)
 }
 
 #[test]
 fn a_parted_crlf_is_joined_again_by_undoing(rt: HostRuntime) -> Result<(), Fail> {
     let alloc = rt.alloc();
     let mut text = edited(alloc, "a\r\nb")?;
-    assert!(rt; is_done(text.apply(edit(alloc, 1, 2, "")?)));
+    assert!(rt; text.apply(edit(alloc, 1, 2, "")?).is_ok());
     assert!(rt; stands(&text, "a\nb", &[0, 2], 1));
     assert!(rt; text.undo()?);
     assert!(rt; stands(&text, "a\r\nb", &[0, 3], 0));
@@ -70,7 +68,7 @@ fn cr_and_lf_that_meet_are_one_break(rt: HostRuntime) -> Result<(), Fail> {
     let mut text = edited(alloc, "a\rb")?;
     assert!(rt; takes(&mut text, edit(alloc, 2, 2, "\n")?).is_ok());
     assert!(rt; stands(&text, "a\rb", &[0, 2], 0));
-    assert!(rt; is_done(text.apply(edit(alloc, 2, 2, "\n")?)));
+    assert!(rt; text.apply(edit(alloc, 2, 2, "\n")?).is_ok());
     assert!(rt; stands(&text, "a\r\nb", &[0, 3], 1));
     Ok(())
 }
@@ -82,7 +80,14 @@ fn refusals_name_their_cause(rt: HostRuntime) -> Result<(), Fail> {
     let inside = text.apply(edit(alloc, 1, 1, "")?);
     assert!(rt; inside == Err(EditError::NotBoundary { edit: 0, at: 1 }));
     let outside = text.apply(edit(alloc, 0, 9, "")?);
-    assert!(rt; outside == Err(EditError::Outside { edit: 0, end: 9, length: 2 }));
+    assert!(rt;
+        outside
+            == Err(EditError::Outside {
+                edit: 0,
+                end: 9,
+                length: 2
+            })
+    );
     assert!(rt; stands(&text, "é", &[0], 0));
     Ok(())
 }
@@ -95,12 +100,19 @@ fn a_list_of_edits_is_done_whole_or_not_at_all(rt: HostRuntime) -> Result<(), Fa
     edits.push(edit(alloc, 0, 0, "x\n")?)?;
     edits.push(edit(alloc, 0, 9, "")?)?;
     let refused = text.apply_all(edits);
-    assert!(rt; refused == Err(EditError::Outside { edit: 1, end: 9, length: 4 }));
+    assert!(rt;
+        refused
+            == Err(EditError::Outside {
+                edit: 1,
+                end: 9,
+                length: 4
+            })
+    );
     assert!(rt; stands(&text, "é", &[0], 0));
     let mut edits = Vec::new(alloc);
     edits.push(edit(alloc, 0, 0, "x\n")?)?;
     edits.push(edit(alloc, 0, 1, "")?)?;
-    assert!(rt; is_done(text.apply_all(edits)));
+    assert!(rt; text.apply_all(edits).is_ok());
     assert!(rt; stands(&text, "\né", &[0, 1], 2));
     Ok(())
 }
@@ -109,8 +121,11 @@ fn a_list_of_edits_is_done_whole_or_not_at_all(rt: HostRuntime) -> Result<(), Fa
 fn a_file_is_edited(rt: HostRuntime) -> Result<(), Fail> {
     let alloc = rt.alloc();
     let mut files: Files<String> = Files::new(alloc);
-    let file = files.add(String::from_str(alloc, "f")?, String::from_str(alloc, "ab")?)?;
-    assert!(rt; is_done(edit_file(alloc, &mut files, file, &edit(alloc, 2, 2, "c")?)));
+    let file = files.add(
+        String::from_str(alloc, "f")?,
+        String::from_str(alloc, "ab")?,
+    )?;
+    assert!(rt; edit_file(alloc, &mut files, file, &edit(alloc, 2, 2, "c")?).is_ok());
     assert!(rt; files.source(file).as_str() == "abc");
     Ok(())
 }

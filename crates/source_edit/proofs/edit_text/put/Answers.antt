@@ -1,4 +1,4 @@
-use Rattle.std.proofs.Common.{rules, ◌^◌, ◌≡◌, ℕ, ◌+◌, ◌-◌, ◌<◌, ◌≤◌, ◌++◌, length, map, take, drop, string_bytes, sym, ap, subst, ◌∙◌, arith, count_by, nat_lt, All}
+use Rattle.std.proofs.Common.{rules, ◌^◌, ◌≡◌, ℕ, ◌+◌, ◌-◌, ◌≤◌, ◌++◌, length, map, take, drop, string_bytes, sym, ap, ◌∙◌, arith, count_by, nat_lt}
 use Rattle.source_location.specs.Breaks.{breaks_of}
 use Rattle.source_location.specs.Rows.{line_starts}
 use Rattle.source_location.proofs.BreaksLemmas.{breaks_valid}
@@ -6,7 +6,7 @@ use Rattle.source_location.proofs.IndexLemmas.{starts_rise}
 use Rattle.source_edit.specs.Edits.{Change, edited}
 use Rattle.source_edit.proofs.StartsLemmas.{starts_before_place, mended, back_cut}
 use Rattle.source_edit.proofs.FoundLemmas.{behind_range, put_between}
-use Rattle.source_edit.proofs.StepsLemmas.{start_boundary, end_boundary}
+use Rattle.source_edit.proofs.StepsLemmas.{start_boundary}
 use Rattle.source_edit.proofs.edit_text.put.Goals as goal
 
 pub rows_near-first-requires : goal.rows_near-first-requires

@@ -1,4 +1,4 @@
-use Rattle.std.proofs.Common.{◌≡◌, ℕ, ◌+◌, ◌-◌, ◌<◌, ◌≤◌, length, slice_range, refl, sym, ap, ◌∙◌, arith, count_by, nat_lt}
+use Rattle.std.proofs.Common.{◌≡◌, ◌+◌, length, slice_range, refl, sym, ap, ◌∙◌, arith, count_by, nat_lt}
 use Rattle.source_location.specs.Breaks.{breaks_of}
 use Rattle.source_location.specs.Rows.{line_starts}
 use Rattle.source_location.proofs.BreaksLemmas.{breaks_valid}
@@ -28,10 +28,10 @@ returns c =
       written = c.new.ensures ∙ rw (start, last) refl;
       removed = c.in_ok-removed.ensures.ok ∙ c.range.ensures.value ∙ rw (from, to) refl;
       gone =
-        c.in_ok-starts.ensures.items
-        ∙ ap (λ l. slice_range l c.rows_near-first.result.0 c.rows_near-first.result.1) list
-        ∙ ap (λ n. slice_range (line_starts (breaks_of text)) n c.rows_near-first.result.1) first
-        ∙ ap (λ n. slice_range (line_starts (breaks_of text)) (starts_before_place text change.start) n) behind
-        ∙ near_cut text change.start change.end le within
-        ∙ sym (between_are text change.start change.end le within);
+          c.in_ok-starts.ensures.items
+          ∙ ap (λ l. slice_range l c.rows_near-first.result.0 c.rows_near-first.result.1) list
+          ∙ ap (λ n. slice_range (line_starts (breaks_of text)) n c.rows_near-first.result.1) first
+          ∙ ap (λ n. slice_range (line_starts (breaks_of text)) (starts_before_place text change.start) n) behind
+          ∙ near_cut text change.start change.end le within
+          ∙ sym (between_are text change.start change.end le within);
     }

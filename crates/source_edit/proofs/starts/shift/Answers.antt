@@ -1,4 +1,4 @@
-use Rattle.std.proofs.Common.{◌≡◌, ℕ, ◌+◌, ◌-◌, ◌<◌, length, set, get_or, sym, ap, ◌∙◌, arith}
+use Rattle.std.proofs.Common.{◌≡◌, ℕ, ◌+◌, ◌-◌, ◌<◌, length, set, get_or, ap, ◌∙◌, arith}
 use Rattle.source_edit.proofs.FoundLemmas.{set_next, next_is}
 use Rattle.source_edit.proofs.starts.shift.Goals as goal
 

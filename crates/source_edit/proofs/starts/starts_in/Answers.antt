@@ -1,4 +1,4 @@
-use Rattle.std.proofs.Common.{◌≡◌, ℕ, ◌+◌, ◌-◌, ◌<◌, ◌++◌, ◌∷◌, [], ◌==◌, if◌then◌else◌, length, map, get_or, sym, ap, subst, ◌∙◌, arith, All}
+use Rattle.std.proofs.Common.{◌≡◌, ◌+◌, ◌-◌, ◌<◌, ◌++◌, ◌∷◌, [], ◌==◌, if◌then◌else◌, length, map, get_or, sym, ap, subst, ◌∙◌, arith, All}
 use Rattle.std.specs.List.{filter}
 use Rattle.std.proofs.lemmas.List.Elements.{All-tail}
 use Rattle.source_edit.specs.Starts.{ends_row}
@@ -27,11 +27,13 @@ loop-at-preserved-in-Continue-branch-2 c =
     let rest = c.next.new.self in
     let known = ap (λ list. c.loop-at.starts.items ++ filter (is_start (joined before insert behind)) (map (λ at. length before + at + 1) list)) (sym c.in-Some.ensures.steps) ∙ c.loop-at.invariant.2 in
     let all = subst (All (λ at. at < length insert)) c.in-Some.ensures.steps c.loop-at.invariant.3 in
-    let ends = ap (ends_row (get_or insert at 0)) (sym c.byte_at-in-loop-at.ensures) ∙ sym c.ends_row.ensures ∙ c.if-ends_row.true in
-    (tt, tt,
+    let ends = ap (ends_row (get_or insert at 0)) (sym c.byte_at-in-loop-at.ensures) ∙ sym c.ends_row.ensures ∙ c.if-ends_row.true in (
+      tt,
+      tt,
       ap (λ l. l ++ filter (is_start (joined before insert behind)) (map (λ at. length before + at + 1) rest)) c.in_ok-push.ensures.items
-      ∙ found_one before insert behind c.loop-at.starts.items at c.new.result rest _ (all 0 0 (omega arith)) c.new.ensures ends known,
-      All-tail (λ at. at < length insert) at rest all)
+          ∙ found_one before insert behind c.loop-at.starts.items at c.new.result rest _ (all 0 0 (omega arith)) c.new.ensures ends known,
+      All-tail (λ at. at < length insert) at rest all,
+    )
 
 pub loop-at-preserved : goal.loop-at-preserved
 loop-at-preserved c =

@@ -1,4 +1,4 @@
-use Rattle.std.proofs.Common.{◌≡◌, ◌+◌, ◌++◌, ◌<◌, ◌&&◌, length, map, All}
+use Rattle.std.proofs.Common.{◌≡◌, ◌+◌, ◌++◌, ◌<◌, length, map, All}
 use Rattle.std.specs.List.{filter}
 use Rattle.source_edit.specs.Starts.{starts_between}
 use Rattle.source_edit.proofs.StartsLemmas.{is_start}

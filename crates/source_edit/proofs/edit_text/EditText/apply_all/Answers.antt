@@ -1,5 +1,5 @@
-use Rattle.std.proofs.Common.{◌≡◌, ◌+◌, ◌<◌, ◌∷◌, [], length, map, drop, get_or, inl, sym, ap, subst, ◌∙◌, arith}
-use Rattle.source_edit.specs.Edits.{Change, Editing, change_of, after_edit, after_edits}
+use Rattle.std.proofs.Common.{◌≡◌, ◌+◌, ◌<◌, ◌∷◌, length, map, drop, inl, sym, ap, subst, ◌∙◌, arith}
+use Rattle.source_edit.specs.Edits.{change_of, after_edits}
 use Rattle.source_edit.specs.Causes.{AreAcceptable, IsCauseAmong}
 use Rattle.source_edit.proofs.AllLemmas.{HasApplied, applied_none, applied_more, rest_more, rest_none}
 use Rattle.source_edit.proofs.edit_text.EditText.apply_all.Goals as goal

@@ -1,8 +1,8 @@
-use Rattle.std.proofs.Common.{◌≡◌, ℕ, ◌+◌, ◌++◌, ◌∷◌, [], length, string_bytes, string_capacity, vec_capacity, reverse, refl, sym, ap, subst, ◌∙◌, arith}
+use Rattle.std.proofs.Common.{◌≡◌, ◌+◌, ◌++◌, ◌∷◌, [], length, string_bytes, string_capacity, vec_capacity, reverse, refl, ap, subst, ◌∙◌}
 use Rattle.std.specs.Str.{IsCharBoundary}
 use Rattle.source_edit.specs.Edits.{edited, change_of, after_edit}
 use Rattle.source_edit.specs.Causes.{IsAcceptable}
-use Rattle.source_edit.specs.Steps.{backwards, history_of, LeadBack}
+use Rattle.source_edit.specs.Steps.{history_of}
 use Rattle.source_edit.proofs.StepsLemmas.{more_room, leads_back, step_back_is, pushed_leads, pushed_history, same_editing}
 use Rattle.source_edit.proofs.edit_text.EditText.apply_at.Goals as goal
 
@@ -14,8 +14,8 @@ invariant_of-self-in_default c =
       fits = rw c.prepare.ensures.text c.self.invariant.fits;
       starts = rw (c.prepare.ensures.text, c.prepare.ensures.starts) c.self.invariant.starts;
       steps =
-        rw (c.prepare.ensures.text, c.reserve.ensures.items) (more_room (string_capacity inside.text) (string_capacity c.prepare.new.text) (vec_capacity inside.line_starts) (vec_capacity c.prepare.new.line_starts)
-        text (reverse inside.steps.items) c.prepare.ensures.text_room c.prepare.ensures.starts_room c.self.invariant.steps);
+          rw (c.prepare.ensures.text, c.reserve.ensures.items) (more_room (string_capacity inside.text) (string_capacity c.prepare.new.text) (vec_capacity inside.line_starts) (vec_capacity c.prepare.new.line_starts)
+          text (reverse inside.steps.items) c.prepare.ensures.text_room c.prepare.ensures.starts_room c.self.invariant.steps);
     }
 
 pub invariant_of-self-2 : goal.invariant_of-self-2
@@ -40,9 +40,9 @@ invariant_of-self-2 c =
       fits = rw made ok.fits;
       starts = c.put.ensures.indexed;
       steps =
-        rw made (more_room text_room (string_capacity c.put.new.text) starts_room (vec_capacity c.put.new.line_starts) (edited text change) (reverse c.push_reserved.new.self.items)
-        c.put.ensures.text_room c.put.ensures.starts_room
-        (pushed_leads text_room starts_room (edited text change) text c.push_reserved.new.self.items inside.steps.items step steps back leads earlier));
+          rw made (more_room text_room (string_capacity c.put.new.text) starts_room (vec_capacity c.put.new.line_starts) (edited text change) (reverse c.push_reserved.new.self.items)
+          c.put.ensures.text_room c.put.ensures.starts_room
+          (pushed_leads text_room starts_room (edited text change) text c.push_reserved.new.self.items inside.steps.items step steps back leads earlier));
     }
 
 pub returns-clause-accepted : goal.returns-clause-accepted

@@ -1,5 +1,5 @@
-use Rattle.std.proofs.Common.{◌≡◌, ℕ, ◌-◌, List, length, take, sym, ap, ◌∙◌, arith}
-use Rattle.source_edit.specs.Edits.{Change, Editing, after_edits}
+use Rattle.std.proofs.Common.{◌≡◌, ◌-◌, take, sym, ap, ◌∙◌, arith}
+use Rattle.source_edit.specs.Edits.{after_edits}
 use Rattle.source_edit.proofs.AllLemmas.{back_one, back_all}
 use Rattle.source_edit.proofs.edit_text.EditText.step_back_by.Goals as goal
 

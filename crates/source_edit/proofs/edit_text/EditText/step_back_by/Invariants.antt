@@ -1,4 +1,4 @@
-use Rattle.std.proofs.Common.{◌≡◌, ℕ, ◌-◌, List, length, take}
+use Rattle.std.proofs.Common.{◌≡◌, ◌-◌, List, length, take}
 use Rattle.source_edit.specs.Edits.{Change, Editing, after_edits}
 use Rattle.source_edit.proofs.edit_text.EditText.step_back_by.Given as goal
 
