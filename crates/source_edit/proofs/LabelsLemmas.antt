@@ -167,3 +167,10 @@ pub moved_end_fits : (text : List ℕ) (change : Change) (end : ℕ) → change.
 moved_end_fits text change end le ok within =
     let size = edited_length text change le ok.within in
     ⊎_elim (λ before. omega (arith, before.0, before.1, size, ok.fits)) (⊎_elim (λ inside. omega (arith, inside, size, ok.fits)) (λ behind. omega (arith, behind.0, behind.1, within, size, ok.fits))) (end_cases change end)
+
+-- and no label goes further on than what is inserted is long
+pub moved_start_le : (change : Change) (start : ℕ) → moved_start change start ≤ start + length change.insert
+moved_start_le change start = grind (arith, nat_tests)
+
+pub moved_end_le : (change : Change) (end : ℕ) → moved_end change end ≤ end + length change.insert
+moved_end_le change end = grind (arith, nat_tests)

@@ -1,7 +1,11 @@
 //! Edits and labels by example, and a caller that is proved from the contracts alone.
-ghost use Rattle.std.specs.Prelude.{◌≡◌, ◌<◌, ◌≤◌, ◌^◌, ◌+◌, length, MatchResult, string_bytes};
+ghost use Rattle.std.specs.Prelude.{◌≡◌, ◌<◌, ◌≤◌, ◌^◌, ◌+◌, length, string_bytes, MatchResult};
+ghost use Rattle.source_location.specs.Index.{Fits};
+ghost use Rattle.oxc_span.specs.Label.{label_end};
 ghost use Rattle.source_edit.specs.Edits.{change_of};
+ghost use Rattle.std.specs.Option.{SomeIff};
 ghost use Rattle.source_edit.specs.Causes.{IsAcceptable, IsCause};
+ghost use Rattle.source_edit.specs.Labels.{moved_label};
 
 use crate::{Edit, EditError, EditText, edit_file, move_label};
 use codespan::Files;
@@ -20,6 +24,17 @@ fn takes(text: &mut EditText, edit: Edit) -> Result<(), EditError>
     Ok(())
 }
 
+/// Where a label lies after an edit, unless it may go past what a `u32` counts.
+fn place_after(label: &LabeledSpan, edit: &Edit) -> Option<Span>
+    ensures { SomeIff result (label_end label.now + length (string_bytes edit.now.insert) < 2 ^ 32) (moved_label (change_of edit.now) label.now) }
+{
+    let farthest = label.span().end as u64 + edit.insert.len() as u64;
+    if farthest > u32::MAX as u64 {
+        return None;
+    }
+    Some(move_label(label, edit))
+}
+
 /// The edit that puts a text in the place of a range.
 fn edit(alloc: Global, start: u32, end: u32, insert: &str) -> Result<Edit, AllocError>
     requires { start ≤ end }
@@ -32,7 +47,7 @@ fn edit(alloc: Global, start: u32, end: u32, insert: &str) -> Result<Edit, Alloc
 
 /// A text with no history.
 fn edited(alloc: Global, text: &str) -> Result<EditText, AllocError>
-    requires { length text.now < 2 ^ 32 - 1 }
+    requires { Fits text.now }
 {
     EditText::new(alloc, String::from_str(alloc, text)?)
 }
@@ -135,8 +150,11 @@ fn labels_move(rt: HostRuntime) -> Result<(), Fail> {
     let alloc = rt.alloc();
     let longer = edit(alloc, 1, 2, "xyz")?;
     let more = edit(alloc, 2, 2, "q")?;
-    assert!(rt; move_label(&LabeledSpan::new(None, 3, 2), &longer) == Span::new(5, 7));
-    assert!(rt; move_label(&LabeledSpan::new(None, 1, 1), &longer) == Span::new(1, 4));
-    assert!(rt; move_label(&LabeledSpan::new(None, 2, 0), &more) == Span::new(3, 3));
+    let behind = place_after(&LabeledSpan::new(None, 3, 2), &longer);
+    assert!(rt; behind == Some(Span::new(5, 7)));
+    let same = place_after(&LabeledSpan::new(None, 1, 1), &longer);
+    assert!(rt; same == Some(Span::new(1, 4)));
+    let empty = place_after(&LabeledSpan::new(None, 2, 0), &more);
+    assert!(rt; empty == Some(Span::new(3, 3)));
     Ok(())
 }
