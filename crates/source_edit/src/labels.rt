@@ -13,6 +13,7 @@ use oxc_span::{LabeledSpan, Span};
 ///
 /// A label wholly before or behind the range covers the same text as before. The new start and end are in the range
 /// of `u32`, as they are where the label was within the text and the edit was accepted.
+#[must_use]
 pub fn move_label(label: &LabeledSpan, edit: &Edit) -> Span
     requires start { moved_start (change_of edit.now) label.now.offset < 2 ^ 32 }
     requires end { moved_end (change_of edit.now) (label_end label.now) < 2 ^ 32 }
