@@ -1,21 +1,19 @@
 -- A row of ASCII: whatever its clusters, each of its characters but a tab and an escape takes one cell.
-use Rattle.std.proofs.Common.{◌≡◌, ℕ, ◌+◌, ◌-◌, ◌*◌, ◌%◌, ◌<◌, ◌≤◌, Bool, true, false, cond, List, [], ◌∷◌, ◌++◌, map, length, fold, take, drop, get_or, ⊎_elim, refl, sym, ap, subst, ◌∙◌, arith, eqb, length-append, replicate, unwrap_or, zero, suc}
+use Rattle.std.proofs.Common.{◌≡◌, ℕ, ◌+◌, ◌-◌, ◌%◌, ◌<◌, ◌≤◌, Bool, true, false, cond, List, [], ◌∷◌, ◌++◌, map, length, fold, take, drop, get_or, ⊎_elim, refl, sym, ap, subst, ◌∙◌, arith, eqb, length-append, replicate, unwrap_or, zero, suc}
 use Rattle.std.specs.Prelude.{All, encode_utf8_all}
 use Rattle.std.specs.List.{flat_map}
 use Rattle.std.specs.Int.{is_in_range}
 use Rattle.std.specs.Str.{IsAscii}
-use Rattle.std.proofs.lemmas.Bool.{false≢true, eqb-true, cases_lt, le-ltb, lt-ltb}
+use Rattle.std.proofs.lemmas.Bool.{false≢true, eqb-true, cases_lt, le-ltb}
 use Rattle.std.proofs.lemmas.Bool.Decides.{nat_tests}
-use Rattle.std.proofs.lemmas.List.{length-replicate, at_drop_more, at_drop_all, get_or-take, get_or_past, length-take, length-take-le, map-append, take_all}
-use Rattle.std.proofs.lemmas.List.Elements.{All-head, All-tail, All-from_get_or, All-take, All-nil, All-cons}
+use Rattle.std.proofs.lemmas.List.{length-replicate, at_drop_more, at_drop_all, get_or-take, get_or_past, length-take, map-append}
+use Rattle.std.proofs.lemmas.List.Elements.{All-head, All-tail, All-from_get_or}
 use Rattle.std.proofs.lemmas.Str.{chars-IsAscii, encode_ascii, IsCharBoundary-from_ascii}
 use Rattle.std.proofs.lemmas.Str.Ascii.{IsAscii-from_all}
 use Rattle.oxc_plan.proofs.BoundaryLemmas.{down_is, up_is}
-use Rattle.std.proofs.lemmas.List.Sums.{fold-append, AllPass-from_list_all, list_all-from_AllPass}
-use Rattle.std.specs.Prelude.{slice_range, min}
-use Rattle.oxc_plan.specs.declared.columns.Stop.{Stop}
+use Rattle.std.proofs.lemmas.List.Sums.{fold-append}
+use Rattle.std.specs.Prelude.{slice_range}
 use Rattle.unicode_segmentation.proofs.TextLemmas.{take_split}
-use Rattle.oxc_plan.proofs.WidthLemmas.{advance_of-le}
 use Rattle.ucd_table.proofs.Computing.{tables}
 use Rattle.ucd_table.proofs.Facts.{Stepped-below}
 use Rattle.ucd_breaks.specs.GraphemeClusterBreak.{grapheme_cluster_break}
@@ -29,8 +27,8 @@ use Rattle.unicode_width.specs.Width.{str_width}
 use Rattle.unicode_width.proofs.Rules.{str_width-printable}
 use Rattle.oxc_plan.specs.declared.columns.Pen.{Pen}
 use Rattle.oxc_plan.specs.Rows.{RowView}
-use Rattle.oxc_plan.specs.Width.{advance_of, is_control, with_lead, led, led_text, moved, at_margin, stays_in_escape, is_ascii, is_ascii_byte, pen_after, text_width}
-use Rattle.oxc_plan.specs.Columns.{boundary_down, boundary_up, column_in, drawn_char, drawn_from, drawn_text, HasColumnsAsDrawn, IsStop}
+use Rattle.oxc_plan.specs.Width.{advance_of, is_control, with_lead, led, led_text, moved, at_margin, stays_in_escape, pen_after, text_width}
+use Rattle.oxc_plan.specs.Columns.{boundary_down, boundary_up, column_in, drawn_char, drawn_from, drawn_text, HasColumnsAsDrawn}
 
 abbrev stands_alone : ℕ → GraphemeClusterBreak → Bool
 stands_alone c Control = true
@@ -231,7 +229,7 @@ unfolding column_in
 column_ascii tab text place true ascii within = rw (le-ltb (length text) place within, down_ascii text place ascii within) refl
 column_ascii tab text place false ascii within = rw (le-ltb (length text) place within, up_ascii text place ascii within) refl
 
-take_ascii : (text : List ℕ) (place : ℕ) → IsAscii text → IsAscii (take place text)
+pub take_ascii : (text : List ℕ) (place : ℕ) → IsAscii text → IsAscii (take place text)
 take_ascii text place ascii i = ⊎_elim (λ lt. rw (get_or-take place text i 0 lt) (ascii i)) (λ ge. let past : get_or (take place text) i 0 ≡ 0 = get_or_past (take place text) i 0 (omega (arith, length-take place text)) in omega (arith, past)) (cases_lt i place)
 
 pub columns_are_drawn : (tab : ℕ) (row : RowView) → HasColumnsAsDrawn tab row
@@ -241,11 +239,10 @@ columns_are_drawn tab row ascii offset at_start from within =
     ∙ drawn_ascii tab (take place row.text) (take_ascii row.text place ascii)
 
 -- over a text of ASCII, the clusters lead to the same pen as the bytes
-ascii_low : (text : List ℕ) → is_ascii text ≡ true → All (λ c. c < 128) text
-ascii_low [] ascii = All-nil (λ c. c < 128)
-ascii_low (c ∷ cs) ascii = All-cons (λ c. c < 128) c cs (grind (arith, nat_tests)) (ascii_low cs (grind (arith, nat_tests)))
+ascii_low : (text : List ℕ) → IsAscii text → All (λ c. c < 128) text
+ascii_low text ascii = All-from_get_or (λ c. c < 128) text 0 (λ i h. ascii i)
 
-pub width_ascii : (tab : ℕ) (text : List ℕ) → is_ascii text ≡ true → (pen_after tab at_margin text).column ≡ text_width tab text
+pub width_ascii : (tab : ℕ) (text : List ℕ) → IsAscii text → (pen_after tab at_margin text).column ≡ text_width tab text
 unfolding text_width pen_after
 width_ascii tab text ascii = ap (λ (pen : Pen). pen.column) (sym (alike_text text (ascii_low text ascii) tab at_margin).0)
 
@@ -265,55 +262,3 @@ pen_further tab pen text at to le =
     sym (fold-append (moved tab) pen (map lone (take at text)) (map lone (slice_range text at to)))
     ∙ ap (fold (moved tab) pen) (sym (map-append lone (take at text) (slice_range text at to)))
     ∙ ap (λ bytes. fold (moved tab) pen (map lone bytes)) (sym (take_split text at to le))
-
-pen_le : (tab : ℕ) (pen : Pen) (bytes : List ℕ) → tab ≤ 16 → (pen_after tab pen bytes).column ≤ pen.column + 17 * length bytes
-unfolding pen_after
-pen_le tab pen [] most = omega arith
-pen_le tab pen (c ∷ cs) most = omega (arith, pen_le tab (moved tab pen (lone c)) cs most, advance_of-le tab pen.in_escape pen.column 1 c most)
-
-pub stop_le : (tab : ℕ) (text : List ℕ) (place : ℕ) → tab ≤ 16 → place ≤ length text → (pen_after tab at_margin (take place text)).column ≤ 17 * place
-stop_le tab text place most within = omega (arith, pen_le tab at_margin (take place text) most, length-take-le place text within)
-
--- a text of ASCII up to a place is one too
-ascii_take : (text : List ℕ) (place : ℕ) → is_ascii text ≡ true → is_ascii (take place text) ≡ true
-ascii_take text place ascii = list_all-from_AllPass is_ascii_byte (take place text) (All-take (λ c. is_ascii_byte c ≡ true) place text (AllPass-from_list_all is_ascii_byte text ascii))
-
-pub column_within : (tab : ℕ) (text : List ℕ) (place : ℕ) (at_start : Bool) → is_ascii text ≡ true → place ≤ length text → (pen_after tab at_margin (take place text)).column ≡ column_in tab text place at_start
-column_within tab text place at_start ascii within =
-    width_ascii tab (take place text) (ascii_take text place ascii)
-    ∙ sym (column_ascii tab text place at_start (IsAscii-from_all text (ascii_low text ascii)) within)
-
-pub column_past : (tab : ℕ) (text : List ℕ) (place : ℕ) (at_start : Bool) → is_ascii text ≡ true → length text < place → (pen_after tab at_margin (take (length text) text)).column + 1 ≡ column_in tab text place at_start
-unfolding column_in
-column_past tab text place at_start ascii past =
-    rw (lt-ltb (length text) place past, take_all (length text) text (omega arith)) (ap (λ n. n + 1) (width_ascii tab text ascii))
-
--- stops: the first, and one further on
-pub first_is_stop : (tab : ℕ) (text : List ℕ) → IsStop tab text (record { place = 0; pen = at_margin })
-unfolding pen_after
-first_is_stop tab text = (omega arith, refl)
-
-pub further_is_stop : (tab : ℕ) (text bytes : List ℕ) (last : Stop) (place : ℕ) (pen : Pen) → IsStop tab text last → last.place ≤ place → place ≤ length text
-    → bytes ≡ text → pen ≡ pen_after tab last.pen (slice_range bytes last.place place) → IsStop tab text (record { place = place; pen = pen })
-further_is_stop tab text bytes last place pen stop from within same here = (
-  within,
-  here
-      ∙ ap (λ bs. pen_after tab last.pen (slice_range bs last.place place)) same
-      ∙ ap (λ p. pen_after tab p (slice_range text last.place place)) stop.1
-      ∙ pen_further tab at_margin text last.place place from,
-)
-
-pub stop_small : (tab : ℕ) (text : List ℕ) (stop : Stop) → IsStop tab text stop → tab ≤ 16 → stop.pen.column ≤ 17 * stop.place
-stop_small tab text stop is most = omega (arith, ap (λ (pen : Pen). pen.column) is.1, stop_le tab text stop.place most is.0)
-
-pub at_stop_past : (tab : ℕ) (text : List ℕ) (stop : Stop) (place : ℕ) (at_start : Bool) → is_ascii text ≡ true → IsStop tab text stop → stop.place ≡ min place (length text) → length text < place
-    → stop.pen.column + 1 ≡ column_in tab text place at_start
-at_stop_past tab text stop place at_start ascii is there past =
-    let at_end : stop.place ≡ length text = omega (arith, there) in
-    ap (λ (pen : Pen). pen.column + 1) (is.1 ∙ ap (λ n. pen_after tab at_margin (take n text)) at_end) ∙ column_past tab text place at_start ascii past
-
-pub at_stop_within : (tab : ℕ) (text : List ℕ) (stop : Stop) (place : ℕ) (at_start : Bool) → is_ascii text ≡ true → IsStop tab text stop → stop.place ≡ min place (length text) → place ≤ length text
-    → stop.pen.column ≡ column_in tab text place at_start
-at_stop_within tab text stop place at_start ascii is there within =
-    let same : stop.place ≡ place = omega (arith, there) in
-    ap (λ (pen : Pen). pen.column) (is.1 ∙ ap (λ n. pen_after tab at_margin (take n text)) same) ∙ column_within tab text place at_start ascii within

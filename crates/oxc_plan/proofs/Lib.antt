@@ -9,3 +9,9 @@ pub mod PlaceLemmas
 pub mod PlanLemmas
 pub mod SourceLemmas
 pub mod TextsLemmas
+pub mod SweepLemmas
+pub mod DrawableLemmas
+pub mod ScannedLemmas
+pub mod ClustersLemmas
+pub mod MeasuringLemmas
+pub mod HangsLemmas

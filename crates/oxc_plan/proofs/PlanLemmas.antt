@@ -13,17 +13,16 @@ use Rattle.std.proofs.lemmas.Bool.Decides.{nat_tests}
 use Rattle.std.specs.declared.ops.Range.{Range}
 use Rattle.oxc_span.specs.declared.span.Span.{Span}
 use Rattle.oxc_windows.specs.declared.breaks.LineBreak.{LineBreak}
-use Rattle.oxc_span.specs.Label.{Label, label_end}
-use Rattle.oxc_plan.proofs.OrderLemmas.{spans_valid}
+use Rattle.oxc_span.specs.Label.{Label}
 use Rattle.oxc_plan.specs.Groups.{AreGroups, HoldsItsSpans, group_window, largest_end, span_at, window_round}
-use Rattle.oxc_plan.proofs.GroupsLemmas.{largest_end_reaches, largest_end_within}
+use Rattle.oxc_plan.proofs.GroupsLemmas.{largest_end_reaches}
 use Rattle.oxc_plan.specs.Meets.{is_one_row, meets, multi_row_labels, one_row_labels}
 use Rattle.oxc_plan.specs.Marks.{cells_at, placed_marks}
 use Rattle.oxc_plan.specs.declared.marks.MarkCells.{MarkCells}
-use Rattle.oxc_plan.specs.declared.plan.Bar.{Bar}
-use Rattle.oxc_plan.specs.declared.plan.Hang.{Hang}
-use Rattle.oxc_plan.specs.declared.plan.OrderedLabel.{OrderedLabel}
-use Rattle.oxc_plan.specs.declared.plan.RowPlan.{RowPlan}
+use Rattle.oxc_plan.specs.declared.bars.Bar.{Bar}
+use Rattle.oxc_plan.specs.declared.hangs.Hang.{Hang}
+use Rattle.oxc_plan.specs.declared.labels.OrderedLabel.{OrderedLabel}
+use Rattle.oxc_plan.specs.declared.snippets.RowPlan.{RowPlan}
 use Rattle.oxc_plan.specs.Order.{label_at, label_order, spans_in_order}
 use Rattle.oxc_plan.specs.Plan.{Ordered, RowPlanView, SnippetView, bar_of, bars_of, ends_of, ends_with_text, gutter_of, hang_of, hangs_of, head_label, in_order, ordered_at, ordered_label, ordered_view, row_plan_of, row_plan_view, row_plans_of, snippet_of, spans_of}
 use Rattle.oxc_windows.specs.Breaks.{breaks_of}
@@ -113,7 +112,7 @@ unfolding in_order spans_in_order
 spans_ordered labels = map-map (λ l. l.span) (λ at. ordered_label (label_at labels at)) (label_order labels)
 
 -- what holds of the labels within a row: they are labels, and start in it
-range_below : (n : ℕ) → All (λ at. at < n) (range_with_len 0 n)
+pub range_below : (n : ℕ) → All (λ at. at < n) (range_with_len 0 n)
 range_below n k d lt =
     let short : k < n = rw length-range_with_len at lt in
     subst (λ m. m < n) (sym (get_or-range_with_len 0 n k d short)) (omega arith)
@@ -198,20 +197,20 @@ head_holds P labels group some within each =
 -- the head of a group points into what is read for the group
 pub head_in : (source : List ℕ) (labels : List Ordered) (spans : List Span) (group : Range ℕ) (span : Span) (contents : Contents) → spans ≡ spans_of labels
     → span.start ≡ (span_at spans group.start).start → span.end ≡ largest_end spans group.start group.end → contents ≡ contents_of source (window_round source span)
-    → group.start < group.end → group.end ≤ length labels → HoldsItsSpans (length source) (breaks_of source) spans group → All (λ s. s.start ≤ s.end) spans
+    → group.start < group.end → group.end ≤ length spans → HoldsItsSpans (length source) (breaks_of source) spans group → All (λ s. (s.start ≤ s.end) × (s.end ≤ length source)) spans
     → (contents.span.start ≤ (head_label labels group).span.start) × ((head_label labels group).span.start ≤ span.end)
 head_in source labels spans group span contents is_spans starts ends known some within held ordered =
     let len = length source in
     let list = breaks_of source in
     let size : length spans ≡ length labels = ap length is_spans ∙ length-map labels (λ l. l.span) in
     let begins : contents.span.start ≡ (group_window len list spans group).begin = ap (λ v. v.span.start) known ∙ ap (λ s. (window_at len list 1 1 s span.end).begin) starts in
-    head_holds (λ l. (contents.span.start ≤ l.span.start) × (l.span.start ≤ span.end)) labels group some within
+    head_holds (λ l. (contents.span.start ≤ l.span.start) × (l.span.start ≤ span.end)) labels group some (omega (arith, within, size))
     (λ at low high.
-    let inside : at < length labels = omega (arith, high, within) in
+    let inside : at < length labels = omega (arith, high, within, size) in
     let same : span_at spans at ≡ (ordered_at labels at).span = ap (λ l. span_at l at) is_spans ∙ get_or-map (λ l. l.span) labels at _ _ inside in
     let start : (span_at spans at).start ≡ (ordered_at labels at).span.start = ap (λ s. s.start) same in (
       omega (arith, begins, (held at low high).0, start),
-      omega (arith, start, ordered at (record { start = 0; end = 0 }) (omega (arith, inside, size)), largest_end_reaches spans group.start group.end at low high (omega (arith, within, size)), ends),
+      omega (arith, start, (ordered at (record { start = 0; end = 0 }) (omega (arith, inside, size))).0, largest_end_reaches spans group.start group.end at low high within, ends),
     ))
 
 -- the rows that were read for a span are small
@@ -230,6 +229,18 @@ unfolding window_end
 window_within source span contents known =
     omega (arith, ap (λ v. v.span.end) known, row_start_within (length source) (breaks_of source) (row_of (breaks_of source) (span.end - 1) + 1 + row_further (breaks_of source) (span.end - 1) + 1) (breaks_valid source))
 
+-- the window that is read for a group
+pub window_read : (source : List ℕ) (spans : List Span) (group : Range ℕ) (span : Span) → span.start ≡ (span_at spans group.start).start → span.end ≡ largest_end spans group.start group.end
+    → window_round source span ≡ group_window (length source) (breaks_of source) spans group
+window_read source spans group span starts ends =
+    let len = length source in
+    let list = breaks_of source in
+    ap (λ s. window_at len list 1 1 s span.end) starts ∙ ap (λ e. window_at len list 1 1 (span_at spans group.start).start e) ends
+
+pub rows_read : (source : List ℕ) (spans : List Span) (group : Range ℕ) (span : Span) (contents : Contents) (views : List RowView) → span.start ≡ (span_at spans group.start).start → span.end ≡ largest_end spans group.start group.end
+    → contents ≡ contents_of source (window_round source span) → views ≡ rows_of contents → views ≡ rows_in source (group_window (length source) (breaks_of source) spans group)
+rows_read source spans group span contents views starts ends known is = is ∙ ap rows_of known ∙ ap (rows_in source) (window_read source spans group span starts ends)
+
 -- the snippet of a group, from its parts
 pub snippet_made : (tab : ℕ) (source : List ℕ) (labels : List Ordered) (group : Range ℕ) (span : Span) (contents : Contents) (head : Ordered) (row column gutter : ℕ) (views : List RowView) (plans : List RowPlanView)
     → span.start ≡ (span_at (spans_of labels) group.start).start → span.end ≡ largest_end (spans_of labels) group.start group.end
@@ -241,35 +252,17 @@ unfolding snippet_of row_plans_of
 snippet_made tab source labels group span contents head row column gutter views plans starts ends known is_head is_row is_column is_views is_plans is_gutter =
     let len = length source in
     let list = breaks_of source in
-    let window : window_round source span ≡ group_window len list (spans_of labels) group =
-    ap (λ s. window_at len list 1 1 s span.end) starts ∙ ap (λ e. window_at len list 1 1 (span_at (spans_of labels) group.start).start e) ends in
-    let views_are : views ≡ rows_in source (group_window len list (spans_of labels) group) = is_views ∙ ap rows_of known ∙ ap (rows_in source) window in
+    let views_are = rows_read source (spans_of labels) group span contents views starts ends known is_views in
     let rows = is_plans ∙ ap (map (row_plan_of tab labels)) views_are in
     let r = is_row ∙ ap (λ (h : Ordered). (place_of len list h.span.start).row) is_head in
     let c = is_column ∙ ap (λ (h : Ordered). (place_of len list h.span.start).column) is_head in
     let g = is_gutter ∙ ap gutter_of rows in
     λ i. record { head_line = r i + 1; head_column = c i + 1; gutter = g i; rows = rows i }
 
--- a group's largest end lies within the source
-pub joint_within : (labels : List OrderedLabel) (spans : List Span) (group : Range ℕ) (end len : ℕ) → spans ≡ spans_of (map ordered_view labels) → end ≡ largest_end spans group.start group.end
-    → group.start < group.end → group.end ≤ length labels → All (λ s. (s.start ≤ s.end) × (s.end ≤ len)) spans → end ≤ len
-joint_within labels spans group end len is_spans ends some within all =
-    let size : length spans ≡ length labels = ap length is_spans ∙ length-map (map ordered_view labels) (λ l. l.span) ∙ length-map labels ordered_view in
-    omega (arith, ends, largest_end_within spans group.start group.end len all (omega (arith, some)) (omega (arith, within, size)))
+-- there are as many spans as labels
+pub spans_count : (labels : List OrderedLabel) (spans : List Span) → spans ≡ spans_of (map ordered_view labels) → length spans ≡ length labels
+spans_count labels spans is = ap length is ∙ length-map (map ordered_view labels) (λ l. l.span) ∙ length-map labels ordered_view
 
 -- labels in label order, by their views
 pub spans_same : (labels : List Label) (ordered : List OrderedLabel) → map ordered_view ordered ≡ in_order labels → spans_of (map ordered_view ordered) ≡ spans_in_order labels
 spans_same labels ordered is = ap spans_of is ∙ spans_ordered labels
-
-pub ordered_valid : (labels : List Label) (ordered : List OrderedLabel) (len : ℕ) → map ordered_view ordered ≡ in_order labels → All (λ l. label_end l ≤ len) labels
-    → All (λ (l : OrderedLabel). (l.span.start ≤ l.span.end) × (l.span.end ≤ len)) ordered
-ordered_valid labels ordered len is all =
-    all_of_views (λ (l : OrderedLabel). l.span) (λ s. (s.start ≤ s.end) × (s.end ≤ len)) ordered
-    (spans_valid len labels (map (λ (l : OrderedLabel). l.span) ordered) (sym (map-map (λ (l : Ordered). l.span) ordered_view ordered) ∙ spans_same labels ordered is) all)
-
-pub ordered_groups : (labels : List Label) (ordered : List OrderedLabel) (len : ℕ) (breaks : List LineBreak) (groups : List (Range ℕ)) → map ordered_view ordered ≡ in_order labels
-    → AreGroups len breaks (spans_in_order labels) 0 groups → All (λ g. (g.start < g.end) × (g.end ≤ length ordered)) groups
-ordered_groups labels ordered len breaks groups is are k d lt =
-    let one = groups_within len breaks (spans_in_order labels) 0 groups are k d lt in
-    let size : length (spans_in_order labels) ≡ length ordered = ap length (sym (spans_same labels ordered is)) ∙ length-map (map ordered_view ordered) (λ l. l.span) ∙ length-map ordered ordered_view in
-    (one.0, omega (arith, one.1, size))

@@ -8,7 +8,7 @@ use Rattle.memchr.specs.Find.{NoneBefore, Nowhere, Passes, is_byte}
 use Rattle.oxc_windows.proofs.Counting.{false_unless}
 use Rattle.oxc_plan.specs.Rows.{pieces, with_byte, first_len, row_of_piece, RowView, numbered}
 
-pieces-nil : pieces [] ≡ []
+pub pieces-nil : pieces [] ≡ []
 unfolding pieces
 pieces-nil = refl
 

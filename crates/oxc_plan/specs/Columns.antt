@@ -3,9 +3,8 @@ use Rattle.std.specs.Prelude.{◌≡◌, ℕ, ◌+◌, ◌-◌, ◌%◌, ◌≤�
 use Rattle.std.specs.List.{prefix_len}
 use Rattle.std.specs.Str.{IsAscii}
 use Rattle.oxc_plan.specs.declared.columns.Pen.{Pen}
-use Rattle.oxc_plan.specs.declared.columns.Stop.{Stop}
 use Rattle.oxc_plan.specs.Rows.{RowView}
-use Rattle.oxc_plan.specs.Width.{moved, at_margin, led_text, pen_after, text_width}
+use Rattle.oxc_plan.specs.Width.{moved, at_margin, led_text, text_width}
 
 -- a byte that begins a character
 abbrev pub is_char_start : ℕ → Bool
@@ -53,7 +52,3 @@ HasColumnsAsDrawn tab row =
     IsAscii row.text
     → (offset : ℕ) (at_start : Bool) → row.offset ≤ offset → offset - row.offset ≤ length row.text
     → column_at tab row offset at_start ≡ length (drawn_text tab (take (offset - row.offset) row.text))
-
--- a stop stands at a place of a text, with the pen after the bytes before it
-abbrev pub IsStop : ℕ → List ℕ → Stop → Type 0
-IsStop tab text stop = (stop.place ≤ length text) × (stop.pen ≡ pen_after tab at_margin (take stop.place text))

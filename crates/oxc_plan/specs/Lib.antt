@@ -8,3 +8,8 @@ pub mod Marks
 pub mod Place
 pub mod Plan
 pub mod Laws
+pub mod Scanned
+pub mod Sweep
+pub mod Drawable
+pub mod Keeping
+pub mod Measuring

@@ -34,6 +34,10 @@ is_one_row offset length span = meets offset length span && is_within offset len
 abbrev pub is_multi_row : ℕ → ℕ → Span → Bool
 is_multi_row offset length span = meets offset length span && not (is_within offset length span)
 
+-- the places of the labels that meet a row, among spans in label order
+unfoldable pub meeting_labels : ℕ → ℕ → List Span → List ℕ
+meeting_labels offset len spans = filter (λ at. meets offset len (span_at spans at)) (range_with_len 0 (length spans))
+
 -- the places of a row's one-row labels, and of its multi-row ones, among spans in label order
 unfoldable pub one_row_labels : ℕ → ℕ → List Span → List ℕ
 one_row_labels offset len spans = filter (λ at. is_one_row offset len (span_at spans at)) (range_with_len 0 (length spans))

@@ -1,5 +1,5 @@
 -- The label order: by start, equal starts as given.
-use Rattle.std.specs.Prelude.{◌≡◌, ℕ, ◌==◌, nat_lt, List, [], ◌∷◌, length, map, filter, None, false, slice_index_or, if◌then◌else◌}
+use Rattle.std.specs.Prelude.{◌≡◌, ℕ, ◌≤◌, ◌==◌, nat_lt, List, [], ◌∷◌, length, map, filter, None, false, slice_index_or, if◌then◌else◌, All}
 use Rattle.std.specs.List.{range_with_len}
 use Rattle.std.specs.List.Sorted.{IsNonDecreasingBy}
 use Rattle.oxc_span.specs.declared.span.Span.{Span}
@@ -30,13 +30,13 @@ pub record IsLabelOrder (labels : List Label) (order : List ℕ) : Type 0 where
   pub as_given : (at : ℕ) → starting_at labels (start_at labels at) order ≡ starting_at labels (start_at labels at) (places labels)
 
 -- a label among labels in order that are given after it: before the first that starts no earlier
-unfoldable pub placed : List Label → ℕ → List ℕ → List ℕ
-placed labels at [] = at ∷ []
-placed labels at (next ∷ more) = if nat_lt (start_at labels next) (start_at labels at) then next ∷ placed labels at more else at ∷ next ∷ more
+unfoldable pub inserted : List Label → ℕ → List ℕ → List ℕ
+inserted labels at [] = at ∷ []
+inserted labels at (next ∷ more) = if nat_lt (start_at labels next) (start_at labels at) then next ∷ inserted labels at more else at ∷ next ∷ more
 
 unfoldable pub ordered : List Label → List ℕ → List ℕ
 ordered labels [] = []
-ordered labels (at ∷ more) = placed labels at (ordered labels more)
+ordered labels (at ∷ more) = inserted labels at (ordered labels more)
 
 -- the one label order
 unfoldable pub label_order : List Label → List ℕ
@@ -52,3 +52,8 @@ spans_in_order labels = map (λ at. span_of (label_at labels at)) (label_order l
 -- the law: labels have no two label orders
 abbrev pub HasOneOrder : List Label → Type 0
 HasOneOrder labels = (xs ys : List ℕ) → IsLabelOrder labels xs → IsLabelOrder labels ys → xs ≡ ys
+
+-- spans whose starts ascend, none of which ends before it starts or past a length
+pub record AreOrderedSpans (len : ℕ) (spans : List Span) : Type 0 where
+  pub ascend : IsNonDecreasingBy (λ span. span.start) spans
+  pub within : All (λ span. (span.start ≤ span.end) × (span.end ≤ len)) spans

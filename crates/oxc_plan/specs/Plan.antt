@@ -15,13 +15,13 @@ use Rattle.oxc_plan.specs.Meets.{multi_row_labels, one_row_labels}
 use Rattle.oxc_plan.specs.Order.{label_at, label_order, span_of}
 use Rattle.oxc_plan.specs.Rows.{RowView, row_view, rows_in}
 use Rattle.oxc_plan.specs.declared.marks.MarkCells.{MarkCells}
-use Rattle.oxc_plan.specs.declared.plan.Bar.{Bar}
-use Rattle.oxc_plan.specs.declared.plan.BarKind.{BarKind}
-use Rattle.oxc_plan.specs.declared.plan.BarKind.TheVariants.{Passes, Starts, Ends}
-use Rattle.oxc_plan.specs.declared.plan.Hang.{Hang}
-use Rattle.oxc_plan.specs.declared.plan.OrderedLabel.{OrderedLabel}
-use Rattle.oxc_plan.specs.declared.plan.RowPlan.{RowPlan}
-use Rattle.oxc_plan.specs.declared.plan.SnippetPlan.{SnippetPlan}
+use Rattle.oxc_plan.specs.declared.bars.Bar.{Bar}
+use Rattle.oxc_plan.specs.declared.bars.BarKind.{BarKind}
+use Rattle.oxc_plan.specs.declared.bars.BarKind.TheVariants.{Passes, Starts, Ends}
+use Rattle.oxc_plan.specs.declared.hangs.Hang.{Hang}
+use Rattle.oxc_plan.specs.declared.labels.OrderedLabel.{OrderedLabel}
+use Rattle.oxc_plan.specs.declared.snippets.RowPlan.{RowPlan}
+use Rattle.oxc_plan.specs.declared.snippets.SnippetPlan.{SnippetPlan}
 
 -- a label that stands in label order: its span, its text, if it has one, and whether it is a primary one
 pub record Ordered : Type 0 where
@@ -42,6 +42,9 @@ in_order labels = map (λ at. ordered_label (label_at labels at)) (label_order l
 -- the label at a place of label order; past the last an empty one at 0
 abbrev pub ordered_at : List Ordered → ℕ → Ordered
 ordered_at labels at = slice_index_or labels at (record { span = record { start = 0; end = 0 }; text = None; primary = false })
+
+abbrev pub start_in : List Ordered → ℕ → ℕ
+start_in labels at = (ordered_at labels at).span.start
 
 abbrev pub spans_of : List Ordered → List Span
 spans_of labels = map (λ l. l.span) labels

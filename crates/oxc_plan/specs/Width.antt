@@ -1,6 +1,6 @@
 -- How many columns a text takes: the sum of the advances of its characters. `tab` is the distance of the tab stops.
 use Rattle.std.specs.Prelude.{ℕ, ◌+◌, ◌-◌, ◌%◌, nat_lt, nat_le, ◌==◌, ◌&&◌, ◌||◌, Bool, true, false, not, List, [], ◌∷◌, fold, map, if◌then◌else◌}
-use Rattle.std.specs.List.{flat_map, list_all}
+use Rattle.std.specs.List.{flat_map}
 use Rattle.std.specs.Str.{chars}
 use Rattle.unicode_segmentation.specs.Grapheme.{graphemes}
 use Rattle.unicode_width.specs.Width.{str_width}
@@ -49,13 +49,6 @@ at_margin = record { column = 0; in_escape = false }
 unfoldable pub text_width : ℕ → List ℕ → ℕ
 text_width tab text = (fold (moved tab) at_margin (led_text text)).column
 
--- a text of ASCII
-abbrev pub is_ascii_byte : ℕ → Bool
-is_ascii_byte byte = nat_lt byte 128
-
-abbrev pub is_ascii : List ℕ → Bool
-is_ascii text = list_all is_ascii_byte text
-
--- the pen after bytes of such a text
+-- the pen after bytes of ASCII
 unfoldable pub pen_after : ℕ → Pen → List ℕ → Pen
 pen_after tab pen bytes = fold (moved tab) pen (map {B = ℕ × ℕ} (λ byte. (1, byte)) bytes)

@@ -1,12 +1,17 @@
 //! The labels that share a snippet.
-ghost use Rattle.std.specs.Prelude.{◌≡◌, ◌+◌, ◌^◌, ◌<◌, ◌≤◌, IfOk, length, All};
-ghost use Rattle.oxc_span.specs.Label.{label_end};
+ghost use Rattle.std.specs.Prelude.{◌≡◌, ◌+◌, ◌<◌, ◌≤◌, IfOk, OnOk, Some, length, All};
+ghost use Rattle.std.specs.Option.{unwrap_or};
 ghost use Rattle.oxc_windows.specs.Breaks.{breaks_of};
-ghost use Rattle.oxc_plan.specs.Groups.{AreApartIn, AreGroups, AreGroupsIn, HasOneGrouping, HoldTheirLabels, IsGroup, groups_in, window_round};
+ghost use Rattle.oxc_windows.specs.Scan.{IsSameReader};
+ghost use Rattle.oxc_plan.specs.Groups.{AreApartIn, AreGroups, AreGroupsIn, HasOneGrouping, HoldTheirLabels, IsGroup, group_window, groups_in, joint_window, span_at, window_round};
+ghost use Rattle.oxc_plan.specs.Keeping.{KeepsGroups, KeepsRows, ReadsOn, least_start};
+ghost use Rattle.oxc_plan.specs.Order.{AreOrderedSpans};
+ghost use Rattle.oxc_plan.specs.Scanned.{CanGroup, ReadsRound};
 
 use crate::order::spans_in_order;
+use crate::reading::read;
 use oxc_span::{LabeledSpan, Span};
-use oxc_windows::{LineBreak, SpanContents, SpanScanner};
+use oxc_windows::{LineBreak, SpanScanner};
 use std::alloc::{AllocError, Global};
 use std::ops::Range;
 
@@ -24,14 +29,16 @@ pub fn groups<'a>(
     scanner: &mut SpanScanner<'a>,
     labels: &[LabeledSpan],
 ) -> Result<Vec<Range<usize>>, AllocError>
-    requires before { scanner.old.before ≡ 1 }
-    requires after { scanner.old.after ≡ 1 }
-    requires within { All (λ label. label_end label ≤ length scanner.old.input) labels.now }
+    requires { CanGroup scanner.old labels.now }
     ensures groups { IfOk result (λ found. AreGroupsIn scanner.old.input labels.now found.items) }
     ensures value { IfOk result (λ found. found.items ≡ groups_in scanner.old.input labels.now) }
     ensures apart { IfOk result (λ found. AreApartIn scanner.old.input labels.now found.items) }
     ensures held { IfOk result (λ found. HoldTheirLabels scanner.old.input labels.now found.items) }
-    ensures unchanged { scanner.new ≡ scanner.old }
+    ensures unchanged { IsSameReader scanner.old scanner.new }
+    // what the scanner holds
+    ensures stays { ReadsOn scanner.old scanner.new }
+    ensures first { OnOk result (0 < length labels.now → scanner.new.first ≡ Some (unwrap_or scanner.old.first (least_start labels.now))) }
+    ensures keeps { OnOk result (KeepsGroups scanner.old.input labels.now scanner.new) }
 {
     let spans = spans_in_order(alloc, labels)?;
     let found = groups_of_spans(alloc, scanner, &spans)?;
@@ -50,11 +57,12 @@ fn groups_of_spans<'a>(
     scanner: &mut SpanScanner<'a>,
     spans: &[Span],
 ) -> Result<Vec<Range<usize>>, AllocError>
-    requires before { scanner.old.before ≡ 1 }
-    requires after { scanner.old.after ≡ 1 }
+    requires round { ReadsRound scanner.old }
     requires within { All (λ span. (span.start ≤ span.end) × (span.end ≤ length scanner.old.input)) spans.now }
     ensures groups { IfOk result (λ found. AreGroups (length scanner.old.input) (breaks_of scanner.old.input) spans.now 0 found.items) }
-    ensures unchanged { scanner.new ≡ scanner.old }
+    ensures stays { ReadsOn scanner.old scanner.new }
+    ensures first { OnOk result (0 < length spans.now → scanner.new.first ≡ Some (unwrap_or scanner.old.first (span_at spans.now 0).start)) }
+    ensures keeps { IfOk result (λ found. All (λ group. KeepsRows scanner.old.input scanner.new (span_at spans.now group.start).start (group_window (length scanner.old.input) (breaks_of scanner.old.input) spans.now group).end) found.items) }
 {
     let mut found = Vec::new(alloc);
     let mut first = 0;
@@ -72,12 +80,13 @@ fn group_end<'a>(
     spans: &[Span],
     first: usize,
 ) -> Result<usize, AllocError>
-    requires before { scanner.old.before ≡ 1 }
-    requires after { scanner.old.after ≡ 1 }
+    requires round { ReadsRound scanner.old }
     requires within { All (λ span. (span.start ≤ span.end) × (span.end ≤ length scanner.old.input)) spans.now }
     requires some { first < length spans.now }
     ensures group { IfOk result (λ past. IsGroup (length scanner.old.input) (breaks_of scanner.old.input) spans.now first past) }
-    ensures unchanged { scanner.new ≡ scanner.old }
+    ensures stays { ReadsOn scanner.old scanner.new }
+    ensures first { OnOk result (scanner.new.first ≡ Some (unwrap_or scanner.old.first (span_at spans.now first).start)) }
+    ensures keeps { IfOk result (λ past. KeepsRows scanner.old.input scanner.new (span_at spans.now first).start (joint_window (length scanner.old.input) (breaks_of scanner.old.input) spans.now first past).end) }
 {
     let mut joint = spans[first];
     let mut reach = reach_of(scanner, joint)?;
@@ -95,13 +104,14 @@ fn group_end<'a>(
 
 /// The first row of a span's window and its line count together.
 fn reach_of<'a>(scanner: &mut SpanScanner<'a>, span: Span) -> Result<usize, AllocError>
-    requires before { scanner.old.before ≡ 1 }
-    requires after { scanner.old.after ≡ 1 }
+    requires round { ReadsRound scanner.old }
     requires ordered { span.start ≤ span.end }
     requires within { span.end ≤ length scanner.old.input }
     ensures reach { let window = window_round scanner.old.input span in
         IfOk result (λ reach. reach ≡ window.line + window.line_count) }
-    ensures unchanged { scanner.new ≡ scanner.old }
+    ensures stays { ReadsOn scanner.old scanner.new }
+    ensures first { OnOk result (scanner.new.first ≡ Some (unwrap_or scanner.old.first span.start)) }
+    ensures keeps { OnOk result (KeepsRows scanner.old.input scanner.new span.start (window_round scanner.old.input span).end) }
 {
     let contents = read(scanner, span)?;
     Ok(contents.line() + contents.line_count())
@@ -109,30 +119,12 @@ fn reach_of<'a>(scanner: &mut SpanScanner<'a>, span: Span) -> Result<usize, Allo
 
 /// The first row of a span's window.
 fn line_of<'a>(scanner: &mut SpanScanner<'a>, span: Span) -> Result<usize, AllocError>
-    requires before { scanner.old.before ≡ 1 }
-    requires after { scanner.old.after ≡ 1 }
+    requires round { ReadsRound scanner.old }
     requires ordered { span.start ≤ span.end }
     requires within { span.end ≤ length scanner.old.input }
     ensures line { IfOk result (λ line. line ≡ (window_round scanner.old.input span).line) }
-    ensures unchanged { scanner.new ≡ scanner.old }
+    ensures stays { ReadsOn scanner.old scanner.new }
 {
     let contents = read(scanner, span)?;
     Ok(contents.line())
-}
-
-/// What the scanner reads for a span that ends within its input.
-fn read<'a>(scanner: &mut SpanScanner<'a>, span: Span) -> Result<SpanContents<'a>, AllocError>
-    requires before { scanner.old.before ≡ 1 }
-    requires after { scanner.old.after ≡ 1 }
-    requires ordered { span.start ≤ span.end }
-    requires within { span.end ≤ length scanner.old.input }
-    ensures line { IfOk result (λ contents. contents.line ≡ (window_round scanner.old.input span).line) }
-    ensures count { IfOk result (λ contents. contents.line_count ≡ (window_round scanner.old.input span).line_count) }
-    ensures few { IfOk result (λ contents. contents.line + contents.line_count < 2 ^ 33) }
-    ensures unchanged { scanner.new ≡ scanner.old }
-{
-    match scanner.read_span(span)? {
-        Some(contents) => Ok(contents),
-        None => unreachable!(),
-    }
 }

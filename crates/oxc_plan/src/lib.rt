@@ -7,21 +7,32 @@
 //! Offsets and lengths count bytes.
 #![tactic(auto)]
 
+mod bars;
 mod columns;
 mod grouping;
+mod hangs;
+mod heads;
+mod labels;
 mod laws;
 mod marks;
+mod measuring;
 mod order;
-mod plan;
+mod reading;
 mod rows;
+mod snippets;
+mod sweep;
+mod tabs;
 
-pub use crate::columns::{column_of, columns_as_drawn};
+pub use crate::bars::{Bar, BarKind};
+pub use crate::columns::{Pen, column_of, columns_as_drawn, moved_over};
 pub use crate::grouping::{groups, one_grouping};
+pub use crate::hangs::Hang;
 pub use crate::laws::{rows_stand_once, texts_hang_once};
 pub use crate::marks::{MarkCells, exact_marks};
 pub use crate::order::{label_order, one_label_order};
-pub use crate::plan::{Bar, BarKind, Hang, RowPlan, SnippetPlan, plan_snippets};
 pub use crate::rows::{Row, rows_of};
+pub use crate::snippets::{RowPlan, SnippetPlan, plan_snippets};
+pub use crate::tabs::TabWidth;
 
 #[cfg(test)]
 mod mark_tests;

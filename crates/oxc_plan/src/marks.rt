@@ -1,14 +1,16 @@
 //! The marks under a row: which labels meet it, and the cells in which they are marked.
 ghost use Rattle.std.specs.Prelude.{◌≡◌, ◌+◌, ◌^◌, ◌<◌, ◌≤◌, ◌↔◌, IfOk, IsTrue, true, length, All};
 ghost use Rattle.oxc_plan.specs.Groups.{span_at};
-ghost use Rattle.oxc_plan.specs.Meets.{IsMultiRow, IsOneRow, Meets, is_multi_row, is_one_row, is_within, meets};
+ghost use Rattle.oxc_plan.specs.Meets.{IsMultiRow, IsOneRow, Meets, is_multi_row, is_one_row, is_within, label_past, meets};
+ghost use Rattle.std.specs.Str.{IsCharBoundary};
+ghost use Rattle.oxc_plan.specs.Measuring.{HoldsColumns};
 ghost use Rattle.oxc_plan.specs.Rows.{row_view};
-ghost use Rattle.oxc_plan.specs.Width.{is_ascii};
-ghost use Rattle.oxc_plan.specs.Columns.{IsStop};
 ghost use Rattle.oxc_plan.specs.Marks.{AreInOrder, HasEndsByColumns, HasExactMarks, cells_at, cells_between, cells_of, mark_of, placed_marks};
 
-use crate::columns::{FIRST_STOP, Stop, column_at, column_at_stop, is_ascii, next_stop};
+use crate::columns::boundary_near;
+use crate::measuring::{MeasuredText, column_known, measure};
 use crate::rows::Row;
+use crate::tabs::TabWidth;
 use oxc_span::Span;
 use std::alloc::{AllocError, Global};
 
@@ -49,116 +51,79 @@ pub fn placed(
     row: &Row<'_>,
     spans: &[Span],
     places: &[usize],
-    tab: usize,
+    tabs: TabWidth,
 ) -> Result<Vec<MarkCells>, AllocError>
     requires starts { All (λ at. row.now.offset ≤ (span_at spans.now at).start) places.now }
     requires ordered { All (λ at. (span_at spans.now at).start ≤ (span_at spans.now at).end) places.now }
     requires within { All (λ at. at < length spans.now) places.now }
     requires fits { length row.now.text.now < 2 ^ 32 }
-    requires some { 1 ≤ tab }
-    requires most { tab ≤ 16 }
-    ensures exact { IfOk result (λ marks. marks.items ≡ placed_marks 0 (cells_at tab (row_view row.now) spans.now places.now)) }
+    ensures exact { IfOk result (λ marks. marks.items ≡ placed_marks 0 (cells_at tabs (row_view row.now) spans.now places.now)) }
     ensures order { IfOk result (λ marks. AreInOrder 0 marks.items) }
 {
     if places.is_empty() {
         return Ok(Vec::new(alloc));
     }
-    placed_in_turn(alloc, row, spans, places, tab)
+    let ends = ends_of(alloc, row, spans, places)?;
+    let text = measure(alloc, row.text, ends, tabs)?;
+    placed_in_turn(alloc, row, &text, spans, places, tabs)
 }
 
-/// The placed marks of labels, one after another.
+/// The placed marks of labels, one after another, in a row whose text was measured.
 fn placed_in_turn(
     alloc: Global,
     row: &Row<'_>,
+    text: &MeasuredText<'_>,
     spans: &[Span],
     places: &[usize],
-    tab: usize,
+    tabs: TabWidth,
 ) -> Result<Vec<MarkCells>, AllocError>
     requires starts { All (λ at. row.now.offset ≤ (span_at spans.now at).start) places.now }
     requires ordered { All (λ at. (span_at spans.now at).start ≤ (span_at spans.now at).end) places.now }
     requires within { All (λ at. at < length spans.now) places.now }
     requires fits { length row.now.text.now < 2 ^ 32 }
-    requires some { 1 ≤ tab }
-    requires most { tab ≤ 16 }
-    ensures exact { IfOk result (λ marks. marks.items ≡ placed_marks 0 (cells_at tab (row_view row.now) spans.now places.now)) }
+    requires text { text.now.text.now ≡ row.now.text.now }
+    requires known { HoldsColumns tabs text.now }
+    ensures exact { IfOk result (λ marks. marks.items ≡ placed_marks 0 (cells_at tabs (row_view row.now) spans.now places.now)) }
     ensures order { IfOk result (λ marks. AreInOrder 0 marks.items) }
 {
-    let ascii = is_ascii(row.text);
-    let mut stop = FIRST_STOP;
     let mut before = 0;
     let mut marks = Vec::new(alloc);
     for at in places {
-        let measured = next_cells(row, ascii, stop, *at, spans[*at], tab);
-        let mark = mark_after(before, measured.cells);
-        stop = measured.stop;
+        let mark = mark_after(before, cells_of(row, text, *at, spans[*at], tabs));
         before = mark.end;
         marks.push(mark)?;
     }
     Ok(marks)
 }
 
-/// The cells of a label, and where the row was measured to.
-#[derive(Clone, Copy, Debug)]
-struct Measured {
-    cells: LabelCells,
-    stop: Stop,
-}
-
-/// The cells of the next label of a row. If the row's text is ASCII, it is measured on from the last stop.
-fn next_cells(
+/// Where the labels of a row at these places start and end in its text, each moved between two characters.
+fn ends_of(
+    alloc: Global,
     row: &Row<'_>,
-    ascii: bool,
-    stop: Stop,
-    label: usize,
-    span: Span,
-    tab: usize,
-) -> Measured
-    requires ascii { ascii ≡ is_ascii row.now.text.now }
-    requires stop { IsStop tab row.now.text.now stop }
-    requires from { row.now.offset ≤ span.start }
-    requires ordered { span.start ≤ span.end }
-    requires fits { length row.now.text.now < 2 ^ 32 }
-    requires some { 1 ≤ tab }
-    requires most { tab ≤ 16 }
-    ensures exact { result.cells ≡ cells_of tab (row_view row.now) label span }
-    ensures first { result.cells.start < 2 ^ 38 }
-    ensures last { result.cells.end ≤ 2 ^ 38 }
-    ensures stop { IsStop tab row.now.text.now result.stop }
+    spans: &[Span],
+    places: &[usize],
+) -> Result<Vec<usize>, AllocError>
+    requires starts { All (λ at. row.now.offset ≤ (span_at spans.now at).start) places.now }
+    requires ordered { All (λ at. (span_at spans.now at).start ≤ (span_at spans.now at).end) places.now }
+    requires within { All (λ at. at < length spans.now) places.now }
+    ensures { IfOk result (λ ends. All (IsCharBoundary row.now.text.now) ends.items) }
 {
-    if ascii {
-        cells_from_stop(row, stop, label, span, tab)
-    } else {
-        Measured {
-            cells: cells_of(row, label, span, tab),
-            stop,
-        }
+    let mut ends = Vec::new(alloc);
+    for at in places {
+        let span = spans[*at];
+        ends.push(end_in(row, span.start as usize, true))?;
+        ends.push(end_in(row, span.end as usize, false))?;
     }
+    Ok(ends)
 }
 
-/// The cells of a label of a row of ASCII, measured on from the last stop.
-fn cells_from_stop(row: &Row<'_>, last: Stop, label: usize, span: Span, tab: usize) -> Measured
-    requires ascii { is_ascii row.now.text.now ≡ true }
-    requires stop { IsStop tab row.now.text.now last }
-    requires from { row.now.offset ≤ span.start }
-    requires ordered { span.start ≤ span.end }
-    requires fits { length row.now.text.now < 2 ^ 32 }
-    requires some { 1 ≤ tab }
-    requires most { tab ≤ 16 }
-    ensures exact { result.cells ≡ cells_of tab (row_view row.now) label span }
-    ensures first { result.cells.start < 2 ^ 38 }
-    ensures last { result.cells.end ≤ 2 ^ 38 }
-    ensures stop { IsStop tab row.now.text.now result.stop }
+/// An offset as a place in a row's text, at most its end, moved between two characters.
+fn end_in(row: &Row<'_>, offset: usize, at_start: bool) -> usize
+    requires { row.now.offset ≤ offset }
+    ensures { IsCharBoundary row.now.text.now result }
 {
-    let start = span.start as usize - row.offset;
-    let end = span.end as usize - row.offset;
-    let stop = next_stop(row.text, last, start, tab);
-    let first = column_at_stop(row.text, stop, start, true, tab);
-    let end_stop = next_stop(row.text, stop, end, tab);
-    let past = column_at_stop(row.text, end_stop, end, false, tab);
-    Measured {
-        cells: cells_between(label, span, first, past),
-        stop,
-    }
+    let place = (offset - row.offset).min(row.text.len());
+    boundary_near(row.text, place, at_start)
 }
 
 /// The mark of a label, after the marks that end before this cell.
@@ -178,19 +143,25 @@ fn mark_after(before: usize, cells: LabelCells) -> MarkCells
     }
 }
 
-/// The cells of a one-row label of a row.
-fn cells_of(row: &Row<'_>, label: usize, span: Span, tab: usize) -> LabelCells
+/// The cells of a one-row label of a row whose text was measured.
+fn cells_of(
+    row: &Row<'_>,
+    text: &MeasuredText<'_>,
+    label: usize,
+    span: Span,
+    tabs: TabWidth,
+) -> LabelCells
     requires from { row.now.offset ≤ span.start }
     requires ordered { span.start ≤ span.end }
     requires fits { length row.now.text.now < 2 ^ 32 }
-    requires some { 1 ≤ tab }
-    requires most { tab ≤ 16 }
-    ensures exact { result ≡ cells_of tab (row_view row.now) label span }
+    requires text { text.now.text.now ≡ row.now.text.now }
+    requires known { HoldsColumns tabs text.now }
+    ensures exact { result ≡ cells_of tabs (row_view row.now) label span }
     ensures first { result.start < 2 ^ 38 }
     ensures last { result.end ≤ 2 ^ 38 }
 {
-    let first = column_at(row, span.start as usize, true, tab);
-    let past = column_at(row, span.end as usize, false, tab);
+    let first = column_known(text, span.start as usize - row.offset, true, tabs);
+    let past = column_known(text, span.end as usize - row.offset, false, tabs);
     cells_between(label, span, first, past)
 }
 
@@ -211,6 +182,14 @@ fn cells_between(label: usize, span: Span, first: usize, past: usize) -> LabelCe
     }
 }
 
+/// One past the last byte that counts as a label's.
+pub fn label_past(span: Span) -> usize
+    requires { span.start ≤ span.end }
+    ensures value { result ≡ label_past span }
+{
+    (span.end as usize).max(span.start as usize + 1)
+}
+
 /// Whether a label meets a row: they have a byte in common, where an empty label counts as the byte at its place.
 pub fn meets(row: &Row<'_>, span: Span) -> bool
     requires ordered { span.start ≤ span.end }
@@ -218,8 +197,7 @@ pub fn meets(row: &Row<'_>, span: Span) -> bool
     ensures value { result ≡ meets row.now.offset row.now.length span }
     ensures meaning { IsTrue result ↔ Meets row.now.offset row.now.length span }
 {
-    let past = (span.end as usize).max(span.start as usize + 1);
-    row.offset.max(span.start as usize) < past.min(row.offset + row.length)
+    row.offset.max(span.start as usize) < label_past(span).min(row.offset + row.length)
 }
 
 /// Whether a label meets a row, and starts and ends within it.

@@ -5,3 +5,17 @@ pub mod PlacesLemmas
 pub mod WindowLemmas
 pub mod TextLemmas
 pub mod ReadLemmas
+pub mod ListLemmas
+pub mod HeldLemmas
+pub mod BackLemmas
+pub mod GuessLemmas
+pub mod SeenLemmas
+pub mod ExactLemmas
+pub mod StartsLemmas
+pub mod IndexLemmas
+pub mod KeptLemmas
+pub mod MostLemmas
+pub mod AnswerLemmas
+pub mod SearchLemmas
+pub mod SliceLemmas
+pub mod TotalLemmas

@@ -6,7 +6,7 @@ use Rattle.memchr.specs.Find.{is_byte2, places, places_from}
 use Rattle.oxc_windows.specs.Breaks.{break_at, breaks_before, breaks_of}
 
 -- no break starts at another byte
-none_elsewhere : (bytes : List ℕ) (at : ℕ) → is_byte2 10 13 (get_or bytes at 0) ≡ false → break_at bytes at ≡ None
+pub none_elsewhere : (bytes : List ℕ) (at : ℕ) → is_byte2 10 13 (get_or bytes at 0) ≡ false → break_at bytes at ≡ None
 none_elsewhere bytes at h = grind (arith, nat_tests)
 
 -- one place before places at which the breaks are known

@@ -46,7 +46,7 @@ row_start_le len list o (suc k) ok e =
     omega (arith, row_start_after len list k d h, ends_before_row list o ok k d (omega arith))
 
 -- the only break that may have the offset for its second byte is the one at the row
-second_only : (list : List LineBreak) (o k : ℕ) (d : LineBreak) → AreBreaks list → k < length list → (get_or list k d).end ≡ o → k ≡ row_of list o
+pub second_only : (list : List LineBreak) (o k : ℕ) (d : LineBreak) → AreBreaks list → k < length list → (get_or list k d).end ≡ o → k ≡ row_of list o
 second_only list o k d ok h e =
     ⊎_elim (λ before. absurd (omega (arith, ends_before_row list o ok k d before)))
     (λ from. ⊎_elim (λ more. absurd (omega (arith, ends_from_row list o ok (row_of list o) d (omega arith) (omega arith), ok.apart (row_of list o) k d more h, (ok.shape k d h).0)))
@@ -54,7 +54,7 @@ second_only list o k d ok h e =
     (cases_lt k (row_of list o))
 
 -- an offset is the second byte of a break exactly where the break at its row says so
-second_at : (list : List LineBreak) (o : ℕ) (d : LineBreak) → AreBreaks list → row_of list o < length list
+pub second_at : (list : List LineBreak) (o : ℕ) (d : LineBreak) → AreBreaks list → row_of list o < length list
     → (said : Bool) → eqb (get_or list (row_of list o) d).end o && ltb (get_or list (row_of list o) d).start o ≡ said → is_second_byte list o ≡ said
 second_at list o d ok h true e = list_any_at (λ b. eqb b.end o && ltb b.start o) list (row_of list o) d h e
 second_at list o d ok h false e =
@@ -67,7 +67,7 @@ second_at list o d ok h false e =
     false≢true (sym e ∙ subst (λ b. eqb b.end o && ltb b.start o ≡ true) same found.4))
 
 -- past the last row it is none
-second_past : (list : List LineBreak) (o : ℕ) → AreBreaks list → length list ≤ row_of list o → is_second_byte list o ≡ false
+pub second_past : (list : List LineBreak) (o : ℕ) → AreBreaks list → length list ≤ row_of list o → is_second_byte list o ≡ false
 second_past list o ok h =
     false_unless (is_second_byte list o) (λ yes.
     let found = Any-from_list_any (λ b. eqb b.end o && ltb b.start o) list yes in

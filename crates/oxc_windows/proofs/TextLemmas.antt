@@ -9,7 +9,8 @@ use Rattle.oxc_windows.specs.declared.window.Window.{Window}
 use Rattle.oxc_windows.specs.Breaks.{breaks_of}
 use Rattle.oxc_windows.specs.Rows.{row_of, row_start}
 use Rattle.oxc_windows.specs.Window.{first_row, row_further, window_begin, window_at, window_end}
-use Rattle.oxc_windows.proofs.BreaksLemmas.{breaks_valid, break_ends_ascii}
+use Rattle.oxc_windows.proofs.BreaksLemmas.{break_ends_ascii}
+use Rattle.oxc_windows.specs.Valid.{breaks_valid}
 use Rattle.oxc_windows.proofs.RowsLemmas.{row_start_after, row_start_past}
 
 -- a text may be cut where a row starts

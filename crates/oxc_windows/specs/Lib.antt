@@ -1,5 +1,12 @@
 pub mod Breaks
+pub mod Valid
 pub mod Rows
 pub mod Window
+pub mod Source
+pub mod Kept
+pub mod Held
+pub mod Seen
+pub mod Index
+pub mod Total
 pub mod Scan
 pub mod Views

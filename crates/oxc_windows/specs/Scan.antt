@@ -1,17 +1,33 @@
 -- What contracts see of a scanner, and of the contents that it reads.
-use Rattle.std.specs.Prelude.{◌≡◌, ℕ, ◌+◌, ◌<◌, ◌≤◌, List, length, slice_range, Option}
+use Rattle.std.specs.Prelude.{◌≡◌, ℕ, ◌+◌, ◌<◌, ◌≤◌, List, length, slice_range, Option, Some}
 use Rattle.std.specs.Str.{IsUtf8}
 use Rattle.std.specs.Option.{option_map}
 use Rattle.oxc_span.specs.declared.span.Span.{Span}
 use Rattle.oxc_windows.specs.declared.window.Window.{Window}
 use Rattle.oxc_windows.specs.Breaks.{breaks_of}
-use Rattle.oxc_windows.specs.Window.{window_of}
+use Rattle.oxc_windows.specs.Window.{first_row, window_of}
+use Rattle.oxc_windows.specs.Kept.{AreKeptUpTo}
 
--- the source that a scanner reads, and the rows that it reads before and after a span
+-- the source that a scanner reads, the rows that it reads before and after a span, the start of the first span that had a window,
+-- how many bytes it has not looked at since (0 before that span), and the row starts that it keeps
 pub record Scan : Type 0 where
   pub input : List ℕ
   pub before : ℕ
   pub after : ℕ
+  pub first : Option ℕ
+  pub left : ℕ
+  pub kept : List ℕ
+
+-- the same source, and as many rows of context: what stays of a scanner whatever is read
+pub record IsSameReader (old new : Scan) : Type 0 where
+  pub input : new.input ≡ old.input
+  pub before : new.before ≡ old.before
+  pub after : new.after ≡ old.after
+
+-- every row start is kept, from the first row of the first span's window on to before a place
+abbrev pub KeepsUpTo : Scan → ℕ → Type 0
+KeepsUpTo scan stop = (first : ℕ) → scan.first ≡ Some first
+    → AreKeptUpTo (length scan.input) (breaks_of scan.input) (first_row (breaks_of scan.input) scan.before first) scan.kept stop
 
 -- bytes, where they stand in their source, and the numbers of their window
 pub record Contents : Type 0 where

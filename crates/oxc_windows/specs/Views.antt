@@ -1,10 +1,28 @@
 -- What the fields of a scanner and of contents say.
+use Rattle.std.specs.Prelude.{◌≡◌, length, IfSome, MatchResult}
+use Rattle.std.specs.Str.{IsUtf8, IsValidUpTo}
 use Rattle.oxc_windows.specs.declared.contents.SpanContents.TheInside.{Inside as ContentsFields}
 use Rattle.oxc_windows.specs.declared.scanner.SpanScanner.TheInside.{Inside as ScannerFields}
+use Rattle.oxc_windows.specs.Breaks.{breaks_of}
+use Rattle.oxc_windows.specs.Index.{IsIndexOf, index_view}
 use Rattle.oxc_windows.specs.Scan.{Scan, Contents}
 
 abbrev pub contents_view : ContentsFields → Contents
 contents_view c = record { bytes = c.bytes.now; span = c.span; line = c.line; column = c.column; line_count = c.line_count }
 
 abbrev pub scan_view : ScannerFields → Scan
-scan_view s = record { input = s.input.now; before = s.before; after = s.after }
+scan_view s =
+    let index = index_view s.index in
+    record {
+      input = s.source.bytes.now;
+      before = index.before;
+      after = index.after;
+      first = index.first;
+      left = index.left;
+      kept = index.kept;
+    }
+
+-- the index is one of the source, and what is known of the source as a text is true
+pub record IsScanner (s : ScannerFields) : Type 0 where
+  pub index : IsIndexOf (length s.source.bytes.now) (breaks_of s.source.bytes.now) s.index
+  pub text : IfSome s.text (λ known. MatchResult known (λ text. (text.now ≡ s.source.bytes.now) × IsUtf8 s.source.bytes.now) (λ upto. (¬ (IsUtf8 s.source.bytes.now)) × IsValidUpTo s.source.bytes.now upto))

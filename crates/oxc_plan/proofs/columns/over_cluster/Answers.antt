@@ -3,7 +3,7 @@ use Rattle.std.specs.Str.{chars, IsUtf8}
 use Rattle.std.specs.Str.Iter.{chars_rest}
 use Rattle.std.proofs.lemmas.Str.{IsUtf8-past_char, chars-nil}
 use Rattle.std.proofs.lemmas.List.{nil_from_length}
-use Rattle.oxc_plan.proofs.WidthLemmas.{char_step, one_char_less, advance_of-le, few_chars}
+use Rattle.oxc_plan.proofs.WidthLemmas.{char_step, one_char_less, few_chars}
 use Rattle.oxc_plan.proofs.columns.over_cluster.Goals as goal
 
 pub loop-c-init : goal.loop-c-init
@@ -25,8 +25,8 @@ loop-c-preserved c =
       can_next = tt;
       is_finite = tt;
       text = IsUtf8-past_char _ _ _ kept.text step;
-      ahead = rw c.moved_over-pen.ensures (char_step c.args.tab c.loop-c.pen c.loop-c.lead c.in-Some.c _ _ kept.text step ∙ kept.ahead);
-      room = rw c.moved_over-pen.ensures (omega (arith, kept.room, one_char_less c.in-Some.c _ _ kept.text step, advance_of-le c.args.tab c.loop-c.pen.in_escape c.loop-c.pen.column c.loop-c.lead c.in-Some.c c.requires.most));
+      ahead = rw c.moved_over-pen.ensures.exact (char_step c.args.tabs c.loop-c.pen c.loop-c.lead c.in-Some.c _ _ kept.text step ∙ kept.ahead);
+      room = omega (arith, kept.room, one_char_less c.in-Some.c _ _ kept.text step, c.moved_over-pen.ensures.bound);
     }
 
 pub returns-clause-exact : goal.returns-clause-exact

@@ -12,6 +12,6 @@ invariant-loop-c l =
       can_next : (goal.iterator-loop-c).can_next l.c-iterator;
       is_finite : (goal.iterator-loop-c).is_finite l.c-iterator;
       text : IsUtf8 rest;
-      ahead : fold (moved l.tab) l.pen (with_lead l.lead (chars rest)) ≡ fold (moved l.tab) l.fn.pen (led l.cluster);
+      ahead : fold (moved l.tabs) l.pen (with_lead l.lead (chars rest)) ≡ fold (moved l.tabs) l.fn.pen (led l.cluster);
       room : l.pen.column + l.lead + 16 * length (chars rest) ≤ l.fn.pen.column + 18 * length l.cluster;
     }

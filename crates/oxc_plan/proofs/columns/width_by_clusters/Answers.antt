@@ -19,5 +19,5 @@ loop-cluster-init c =
 pub returns-clause-exact : goal.returns-clause-exact
 unfolding text_width
 returns-clause-exact c =
-    let at_end = subst (λ rest. fold (moved c.args.tab) c.loop-cluster.pen (flat_map led rest) ≡ fold (moved c.args.tab) at_margin (led_text c.args.text.now)) c.in-None.ensures.steps.0 c.loop-cluster.invariant.ahead in
+    let at_end = subst (λ rest. fold (moved c.args.tabs) c.loop-cluster.pen (flat_map led rest) ≡ fold (moved c.args.tabs) at_margin (led_text c.args.text.now)) c.in-None.ensures.steps.0 c.loop-cluster.invariant.ahead in
     ap (λ pen. pen.column) at_end

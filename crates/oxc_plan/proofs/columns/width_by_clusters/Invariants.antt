@@ -11,6 +11,6 @@ invariant-loop-cluster l =
     record {
       can_next : (goal.iterator-loop-cluster).can_next l.cluster-iterator;
       is_finite : (goal.iterator-loop-cluster).is_finite l.cluster-iterator;
-      ahead : fold (moved l.tab) l.pen (flat_map led rest) ≡ fold (moved l.tab) at_margin (led_text l.text);
+      ahead : fold (moved l.tabs) l.pen (flat_map led rest) ≡ fold (moved l.tabs) at_margin (led_text l.text);
       room : l.pen.column + 18 * length (concat rest) ≤ 18 * length l.text;
     }

@@ -1,0 +1,18 @@
+mod JsonEscapeLemmas
+mod JsonPlaceLemmas
+mod JsonSpaced
+mod JsonReading
+mod StripsColors
+mod LinesColors
+mod ShownColors
+mod SnippetColors
+pub mod SettingLemmas
+pub mod CellsLemmas
+pub mod MarksLemmas
+pub mod GuttersLemmas
+pub mod HangsLemmas
+pub mod LinesLemmas
+pub mod TextsLemmas
+pub mod DrawableLemmas
+pub mod ReportLemmas
+pub mod PlainTexts

@@ -1,0 +1,198 @@
+//! What stands to the left of a source text: row numbers, and the bars of labels over several rows.
+ghost use Rattle.std.specs.Prelude.{◌≡◌, ◌++◌, ◌+◌, ◌-◌, ◌≤◌, ◌<◌, ◌^◌, OnOk, string_bytes, length};
+ghost use Rattle.oxc_handlers.specs.Gutters.{bar_piece, below_from, corner, ending, ends, gutter, gutter_below, gutter_from, passes, turn};
+ghost use Rattle.oxc_handlers.specs.RowLines.{other_front, padded, row_front};
+ghost use Rattle.oxc_handlers.specs.Setting.{setting_view};
+
+use crate::runs::{write_repeated_char, write_styled_run};
+use crate::setting::Setting;
+use crate::span::LabelRenderMode;
+use itoa::Buffer;
+use oxc_plan::{Bar, BarKind};
+use std::alloc::AllocError;
+
+/// Appends what stands before a row: its number, and a bar.
+#[tactic(auto, unfolding(crate::specs::RowLines::row_front))]
+pub(crate) fn write_linum(
+    out: &mut String,
+    setting: &Setting<'_>,
+    linum: usize,
+) -> Result<(), AllocError>
+    ensures { OnOk result (string_bytes out.new ≡ string_bytes out.old ++ row_front (setting_view setting.now) linum) }
+{
+    out.push(' ')?;
+    write_padded(out, setting, linum)?;
+    out.push(' ')?;
+    out.push(setting.theme.characters.vbar)?;
+    out.push(' ')?;
+    Ok(())
+}
+
+/// Appends the number of a row, to the right.
+#[tactic(auto, unfolding(crate::specs::RowLines::padded, crate::specs::Theme::styled))]
+fn write_padded(out: &mut String, setting: &Setting<'_>, linum: usize) -> Result<(), AllocError>
+    ensures { OnOk result (string_bytes out.new ≡ string_bytes out.old ++ padded (setting_view setting.now) linum) }
+{
+    let style = setting.theme.styles.linum;
+    let mut buffer = Buffer::new();
+    let text = buffer.format(linum);
+    out.push_str(style.prefix())?;
+    write_repeated_char(out, ' ', setting.digits.saturating_sub(text.len()))?;
+    out.push_str(text)?;
+    out.push_str(style.reset())?;
+    Ok(())
+}
+
+/// Appends what stands before a line that is no row.
+#[tactic(auto, unfolding(crate::specs::RowLines::other_front))]
+pub(crate) fn write_no_linum(out: &mut String, setting: &Setting<'_>) -> Result<(), AllocError>
+    requires { setting.now.digits < 2 ^ 62 }
+    ensures { OnOk result (string_bytes out.new ≡ string_bytes out.old ++ other_front (setting_view setting.now)) }
+{
+    write_repeated_char(out, ' ', setting.digits + 2)?;
+    out.push(setting.theme.characters.vbar_break)?;
+    out.push(' ')?;
+    Ok(())
+}
+
+/// Appends the gutter of a row: the bars that pass it, up to the first label that starts or ends there.
+#[tactic(auto, using(crate::proofs::GuttersLemmas::gutter_zero, crate::proofs::GuttersLemmas::gutter_some, crate::proofs::GuttersLemmas::gutter_more, crate::proofs::GuttersLemmas::gutter_turns, crate::proofs::GuttersLemmas::gutter_none))]
+pub(crate) fn render_line_gutter(
+    out: &mut String,
+    setting: &Setting<'_>,
+    bars: &[Bar],
+) -> Result<(), AllocError>
+    requires bars { length bars.now ≤ setting.now.gutter }
+    requires few { setting.now.gutter < 2 ^ 63 }
+    ensures { OnOk result (string_bytes out.new ≡ string_bytes out.old ++ gutter (setting_view setting.now) bars.now) }
+{
+    if setting.gutter == 0 {
+        return Ok(());
+    }
+    let mut place = 0;
+    for bar in bars {
+        if !passes_row(bar.kind) {
+            return write_turn(out, setting, place, *bar);
+        }
+        write_bar(out, setting, bar.label)?;
+        place += 1;
+    }
+    write_repeated_char(out, ' ', setting.gutter + 3 - place)
+}
+
+/// Appends the gutter of a line under a row: the bars that go on, up to the first label that ends in the row.
+#[tactic(auto, using(crate::proofs::GuttersLemmas::below_zero, crate::proofs::GuttersLemmas::below_some, crate::proofs::GuttersLemmas::below_more, crate::proofs::GuttersLemmas::below_ends, crate::proofs::GuttersLemmas::below_none))]
+pub(crate) fn render_highlight_gutter(
+    out: &mut String,
+    setting: &Setting<'_>,
+    mode: LabelRenderMode,
+    bars: &[Bar],
+) -> Result<(), AllocError>
+    requires bars { length bars.now ≤ setting.now.gutter }
+    requires few { setting.now.gutter < 2 ^ 63 }
+    ensures { OnOk result (string_bytes out.new ≡ string_bytes out.old ++ gutter_below (setting_view setting.now) mode bars.now) }
+{
+    if setting.gutter == 0 {
+        return Ok(());
+    }
+    let mut place = 0;
+    for bar in bars {
+        if ends_there(bar.kind) {
+            return write_ending(out, setting, mode, place, bar.label);
+        }
+        write_bar(out, setting, bar.label)?;
+        place += 1;
+    }
+    write_repeated_char(out, ' ', setting.gutter + 3 - place)
+}
+
+/// Appends a bar in the style of a label.
+#[tactic(auto, unfolding(crate::specs::Gutters::bar_piece))]
+pub(crate) fn write_bar(
+    out: &mut String,
+    setting: &Setting<'_>,
+    label: usize,
+) -> Result<(), AllocError>
+    ensures { OnOk result (string_bytes out.new ≡ string_bytes out.old ++ bar_piece (setting_view setting.now) label) }
+{
+    write_styled_run(
+        out,
+        setting.highlight(label),
+        setting.theme.characters.vbar,
+        1,
+    )
+}
+
+fn passes_row(kind: BarKind) -> bool
+    ensures { result ≡ passes kind }
+{
+    matches!(kind, BarKind::Passes)
+}
+
+fn ends_there(kind: BarKind) -> bool
+    ensures { result ≡ ends kind }
+{
+    matches!(kind, BarKind::Ends)
+}
+
+/// The corner of a label that starts or ends.
+#[tactic(auto, unfolding(crate::specs::Gutters::corner))]
+fn corner_of(setting: &Setting<'_>, bar: Bar) -> char
+    ensures { result ≡ corner (setting_view setting.now) bar }
+{
+    let chars = setting.theme.characters;
+    match bar.kind {
+        BarKind::Starts => chars.ltop,
+        _ => match setting.text_at(bar.label) {
+            Some(_) => chars.lcross,
+            None => chars.lbot,
+        },
+    }
+}
+
+/// Appends what is drawn from a corner on.
+#[tactic(auto, unfolding(crate::specs::Gutters::turn))]
+fn write_turn(
+    out: &mut String,
+    setting: &Setting<'_>,
+    place: usize,
+    bar: Bar,
+) -> Result<(), AllocError>
+    requires { place ≤ setting.now.gutter }
+    ensures { OnOk result (string_bytes out.new ≡ string_bytes out.old ++ turn (setting_view setting.now) place bar) }
+{
+    let chars = setting.theme.characters;
+    let style = setting.highlight(bar.label);
+    write_styled_run(out, style, corner_of(setting, bar), 1)?;
+    write_styled_run(out, style, chars.hbar, setting.gutter - place)?;
+    write_styled_run(out, style, chars.rarrow, 1)?;
+    write_repeated_char(out, ' ', 1)
+}
+
+/// Appends what is drawn under a row where a label ends.
+#[tactic(auto, unfolding(crate::specs::Gutters::ending))]
+fn write_ending(
+    out: &mut String,
+    setting: &Setting<'_>,
+    mode: LabelRenderMode,
+    place: usize,
+    label: usize,
+) -> Result<(), AllocError>
+    requires place { place ≤ setting.now.gutter }
+    requires few { setting.now.gutter < 2 ^ 63 }
+    ensures { OnOk result (string_bytes out.new ≡ string_bytes out.old ++ ending (setting_view setting.now) mode place label) }
+{
+    let style = setting.highlight(label);
+    let chars = setting.theme.characters;
+    match mode {
+        LabelRenderMode::SingleLine => {
+            write_styled_run(out, style, chars.lbot, 1)?;
+            write_styled_run(out, style, chars.hbar, setting.gutter - place + 2)
+        }
+        LabelRenderMode::BlockFirst => {
+            write_styled_run(out, style, chars.lbot, 1)?;
+            write_styled_run(out, style, chars.hbar, setting.gutter - place + 1)
+        }
+        LabelRenderMode::BlockRest => write_repeated_char(out, ' ', setting.gutter - place + 2),
+    }
+}

@@ -1,0 +1,74 @@
+//! The text of a row as it is drawn.
+ghost use Rattle.std.specs.Prelude.{◌≡◌, ◌++◌, ◌+◌, ◌*◌, ◌^◌, ◌<◌, ◌≤◌, IfOk, OnOk, fold, length, string_bytes};
+ghost use Rattle.oxc_plan.specs.Width.{led, moved};
+ghost use Rattle.oxc_handlers.specs.Texts.{shown_char, shown_from, shown_text};
+
+use crate::runs::write_repeated_char;
+use memchr::memchr;
+use oxc_plan::{Pen, TabWidth, moved_over};
+use std::alloc::AllocError;
+use unicode_segmentation::UnicodeSegmentation;
+use unicode_width::UnicodeWidthStr;
+
+/// Appends the text of a row: each tab as its advance in spaces, and as nothing in an escape, all else as it is.
+pub(crate) fn render_line_text(out: &mut String, text: &str, tabs: TabWidth) -> Result<(), AllocError>
+    requires fits { length text.now < 2 ^ 32 }
+    ensures { OnOk result (string_bytes out.new ≡ string_bytes out.old ++ shown_text tabs text.now) }
+{
+    match memchr(b'\t', text.as_bytes()) {
+        Some(_) => write_clusters(out, text, tabs),
+        None => out.push_str(text),
+    }
+}
+
+/// Appends the text of a row, cluster by cluster.
+#[tactic(auto, using(crate::proofs::TextsLemmas::shown_cluster, crate::proofs::TextsLemmas::shown_none))]
+fn write_clusters(out: &mut String, text: &str, tabs: TabWidth) -> Result<(), AllocError>
+    requires fits { length text.now < 2 ^ 32 }
+    ensures { OnOk result (string_bytes out.new ≡ string_bytes out.old ++ shown_text tabs text.now) }
+{
+    let mut pen = Pen {
+        column: 0,
+        in_escape: false,
+    };
+    for cluster in text.graphemes(true) {
+        pen = write_cluster(out, pen, cluster, tabs)?;
+    }
+    Ok(())
+}
+
+/// Appends the characters of a cluster, and answers the pen behind them.
+fn write_cluster(
+    out: &mut String,
+    pen: Pen,
+    cluster: &str,
+    tabs: TabWidth,
+) -> Result<Pen, AllocError>
+    requires room { pen.column + 18 * length cluster.now < 2 ^ 64 }
+    ensures exact { IfOk result (λ p. p ≡ fold (moved tabs) pen (led cluster.now)) }
+    ensures bound { IfOk result (λ p. p.column ≤ pen.column + 18 * length cluster.now) }
+    ensures text { OnOk result (string_bytes out.new ≡ string_bytes out.old ++ shown_from tabs pen (led cluster.now)) }
+{
+    let mut at = pen;
+    let mut lead = cluster.width();
+    for c in cluster.chars() {
+        write_char(out, at, c, tabs)?;
+        at = moved_over(at, lead, c, tabs);
+        lead = 0;
+    }
+    Ok(at)
+}
+
+/// Appends a character, or the spaces of a tab.
+#[tactic(auto, unfolding(crate::specs::Texts::shown_char))]
+fn write_char(out: &mut String, pen: Pen, c: char, tabs: TabWidth) -> Result<(), AllocError>
+    ensures { OnOk result (string_bytes out.new ≡ string_bytes out.old ++ shown_char tabs pen c) }
+{
+    if c != '\t' {
+        return out.push(c);
+    }
+    if pen.in_escape {
+        return Ok(());
+    }
+    write_repeated_char(out, ' ', tabs.get() - pen.column % tabs.get())
+}

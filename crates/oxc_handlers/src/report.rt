@@ -1,0 +1,368 @@
+//! Drawn reports: a title, the snippets, help and note.
+ghost use Rattle.std.specs.Prelude.{◌≡◌, ◌++◌, ◌-◌, ◌<◌, ◌≤◌, All, IfOk, IfSome, IsOkUnless, IsSome, MatchResult, OnOk, Some, length, map, string_bytes};
+ghost use Rattle.std.specs.Option.{option_copied};
+ghost use Rattle.oxc_span.specs.Label.{label_end};
+ghost use Rattle.oxc_plan.specs.Keeping.{ReadsOn};
+ghost use Rattle.oxc_plan.specs.Scanned.{ReadsRound};
+ghost use Rattle.oxc_handlers.specs.Refusals.{IsFaultless, IsRefusal, first_outside};
+ghost use Rattle.oxc_handlers.specs.Scanners.{CanDraw, HoldsLabels, IsDrawerOf, IsTaken, ReadsRoundIfThere, StaysReader};
+ghost use Rattle.oxc_plan.specs.Plan.{snippet_view};
+ghost use Rattle.oxc_handlers.specs.Report.{code_part, drawn, drawn_snippets, footer, help_of, icon, name_in, note_of, plan_of, severity_in, severity_style, snippets_in, title, title_indent, title_of, view_parts};
+ghost use Rattle.oxc_handlers.specs.RowLines.{lf};
+ghost use Rattle.oxc_handlers.specs.Snippet.{AreDrawable};
+ghost use Rattle.oxc_handlers.specs.Theme.{styled};
+ghost use Rattle.textwrap.specs.Filled.{filled};
+
+use crate::handler::GraphicalReportHandler;
+use crate::setting::Setting;
+use crate::snippet::render_snippets;
+use crate::theme::{GraphicalTheme, Style};
+use crate::view::{DiagnosticView, RenderError};
+use oxc_plan::{SnippetPlan, label_order, plan_snippets};
+use oxc_protocol::{LabeledSpan, Severity};
+use oxc_windows::SpanScanner;
+use std::alloc::{AllocError, Global};
+use textwrap::{Options, fill};
+
+impl GraphicalReportHandler {
+    /// The report of a view: an LF, the title, the snippets, help and note.
+    ///
+    /// A scanner that is handed in reads one row of context before a span and one after. It is used again where it
+    /// reads the view's source, and replaced by one that does so else. A view without labels or without a source has no
+    /// snippets, and leaves the scanner as it is.
+    ///
+    /// # Errors
+    ///
+    /// [`RenderError::LabelOutside`] exactly where a label ends past the source: the first of them, as given; the scanner
+    /// is as it was. [`RenderError::NotUtf8`] exactly where no label does, there is a label, and the source is no UTF-8. Both
+    /// are judged before anything is drawn, and name the report 0. [`RenderError::OutOfMemory`] at any time.
+    pub fn render_view<'a>(
+        &self,
+        alloc: Global,
+        view: &DiagnosticView<'a>,
+        scanner: &mut Option<SpanScanner<'a>>,
+    ) -> Result<String, RenderError>
+        requires { ReadsRoundIfThere scanner.old }
+        ensures text { IfOk result (λ text. string_bytes text ≡ drawn self.now.theme self.now.width (plan_of self.now.tab (view_parts view.now))) }
+        ensures cause { MatchResult result (λ _. IsFaultless (view_parts view.now)) (IsRefusal 0 (view_parts view.now)) }
+        ensures complete { IsFaultless (view_parts view.now) → IsOkUnless result RenderError.OutOfMemory }
+        // the scanner that is left
+        ensures round { ReadsRoundIfThere scanner.new }
+        ensures drawer { OnOk result (IsDrawerOf (view_parts view.now) scanner.old scanner.new) }
+        ensures stays { StaysReader (view_parts view.now) scanner.old scanner.new }
+    {
+        let Some(source) = &view.source else {
+            return Ok(self.render_planned(alloc, view, &[])?);
+        };
+        if view.labels.is_empty() {
+            return Ok(self.render_planned(alloc, view, &[])?);
+        }
+        if let Some(label) = first_outside(view.labels, source.bytes().len()) {
+            return Err(RenderError::LabelOutside { report: 0, label });
+        }
+        let mut reader = reader_of(alloc, scanner.take(), source.bytes());
+        let answer = self.render_text(alloc, view, &mut reader);
+        *scanner = Some(reader);
+        answer
+    }
+
+    /// The report of a view, all of whose labels end within its source, if that is a text.
+    fn render_text<'a>(
+        &self,
+        alloc: Global,
+        view: &DiagnosticView<'a>,
+        scanner: &mut SpanScanner<'a>,
+    ) -> Result<String, RenderError>
+        requires round { ReadsRound scanner.old }
+        requires source { (view_parts view.now).source ≡ Some (record { bytes = scanner.old.input; name = name_in (view_parts view.now) }) }
+        requires within { All (λ label. label_end label ≤ length scanner.old.input) view.now.labels.now }
+        requires some { 0 < length view.now.labels.now }
+        ensures text { IfOk result (λ text. string_bytes text ≡ drawn self.now.theme self.now.width (plan_of self.now.tab (view_parts view.now))) }
+        ensures cause { MatchResult result (λ _. IsFaultless (view_parts view.now)) (IsRefusal 0 (view_parts view.now)) }
+        ensures complete { IsFaultless (view_parts view.now) → IsOkUnless result RenderError.OutOfMemory }
+        ensures on { ReadsOn scanner.old scanner.new }
+        ensures holds { OnOk result (HoldsLabels scanner.old.input view.now.labels.now scanner.old scanner.new) }
+    {
+        match scanner.text() {
+            Ok(_) => Ok(self.render_view_with_scanner(alloc, view, scanner)?),
+            Err(valid_up_to) => Err(RenderError::NotUtf8 {
+                report: 0,
+                valid_up_to,
+            }),
+        }
+    }
+
+    /// The report of a view, as [`render_view`](GraphicalReportHandler::render_view) gives it, without its tests: the scanner
+    /// reads the view's source, with one row of context before a span and one after, that source is UTF-8, and every label
+    /// ends within it.
+    ///
+    /// # Errors
+    ///
+    /// Want of memory.
+    pub fn render_view_with_scanner<'a>(
+        &self,
+        alloc: Global,
+        view: &DiagnosticView<'a>,
+        scanner: &mut SpanScanner<'a>,
+    ) -> Result<String, AllocError>
+        requires { CanDraw scanner.old (view_parts view.now) }
+        ensures text { IfOk result (λ text. string_bytes text ≡ drawn self.now.theme self.now.width (plan_of self.now.tab (view_parts view.now))) }
+        // what the scanner holds
+        ensures on { ReadsOn scanner.old scanner.new }
+        ensures holds { IsSome (view_parts view.now).source → 0 < length view.now.labels.now → OnOk result (HoldsLabels scanner.old.input view.now.labels.now scanner.old scanner.new) }
+    {
+        let Some(_source) = &view.source else {
+            return self.render_planned(alloc, view, &[]);
+        };
+        let snippets = plan_snippets(alloc, scanner, view.labels, self.tabs)?;
+        self.render_planned(alloc, view, &snippets)
+    }
+
+    /// The report of a view, whose snippets are given.
+    #[tactic(auto, unfolding(crate::specs::Report::drawn))]
+    pub(crate) fn render_planned(
+        &self,
+        alloc: Global,
+        view: &DiagnosticView<'_>,
+        snippets: &[SnippetPlan<'_>],
+    ) -> Result<String, AllocError>
+        requires planned { map snippet_view snippets.now ≡ snippets_in self.now.tab (view_parts view.now) }
+        requires drawable { AreDrawable (length view.now.labels.now) (map snippet_view snippets.now) }
+        ensures { IfOk result (λ text. string_bytes text ≡ drawn self.now.theme self.now.width (plan_of self.now.tab (view_parts view.now))) }
+    {
+        let mut out = String::new(alloc);
+        out.push('\n')?;
+        self.render_title(alloc, &mut out, view)?;
+        self.render_planned_snippets(alloc, &mut out, view, snippets)?;
+        self.render_help(alloc, &mut out, view)?;
+        self.render_note(alloc, &mut out, view)?;
+        Ok(out)
+    }
+
+    /// Appends the title of a report.
+    #[tactic(auto, unfolding(crate::specs::Report::title, crate::specs::Report::plan_of))]
+    fn render_title(
+        &self,
+        alloc: Global,
+        out: &mut String,
+        view: &DiagnosticView<'_>,
+    ) -> Result<(), AllocError>
+        ensures { OnOk result (string_bytes out.new ≡ string_bytes out.old ++ title self.now.theme self.now.width (plan_of self.now.tab (view_parts view.now))) }
+    {
+        let severity = severity_of(view);
+        let first = title_indent(alloc, &self.theme, severity, icon_of(&self.theme, severity))?;
+        let later = title_indent(alloc, &self.theme, severity, self.theme.characters.vbar)?;
+        let text = title_text(alloc, &self.theme, severity, view)?;
+        let width = self.termwidth.saturating_sub(2);
+        write_fill(alloc, out, width, &first, &later, &text)
+    }
+
+    /// Appends the snippets of a report.
+    #[tactic(auto, unfolding(crate::specs::Report::drawn_snippets, crate::specs::Report::plan_of, crate::specs::Report::snippets_in))]
+    fn render_planned_snippets(
+        &self,
+        alloc: Global,
+        out: &mut String,
+        view: &DiagnosticView<'_>,
+        snippets: &[SnippetPlan<'_>],
+    ) -> Result<(), AllocError>
+        requires planned { map snippet_view snippets.now ≡ snippets_in self.now.tab (view_parts view.now) }
+        requires drawable { AreDrawable (length view.now.labels.now) (map snippet_view snippets.now) }
+        ensures { OnOk result (string_bytes out.new ≡ string_bytes out.old ++ drawn_snippets self.now.theme (plan_of self.now.tab (view_parts view.now))) }
+    {
+        let order = label_order(alloc, view.labels)?;
+        let setting = Setting::new(self.theme, view.labels, &order, self.tabs);
+        let name = source_name(view);
+        render_snippets(out, &setting, name, snippets)
+    }
+
+    /// Appends the help of a report, if it has one.
+    #[tactic(auto, unfolding(crate::specs::Report::help_of, crate::specs::Report::plan_of))]
+    fn render_help(
+        &self,
+        alloc: Global,
+        out: &mut String,
+        view: &DiagnosticView<'_>,
+    ) -> Result<(), AllocError>
+        ensures { OnOk result (string_bytes out.new ≡ string_bytes out.old ++ help_of self.now.theme self.now.width (plan_of self.now.tab (view_parts view.now))) }
+    {
+        let style = self.theme.styles.help;
+        self.render_footer(alloc, out, style, "  help: ", "        ", view.help)
+    }
+
+    /// Appends the note of a report, if it has one.
+    #[tactic(auto, unfolding(crate::specs::Report::note_of, crate::specs::Report::plan_of))]
+    fn render_note(
+        &self,
+        alloc: Global,
+        out: &mut String,
+        view: &DiagnosticView<'_>,
+    ) -> Result<(), AllocError>
+        ensures { OnOk result (string_bytes out.new ≡ string_bytes out.old ++ note_of self.now.theme self.now.width (plan_of self.now.tab (view_parts view.now))) }
+    {
+        let style = self.theme.styles.note;
+        self.render_footer(alloc, out, style, "  note: ", "           ", view.note)
+    }
+
+    /// Appends a text behind its heading, if there is one.
+    #[tactic(auto, unfolding(crate::specs::Report::footer))]
+    fn render_footer(
+        &self,
+        alloc: Global,
+        out: &mut String,
+        style: Style,
+        heading: &str,
+        later: &str,
+        text: Option<&str>,
+    ) -> Result<(), AllocError>
+        ensures { OnOk result (string_bytes out.new ≡ string_bytes out.old ++ footer self.now.width style heading.now later.now (option_copied text.entry)) }
+    {
+        match text {
+            Some(text) => {
+                let mut first = String::new(alloc);
+                style.write(&mut first, heading)?;
+                let width = self.termwidth.saturating_sub(4);
+                write_fill(alloc, out, width, &first, later, text)
+            }
+            None => Ok(()),
+        }
+    }
+}
+
+/// The place of the first label that ends past a source of so many bytes.
+fn first_outside(labels: &[LabeledSpan], len: usize) -> Option<usize>
+    ensures { result ≡ first_outside len labels.now }
+{
+    labels
+        .iter()
+        .position(|label| label.span().end as usize > len)
+}
+
+/// A scanner of a source: the one at hand, where it reads that source, or else a new one.
+fn reader_of<'a>(
+    alloc: Global,
+    held: Option<SpanScanner<'a>>,
+    source: &'a [u8],
+) -> SpanScanner<'a>
+    requires fits { length source.now < 4294967295 }
+    requires round { ReadsRoundIfThere held }
+    ensures taken { IsTaken source.now held.entry result }
+    ensures round { ReadsRound result }
+{
+    match held {
+        Some(scanner) if scanner.is_for(source) => scanner,
+        _ => SpanScanner::new(alloc, source, 1, 1),
+    }
+}
+
+/// How grave a view's diagnostic is: an error where nothing is said.
+#[tactic(auto, unfolding(crate::specs::Report::severity_in))]
+fn severity_of(view: &DiagnosticView<'_>) -> Severity
+    ensures { result ≡ severity_in (view_parts view.now) }
+{
+    view.severity.unwrap_or(Severity::Error)
+}
+
+/// The name of a view's source.
+#[tactic(auto, unfolding(crate::specs::Report::name_in))]
+fn source_name<'a>(view: &DiagnosticView<'a>) -> Option<&'a str>
+    ensures { option_copied result ≡ name_in (view_parts view.now) }
+{
+    match &view.source {
+        Some(source) => source.name(),
+        None => None,
+    }
+}
+
+/// The style of a severity.
+#[tactic(auto, unfolding(crate::specs::Report::severity_style))]
+fn style_of(theme: &GraphicalTheme, severity: Severity) -> Style
+    ensures { result ≡ severity_style theme.now severity }
+{
+    match severity {
+        Severity::Error => theme.styles.error,
+        Severity::Warning => theme.styles.warning,
+        Severity::Advice => theme.styles.advice,
+    }
+}
+
+/// The icon of a severity.
+#[tactic(auto, unfolding(crate::specs::Report::icon))]
+fn icon_of(theme: &GraphicalTheme, severity: Severity) -> char
+    ensures { result ≡ icon theme.now severity }
+{
+    match severity {
+        Severity::Error => theme.characters.error,
+        Severity::Warning => theme.characters.warning,
+        Severity::Advice => theme.characters.advice,
+    }
+}
+
+/// What stands before a line of the title.
+#[tactic(auto, unfolding(crate::specs::Report::title_indent, crate::specs::Theme::styled))]
+fn title_indent(
+    alloc: Global,
+    theme: &GraphicalTheme,
+    severity: Severity,
+    c: char,
+) -> Result<String, AllocError>
+    ensures { IfOk result (λ text. string_bytes text ≡ title_indent theme.now severity c) }
+{
+    let style = style_of(theme, severity);
+    let mut text = String::new(alloc);
+    text.push_str("  ")?;
+    text.push_str(style.prefix())?;
+    text.push(c)?;
+    text.push_str(style.reset())?;
+    text.push_str(" ")?;
+    Ok(text)
+}
+
+/// The text of the title, in the style of its severity.
+#[tactic(auto, unfolding(crate::specs::Report::title_of, crate::specs::Theme::styled))]
+fn title_text(
+    alloc: Global,
+    theme: &GraphicalTheme,
+    severity: Severity,
+    view: &DiagnosticView<'_>,
+) -> Result<String, AllocError>
+    ensures { IfOk result (λ text. string_bytes text ≡ styled (severity_style theme.now severity) (title_of (view_parts view.now))) }
+{
+    let style = style_of(theme, severity);
+    let mut text = String::new(alloc);
+    text.push_str(style.prefix())?;
+    write_code(&mut text, view.code)?;
+    text.push_str(view.message)?;
+    text.push_str(style.reset())?;
+    Ok(text)
+}
+
+/// Appends a code, if there is one, and what parts it from the message.
+fn write_code(out: &mut String, code: Option<&str>) -> Result<(), AllocError>
+    ensures { OnOk result (string_bytes out.new ≡ string_bytes out.old ++ code_part (option_copied code.entry)) }
+{
+    if let Some(code) = code {
+        out.push_str(code)?;
+        out.push_str(": ")?;
+    }
+    Ok(())
+}
+
+/// Appends a text that is filled to a width, and an LF.
+fn write_fill(
+    alloc: Global,
+    out: &mut String,
+    width: usize,
+    first: &str,
+    later: &str,
+    text: &str,
+) -> Result<(), AllocError>
+    ensures { OnOk result (string_bytes out.new ≡ string_bytes out.old ++ (filled width first.now later.now text.now ++ lf)) }
+{
+    let options = Options::new(width)
+        .initial_indent(first)
+        .subsequent_indent(later);
+    let lines = fill(alloc, text, &options)?;
+    out.push_str(&lines)?;
+    out.push('\n')
+}

@@ -1,0 +1,85 @@
+//! What the lines of a snippet are drawn by.
+ghost use Rattle.std.specs.Prelude.{◌≡◌};
+ghost use Rattle.std.specs.Option.{option_copied};
+ghost use Rattle.oxc_plan.specs.Order.{label_order};
+ghost use Rattle.oxc_plan.specs.Plan.{in_order};
+ghost use Rattle.oxc_handlers.specs.Setting.{highlight, is_empty_at, setting_for, setting_view, text_at};
+
+use crate::theme::{GraphicalTheme, Style};
+use oxc_plan::TabWidth;
+use oxc_protocol::LabeledSpan;
+
+/// What the lines of a snippet are drawn by. Labels are named by their places in label order.
+#[derive(Clone, Copy)]
+pub(crate) struct Setting<'a> {
+    pub(crate) theme: GraphicalTheme,
+    /// The report's labels, as given.
+    pub(crate) labels: &'a [LabeledSpan],
+    /// Their places in label order.
+    pub(crate) order: &'a [usize],
+    /// The distance of the tab stops.
+    pub(crate) tabs: TabWidth,
+    /// The most bars that stand beside one row.
+    pub(crate) gutter: usize,
+    /// The digits of the row numbers.
+    pub(crate) digits: usize,
+}
+
+impl<'a> Setting<'a> {
+    /// The setting of a report, of whose labels the places in label order are given. What depends on a snippet is still to be
+    /// set: there are no bars, and numbers of one digit.
+    pub(crate) fn new(
+        theme: GraphicalTheme,
+        labels: &'a [LabeledSpan],
+        order: &'a [usize],
+        tabs: TabWidth,
+    ) -> Self
+        requires { order.now ≡ label_order labels.now }
+        ensures { setting_view result ≡ setting_for theme tabs (in_order labels.now) }
+    {
+        Setting {
+            theme,
+            labels,
+            order,
+            tabs,
+            gutter: 0,
+            digits: 1,
+        }
+    }
+
+    /// The text of a label.
+    #[tactic(auto, unfolding(crate::specs::Setting::text_at), using(crate::proofs::SettingLemmas::get_or_map, crate::proofs::SettingLemmas::get_past_map))]
+    pub(crate) fn text_at(&self, label: usize) -> Option<&'a str>
+        ensures { option_copied result ≡ text_at (setting_view self.now).labels label }
+    {
+        match self.order.get(label) {
+            Some(at) => match self.labels.get(*at) {
+                Some(found) => found.label(),
+                None => None,
+            },
+            None => None,
+        }
+    }
+
+    /// Whether a label is empty.
+    #[tactic(auto, unfolding(crate::specs::Setting::is_empty_at), using(crate::proofs::SettingLemmas::get_or_map, crate::proofs::SettingLemmas::get_past_map))]
+    pub(crate) fn is_empty_at(&self, label: usize) -> bool
+        ensures { result ≡ is_empty_at (setting_view self.now).labels label }
+    {
+        match self.order.get(label) {
+            Some(at) => match self.labels.get(*at) {
+                Some(found) => found.len() == 0,
+                None => true,
+            },
+            None => true,
+        }
+    }
+
+    /// The style of a label.
+    #[tactic(auto, unfolding(crate::specs::Setting::highlight))]
+    pub(crate) fn highlight(&self, label: usize) -> Style
+        ensures { result ≡ highlight (setting_view self.now).theme label }
+    {
+        self.theme.styles.highlights[label % 3]
+    }
+}

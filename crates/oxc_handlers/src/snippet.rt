@@ -1,0 +1,189 @@
+//! Drawn snippets: a head, the lines of each row, and a close.
+ghost use Rattle.std.specs.Prelude.{◌≡◌, ◌++◌, ◌<◌, ◌≤◌, ◌^◌, All, OnOk, length, map, string_bytes, decimal};
+ghost use Rattle.std.specs.List.{flat_map};
+ghost use Rattle.std.specs.Option.{option_copied};
+ghost use Rattle.oxc_plan.specs.Plan.{row_plan_view, snippet_view};
+ghost use Rattle.oxc_handlers.specs.RowLines.{IsRow, row_line, row_lines};
+ghost use Rattle.oxc_handlers.specs.Setting.{setting_view};
+ghost use Rattle.oxc_handlers.specs.Snippet.{IsSnippet, close, drawn_snippet, head, head_text, location, number_width};
+
+use crate::gutter::{render_line_gutter, write_linum};
+use crate::label::{render_multi_line_ends, render_single_line_highlights};
+use crate::line::render_line_text;
+use crate::runs::{write_number, write_repeated_char};
+use crate::setting::Setting;
+use itoa::Buffer;
+use oxc_plan::{RowPlan, SnippetPlan};
+use std::alloc::AllocError;
+
+/// Appends snippets one after another. Of the setting, what depends on the snippet is made anew for each.
+pub(crate) fn render_snippets(
+    out: &mut String,
+    setting: &Setting<'_>,
+    name: Option<&str>,
+    snippets: &[SnippetPlan<'_>],
+) -> Result<(), AllocError>
+    requires { All (IsSnippet (setting_view setting.now).theme (setting_view setting.now).tab (setting_view setting.now).labels) (map snippet_view snippets.now) }
+    ensures { OnOk result (string_bytes out.new ≡ string_bytes out.old ++ flat_map (drawn_snippet (setting_view setting.now).theme (setting_view setting.now).tab (setting_view setting.now).labels (option_copied name.entry)) (map snippet_view snippets.now)) }
+{
+    for snippet in snippets {
+        render_context(out, setting, name, snippet)?;
+    }
+    Ok(())
+}
+
+/// Appends a snippet.
+#[tactic(auto, unfolding(crate::specs::Snippet::drawn_snippet))]
+fn render_context(
+    out: &mut String,
+    setting: &Setting<'_>,
+    name: Option<&str>,
+    snippet: &SnippetPlan<'_>,
+) -> Result<(), AllocError>
+    requires { IsSnippet (setting_view setting.now).theme (setting_view setting.now).tab (setting_view setting.now).labels (snippet_view snippet.now) }
+    ensures { OnOk result (string_bytes out.new ≡ string_bytes out.old ++ drawn_snippet (setting_view setting.now).theme (setting_view setting.now).tab (setting_view setting.now).labels (option_copied name.entry) (snippet_view snippet.now)) }
+{
+    let setting = Setting {
+        gutter: snippet.gutter,
+        digits: width_of_numbers(&snippet.rows),
+        ..*setting
+    };
+    write_head(out, &setting, name, snippet)?;
+    render_rows(out, &setting, &snippet.rows)?;
+    write_close(out, &setting)
+}
+
+/// The digits of the last row's number, and 1 where there is no row.
+#[tactic(auto, unfolding(crate::specs::Snippet::number_width), using(crate::proofs::SettingLemmas::get_map))]
+fn width_of_numbers(rows: &[RowPlan<'_>]) -> usize
+    ensures exact { result ≡ number_width (map row_plan_view rows.now) }
+    ensures few { result ≤ 40 }
+{
+    match rows.last() {
+        Some(row) => digits_of(row.row.number),
+        None => 1,
+    }
+}
+
+fn digits_of(number: usize) -> usize
+    ensures exact { result ≡ length (decimal number) }
+    ensures few { result ≤ 40 }
+{
+    let mut buffer = Buffer::new();
+    buffer.format(number).len()
+}
+
+/// Appends the head of a snippet.
+#[tactic(auto, unfolding(crate::specs::Snippet::head))]
+fn write_head(
+    out: &mut String,
+    setting: &Setting<'_>,
+    name: Option<&str>,
+    snippet: &SnippetPlan<'_>,
+) -> Result<(), AllocError>
+    requires { setting.now.digits < 2 ^ 62 }
+    ensures { OnOk result (string_bytes out.new ≡ string_bytes out.old ++ head (setting_view setting.now) (snippet_view snippet.now) (option_copied name.entry)) }
+{
+    write_repeated_char(out, ' ', setting.digits + 2)?;
+    out.push(setting.theme.characters.ltop)?;
+    out.push(setting.theme.characters.hbar)?;
+    write_head_text(out, setting, name, snippet)?;
+    out.push('\n')
+}
+
+/// Appends what the head says.
+#[tactic(auto, unfolding(crate::specs::Snippet::head_text))]
+fn write_head_text(
+    out: &mut String,
+    setting: &Setting<'_>,
+    name: Option<&str>,
+    snippet: &SnippetPlan<'_>,
+) -> Result<(), AllocError>
+    ensures { OnOk result (string_bytes out.new ≡ string_bytes out.old ++ head_text (setting_view setting.now) (snippet_view snippet.now) (option_copied name.entry)) }
+{
+    match name {
+        Some(name) => {
+            out.push('[')?;
+            setting.theme.styles.link.write(out, name)?;
+            out.push(':')?;
+            write_location(out, snippet)?;
+            out.push(']')
+        }
+        None => {
+            if snippet.rows.len() >= 2 {
+                out.push('[')?;
+                write_location(out, snippet)?;
+                return out.push(']');
+            }
+            write_repeated_char(out, setting.theme.characters.hbar, 3)
+        }
+    }
+}
+
+/// Appends the row and the column to which a head points.
+#[tactic(auto, unfolding(crate::specs::Snippet::location))]
+fn write_location(out: &mut String, snippet: &SnippetPlan<'_>) -> Result<(), AllocError>
+    ensures { OnOk result (string_bytes out.new ≡ string_bytes out.old ++ location (snippet_view snippet.now)) }
+{
+    write_number(out, snippet.head_line)?;
+    out.push(':')?;
+    write_number(out, snippet.head_column)
+}
+
+/// Appends the lines of rows.
+fn render_rows(
+    out: &mut String,
+    setting: &Setting<'_>,
+    rows: &[RowPlan<'_>],
+) -> Result<(), AllocError>
+    requires { All (IsRow (setting_view setting.now)) (map row_plan_view rows.now) }
+    ensures { OnOk result (string_bytes out.new ≡ string_bytes out.old ++ flat_map (row_lines (setting_view setting.now)) (map row_plan_view rows.now)) }
+{
+    for row in rows {
+        render_row(out, setting, row)?;
+    }
+    Ok(())
+}
+
+/// Appends the lines of a row.
+#[tactic(auto, unfolding(crate::specs::RowLines::row_lines))]
+fn render_row(
+    out: &mut String,
+    setting: &Setting<'_>,
+    row: &RowPlan<'_>,
+) -> Result<(), AllocError>
+    requires { IsRow (setting_view setting.now) (row_plan_view row.now) }
+    ensures { OnOk result (string_bytes out.new ≡ string_bytes out.old ++ row_lines (setting_view setting.now) (row_plan_view row.now)) }
+{
+    render_line(out, setting, row)?;
+    render_single_line_highlights(out, setting, row)?;
+    render_multi_line_ends(out, setting, row)
+}
+
+/// Appends the row itself.
+#[tactic(auto, unfolding(crate::specs::RowLines::row_line))]
+fn render_line(
+    out: &mut String,
+    setting: &Setting<'_>,
+    row: &RowPlan<'_>,
+) -> Result<(), AllocError>
+    requires { IsRow (setting_view setting.now) (row_plan_view row.now) }
+    ensures { OnOk result (string_bytes out.new ≡ string_bytes out.old ++ row_line (setting_view setting.now) (row_plan_view row.now)) }
+{
+    write_linum(out, setting, row.row.number)?;
+    render_line_gutter(out, setting, &row.bars)?;
+    render_line_text(out, row.row.text, setting.tabs)?;
+    out.push('\n')
+}
+
+/// Appends the close of a snippet.
+#[tactic(auto, unfolding(crate::specs::Snippet::close))]
+fn write_close(out: &mut String, setting: &Setting<'_>) -> Result<(), AllocError>
+    requires { setting.now.digits < 2 ^ 62 }
+    ensures { OnOk result (string_bytes out.new ≡ string_bytes out.old ++ close (setting_view setting.now)) }
+{
+    write_repeated_char(out, ' ', setting.digits + 2)?;
+    out.push(setting.theme.characters.lbot)?;
+    write_repeated_char(out, setting.theme.characters.hbar, 4)?;
+    out.push('\n')
+}

@@ -1,0 +1,227 @@
+//! The characters and the styles of a drawing.
+ghost use Rattle.std.specs.Prelude.{◌≡◌, ◌++◌, OnOk, OnErr, string_bytes};
+ghost use Rattle.oxc_handlers.specs.Theme.{ascii_characters, box_characters, none_theme, plain_styles, prefix_of, reset_of, rgb_styles, styled, unicode_nocolor_theme, unicode_theme};
+
+use std::alloc::AllocError;
+
+/// What reports are drawn by: characters, and styles of which each is plain or an escape sequence.
+///
+/// A theme is one of the three that its constructors make.
+#[derive(Clone, Copy, Debug, PartialEq, Eq)]
+pub struct GraphicalTheme {
+    pub(crate) characters: ThemeCharacters,
+    pub(crate) styles: ThemeStyles,
+}
+
+impl GraphicalTheme {
+    /// Box characters, and colors by escape sequences.
+    pub fn unicode() -> Self
+        ensures { result ≡ unicode_theme }
+    {
+        GraphicalTheme {
+            characters: ThemeCharacters::unicode(),
+            styles: ThemeStyles::rgb(),
+        }
+    }
+
+    /// Box characters without escape sequences.
+    pub fn unicode_nocolor() -> Self
+        ensures { result ≡ unicode_nocolor_theme }
+    {
+        GraphicalTheme {
+            characters: ThemeCharacters::unicode(),
+            styles: ThemeStyles::none(),
+        }
+    }
+
+    /// ASCII without escape sequences.
+    pub fn none() -> Self
+        ensures { result ≡ none_theme }
+    {
+        GraphicalTheme {
+            characters: ThemeCharacters::ascii(),
+            styles: ThemeStyles::none(),
+        }
+    }
+
+    /// Appends a text in the style of warnings.
+    ///
+    /// # Errors
+    ///
+    /// Want of memory. The text is as it was then.
+    #[tactic(auto, unfolding(crate::specs::Theme::styled))]
+    pub fn write_warning(&self, out: &mut String, value: &str) -> Result<(), AllocError>
+        ensures ok { OnOk result (string_bytes out.new ≡ string_bytes out.old ++ styled self.now.styles.warning value.now) }
+        ensures err { OnErr result (string_bytes out.new ≡ string_bytes out.old) }
+    {
+        let prefix = self.styles.warning.prefix();
+        let reset = self.styles.warning.reset();
+        out.reserve(prefix.len() + value.len() + reset.len())?;
+        out.push_str(prefix)?;
+        out.push_str(value)?;
+        out.push_str(reset)
+    }
+}
+
+/// How a text is set off from those round it.
+#[derive(Clone, Copy, Debug, PartialEq, Eq)]
+pub(crate) enum Style {
+    /// Not at all.
+    Plain,
+    Error,
+    Warning,
+    Info,
+    Link,
+    LineNumber,
+    Highlight1,
+    Highlight2,
+    Highlight3,
+}
+
+impl Style {
+    /// What stands before a text in this style.
+    pub(crate) fn prefix(self) -> &'static str
+        ensures { result.now ≡ prefix_of self }
+    {
+        match self {
+            Style::Plain => "",
+            Style::Error => "\u{1b}[38;2;225;80;80;1m",
+            Style::Warning => "\u{1b}[38;2;244;191;117;1m",
+            Style::Info => "\u{1b}[38;2;106;159;181m",
+            Style::Link => "\u{1b}[38;2;92;157;255;1m",
+            Style::LineNumber => "\u{1b}[2m",
+            Style::Highlight1 => "\u{1b}[38;2;246;87;248m",
+            Style::Highlight2 => "\u{1b}[38;2;30;201;212m",
+            Style::Highlight3 => "\u{1b}[38;2;145;246;111m",
+        }
+    }
+
+    /// What stands behind it.
+    pub(crate) fn reset(self) -> &'static str
+        ensures { result.now ≡ reset_of self }
+    {
+        match self {
+            Style::Plain => "",
+            _ => "\u{1b}[0m",
+        }
+    }
+
+    /// Appends a text in this style.
+    #[tactic(auto, unfolding(crate::specs::Theme::styled))]
+    pub(crate) fn write(self, out: &mut String, value: &str) -> Result<(), AllocError>
+        ensures { OnOk result (string_bytes out.new ≡ string_bytes out.old ++ styled self value.now) }
+    {
+        out.push_str(self.prefix())?;
+        out.push_str(value)?;
+        out.push_str(self.reset())?;
+        Ok(())
+    }
+}
+
+/// The styles of a drawing.
+#[derive(Clone, Copy, Debug, PartialEq, Eq)]
+pub(crate) struct ThemeStyles {
+    pub(crate) error: Style,
+    pub(crate) warning: Style,
+    pub(crate) advice: Style,
+    pub(crate) help: Style,
+    pub(crate) note: Style,
+    pub(crate) link: Style,
+    pub(crate) linum: Style,
+    pub(crate) highlights: [Style; 3],
+}
+
+impl ThemeStyles {
+    fn rgb() -> Self
+        ensures { result ≡ rgb_styles }
+    {
+        ThemeStyles {
+            error: Style::Error,
+            warning: Style::Warning,
+            advice: Style::Info,
+            help: Style::Info,
+            note: Style::Info,
+            link: Style::Link,
+            linum: Style::LineNumber,
+            highlights: [Style::Highlight1, Style::Highlight2, Style::Highlight3],
+        }
+    }
+
+    fn none() -> Self
+        ensures { result ≡ plain_styles }
+    {
+        ThemeStyles {
+            error: Style::Plain,
+            warning: Style::Plain,
+            advice: Style::Plain,
+            help: Style::Plain,
+            note: Style::Plain,
+            link: Style::Plain,
+            linum: Style::Plain,
+            highlights: [Style::Plain, Style::Plain, Style::Plain],
+        }
+    }
+}
+
+/// The characters of a drawing.
+#[derive(Clone, Copy, Debug, PartialEq, Eq)]
+pub(crate) struct ThemeCharacters {
+    pub(crate) hbar: char,
+    pub(crate) vbar: char,
+    pub(crate) vbar_break: char,
+    pub(crate) uarrow: char,
+    pub(crate) rarrow: char,
+    pub(crate) ltop: char,
+    pub(crate) lbot: char,
+    pub(crate) lcross: char,
+    pub(crate) rcross: char,
+    pub(crate) underbar: char,
+    pub(crate) underline: char,
+    pub(crate) error: char,
+    pub(crate) warning: char,
+    pub(crate) advice: char,
+}
+
+impl ThemeCharacters {
+    fn unicode() -> Self
+        ensures { result ≡ box_characters }
+    {
+        ThemeCharacters {
+            hbar: '─',
+            vbar: '│',
+            vbar_break: '·',
+            uarrow: '▲',
+            rarrow: '▶',
+            ltop: '╭',
+            lbot: '╰',
+            lcross: '├',
+            rcross: '┤',
+            underbar: '┬',
+            underline: '─',
+            error: '×',
+            warning: '⚠',
+            advice: '☞',
+        }
+    }
+
+    fn ascii() -> Self
+        ensures { result ≡ ascii_characters }
+    {
+        ThemeCharacters {
+            hbar: '-',
+            vbar: '|',
+            vbar_break: ':',
+            uarrow: '^',
+            rarrow: '>',
+            ltop: ',',
+            lbot: '`',
+            lcross: '|',
+            rcross: '|',
+            underbar: '|',
+            underline: '^',
+            error: 'x',
+            warning: '!',
+            advice: '>',
+        }
+    }
+}

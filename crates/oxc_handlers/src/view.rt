@@ -1,0 +1,72 @@
+//! What is drawn, and why it was not.
+use oxc_protocol::{Failed, LabeledSpan, Severity, SourceRef};
+use std::alloc::AllocError;
+use thiserror::Error;
+
+/// The parts of a diagnostic that a report shows, all of them borrowed.
+#[derive(Clone, Copy)]
+pub struct DiagnosticView<'a> {
+    /// What happened, in a line or more.
+    pub message: &'a str,
+    /// A code by which this kind of diagnostic can be looked up.
+    pub code: Option<&'a str>,
+    /// How grave it is. Where it is missing, the diagnostic is drawn as an error.
+    pub severity: Option<Severity>,
+    /// What the reader can do about it.
+    pub help: Option<&'a str>,
+    /// What else the reader should know.
+    pub note: Option<&'a str>,
+    /// The source that the labels point into.
+    pub source: Option<SourceRef<'a>>,
+    /// The places that it points to, in the order in which they were given.
+    pub labels: &'a [LabeledSpan],
+}
+
+/// Why reports were not drawn, or not written.
+#[derive(Clone, Copy, Debug, PartialEq, Eq, Error)]
+pub enum RenderError {
+    /// A label ends past its source.
+    #[error("report {report}: label {label} is outside")]
+    LabelOutside {
+        /// The report's place in the list, from 0.
+        report: usize,
+        /// The label's place in the report, as given, from 0.
+        label: usize,
+    },
+    /// Labels point into a source that is no text.
+    #[error("report {report}: source is no UTF-8 after {valid_up_to} bytes")]
+    NotUtf8 {
+        /// The report's place in the list, from 0.
+        report: usize,
+        /// The number of bytes of the source's longest beginning that is UTF-8.
+        valid_up_to: usize,
+    },
+    /// The sink failed.
+    #[error("output failed")]
+    SinkFault,
+    /// There was no memory left.
+    #[error("out of memory")]
+    OutOfMemory,
+}
+
+impl From<AllocError> for RenderError {
+    ghost use Rattle.std.specs.Prelude.{◌≡◌};
+    ghost use Rattle.oxc_handlers.specs.declared.view.RenderError.TheVariants.{OutOfMemory};
+
+    ghost from_gives = { λ _ error. error ≡ OutOfMemory };
+
+    fn from(_error: AllocError) -> RenderError {
+        RenderError::OutOfMemory
+    }
+}
+
+impl From<Failed> for RenderError {
+    ghost use Rattle.std.specs.Prelude.{◌≡◌};
+    ghost use Rattle.oxc_handlers.specs.declared.view.RenderError.TheVariants.{SinkFault};
+
+    ghost from_gives = { λ _ error. error ≡ SinkFault };
+
+    fn from(_error: Failed) -> RenderError {
+        RenderError::SinkFault
+    }
+}

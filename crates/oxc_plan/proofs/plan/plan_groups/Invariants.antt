@@ -1,9 +1,0 @@
-use Rattle.std.proofs.Common.{◌≡◌, map, take}
-use Rattle.oxc_plan.specs.Plan.{ordered_view, snippet_of, snippet_view}
-use Rattle.oxc_plan.proofs.plan.plan_groups.Given as goal
-
-abbrev pub invariant-loop-group : goal.invariant-loop-group
-invariant-loop-group l = record {
-  scanner : l.scanner ≡ l.fn.scanner;
-  plans : map snippet_view l.plans.items ≡ map (snippet_of l.tab l.fn.scanner.input (map ordered_view l.labels)) (take l.group-index l.groups);
-}

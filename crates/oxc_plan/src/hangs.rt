@@ -1,0 +1,97 @@
+//! The texts that hang below a row.
+ghost use Rattle.std.specs.Prelude.{◌≡◌, ◌<◌, ◌≤◌, ◌==◌, IfOk, length, map, slice_index, if◌then◌else◌};
+ghost use Rattle.std.specs.List.{filter_map, find};
+ghost use Rattle.std.specs.List.Sorted.{IsNonDecreasingBy};
+ghost use Rattle.std.specs.Option.{option_copied};
+ghost use Rattle.oxc_span.specs.LabelEq.{text_eq};
+ghost use Rattle.oxc_plan.specs.Plan.{hang_of, is_like, ordered_at, ordered_view, start_in};
+
+use crate::labels::{OrderedLabel, ordered_at};
+use std::alloc::{AllocError, Global};
+
+/// A text that hangs below a row, and the label at whose bar it hangs.
+#[derive(Clone, Copy, Debug, PartialEq, Eq)]
+pub struct Hang {
+    /// The place in label order of the label whose text it is.
+    pub label: usize,
+    /// The place in label order of the label at whose bar it hangs.
+    pub at: usize,
+}
+
+/// Whether two texts that may be missing are equal.
+fn same_text(a: Option<&str>, b: Option<&str>) -> bool
+    ensures { result ≡ text_eq (option_copied a.entry) (option_copied b.entry) }
+{
+    match (a, b) {
+        (Some(a), Some(b)) => a == b,
+        (None, None) => true,
+        _ => false,
+    }
+}
+
+/// Whether labels are equal in text and span.
+fn is_like(a: OrderedLabel<'_>, b: OrderedLabel<'_>) -> bool
+    ensures { result ≡ is_like (ordered_view a.entry) (ordered_view b.entry) }
+{
+    a.span.start == b.span.start && a.span.end == b.span.end && same_text(a.text, b.text)
+}
+
+/// The first of these places whose label is equal in text and span to that at a place.
+fn first_like(labels: &[OrderedLabel<'_>], places: &[usize], at: usize) -> Option<usize>
+    ensures { result ≡ find (λ other. is_like (ordered_at (map ordered_view labels.now) other) (ordered_at (map ordered_view labels.now) at)) places.now }
+{
+    let label = ordered_at(labels, at);
+    places
+        .iter()
+        .copied()
+        .find(|other| is_like(ordered_at(labels, *other), label))
+}
+
+/// The text of the label at a place of label order, if it has one, and where it hangs.
+fn hang_of(labels: &[OrderedLabel<'_>], places: &[usize], at: usize) -> Option<Hang>
+    ensures { result ≡ hang_of (map ordered_view labels.now) places.now at }
+{
+    if ordered_at(labels, at).text.is_some() {
+        Some(Hang {
+            label: at,
+            at: first_like(labels, places, at).unwrap_or(at),
+        })
+    } else {
+        None
+    }
+}
+
+/// The texts of the labels at places of label order.
+pub fn hangs_at(
+    alloc: Global,
+    labels: &[OrderedLabel<'_>],
+    places: &[usize],
+) -> Result<Vec<Hang>, AllocError>
+    requires { IsNonDecreasingBy (start_in (map ordered_view labels.now)) places.now }
+    ensures { IfOk result (λ hangs. hangs.items ≡ filter_map (hang_of (map ordered_view labels.now) places.now) places.now) }
+{
+    let mut hangs = Vec::new(alloc);
+    let mut run = 0;
+    for i in 0..places.len() {
+        run = run_at(labels, places, run, i);
+        match hang_of(labels, &places[run..], places[i]) {
+            Some(hang) => hangs.push(hang)?,
+            None => {}
+        }
+    }
+    Ok(hangs)
+}
+
+/// Where the places begin whose labels start with that of place `i`, given where those of the place before begin. Only
+/// such labels can be equal.
+fn run_at(labels: &[OrderedLabel<'_>], places: &[usize], run: usize, i: usize) -> usize
+    requires from { run ≤ i }
+    requires within { i < length places.now }
+    ensures { result ≡ (if start_in (map ordered_view labels.now) (slice_index places.now run) == start_in (map ordered_view labels.now) (slice_index places.now i) then run else i) }
+{
+    if ordered_at(labels, places[run]).span.start == ordered_at(labels, places[i]).span.start {
+        run
+    } else {
+        i
+    }
+}

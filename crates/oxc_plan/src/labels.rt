@@ -1,0 +1,86 @@
+//! Labels in label order.
+ghost use Rattle.std.specs.Prelude.{◌≡◌, ◌≤◌, IfOk, map, All};
+ghost use Rattle.oxc_plan.specs.Groups.{span_at};
+ghost use Rattle.oxc_plan.specs.Order.{label_at};
+ghost use Rattle.oxc_plan.specs.Plan.{in_order, ordered_at, ordered_label, ordered_view};
+
+use crate::order::label_order;
+use oxc_span::{LabeledSpan, Span};
+use std::alloc::{AllocError, Global};
+
+/// A label that is handed on in label order.
+#[derive(Clone, Copy, Debug)]
+pub struct OrderedLabel<'a> {
+    /// Its bytes.
+    pub span: Span,
+    /// Its text.
+    pub text: Option<&'a str>,
+    /// Whether it is a primary one.
+    pub is_primary: bool,
+}
+
+/// What stands for a label past the last.
+const NO_LABEL: OrderedLabel<'static> = OrderedLabel {
+    span: Span { start: 0, end: 0 },
+    text: None,
+    is_primary: false,
+};
+
+/// Labels in label order.
+pub fn labels_in_order<'a>(
+    alloc: Global,
+    labels: &'a [LabeledSpan],
+) -> Result<Vec<OrderedLabel<'a>>, AllocError>
+    ensures { IfOk result (λ found. map ordered_view found.items ≡ in_order labels.now) }
+{
+    let order = label_order(alloc, labels)?;
+    let mut found = Vec::new(alloc);
+    for at in &order {
+        found.push(ordered_label(labels, *at))?;
+    }
+    Ok(found)
+}
+
+/// The label at a place, as it is handed on.
+fn ordered_label<'a>(labels: &'a [LabeledSpan], at: usize) -> OrderedLabel<'a>
+    ensures { ordered_view result ≡ ordered_label (label_at labels.now at) }
+{
+    match labels.get(at) {
+        Some(label) => OrderedLabel {
+            span: label.span(),
+            text: label.label(),
+            is_primary: label.primary(),
+        },
+        None => NO_LABEL,
+    }
+}
+
+/// The spans of labels.
+pub fn spans_of(alloc: Global, labels: &[OrderedLabel<'_>]) -> Result<Vec<Span>, AllocError>
+    ensures { IfOk result (λ spans. spans.items ≡ map (λ l. l.span) labels.now) }
+{
+    let spans = labels.iter().map(|label| label.span).collect(alloc)?;
+    Ok(spans)
+}
+
+/// The label at a place of label order.
+pub fn ordered_at<'a>(labels: &[OrderedLabel<'a>], at: usize) -> OrderedLabel<'a>
+    ensures { ordered_view result ≡ ordered_at (map ordered_view labels.now) at }
+{
+    match labels.get(at) {
+        Some(label) => *label,
+        None => NO_LABEL,
+    }
+}
+
+/// The span at a place of label order, and an empty one at 0 past the last.
+pub fn span_at(spans: &[Span], at: usize) -> Span
+    requires ordered { All (λ span. span.start ≤ span.end) spans.now }
+    ensures value { result ≡ span_at spans.now at }
+    ensures ordered { result.start ≤ result.end }
+{
+    match spans.get(at) {
+        Some(span) => *span,
+        None => Span { start: 0, end: 0 },
+    }
+}

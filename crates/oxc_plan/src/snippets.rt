@@ -1,0 +1,313 @@
+//! The snippets of a report: what they mean before a character is drawn.
+ghost use Rattle.std.specs.Prelude.{◌≡◌, ◌+◌, ◌^◌, ◌<◌, ◌≤◌, IfOk, OnOk, Some, length, map, filter, fold, max, All};
+ghost use Rattle.std.specs.List.Sorted.{IsNonDecreasingBy};
+ghost use Rattle.std.specs.Option.{unwrap_or};
+ghost use Rattle.std.specs.Str.{IsUtf8};
+ghost use Rattle.oxc_windows.specs.Breaks.{breaks_of};
+ghost use Rattle.oxc_windows.specs.Scan.{IsMeasured, IsNumbered, IsSameReader};
+ghost use Rattle.oxc_plan.specs.Drawable.{IsDrawable};
+ghost use Rattle.oxc_plan.specs.Groups.{AreGroups, largest_end, span_at};
+ghost use Rattle.oxc_plan.specs.Keeping.{KeepsGroups, ReadsOn, least_start};
+ghost use Rattle.oxc_plan.specs.Meets.{is_multi_row, is_one_row, meeting_labels, meets, multi_row_labels, one_row_labels};
+ghost use Rattle.oxc_plan.specs.Order.{AreOrderedSpans};
+ghost use Rattle.oxc_plan.specs.Plan.{gutter_of, ordered_view, row_plan_of, row_plan_view, snippet_of, snippet_view, snippets_of, spans_of};
+ghost use Rattle.oxc_plan.specs.Rows.{row_view, rows_of};
+ghost use Rattle.oxc_plan.specs.Scanned.{CanPlan, ReadsTextRound};
+ghost use Rattle.oxc_plan.specs.Sweep.{AscendIn, IsGroupAlone, MeetNoOthers};
+
+use crate::bars::{Bar, bars_at, ends_at};
+use crate::grouping::groups;
+use crate::hangs::{Hang, hangs_at};
+use crate::heads::{head_label, place_in};
+use crate::labels::{OrderedLabel, labels_in_order, span_at, spans_of};
+use crate::marks::{MarkCells, is_multi_row, is_one_row, placed};
+use crate::reading::read;
+use crate::rows::{Row, rows_of};
+use crate::sweep::{close_before, open_before};
+use crate::tabs::TabWidth;
+use oxc_span::{LabeledSpan, Span};
+use oxc_windows::{SpanContents, SpanScanner};
+use std::alloc::{AllocError, Global};
+use std::ops::Range;
+
+/// What is drawn beside and below a row.
+#[derive(Debug, Drop)]
+pub struct RowPlan<'a> {
+    /// The row itself.
+    pub row: Row<'a>,
+    /// The bars of the labels that meet the row and others, in label order.
+    pub bars: Vec<Bar>,
+    /// The marks of the labels that lie within the row, in label order.
+    pub marks: Vec<MarkCells>,
+    /// The texts of these labels, in label order.
+    pub hangs: Vec<Hang>,
+    /// The labels with a text whose bars end in the row, by their places in label order.
+    pub ends: Vec<usize>,
+}
+
+/// What is drawn of a group of labels.
+#[derive(Debug, Drop)]
+pub struct SnippetPlan<'a> {
+    /// The row at which the snippet's head points, from 1.
+    pub head_line: usize,
+    /// The byte column at which the head points, from 1.
+    pub head_column: usize,
+    /// The most bars that stand beside one row.
+    pub gutter: usize,
+    /// The rows, from the first to the last.
+    pub rows: Vec<RowPlan<'a>>,
+}
+
+/// The snippets of labels of a source, as they are drawn.
+///
+/// Labels that share a snippet are those of [`groups`]. A snippet's head is the place of its first primary label in
+/// label order, else of its first label. Its rows are those of the group's window. Beside each stand the bars of all
+/// labels that meet it and other rows, and below it the marks and texts of those that lie within it. The scanner reads
+/// one row of context before and one after, every label ends within its input, and the input is UTF-8.
+///
+/// # Errors
+///
+/// Want of memory.
+pub fn plan_snippets<'a>(
+    alloc: Global,
+    scanner: &mut SpanScanner<'a>,
+    labels: &[LabeledSpan],
+    tabs: TabWidth,
+) -> Result<Vec<SnippetPlan<'a>>, AllocError>
+    requires { CanPlan scanner.old labels.now }
+    ensures plan { IfOk result (λ plans. map snippet_view plans.items ≡ snippets_of tabs scanner.old.input labels.now) }
+    ensures drawable { IfOk result (λ plans. All (IsDrawable (length scanner.old.input) (length labels.now)) (map snippet_view plans.items)) }
+    ensures unchanged { IsSameReader scanner.old scanner.new }
+    // what the scanner holds
+    ensures stays { ReadsOn scanner.old scanner.new }
+    ensures first { OnOk result (0 < length labels.now → scanner.new.first ≡ Some (unwrap_or scanner.old.first (least_start labels.now))) }
+    ensures keeps { OnOk result (KeepsGroups scanner.old.input labels.now scanner.new) }
+{
+    let ordered = labels_in_order(alloc, labels)?;
+    let groups = groups(alloc, scanner, labels)?;
+    let plans = plan_groups(alloc, scanner, &ordered, &groups, tabs)?;
+    Ok(plans)
+}
+
+/// The snippets of the groups of labels, which stand in label order.
+fn plan_groups<'a>(
+    alloc: Global,
+    scanner: &mut SpanScanner<'a>,
+    labels: &[OrderedLabel<'_>],
+    groups: &[Range<usize>],
+    tabs: TabWidth,
+) -> Result<Vec<SnippetPlan<'a>>, AllocError>
+    requires reads { ReadsTextRound scanner.old }
+    requires ordered { AreOrderedSpans (length scanner.old.input) (spans_of (map ordered_view labels.now)) }
+    requires groups { AreGroups (length scanner.old.input) (breaks_of scanner.old.input) (spans_of (map ordered_view labels.now)) 0 groups.now }
+    ensures plan { IfOk result (λ plans. map snippet_view plans.items ≡ map (snippet_of tabs scanner.old.input (map ordered_view labels.now)) groups.now) }
+    ensures stays { ReadsOn scanner.old scanner.new }
+{
+    let spans = spans_of(alloc, labels)?;
+    let mut plans = Vec::new(alloc);
+    for group in groups {
+        plans.push(plan_snippet(alloc, scanner, labels, &spans, group, tabs)?)?;
+    }
+    Ok(plans)
+}
+
+/// The snippet of a group of labels, which stand in label order.
+fn plan_snippet<'a>(
+    alloc: Global,
+    scanner: &mut SpanScanner<'a>,
+    labels: &[OrderedLabel<'_>],
+    spans: &[Span],
+    group: &Range<usize>,
+    tabs: TabWidth,
+) -> Result<SnippetPlan<'a>, AllocError>
+    requires reads { ReadsTextRound scanner.old }
+    requires spans { spans.now ≡ spans_of (map ordered_view labels.now) }
+    requires ordered { AreOrderedSpans (length scanner.old.input) spans.now }
+    requires alone { IsGroupAlone scanner.old.input spans.now group.now }
+    ensures plan { IfOk result (λ plan. snippet_view plan ≡ snippet_of tabs scanner.old.input (map ordered_view labels.now) group.now) }
+    ensures stays { ReadsOn scanner.old scanner.new }
+{
+    let span = joint_span(spans, group);
+    let contents = read(scanner, span)?;
+    let head = head_label(labels, group);
+    let place = place_in(scanner, &contents, span, head.span.start as usize);
+    let views = views_of(alloc, &contents)?;
+    let rows = plan_rows(alloc, &views, labels, spans, group, tabs)?;
+    let gutter = gutter_of(&rows);
+    Ok(SnippetPlan {
+        head_line: place.0 + 1,
+        head_column: place.1 + 1,
+        gutter,
+        rows,
+    })
+}
+
+/// The span of a group: from its first start to its largest end.
+fn joint_span(spans: &[Span], group: &Range<usize>) -> Span
+    requires nonempty { group.now.start < group.now.end }
+    requires within { group.now.end ≤ length spans.now }
+    requires ordered { All (λ span. span.start ≤ span.end) spans.now }
+    ensures start { result.start ≡ (span_at spans.now group.now.start).start }
+    ensures end { result.end ≡ largest_end spans.now group.now.start group.now.end }
+    ensures ordered { result.start ≤ result.end }
+{
+    Span::new(
+        spans[group.start].start,
+        largest_end(&spans[group.start..group.end]),
+    )
+}
+
+/// The largest end of spans, and 0 where there is none.
+fn largest_end(spans: &[Span]) -> u32
+    ensures { result ≡ fold (λ most s. max most s.end) 0 spans.now }
+{
+    spans.iter().fold(0, |most, span| most.max(span.end))
+}
+
+/// The rows of what was read. They ascend, and their offsets and lengths are small.
+fn views_of<'a>(alloc: Global, contents: &SpanContents<'a>) -> Result<Vec<Row<'a>>, AllocError>
+    requires text { IsUtf8 contents.now.bytes }
+    requires measured { IsMeasured contents.now }
+    requires numbered { IsNumbered contents.now }
+    ensures exact { IfOk result (λ rows. map row_view rows.items ≡ rows_of contents.now) }
+    ensures small { IfOk result (λ rows. All (λ row. (row.offset + row.length < 2 ^ 32) × (length row.text.now < 2 ^ 32)) rows.items) }
+{
+    let span = *contents.span();
+    let _end = span.end as usize;
+    let rows = rows_of(alloc, contents)?;
+    Ok(rows)
+}
+
+/// The plans of the rows of a group. A label stays open from the row in which it starts to the last one that it meets,
+/// and only open labels are tried.
+fn plan_rows<'a>(
+    alloc: Global,
+    rows: &[Row<'a>],
+    labels: &[OrderedLabel<'_>],
+    spans: &[Span],
+    group: &Range<usize>,
+    tabs: TabWidth,
+) -> Result<Vec<RowPlan<'a>>, AllocError>
+    requires small { All (λ row. (row.offset + row.length < 2 ^ 32) × (length row.text.now < 2 ^ 32)) rows.now }
+    requires ascend { AscendIn (map row_view rows.now) }
+    requires spans { spans.now ≡ spans_of (map ordered_view labels.now) }
+    requires rising { IsNonDecreasingBy (λ span. span.start) spans.now }
+    requires ordered { All (λ span. span.start ≤ span.end) spans.now }
+    requires some { group.now.start ≤ group.now.end }
+    requires within { group.now.end ≤ length spans.now }
+    requires alone { MeetNoOthers spans.now group.now (map row_view rows.now) }
+    ensures { IfOk result (λ plans. map row_plan_view plans.items ≡ map (row_plan_of tabs (map ordered_view labels.now)) (map row_view rows.now)) }
+{
+    let mut plans = Vec::new(alloc);
+    let mut active = Vec::new(alloc);
+    let mut next = group.start;
+    for row in rows {
+        next = open_before(&mut active, spans, next, group.end, row.offset + row.length)?;
+        close_before(&mut active, spans, row.offset);
+        plans.push(plan_row(alloc, row, labels, spans, &active, tabs)?)?;
+    }
+    Ok(plans)
+}
+
+/// The plan of a row, given places of labels in order among which are all that meet it.
+fn plan_row<'a>(
+    alloc: Global,
+    row: &Row<'a>,
+    labels: &[OrderedLabel<'_>],
+    spans: &[Span],
+    active: &[usize],
+    tabs: TabWidth,
+) -> Result<RowPlan<'a>, AllocError>
+    requires small { row.now.offset + row.now.length < 2 ^ 32 }
+    requires fits { length row.now.text.now < 2 ^ 32 }
+    requires spans { spans.now ≡ spans_of (map ordered_view labels.now) }
+    requires rising { IsNonDecreasingBy (λ span. span.start) spans.now }
+    requires ordered { All (λ span. span.start ≤ span.end) spans.now }
+    requires among { filter (λ at. meets row.now.offset row.now.length (span_at spans.now at)) active.now ≡ meeting_labels row.now.offset row.now.length spans.now }
+    ensures { IfOk result (λ plan. row_plan_view plan ≡ row_plan_of tabs (map ordered_view labels.now) (row_view row.now)) }
+{
+    let within = one_row_of(alloc, row, spans, active)?;
+    let across = multi_row_of(alloc, row, spans, active)?;
+    plan_at(alloc, row, labels, spans, &within, &across, tabs)
+}
+
+/// The plan of a row, given the places of the labels within it and of those that meet it and others.
+fn plan_at<'a>(
+    alloc: Global,
+    row: &Row<'a>,
+    labels: &[OrderedLabel<'_>],
+    spans: &[Span],
+    within: &[usize],
+    across: &[usize],
+    tabs: TabWidth,
+) -> Result<RowPlan<'a>, AllocError>
+    requires small { row.now.offset + row.now.length < 2 ^ 32 }
+    requires fits { length row.now.text.now < 2 ^ 32 }
+    requires spans { spans.now ≡ spans_of (map ordered_view labels.now) }
+    requires rising { IsNonDecreasingBy (λ span. span.start) spans.now }
+    requires ordered { All (λ span. span.start ≤ span.end) spans.now }
+    requires within { within.now ≡ one_row_labels row.now.offset row.now.length spans.now }
+    requires across { across.now ≡ multi_row_labels row.now.offset row.now.length spans.now }
+    ensures { IfOk result (λ plan. row_plan_view plan ≡ row_plan_of tabs (map ordered_view labels.now) (row_view row.now)) }
+{
+    let marks = placed(alloc, row, spans, within, tabs)?;
+    let bars = bars_at(alloc, row, labels, across)?;
+    let hangs = hangs_at(alloc, labels, within)?;
+    let ends = ends_at(alloc, row, labels, across)?;
+    Ok(RowPlan {
+        row: *row,
+        bars,
+        marks,
+        hangs,
+        ends,
+    })
+}
+
+/// Those of some places whose labels meet a row and lie within it.
+fn one_row_of(
+    alloc: Global,
+    row: &Row<'_>,
+    spans: &[Span],
+    active: &[usize],
+) -> Result<Vec<usize>, AllocError>
+    requires range { row.now.offset + row.now.length < 2 ^ 32 }
+    requires ordered { All (λ span. span.start ≤ span.end) spans.now }
+    ensures { IfOk result (λ places. places.items ≡ filter (λ at. is_one_row row.now.offset row.now.length (span_at spans.now at)) active.now) }
+{
+    let places = active
+        .iter()
+        .copied()
+        .filter(|at| is_one_row(row, span_at(spans, *at)))
+        .collect(alloc)?;
+    Ok(places)
+}
+
+/// Those of some places whose labels meet a row and others.
+fn multi_row_of(
+    alloc: Global,
+    row: &Row<'_>,
+    spans: &[Span],
+    active: &[usize],
+) -> Result<Vec<usize>, AllocError>
+    requires range { row.now.offset + row.now.length < 2 ^ 32 }
+    requires ordered { All (λ span. span.start ≤ span.end) spans.now }
+    ensures { IfOk result (λ places. places.items ≡ filter (λ at. is_multi_row row.now.offset row.now.length (span_at spans.now at)) active.now) }
+{
+    let places = active
+        .iter()
+        .copied()
+        .filter(|at| is_multi_row(row, span_at(spans, *at)))
+        .collect(alloc)?;
+    Ok(places)
+}
+
+/// The most bars that stand beside one row.
+fn gutter_of(rows: &[RowPlan<'_>]) -> usize
+    ensures { result ≡ gutter_of (map row_plan_view rows.now) }
+{
+    let mut most: usize = 0;
+    for row in rows {
+        most = most.max(row.bars.len());
+    }
+    most
+}

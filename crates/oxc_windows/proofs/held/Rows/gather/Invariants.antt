@@ -1,0 +1,17 @@
+use Rattle.std.proofs.Common.{◌-◌, ◌≡◌, ◌+◌, ◌≤◌, ◌⊎◌}
+use Rattle.oxc_windows.specs.Held.{IsHeld}
+use Rattle.oxc_windows.specs.Rows.{row_start}
+use Rattle.oxc_windows.proofs.held.Rows.gather.Given as goal
+
+abbrev pub invariant-loop-self : goal.invariant-loop-self
+invariant-loop-self g l = record {
+  held : IsHeld (g.S.BreakSource.size l.source) (g.S.BreakSource.breaks l.source) l.self.top l.self.known l.self.starts.items l.self.heads.items;
+  top : l.self.top ≡ l.initial.self.top;
+  ticks : l.steps + l.initial.self.known ≡ l.initial.steps + l.self.known;
+  most : (l.self.known ≡ l.initial.self.known) ⊎ (l.self.known ≤ row_start (g.S.BreakSource.size l.source) (g.S.BreakSource.breaks l.source) (l.initial.self.top + l.want));
+  whole : l.len ≡ g.S.BreakSource.size l.source;
+  further : l.initial.self.known ≤ l.self.known;
+}
+
+abbrev pub decreases-loop-self : goal.decreases-loop-self
+decreases-loop-self g l = l.len - l.self.known

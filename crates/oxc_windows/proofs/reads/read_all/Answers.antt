@@ -1,0 +1,28 @@
+use Rattle.std.proofs.Common.{ap, ◌∙◌, ◌≡◌, ◌∷◌, drop, get_or, ◌+◌}
+use Rattle.oxc_windows.specs.Window.{window_of}
+use Rattle.oxc_windows.proofs.TotalLemmas.{front, value_step, first_step, not_before_now, total_at_end}
+use Rattle.oxc_windows.specs.Index.{index_view}
+use Rattle.oxc_windows.proofs.reads.read_all.Goals as goal
+
+pub loop-i-preserved : goal.loop-i-preserved
+loop-i-preserved g c =
+    let n = g.S.BreakSource.size c.args.source.now in
+    let list = g.S.BreakSource.breaks c.args.source.now in
+    let s = get_or c.args.spans.now c.loop-i.i (record { start = 0; end = 0 }) in
+    let here : drop c.loop-i.i c.args.spans.now ≡ s ∷ drop (c.loop-i.i + 1) c.args.spans.now = front c.args.spans.now c.loop-i.i (record { start = 0; end = 0 }) c.loop-i-test.true in
+    record {
+      index = c.read_next.ensures.index;
+      before = c.read_next.ensures.before ∙ c.loop-i.invariant.before;
+      after = c.read_next.ensures.after ∙ c.loop-i.invariant.after;
+      value = value_step n list c.args.index.now.before c.args.index.now.after c.loop-i.found.items c.push.new.self.items _ c.in_ok-window.window s _ _ c.in_ok-push.ensures.items
+          (c.in_ok-window.ensures.value ∙ ap (λ b. window_of n list b c.loop-i.index.after s.start s.end) c.loop-i.invariant.before ∙ ap (λ a. window_of n list c.args.index.now.before a s.start s.end) c.loop-i.invariant.after)
+          here c.loop-i.invariant.value;
+      first = first_step n c.loop-i.index.first c.read_next.new.index.first s (drop (c.loop-i.i + 1) c.args.spans.now) (drop c.loop-i.i c.args.spans.now) c.in_ok-window.ensures.first here ∙ c.loop-i.invariant.first;
+      spent = λ forward. c.in_ok-window.ensures.spent c.args.steps.now
+          (not_before_now n c.loop-i.index.first _ (drop c.loop-i.i c.args.spans.now) s c.loop-i.invariant.first (forward c.loop-i.i (record { start = 0; end = 0 }) c.loop-i-test.true))
+          (c.loop-i.invariant.spent forward);
+    }
+
+pub returns-clause-total : goal.returns-clause-total
+returns-clause-total g c = λ forward.
+    total_at_end (g.S.BreakSource.size c.args.source.now) c.args.steps.now c.loop-i.i c.loop-i.index.first _ (index_view c.loop-i.index).left c.loop-i.steps c.args.spans.now c.loop-i-test.false c.loop-i.invariant.first (c.loop-i.invariant.spent forward)

@@ -1,0 +1,198 @@
+//! The lazy index: windows of rows, from breaks that are looked for once.
+ghost use Rattle.std.specs.Prelude.{◌≡◌, ℕ, ◌*◌, true, Some, None, ◌↔◌, IsNone, IsSome, IfSome, ◌+◌, ◌<◌, ◌≤◌, List, [], IfOk, OnOk, OnErr, Ok};
+ghost use Rattle.oxc_windows.specs.declared.breaks.LineBreak.{LineBreak};
+ghost use Rattle.oxc_windows.specs.Window.{first_row, window_of};
+ghost use Rattle.oxc_windows.specs.Kept.{AllStay, AreKept, AreKeptUpTo, first_after};
+ghost use Rattle.oxc_windows.specs.Index.{IsIndexOf, index_view, is_served};
+
+use crate::held::Rows;
+use crate::seed::seeded;
+use crate::{BreakSource, Steps, Window};
+use oxc_span::Span;
+use std::alloc::{AllocError, Global};
+use std::sync::ledger::Ledger;
+
+/// The rows of a source, as far as windows of it were asked for: each byte is looked at once, and a later window of the rows
+/// held costs a search among them.
+///
+/// An index holds no source: each read is handed one, and each source that is handed in has the same length and breaks.
+#[derive(Drop)]
+pub struct WindowIndex {
+    alloc: Global,
+    before: usize,
+    after: usize,
+    first: Option<usize>,
+    rows: Rows,
+    len: usize,
+}
+
+impl WindowIndex {
+    /// An empty index, for windows with so many rows of context before and after a span. It takes no memory.
+    pub fn new(alloc: Global, before: usize, after: usize) -> Self
+        ensures empty { (len : ℕ) (breaks : List LineBreak) → IsIndexOf len breaks result }
+        ensures view { index_view result ≡ record { before = before; after = after; first = None; left = 0; kept = [] } }
+    {
+        WindowIndex {
+            alloc,
+            before,
+            after,
+            first: None,
+            rows: Rows {
+                starts: Vec::new(alloc),
+                heads: Vec::new(alloc),
+                top: 0,
+                known: 0,
+            },
+            len: 0,
+        }
+    }
+
+    /// The row starts that the index keeps, ascending: offsets in bytes.
+    pub fn kept(&self) -> &[u32]
+        ensures { result.now ≡ (index_view self.now).kept }
+    {
+        &self.rows.starts
+    }
+
+    /// The window of the first span.
+    fn read_first<L: Ledger, S: BreakSource<L>>(
+        &mut self,
+        source: &S,
+        start: usize,
+        end: usize,
+        steps: &mut Steps<L>,
+    ) -> Result<Window, AllocError>
+        requires index { IsIndexOf (S.size source.now) (S.breaks source.now) self.old }
+        requires first { self.old.first ≡ None }
+        requires ordered { start ≤ end }
+        requires within { end ≤ S.size source.now }
+        ensures index { IsIndexOf (S.size source.now) (S.breaks source.now) self.new }
+        ensures before { self.new.before ≡ self.old.before }
+        ensures after { self.new.after ≡ self.old.after }
+        ensures first { OnOk result (self.new.first ≡ Some start) }
+        ensures unchanged { OnErr result (self.new ≡ self.old) }
+        ensures value { IfOk result (λ w. window_of (S.size source.now) (S.breaks source.now) self.old.before self.old.after start end ≡ Some w) }
+        ensures ticks { OnOk result (steps.new + (index_view self.new).left ≤ steps.old + S.size source.now + start + 2) }
+        ensures held { IfOk result (λ w. w.end ≤ self.new.rows.known) }
+    {
+        let mut rows = seeded(self.alloc, source, self.before, start, steps)?;
+        let window = rows.answer(source, self.before, self.after, start, end, steps)?;
+        self.rows = rows;
+        self.len = source.len();
+        self.first = Some(start);
+        Ok(window)
+    }
+
+    /// Whether the rows of a span's window are held, or follow those held.
+    fn serves(&self, start: usize) -> bool
+        ensures { result ≡ is_served self.now.rows.top self.now.before self.now.rows.starts.items start }
+    {
+        if self.rows.top == 0 {
+            return true;
+        }
+        match self.rows.starts.get(self.before) {
+            Some(s) => *s as usize <= start,
+            None => false,
+        }
+    }
+
+    /// The window of a span that is served.
+    fn read_on<L: Ledger, S: BreakSource<L>>(
+        &mut self,
+        source: &S,
+        start: usize,
+        end: usize,
+        steps: &mut Steps<L>,
+    ) -> Result<Window, AllocError>
+        requires index { IsIndexOf (S.size source.now) (S.breaks source.now) self.old }
+        requires first { IsSome self.old.first }
+        requires served { is_served self.old.rows.top self.old.before self.old.rows.starts.items start ≡ true }
+        requires ordered { start ≤ end }
+        requires within { end ≤ S.size source.now }
+        ensures index { IsIndexOf (S.size source.now) (S.breaks source.now) self.new }
+        ensures before { self.new.before ≡ self.old.before }
+        ensures after { self.new.after ≡ self.old.after }
+        ensures first { self.new.first ≡ self.old.first }
+        ensures value { IfOk result (λ w. window_of (S.size source.now) (S.breaks source.now) self.old.before self.old.after start end ≡ Some w) }
+        ensures ticks { OnOk result (steps.new + (index_view self.new).left ≡ steps.old + (index_view self.old).left) }
+        ensures held { IfOk result (λ w. w.end ≤ self.new.rows.known) }
+        ensures most { IfOk result (λ w. steps.new ≤ steps.old + w.end) }
+        ensures left { (index_view self.new).left ≤ (index_view self.old).left }
+        ensures stay { AllStay self.old.rows.starts.items self.new.rows.starts.items }
+    {
+        self.rows
+            .answer(source, self.before, self.after, start, end, steps)
+    }
+
+    /// The window of a span above the rows held.
+    fn read_afresh<L: Ledger, S: BreakSource<L>>(
+        &self,
+        source: &S,
+        start: usize,
+        end: usize,
+        steps: &mut Steps<L>,
+    ) -> Result<Window, AllocError>
+        requires ordered { start ≤ end }
+        requires within { end ≤ S.size source.now }
+        ensures value { IfOk result (λ w. window_of (S.size source.now) (S.breaks source.now) self.now.before self.now.after start end ≡ Some w) }
+        ensures ticks { IfOk result (λ w. steps.new ≤ steps.old + 2 * w.end + 2) }
+    {
+        let mut rows = seeded(self.alloc, source, self.before, start, steps)?;
+        rows.answer(source, self.before, self.after, start, end, steps)
+    }
+
+    /// The window of a span whose start is not after its end. There is none exactly where the span ends past the source.
+    ///
+    /// The first span that has a window is looked for from the source's start; from then on the index looks further from the
+    /// place where it stopped. A span above the rows held is looked for afresh, and leaves the index as it was.
+    ///
+    /// # Errors
+    ///
+    /// Want of memory, which changes no later answer.
+    pub fn read<L: Ledger, S: BreakSource<L>>(
+        &mut self,
+        source: &S,
+        span: Span,
+        steps: &mut Steps<L>,
+    ) -> Result<Option<Window>, AllocError>
+        requires index { IsIndexOf (S.size source.now) (S.breaks source.now) self.old }
+        requires ordered { span.start ≤ span.end }
+        ensures index { IsIndexOf (S.size source.now) (S.breaks source.now) self.new }
+        ensures before { (index_view self.new).before ≡ (index_view self.old).before }
+        ensures after { (index_view self.new).after ≡ (index_view self.old).after }
+        // the window by its definition, over the source's length and breaks alone
+        ensures value { IfOk result (λ w. w ≡ window_of (S.size source.now) (S.breaks source.now) (index_view self.old).before (index_view self.old).after span.start span.end) }
+        ensures none { IfOk result (λ w. IsNone w ↔ (S.size source.now < span.end)) }
+        // a refused span
+        ensures refused { S.size source.now < span.end → result ≡ Ok None }
+        ensures unchanged { S.size source.now < span.end → self.new ≡ self.old }
+        ensures free { S.size source.now < span.end → steps.new ≡ steps.old }
+        // what is kept
+        ensures first { OnOk result ((index_view self.new).first ≡ first_after (S.size source.now) (index_view self.old).first span.start span.end) }
+        ensures first_stays { OnErr result ((index_view self.new).first ≡ (index_view self.old).first) }
+        ensures kept { AreKept (S.size source.now) (S.breaks source.now) (index_view self.old).before (index_view self.new).first (index_view self.new).kept }
+        ensures stay { AllStay (index_view self.old).kept (index_view self.new).kept }
+        ensures held { (first : ℕ) → (index_view self.new).first ≡ Some first → first ≤ span.start → IfOk result (λ found. IfSome found (λ w. AreKeptUpTo (S.size source.now) (S.breaks source.now) (first_row (S.breaks source.now) (index_view self.old).before first) (index_view self.new).kept w.end)) }
+        // what it costs
+        ensures ticks_first { span.end ≤ S.size source.now → (index_view self.old).first ≡ None → OnOk result (steps.new + (index_view self.new).left ≤ steps.old + S.size source.now + span.start + 2) }
+        ensures ticks_later { (first : ℕ) → (index_view self.old).first ≡ Some first → first ≤ span.start → OnOk result (steps.new + (index_view self.new).left ≤ steps.old + (index_view self.old).left) }
+        ensures ticks_before { (first : ℕ) → (index_view self.old).first ≡ Some first → span.start < first → IfOk result (λ found. IfSome found (λ w. steps.new ≤ steps.old + 2 * w.end + 2)) }
+        ensures left { IsSome (index_view self.old).first → (index_view self.new).left ≤ (index_view self.old).left }
+    {
+        let start = span.start as usize;
+        let end = span.end as usize;
+        if end > source.len() {
+            return Ok(None);
+        }
+        if self.first.is_none() {
+            let window = self.read_first(source, start, end, steps)?;
+            return Ok(Some(window));
+        }
+        if self.serves(start) {
+            let window = self.read_on(source, start, end, steps)?;
+            return Ok(Some(window));
+        }
+        let window = self.read_afresh(source, start, end, steps)?;
+        Ok(Some(window))
+    }
+}
