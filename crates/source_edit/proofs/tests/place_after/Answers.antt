@@ -1,4 +1,4 @@
-use Rattle.std.proofs.Common.{◌+◌, ◌≤◌, arith, ap}
+use Rattle.std.proofs.Common.{arith, ap}
 use Rattle.oxc_span.specs.Label.{label_end}
 use Rattle.oxc_span.specs.declared.span.Span.{Span}
 use Rattle.source_edit.specs.Edits.{change_of}
