@@ -1,3 +1,11 @@
+mod JsonEscapeLemmas
+mod JsonPlaceLemmas
+mod JsonSpaced
+mod JsonReading
+mod StripsColors
+mod LinesColors
+mod ShownColors
+mod SnippetColors
 pub mod SettingLemmas
 pub mod CellsLemmas
 pub mod MarksLemmas

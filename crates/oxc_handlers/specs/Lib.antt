@@ -1,3 +1,11 @@
+pub mod JsonEscape
+pub mod JsonText
+pub mod JsonPlaces
+pub mod JsonRange
+pub mod JsonValue
+pub mod JsonSent
+pub mod JsonView
+pub mod Colors
 pub mod Theme
 pub mod Cells
 pub mod Setting

@@ -8,7 +8,7 @@ use Rattle.oxc_windows.specs.Breaks.{breaks_of}
 use Rattle.oxc_windows.specs.Kept.{AllStay, AreKept, AreKeptUpTo, first_after}
 use Rattle.oxc_windows.specs.Scan.{IsSameReader, KeepsUpTo, Scan}
 use Rattle.oxc_windows.specs.Window.{first_row}
-use Rattle.oxc_plan.specs.Keeping.{KeepsRows, KeepsTrueRows, ReadsOn}
+use Rattle.oxc_plan.specs.Keeping.{KeepsRows, ReadsOn}
 use Rattle.oxc_plan.specs.Scanned.{ReadsRound, ReadsTextRound}
 
 same_then : (a b c : Scan) → IsSameReader a b → IsSameReader b c → IsSameReader a c

@@ -12,3 +12,4 @@ pub mod Scanned
 pub mod Sweep
 pub mod Drawable
 pub mod Keeping
+pub mod Measuring

@@ -8,6 +8,7 @@ pub mod ReadLemmas
 pub mod ListLemmas
 pub mod HeldLemmas
 pub mod BackLemmas
+pub mod GuessLemmas
 pub mod SeenLemmas
 pub mod ExactLemmas
 pub mod StartsLemmas

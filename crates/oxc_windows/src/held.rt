@@ -5,7 +5,7 @@ ghost use Rattle.oxc_windows.specs.Window.{window_of, window_end};
 ghost use Rattle.oxc_windows.specs.Held.{IsHeld, past};
 ghost use Rattle.oxc_windows.specs.Seen.{AreInOrder, heads_before, row_seen, seen, settled_seen};
 
-use crate::seen::{at_or, column_seen, end_seen, heads_before, row_seen};
+use crate::seen::{at_or, column_seen, end_seen, heads_before, row_near};
 use crate::{BreakSource, LineBreak, Steps, Window};
 use std::alloc::AllocError;
 use std::sync::ledger::Ledger;
@@ -117,14 +117,15 @@ impl Rows {
         Ok(())
     }
 
-    /// Searches as far as the window of a span that ends there goes.
+    /// Searches as far as the window of a span that ends there goes, and guesses how many of the breaks then held start before
+    /// that end.
     fn search_for<L: Ledger, S: BreakSource<L>>(
         &mut self,
         source: &S,
         after: usize,
         end: usize,
         steps: &mut Steps<L>,
-    ) -> Result<(), AllocError>
+    ) -> Result<usize, AllocError>
         requires held { IsHeld (S.size source.now) (S.breaks source.now) self.old.top self.old.known self.old.starts.items self.old.heads.items }
         requires within { end ≤ S.size source.now }
         requires low { row_start (S.size source.now) (S.breaks source.now) self.old.top ≤ end }
@@ -138,12 +139,13 @@ impl Rows {
     {
         let upto = end.saturating_sub(1) + 1;
         self.reach(source, source.len().min(upto), steps)?;
+        let below = heads_before(&self.heads, upto);
         if after == 0 {
-            return Ok(());
+            return Ok(below);
         }
-        let want = (heads_before(&self.heads, upto) + 1).saturating_add(after);
+        let want = (below + 1).saturating_add(after);
         self.gather(source, want, steps)?;
-        Ok(())
+        Ok(below)
     }
 
     /// The window of a span whose first row is held or follows those held, and the searches that it takes.
@@ -170,13 +172,21 @@ impl Rows {
         ensures most { IfOk result (λ w. (self.new.known ≡ self.old.known) ⊎ (self.new.known ≤ w.end)) }
         ensures low { IfOk result (λ w. end ≤ w.end) }
     {
-        self.search_for(source, after, end, steps)?;
-        Ok(self.window(source.len(), before, after, start, end))
+        let below = self.search_for(source, after, end, steps)?;
+        Ok(self.window(source.len(), below, before, after, start, end))
     }
 
-    /// The window of a span, from the rows held.
+    /// The window of a span, from the rows held, with a guess of how many breaks start before its end.
     #[tactic(auto, unfolding(crate::specs::Seen::seen))]
-    fn window(&self, len: usize, before: usize, after: usize, start: usize, end: usize) -> Window
+    fn window(
+        &self,
+        len: usize,
+        guess: usize,
+        before: usize,
+        after: usize,
+        start: usize,
+        end: usize,
+    ) -> Window
         requires rising { AreInOrder self.now.starts.items self.now.heads.items }
         requires short { len < 2 ^ 32 }
         requires bound { self.now.top + length self.now.starts.items ≤ 2 ^ 32 }
@@ -186,9 +196,10 @@ impl Rows {
         requires column { slice_index_or self.now.starts.items (row_seen self.now.starts.items start) len ≤ settled_seen self.now.starts.items self.now.heads.items start }
         ensures { result ≡ seen len self.now.top self.now.starts.items self.now.heads.items before after start end }
     {
-        let place = row_seen(&self.starts, start);
+        let place = row_near(&self.starts, guess, start);
         let line = (self.top + place).saturating_sub(before);
-        let stop = end_seen(len, &self.starts, &self.heads, after, end);
+        let stop = end_seen(len, &self.starts, &self.heads, guess, after, end);
+        let last = guess.saturating_add(after).saturating_add(1);
         Window {
             begin: if before == 0 {
                 start
@@ -202,7 +213,7 @@ impl Rows {
             } else {
                 0
             },
-            line_count: self.top + row_seen(&self.starts, stop),
+            line_count: self.top + row_near(&self.starts, last.min(self.heads.len()), stop),
         }
     }
 }

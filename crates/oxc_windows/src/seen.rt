@@ -1,5 +1,5 @@
 //! What the rows that are held say of places.
-ghost use Rattle.std.specs.Prelude.{◌≡◌, ◌+◌, ◌-◌, ◌^◌, ◌<◌, ◌≤◌, length, slice_index_or};
+ghost use Rattle.std.specs.Prelude.{◌≡◌, ◌⊎◌, ◌+◌, ◌-◌, ◌^◌, ◌<◌, ◌≤◌, IsTrue, length, slice_index_or};
 ghost use Rattle.std.specs.List.Sorted.{IsNonDecreasing};
 ghost use Rattle.oxc_windows.specs.Seen.{AreInOrder, column_seen, end_seen, heads_before, is_first_seen, is_second_seen, row_seen, settled_seen};
 
@@ -14,7 +14,7 @@ pub fn at_or(list: &[u32], place: usize, other: usize) -> usize
 }
 
 /// The row of an offset, counted from the first row held.
-pub fn row_seen(starts: &[u32], offset: usize) -> usize
+fn row_seen(starts: &[u32], offset: usize) -> usize
     requires { IsNonDecreasing starts.now }
     ensures exact { result ≡ row_seen starts.now offset }
     ensures bound { result ≤ length starts.now - 1 }
@@ -23,8 +23,30 @@ pub fn row_seen(starts: &[u32], offset: usize) -> usize
     upto.saturating_sub(1)
 }
 
-/// How many of the breaks held start before a place.
-pub fn heads_before(heads: &[u32], to: usize) -> usize
+/// Whether a row has an offset.
+fn is_row_of(starts: &[u32], row: usize, offset: usize) -> bool
+    ensures { IsTrue result → (row < length starts.now) × (slice_index_or starts.now row 0 ≤ offset) × (offset < slice_index_or starts.now (row + 1) 18446744073709551615) }
+{
+    row < starts.len()
+        && at_or(starts, row, 0) <= offset
+        && offset < at_or(starts, row + 1, usize::MAX)
+}
+
+/// The row of an offset. Where the guess is right, it costs no search.
+#[tactic(auto, using(crate::proofs::GuessLemmas::row_guessed))]
+pub fn row_near(starts: &[u32], guess: usize, offset: usize) -> usize
+    requires { IsNonDecreasing starts.now }
+    ensures exact { result ≡ row_seen starts.now offset }
+    ensures bound { result ≤ length starts.now - 1 }
+{
+    if is_row_of(starts, guess, offset) {
+        return guess;
+    }
+    row_seen(starts, offset)
+}
+
+/// How many of some breaks start before a place.
+fn count_before(heads: &[u32], to: usize) -> usize
     requires { IsNonDecreasing heads.now }
     ensures exact { result ≡ heads_before heads.now to }
     ensures bound { result ≤ length heads.now }
@@ -32,14 +54,49 @@ pub fn heads_before(heads: &[u32], to: usize) -> usize
     heads.partition_point(|h| (*h as usize) < to)
 }
 
+/// How many of the breaks held start before a place. It looks first among the last eight.
+pub fn heads_before(heads: &[u32], to: usize) -> usize
+    requires { IsNonDecreasing heads.now }
+    ensures exact { result ≡ heads_before heads.now to }
+    ensures bound { result ≤ length heads.now }
+{
+    let tail = heads.len().saturating_sub(8);
+    if at_or(heads, tail, usize::MAX) < to {
+        return tail + count_before(&heads[tail..], to);
+    }
+    count_before(heads, to)
+}
+
+/// Whether so many breaks start before a place.
+fn is_count_of(heads: &[u32], count: usize, to: usize) -> bool
+    ensures { IsTrue result → (count ≤ length heads.now) × ((count ≡ 0) ⊎ (slice_index_or heads.now (count - 1) 0 < to)) × (to ≤ slice_index_or heads.now count 18446744073709551615) }
+{
+    count <= heads.len()
+        && (count == 0 || at_or(heads, count - 1, 0) < to)
+        && to <= at_or(heads, count, usize::MAX)
+}
+
+/// How many of the breaks held start before a place. Where the guess is right, it costs no search.
+#[tactic(auto, using(crate::proofs::GuessLemmas::count_guessed))]
+fn heads_near(heads: &[u32], guess: usize, to: usize) -> usize
+    requires { IsNonDecreasing heads.now }
+    ensures exact { result ≡ heads_before heads.now to }
+    ensures bound { result ≤ length heads.now }
+{
+    if is_count_of(heads, guess, to) {
+        return guess;
+    }
+    heads_before(heads, to)
+}
+
 /// Whether a place is the CR of a CRLF held.
 #[tactic(auto, unfolding(crate::specs::Seen::is_first_seen))]
-fn is_first_seen(starts: &[u32], heads: &[u32], at: usize) -> bool
+fn is_first_seen(starts: &[u32], heads: &[u32], guess: usize, at: usize) -> bool
     requires order { AreInOrder starts.now heads.now }
     requires short { at + 2 < 2 ^ 64 }
     ensures { result ≡ is_first_seen starts.now heads.now at }
 {
-    let row = heads_before(heads, at);
+    let row = heads_near(heads, guess, at);
     at_or(heads, row, 0) == at && at_or(starts, row + 1, 0) == at + 2
 }
 
@@ -81,9 +138,16 @@ pub fn column_seen(len: usize, starts: &[u32], heads: &[u32], row: usize, offset
     settled_seen(starts, heads, row, offset) - at_or(starts, row, len)
 }
 
-/// Where the window of a span ends that ends within the source.
+/// Where the window of a span ends that ends within the source. The guess is of the breaks that start before its end.
 #[tactic(auto, using(crate::proofs::StartsLemmas::seen_saturated), unfolding(crate::specs::Seen::end_seen))]
-pub fn end_seen(len: usize, starts: &[u32], heads: &[u32], after: usize, end: usize) -> usize
+pub fn end_seen(
+    len: usize,
+    starts: &[u32],
+    heads: &[u32],
+    guess: usize,
+    after: usize,
+    end: usize,
+) -> usize
     requires order { AreInOrder starts.now heads.now }
     requires short { len < 2 ^ 32 }
     requires bound { length starts.now ≤ 2 ^ 32 }
@@ -92,12 +156,12 @@ pub fn end_seen(len: usize, starts: &[u32], heads: &[u32], after: usize, end: us
 {
     let last = end.saturating_sub(1);
     if after == 0 {
-        return if is_first_seen(starts, heads, last) {
+        return if is_first_seen(starts, heads, guess, last) {
             last + 2
         } else {
             len.min(last + 1)
         };
     }
-    let below = heads_before(heads, last + 1) + 1;
+    let below = heads_near(heads, guess, last + 1) + 1;
     at_or(starts, after.saturating_add(below), len)
 }

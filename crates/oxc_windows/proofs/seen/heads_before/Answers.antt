@@ -1,13 +1,14 @@
-use Rattle.std.proofs.Common.{rules, arith, ltb, sym}
-use Rattle.std.proofs.lemmas.List.Sorted.{IsPartitionPoint-from_clause, IsPartitionedBy-ltb}
+use Rattle.std.proofs.Common.{arith, ap, ◌∙◌, ◌+◌, ◌-◌, ◌<◌, drop, length, subst}
+use Rattle.std.proofs.lemmas.List.{length-drop, take_all}
 use Rattle.oxc_windows.specs.Seen.{heads_before}
-use Rattle.oxc_windows.proofs.Counting.{count_by_cut}
+use Rattle.oxc_windows.proofs.GuessLemmas.{count_tail}
 use Rattle.oxc_windows.proofs.seen.heads_before.Goals as goal
 
-pub returns-clause-exact : goal.returns-clause-exact
-unfolding heads_before
-returns-clause-exact c =
-    let parted = IsPartitionedBy-ltb (λ h. h) _ c.args.to c.requires in
-    let point = IsPartitionPoint-from_clause (λ h. ltb h c.args.to) _ _ c.partition_point.ensures.partitioned parted (λ a r q k. search rules) in
-    sym (count_by_cut (λ h. ltb h c.args.to) c.args.heads.now c.partition_point.result c.partition_point.ensures.bound
-    (λ k d h. point.0 k d (omega arith) h) (λ k d low high. point.1 k d low high))
+pub returns-then-at_or-to-clause-exact : goal.returns-then-at_or-to-clause-exact
+returns-then-at_or-to-clause-exact c =
+    let tail = c.saturating_sub-tail.result in
+    let heads = c.args.heads.now in
+    let low = subst (λ v. v < c.args.to) c.at_or.ensures c.if-at_or-to.true in
+    ap (λ n. tail + n) c.count_before.ensures.exact
+    ∙ ap (λ l. tail + heads_before l c.args.to) (take_all (length heads - tail) (drop tail heads) (omega (arith, length-drop tail heads)))
+    ∙ count_tail heads tail c.args.to c.requires (omega (arith, c.saturating_sub-tail.ensures)) low (omega (arith, c.ranges.to))

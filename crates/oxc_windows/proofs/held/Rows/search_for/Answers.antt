@@ -9,8 +9,8 @@ use Rattle.oxc_windows.proofs.AnswerLemmas.{heads_same, wanted_row}
 use Rattle.oxc_windows.proofs.MostLemmas.{near_end, start_rises, window_row}
 use Rattle.oxc_windows.proofs.held.Rows.search_for.Goals as goal
 
-pub heads_before-requires : goal.heads_before-requires
-heads_before-requires g c =
+pub heads_before-below-requires : goal.heads_before-below-requires
+heads_before-below-requires g c =
     subst IsNonDecreasing (sym c.deref.ensures.value) (noted_order _ _ _ _ (noted _ _ _ _ _ _ (g.met.S.BreakSource.valid c.args.source.now).ordered c.reach.ensures.held)).breaks
 
 pub returns-clause-gathered : goal.returns-clause-gathered
@@ -24,8 +24,8 @@ returns-clause-gathered g c =
     let top : c.gather.new.self.top ≡ c.reach.new.self.top = c.gather.ensures.top in
     let same = heads_same n list c.reach.new.self.top c.reach.new.self.known c.gather.new.self.known c.reach.new.self.starts.items c.gather.new.self.starts.items c.reach.new.self.heads.items c.gather.new.self.heads.items upto
     (g.met.S.BreakSource.valid c.args.source.now) c.reach.ensures.held (rw (← top) c.gather.ensures.held) low reached c.in_ok-gather.ensures.further in
-    let counted : c.heads_before.result ≡ heads_before c.reach.new.self.heads.items upto =
-    c.heads_before.ensures.exact ∙ ap (λ l. heads_before l (c.saturating_sub-upto.result + 1)) c.deref.ensures.value ∙ ap (λ v. heads_before c.reach.new.self.heads.items (v + 1)) c.saturating_sub-upto.ensures in
+    let counted : c.heads_before-below.result ≡ heads_before c.reach.new.self.heads.items upto =
+    c.heads_before-below.ensures.exact ∙ ap (λ l. heads_before l (c.saturating_sub-upto.result + 1)) c.deref.ensures.value ∙ ap (λ v. heads_before c.reach.new.self.heads.items (v + 1)) c.saturating_sub-upto.ensures in
     λ some short. c.in_ok-gather.ensures.reached (omega (arith, short, same, counted))
 
 pub returns-then-after-eq0-clause-most : goal.returns-then-after-eq0-clause-most
@@ -47,8 +47,8 @@ returns-clause-most g c =
     let same : past list c.min.result ≡ past list (min n upto) = ap (past list) to in
     let low : row_start n list c.reach.new.self.top ≤ upto = let e = ap (row_start n list) c.reach.ensures.top in omega (arith, e, c.requires.low) in
     let reached : min n upto ≤ c.reach.new.self.known = subst (λ v. v ≤ c.reach.new.self.known) to c.in_ok-reach.ensures.reached in
-    let counted : c.heads_before.result ≡ heads_before c.reach.new.self.heads.items upto =
-    c.heads_before.ensures.exact ∙ ap (λ l. heads_before l (c.saturating_sub-upto.result + 1)) c.deref.ensures.value ∙ ap (λ v. heads_before c.reach.new.self.heads.items (v + 1)) c.saturating_sub-upto.ensures in
+    let counted : c.heads_before-below.result ≡ heads_before c.reach.new.self.heads.items upto =
+    c.heads_before-below.ensures.exact ∙ ap (λ l. heads_before l (c.saturating_sub-upto.result + 1)) c.deref.ensures.value ∙ ap (λ v. heads_before c.reach.new.self.heads.items (v + 1)) c.saturating_sub-upto.ensures in
     let row = wanted_row n list c.reach.new.self.top c.reach.new.self.known c.reach.new.self.starts.items c.reach.new.self.heads.items upto c.args.after (g.met.S.BreakSource.valid c.args.source.now) c.reach.ensures.held low reached in
     let rises = start_rises n list (c.reach.new.self.top + c.saturating_add-want.result) (started list upto + c.args.after + 1) (g.met.S.BreakSource.valid c.args.source.now) (omega (arith, row, counted, c.saturating_add-want.ensures)) in
     let stop = window_row n list c.args.after c.args.end (g.met.S.BreakSource.valid c.args.source.now).ordered (omega (arith, c.if-after-eq0.false)) in

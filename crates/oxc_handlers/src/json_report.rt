@@ -1,0 +1,143 @@
+//! Reports as JSON, for programs to read.
+ghost use Rattle.std.specs.Prelude.{◌≡◌, ◌++◌, ◌≤◌, OnOk, IfOk, IfErr, IsErrOf, string_bytes, All};
+ghost use Rattle.std.specs.Option.{option_copied};
+ghost use Rattle.std.specs.Io.KnownBytes.{Appends};
+ghost use Rattle.oxc_protocol.specs.Faults.{Rose};
+ghost use Rattle.oxc_protocol.specs.SourceViews.{ref_views};
+ghost use Rattle.oxc_handlers.specs.JsonView.{with_url};
+ghost use Rattle.oxc_handlers.specs.JsonText.{details, file_name, json_of, severity_name as word_for, source_bytes};
+ghost use Rattle.oxc_handlers.specs.JsonValue.{ReadsBack};
+ghost use Rattle.oxc_handlers.specs.JsonSent.{LeavesJson};
+ghost use Rattle.oxc_handlers.specs.JsonRange.{IsInRange};
+
+mod escape;
+mod labels;
+mod members;
+mod places;
+
+pub use crate::json_report::escape::escaped_text_comes_back;
+use crate::json_report::labels::push_labels_member;
+use crate::json_report::members::{push_optional, push_text};
+use crate::{DiagnosticView, RenderError};
+use oxc_protocol::{Diagnostic, Severity, Sink, SourceRef, write_all};
+use std::alloc::{AllocError, Global};
+
+/// Renders diagnostics as JSON, one object each. It has no options.
+#[derive(Clone, Copy, Debug, Default)]
+pub struct JSONReportHandler;
+
+impl JSONReportHandler {
+    /// The handler.
+    #[must_use]
+    pub fn new() -> Self
+        ensures { result ≡ record {} }
+    {
+        JSONReportHandler
+    }
+
+    /// Sends a diagnostic to the sink as one JSON object, with no line break behind it.
+    ///
+    /// The whole text is built before its first byte goes out. No diagnostic is refused: a label that ends past
+    /// its source has no line and no column.
+    ///
+    /// # Errors
+    ///
+    /// `OutOfMemory`, and nothing was written; `SinkFault`, and the sink took a first part of the text.
+    pub fn render_report<K: Sink>(
+        &self,
+        alloc: Global,
+        sink: &mut K,
+        diagnostic: &dyn Diagnostic,
+    ) -> Result<(), RenderError>
+        ensures sent { OnOk result (Appends (K.received sink.old) (K.received sink.new) (json_of (parts diagnostic.now))) }
+        ensures reads_back { OnOk result (ReadsBack (parts diagnostic.now)) }
+        ensures left { IfErr result (LeavesJson (K.received sink.old) (K.received sink.new) (json_of (parts diagnostic.now))) }
+        ensures fault { IsErrOf result RenderError.SinkFault → Rose (K.faults sink.old) (K.faults sink.new) }
+        ensures later { K.faults sink.old ≤ K.faults sink.new }
+    {
+        let text = json_text(alloc, diagnostic)?;
+        write_all(sink, text.as_bytes())?;
+        Ok(())
+    }
+}
+
+// The JSON of a diagnostic.
+fn json_text(alloc: Global, diagnostic: &dyn Diagnostic) -> Result<String, AllocError>
+    ensures text { IfOk result (λ text. string_bytes text ≡ json_of (parts diagnostic.now)) }
+    ensures reads_back { OnOk result (ReadsBack (parts diagnostic.now)) }
+{
+    let code = diagnostic.code(alloc)?;
+    let view = DiagnosticView {
+        message: diagnostic.message(),
+        code: code.as_deref(),
+        severity: diagnostic.severity(),
+        help: diagnostic.help(),
+        note: diagnostic.note(),
+        source: diagnostic.source_code(),
+        labels: diagnostic.labels(),
+    };
+    let mut text = String::new(alloc);
+    push_json(&mut text, alloc, &view, diagnostic.url())?;
+    Ok(text)
+}
+
+/// Appends a report as one JSON object, with no line break behind it.
+///
+/// A view has no url, so that comes beside it. What is appended is read back, as JSON, as the value that is meant.
+///
+/// # Errors
+///
+/// Want of memory.
+#[tactic(auto, unfolding(crate::specs::JsonText::json_of))]
+pub fn push_json(
+    out: &mut String,
+    alloc: Global,
+    view: &DiagnosticView<'_>,
+    url: Option<&str>,
+) -> Result<(), AllocError>
+    ensures text { OnOk result (string_bytes out.new ≡ string_bytes out.old ++ json_of (with_url view.now (option_copied url.entry))) }
+    ensures reads_back { OnOk result (ReadsBack (with_url view.now (option_copied url.entry))) }
+{
+    out.push_str("{")?;
+    push_text(out, "message", view.message)?;
+    push_optional(out, "code", view.code)?;
+    push_text(out, "severity", severity_name(view.severity))?;
+    push_details(out, view, url)?;
+    push_labels_member(out, alloc, view.source, view.labels)?;
+    out.push_str("}")
+}
+
+#[tactic(auto, unfolding(crate::specs::JsonText::details))]
+fn push_details(
+    out: &mut String,
+    view: &DiagnosticView<'_>,
+    url: Option<&str>,
+) -> Result<(), AllocError>
+    ensures { OnOk result (string_bytes out.new ≡ string_bytes out.old ++ details (with_url view.now (option_copied url.entry))) }
+{
+    push_optional(out, "url", url)?;
+    push_optional(out, "help", view.help)?;
+    push_optional(out, "note", view.note)?;
+    push_optional(out, "filename", file_name(view.source))
+}
+
+// The word for a severity.
+fn severity_name(severity: Option<Severity>) -> &'static str
+    ensures { result.now ≡ word_for severity }
+{
+    match severity {
+        Some(Severity::Error) | None => "error",
+        Some(Severity::Warning) => "warning",
+        Some(Severity::Advice) => "advice",
+    }
+}
+
+// A source's name, which is empty where the source has none.
+fn file_name(source: Option<SourceRef<'_>>) -> Option<&str>
+    ensures { option_copied result ≡ file_name (ref_views source.entry) }
+{
+    match source {
+        Some(source) => Some(source.name().unwrap_or_default()),
+        None => None,
+    }
+}

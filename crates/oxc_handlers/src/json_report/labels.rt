@@ -1,0 +1,124 @@
+//! The labels of a report as JSON.
+ghost use Rattle.std.specs.Prelude.{◌≡◌, ◌++◌, ◌<◌, ◌^◌, OnOk, string_bytes, All};
+ghost use Rattle.std.specs.List.{flat_map};
+ghost use Rattle.oxc_protocol.specs.SourceViews.{ref_views};
+ghost use Rattle.oxc_handlers.specs.JsonText.{label_list, label_object, label_place, labels_member, later_label, place_members, source_bytes, span_object};
+ghost use Rattle.oxc_handlers.specs.JsonRange.{IsInRange};
+
+use crate::json_report::members::{push_key, push_number, push_number_member, push_optional};
+use crate::json_report::places::{Place, Places};
+use oxc_protocol::{LabeledSpan, SourceRef};
+use std::alloc::{AllocError, Global};
+
+/// Appends the member of the labels, which point into this source.
+#[tactic(auto, unfolding(crate::specs::JsonText::labels_member))]
+pub fn push_labels_member(
+    out: &mut String,
+    alloc: Global,
+    source: Option<SourceRef<'_>>,
+    labels: &[LabeledSpan],
+) -> Result<(), AllocError>
+    ensures text { OnOk result (string_bytes out.new ≡ string_bytes out.old ++ labels_member (source_bytes (ref_views source.entry)) labels.now) }
+    ensures range { OnOk result (All (IsInRange (source_bytes (ref_views source.entry))) labels.now) }
+{
+    push_key(out, "labels")?;
+    out.push_str("[")?;
+    let mut places = Places::new(alloc, source);
+    push_labels(out, &mut places, labels)?;
+    out.push_str("]")
+}
+
+// Appends the labels, with commas between.
+#[tactic(auto, unfolding(crate::specs::JsonText::label_list))]
+fn push_labels(
+    out: &mut String,
+    places: &mut Places<'_>,
+    labels: &[LabeledSpan],
+) -> Result<(), AllocError>
+    ensures text { OnOk result (string_bytes out.new ≡ string_bytes out.old ++ label_list places.old labels.now) }
+    ensures range { OnOk result (All (IsInRange places.old) labels.now) }
+{
+    let Some((label, later)) = labels.split_first() else {
+        return Ok(());
+    };
+    push_label(out, places, label)?;
+    push_later_labels(out, places, later)
+}
+
+fn push_later_labels(
+    out: &mut String,
+    places: &mut Places<'_>,
+    labels: &[LabeledSpan],
+) -> Result<(), AllocError>
+    ensures text { OnOk result (string_bytes out.new ≡ string_bytes out.old ++ flat_map (later_label places.old) labels.now) }
+    ensures range { OnOk result (All (IsInRange places.old) labels.now) }
+{
+    for label in labels {
+        push_later_label(out, places, label)?;
+    }
+    Ok(())
+}
+
+#[tactic(auto, unfolding(crate::specs::JsonText::later_label))]
+fn push_later_label(
+    out: &mut String,
+    places: &mut Places<'_>,
+    label: &LabeledSpan,
+) -> Result<(), AllocError>
+    ensures text { OnOk result (string_bytes out.new ≡ string_bytes out.old ++ later_label places.old label.now) }
+    ensures range { OnOk result (IsInRange places.old label.now) }
+    ensures same { places.new ≡ places.old }
+{
+    out.push_str(",")?;
+    push_label(out, places, label)
+}
+
+#[tactic(auto, unfolding(crate::specs::JsonText::label_object))]
+fn push_label(
+    out: &mut String,
+    places: &mut Places<'_>,
+    label: &LabeledSpan,
+) -> Result<(), AllocError>
+    ensures text { OnOk result (string_bytes out.new ≡ string_bytes out.old ++ label_object places.old label.now) }
+    ensures range { OnOk result (IsInRange places.old label.now) }
+    ensures same { places.new ≡ places.old }
+{
+    let place = places.find(label)?;
+    out.push_str("{")?;
+    push_optional(out, "label", label.label())?;
+    push_key(out, "span")?;
+    push_span(out, label, place)?;
+    out.push_str("}")
+}
+
+// Appends the bytes that a label covers, and its place.
+#[tactic(auto, unfolding(crate::specs::JsonText::span_object))]
+fn push_span(out: &mut String, label: &LabeledSpan, place: Option<Place>) -> Result<(), AllocError>
+    ensures text { OnOk result (string_bytes out.new ≡ string_bytes out.old ++ span_object place label.now) }
+    ensures range { OnOk result ((label.now.offset < 2 ^ 64) × (label.now.len < 2 ^ 64)) }
+{
+    out.push_str("{")?;
+    push_number_member(out, "offset", label.offset() as usize)?;
+    push_number_member(out, "length", label.len() as usize)?;
+    push_place(out, place)?;
+    out.push_str("}")
+}
+
+#[tactic(auto, unfolding(crate::specs::JsonText::place_members))]
+fn push_place(out: &mut String, place: Option<Place>) -> Result<(), AllocError>
+    ensures { OnOk result (string_bytes out.new ≡ string_bytes out.old ++ place_members place) }
+{
+    match place {
+        Some(place) => {
+            push_number_member(out, "line", place.line)?;
+            push_key(out, "column")?;
+            push_number(out, place.column)
+        }
+        None => {
+            push_key(out, "line")?;
+            out.push_str("null,")?;
+            push_key(out, "column")?;
+            out.push_str("null")
+        }
+    }
+}

@@ -1,0 +1,56 @@
+//! Members of JSON objects.
+ghost use Rattle.std.specs.Prelude.{◌≡◌, ◌++◌, OnOk, decimal, string_bytes};
+ghost use Rattle.std.specs.Option.{option_copied};
+ghost use Rattle.oxc_handlers.specs.JsonText.{key_text, number_member, optional_member, text_member};
+
+use crate::json_report::escape::push_escaped;
+use itoa::Buffer;
+use std::alloc::AllocError;
+
+/// Appends a key with a text, and a comma.
+#[tactic(auto, unfolding(crate::specs::JsonText::text_member))]
+pub fn push_text(out: &mut String, key: &str, text: &str) -> Result<(), AllocError>
+    ensures { OnOk result (string_bytes out.new ≡ string_bytes out.old ++ text_member key.now text.now) }
+{
+    push_key(out, key)?;
+    out.push_str("\"")?;
+    push_escaped(out, text)?;
+    out.push_str("\",")
+}
+
+/// Appends a key, and the space before its value.
+#[tactic(auto, unfolding(crate::specs::JsonText::key_text))]
+pub fn push_key(out: &mut String, key: &str) -> Result<(), AllocError>
+    ensures { OnOk result (string_bytes out.new ≡ string_bytes out.old ++ key_text key.now) }
+{
+    out.push_str("\"")?;
+    out.push_str(key)?;
+    out.push_str("\": ")
+}
+
+/// Appends a key with a text, and a comma, where there is a text.
+pub fn push_optional(out: &mut String, key: &str, text: Option<&str>) -> Result<(), AllocError>
+    ensures { OnOk result (string_bytes out.new ≡ string_bytes out.old ++ optional_member key.now (option_copied text.entry)) }
+{
+    match text {
+        Some(text) => push_text(out, key, text),
+        None => Ok(()),
+    }
+}
+
+/// Appends a key with a number, and a comma.
+#[tactic(auto, unfolding(crate::specs::JsonText::number_member))]
+pub fn push_number_member(out: &mut String, key: &str, number: usize) -> Result<(), AllocError>
+    ensures { OnOk result (string_bytes out.new ≡ string_bytes out.old ++ number_member key.now number) }
+{
+    push_key(out, key)?;
+    push_number(out, number)?;
+    out.push_str(",")
+}
+
+/// Appends a number.
+pub fn push_number(out: &mut String, number: usize) -> Result<(), AllocError>
+    ensures { OnOk result (string_bytes out.new ≡ string_bytes out.old ++ decimal number) }
+{
+    out.push_str(Buffer::new().format(number))
+}

@@ -1,0 +1,135 @@
+// Which report is refused, and where the labels of the others stand.
+ghost use Rattle.std.specs.Prelude.{◌≡◌, ◌<◌, ◌≤◌, ◌-◌, nat_lt, None, Some, map, length, IfOk, MatchResult, MatchOption, if◌then◌else◌};
+ghost use Rattle.codespan.specs.Texts.{text_of};
+ghost use Rattle.render_files.specs.declared.places.ReportError.TheVariants.{LabelReversed};
+ghost use Rattle.render_files.specs.Given.{given_label, given_report};
+ghost use Rattle.render_files.specs.Refusal.{end_offset, first_at, outside, refusal_in, refusal_of, reversed, start_offset};
+ghost use Rattle.render_files.specs.Shown.{placed, placed_labels};
+ghost use Rattle.render_files.specs.Causes.{IsRefusal};
+
+use crate::indexes::Offsets;
+use crate::places::{FileReport, PlaceLabel, ReportError};
+use codespan::{FileId, Files};
+use oxc_span::LabeledSpan;
+use std::alloc::{AllocError, Global};
+use std::ops::Range;
+
+/// Gives the labels of each report their offsets in its file's source, report by report.
+///
+/// The first report that has a fault decides, as [`ReportError`] says. `OutOfMemory` may come before any
+/// other error, and `SinkFault` never comes. A file's line index is made once for all reports, and only
+/// where a label names a row and a column of the file.
+#[tactic(auto, unfolding(crate::specs::Refusal::refusal_of))]
+pub fn place_labels(
+    alloc: Global,
+    files: &Files<String>,
+    reports: &[FileReport],
+) -> Result<Vec<Vec<LabeledSpan>>, ReportError>
+    ensures placed { IfOk result (λ spans. map (λ labels. labels.items) spans.items ≡ map (placed_labels files.now) (map given_report reports.now)) }
+    ensures cause { MatchResult result (λ _. refusal_of files.now (map given_report reports.now) ≡ None) (IsRefusal (refusal_of files.now (map given_report reports.now))) }
+{
+    let mut offsets = Offsets::new(alloc, files);
+    let mut spans = Vec::with_capacity(alloc, reports.len())?;
+    for (place, report) in reports.iter().enumerate() {
+        spans.push(place_report(alloc, &mut offsets, place, report)?)?;
+    }
+    Ok(spans)
+}
+
+/// The labels of one report.
+#[tactic(auto, unfolding(crate::specs::Refusal::refusal_in, crate::specs::Shown::placed_labels))]
+fn place_report(
+    alloc: Global,
+    offsets: &mut Offsets<'_>,
+    place: usize,
+    report: &FileReport,
+) -> Result<Vec<LabeledSpan>, ReportError>
+    ensures placed { IfOk result (λ spans. spans.items ≡ placed_labels offsets.old (given_report report.now)) }
+    ensures cause { MatchResult result (λ _. refusal_in offsets.old place (given_report report.now) ≡ None) (IsRefusal (refusal_in offsets.old place (given_report report.now))) }
+    ensures unchanged { offsets.new ≡ offsets.old }
+{
+    if !offsets.contains(report.file) {
+        return Err(ReportError::UnknownFile { report: place });
+    }
+    let mut spans = Vec::with_capacity(alloc, report.labels.len())?;
+    let mut reversed = None;
+    for (at, label) in report.labels.iter().enumerate() {
+        let range = judge_positions(offsets, place, at, report.file, label)?;
+        reversed = reversed.or(judge_order(place, at, &range));
+        if range.start <= range.end {
+            spans.push(label_at(alloc, label, &range)?)?;
+        }
+    }
+    match reversed {
+        Some(refusal) => Err(refusal),
+        None => Ok(spans),
+    }
+}
+
+/// The offsets of a label, or that of its positions that has none.
+fn judge_positions(
+    offsets: &mut Offsets<'_>,
+    report: usize,
+    label: usize,
+    file: FileId,
+    given: &PlaceLabel,
+) -> Result<Range<u32>, ReportError>
+    requires { file < length offsets.old }
+    ensures start { IfOk result (λ range. range.start ≡ start_offset (text_of offsets.old file) (given_label given.now)) }
+    ensures end { IfOk result (λ range. range.end ≡ end_offset (text_of offsets.old file) (given_label given.now)) }
+    ensures cause { MatchResult result (λ _. outside (text_of offsets.old file) report label (given_label given.now) ≡ None) (IsRefusal (outside (text_of offsets.old file) report label (given_label given.now))) }
+    ensures unchanged { offsets.new ≡ offsets.old }
+{
+    let Some(start) = offsets.start_of(file, given.place)? else {
+        return Err(ReportError::PositionOutside {
+            report,
+            label,
+            at_end: false,
+        });
+    };
+    let Some(end) = offsets.end_of(file, given.place)? else {
+        return Err(ReportError::PositionOutside {
+            report,
+            label,
+            at_end: true,
+        });
+    };
+    Ok(start..end)
+}
+
+/// Why a label with these offsets is refused, if it is.
+fn judge_order(report: usize, label: usize, range: &Range<u32>) -> Option<ReportError>
+    ensures { result ≡ (if nat_lt range.now.end range.now.start then Some (LabelReversed report label range.now.start range.now.end) else None) }
+{
+    if range.end < range.start {
+        Some(ReportError::LabelReversed {
+            report,
+            label,
+            start: range.start,
+            end: range.end,
+        })
+    } else {
+        None
+    }
+}
+
+/// A label at these offsets.
+fn label_at(
+    alloc: Global,
+    label: &PlaceLabel,
+    range: &Range<u32>,
+) -> Result<LabeledSpan, AllocError>
+    requires { range.now.start ≤ range.now.end }
+    ensures { IfOk result (λ span. span ≡ record { text = (given_label label.now).text; offset = range.now.start; len = range.now.end - range.now.start; primary = label.now.primary }) }
+{
+    let text = match &label.text {
+        Some(text) => Some(String::from_str(alloc, text.as_str())?),
+        None => None,
+    };
+    let length = range.end - range.start;
+    Ok(if label.primary {
+        LabeledSpan::primary_at(text, range.start, length)
+    } else {
+        LabeledSpan::new(text, range.start, length)
+    })
+}
