@@ -1,7 +1,7 @@
 -- The snippets of a report, and why it is refused.
 use Rattle.std.proofs.Common.{◌≡◌, ℕ, ◌<◌, ◌≤◌, nat_lt, Bool, false, get_or, List, [], Option, Some, None, IfSome, Result, Ok, Err, OnOk, All, length, refl, sym, ap, subst, ◌∙◌, arith}
-use Rattle.std.specs.Option.{option_and_then, option_map_or}
-use Rattle.std.specs.List.{position, position_or_len}
+use Rattle.std.specs.Option.{option_map_or}
+use Rattle.std.specs.List.{position_or_len}
 use Rattle.std.proofs.lemmas.Bool.Decides.{nat_tests}
 use Rattle.std.proofs.lemmas.Bool.{lt-ltb}
 use Rattle.std.proofs.lemmas.List.{nil_from_length, take_all}
@@ -104,10 +104,10 @@ leaves : (parts : Parts) (source : SourceParts) (handed_in : Option Scan) (taken
 leaves parts source handed_in taken new there is on holds =
     rw there
     (λ some.
-        record {
-          reader = record { old = taken; new = new; there = refl; taken = is; on = on };
-          holds = subst (λ bytes. HoldsLabels bytes parts.labels taken new) is.reads holds;
-        })
+    record {
+      reader = record { old = taken; new = new; there = refl; taken = is; on = on };
+      holds = subst (λ bytes. HoldsLabels bytes parts.labels taken new) is.reads holds;
+    })
 
 on_ok : {T E : Type 0} (P Q : Type 0) → (P → Q) → (r : Result T E) → OnOk r P → OnOk r Q
 on_ok P Q f (Ok value) p = f p

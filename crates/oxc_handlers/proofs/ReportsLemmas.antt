@@ -1,7 +1,7 @@
 -- Diagnostics by their views, and lists of them.
-use Rattle.std.proofs.Common.{◌≡◌, ℕ, ◌+◌, ◌<◌, ◌≤◌, List, [], ◌∷◌, ◌++◌, Option, Some, None, IfSome, Result, Ok, Err, MatchResult, All, length, map, take, drop, get_or, refl, sym, ap, subst, ◌∙◌, arith, append_assoc, append-nil, zero, suc}
+use Rattle.std.proofs.Common.{◌≡◌, ℕ, ◌+◌, ◌<◌, ◌≤◌, List, [], ◌∷◌, ◌++◌, Some, Result, Ok, Err, MatchResult, All, length, map, take, drop, get_or, refl, sym, ap, subst, ◌∙◌, arith, append_assoc, zero, suc}
 use Rattle.std.specs.List.{flat_map, slice_get}
-use Rattle.std.proofs.lemmas.List.{at_drop_more, drop_all, length-map, map-append, take_all}
+use Rattle.std.proofs.lemmas.List.{at_drop_more, length-map, map-append, take_all}
 use Rattle.std.proofs.lemmas.List.Elements.{All-more}
 use Rattle.oxc_protocol.specs.Parts.{Parts}
 use Rattle.oxc_handlers.specs.declared.view.RenderError.{RenderError}
@@ -9,7 +9,7 @@ use Rattle.oxc_handlers.specs.declared.view.RenderError.TheVariants.{LabelOutsid
 use Rattle.oxc_handlers.specs.Handler.{Handler}
 use Rattle.oxc_handlers.specs.Refusals.{IsFaultless, IsNoText, IsRefusal, error_at, outside_in}
 use Rattle.oxc_handlers.specs.Report.{drawn, name_in, plan_of, severity_in, snippets_in, title_of, without_url}
-use Rattle.oxc_handlers.specs.Reports.{IsFirstRefusal, IsListRefusal, IsSendRefusal, text_of}
+use Rattle.oxc_handlers.specs.Reports.{IsListRefusal, IsSendRefusal, text_of}
 use Rattle.oxc_handlers.proofs.SettingLemmas.{get_or_map}
 
 -- a view shows all of a diagnostic that is drawn

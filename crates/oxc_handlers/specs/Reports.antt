@@ -1,5 +1,5 @@
 -- Drawn lists of diagnostics, and why they are not drawn or not sent.
-use Rattle.std.specs.Prelude.{◌≡◌, ℕ, ◌<◌, List, length, take, All, Option, Some, ⊤}
+use Rattle.std.specs.Prelude.{◌≡◌, ℕ, List, take, All, Option, Some, ⊤}
 use Rattle.std.specs.Io.KnownBytes.{Keeps}
 use Rattle.std.specs.List.{flat_map, slice_get}
 use Rattle.oxc_protocol.specs.Parts.{Parts}

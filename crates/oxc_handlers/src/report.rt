@@ -271,11 +271,7 @@ fn first_outside(labels: &[LabeledSpan], len: usize) -> Option<usize>
 }
 
 /// A scanner of a source: the one at hand, where it reads that source, or else a new one.
-fn reader_of<'a>(
-    alloc: Global,
-    held: Option<SpanScanner<'a>>,
-    source: &'a [u8],
-) -> SpanScanner<'a>
+fn reader_of<'a>(alloc: Global, held: Option<SpanScanner<'a>>, source: &'a [u8]) -> SpanScanner<'a>
     requires fits { length source.now < 4294967295 }
     requires round { ReadsRoundIfThere held }
     ensures taken { IsTaken source.now held.entry result }

@@ -35,8 +35,11 @@ fn rows(alloc: Global) -> Result<NamedSource<TextSource>, AllocError> {
     Ok(NamedSource::new(name, TextSource::new(text)))
 }
 
-const ONCE: &str = "\n  x Oops\n   ,-[a.js:2:1]\n 1 | foo\n 2 | bar\n   : ^|^\n   :  `-- here\n 3 | baz\n   `----\n";
-const TWICE: &str = "\n  x Oops\n   ,-[a.js:2:1]\n 1 | foo\n 2 | bar\n   : ^|^\n   :  `-- here\n 3 | baz\n   `----\n\n  x Oops\n   ,-[a.js:2:1]\n 1 | foo\n 2 | bar\n   : ^|^\n   :  `-- here\n 3 | baz\n   `----\n";
+const ONCE: &str =
+    "\n  x Oops\n   ,-[a.js:2:1]\n 1 | foo\n 2 | bar\n   : ^|^\n   :  `-- here\n 3 | baz\n   `----\n";
+
+const TWICE: &str =
+    "\n  x Oops\n   ,-[a.js:2:1]\n 1 | foo\n 2 | bar\n   : ^|^\n   :  `-- here\n 3 | baz\n   `----\n\n  x Oops\n   ,-[a.js:2:1]\n 1 | foo\n 2 | bar\n   : ^|^\n   :  `-- here\n 3 | baz\n   `----\n";
 
 /// Whether the reports of diagnostics are sent as a text.
 fn are_sent(alloc: Global, diagnostics: &[Error], text: &str) -> Result<bool, RenderError> {

@@ -95,8 +95,12 @@ fn plain() -> GraphicalReportHandler {
 }
 
 const ROWS: &[u8] = b"foo\nbar\nbaz";
-const MARKED: &str = "\n  x Oops\n   ,-[a.js:2:1]\n 1 | foo\n 2 | bar\n   : ^|^\n   :  `-- here\n 3 | baz\n   `----\n";
-const LAST: &str = "\n  x Oops\n   ,-[a.js:3:1]\n 2 | bar\n 3 | baz\n   : |\n   : `-- here\n   `----\n";
+
+const MARKED: &str =
+    "\n  x Oops\n   ,-[a.js:2:1]\n 1 | foo\n 2 | bar\n   : ^|^\n   :  `-- here\n 3 | baz\n   `----\n";
+
+const LAST: &str =
+    "\n  x Oops\n   ,-[a.js:3:1]\n 2 | bar\n 3 | baz\n   : |\n   : `-- here\n   `----\n";
 
 /// Whether a label of a source is drawn as a text by a scanner, which keeps the starts of three rows then.
 fn is_drawn_by<'a>(
@@ -183,7 +187,8 @@ fn is_warning_drawn(alloc: Global, labels: &[LabeledSpan]) -> Result<bool, Rende
     Ok(text.as_str() == WARNING)
 }
 
-const WARNING: &str = "\n  ! eslint(no-undef): 'c' is not defined.\n   ,-[src/app.js:3:10]\n 2 | \n 3 | function f(b) {\n   :          |\n   :          `-- in this function\n 4 |     return a + c;\n   :                |\n   :                `-- not found\n 5 | }\n   `----\n  help: Declare it or import it.\n";
+const WARNING: &str =
+    "\n  ! eslint(no-undef): 'c' is not defined.\n   ,-[src/app.js:3:10]\n 2 | \n 3 | function f(b) {\n   :          |\n   :          `-- in this function\n 4 |     return a + c;\n   :                |\n   :                `-- not found\n 5 | }\n   `----\n  help: Declare it or import it.\n";
 
 #[test]
 fn a_report_has_title_snippet_and_help(rt: HostRuntime) -> Result<(), Fail> {
@@ -206,7 +211,8 @@ fn labels_over_rows_have_a_gutter(rt: HostRuntime) -> Result<(), Fail> {
         source: b"a {\n  b\n}\n",
         labels: &labels,
     };
-    let text = "\n  x m\n   ,-[b.js:1:3]\n 1 | ,-> a {\n 2 | |     b\n 3 | |-> }\n   : `--| block\n   :    | here\n   `----\n";
+    let text =
+        "\n  x m\n   ,-[b.js:1:3]\n 1 | ,-> a {\n 2 | |     b\n 3 | |-> }\n   : `--| block\n   :    | here\n   `----\n";
     assert!(rt; is_drawn(alloc, &plain(), &block, text)?);
     let labels = [LabeledSpan::new(None, 0, 3), label(alloc, 0, 3, "z")?];
     let two = Case {
@@ -220,7 +226,8 @@ fn labels_over_rows_have_a_gutter(rt: HostRuntime) -> Result<(), Fail> {
     Ok(())
 }
 
-const COLORED: &str = "\n  \u{1b}[38;2;225;80;80;1m×\u{1b}[0m \u{1b}[38;2;225;80;80;1mm\u{1b}[0m\n   ╭─[\u{1b}[38;2;92;157;255;1mb.js\u{1b}[0m:1:3]\n \u{1b}[2m1\u{1b}[0m │ \u{1b}[38;2;246;87;248m╭\u{1b}[0m\u{1b}[38;2;246;87;248m─\u{1b}[0m\u{1b}[38;2;246;87;248m▶\u{1b}[0m a {\n \u{1b}[2m2\u{1b}[0m │ \u{1b}[38;2;246;87;248m│\u{1b}[0m     b\n \u{1b}[2m3\u{1b}[0m │ \u{1b}[38;2;246;87;248m├\u{1b}[0m\u{1b}[38;2;246;87;248m─\u{1b}[0m\u{1b}[38;2;246;87;248m▶\u{1b}[0m }\n   · \u{1b}[38;2;246;87;248m╰\u{1b}[0m\u{1b}[38;2;246;87;248m───\u{1b}[0m\u{1b}[38;2;246;87;248m─\u{1b}[0m \u{1b}[38;2;246;87;248mblock\u{1b}[0m\n   ╰────\n";
+const COLORED: &str =
+    "\n  \u{1b}[38;2;225;80;80;1m×\u{1b}[0m \u{1b}[38;2;225;80;80;1mm\u{1b}[0m\n   ╭─[\u{1b}[38;2;92;157;255;1mb.js\u{1b}[0m:1:3]\n \u{1b}[2m1\u{1b}[0m │ \u{1b}[38;2;246;87;248m╭\u{1b}[0m\u{1b}[38;2;246;87;248m─\u{1b}[0m\u{1b}[38;2;246;87;248m▶\u{1b}[0m a {\n \u{1b}[2m2\u{1b}[0m │ \u{1b}[38;2;246;87;248m│\u{1b}[0m     b\n \u{1b}[2m3\u{1b}[0m │ \u{1b}[38;2;246;87;248m├\u{1b}[0m\u{1b}[38;2;246;87;248m─\u{1b}[0m\u{1b}[38;2;246;87;248m▶\u{1b}[0m }\n   · \u{1b}[38;2;246;87;248m╰\u{1b}[0m\u{1b}[38;2;246;87;248m───\u{1b}[0m\u{1b}[38;2;246;87;248m─\u{1b}[0m \u{1b}[38;2;246;87;248mblock\u{1b}[0m\n   ╰────\n";
 
 #[test]
 fn a_theme_gives_characters_and_colors(rt: HostRuntime) -> Result<(), Fail> {
@@ -232,7 +239,8 @@ fn a_theme_gives_characters_and_colors(rt: HostRuntime) -> Result<(), Fail> {
         source: ROWS,
         labels: &labels,
     };
-    let text = "\n  × Oops\n   ╭─[a.js:2:1]\n 1 │ foo\n 2 │ bar\n   · ─┬─\n   ·  ╰── here\n 3 │ baz\n   ╰────\n";
+    let text =
+        "\n  × Oops\n   ╭─[a.js:2:1]\n 1 │ foo\n 2 │ bar\n   · ─┬─\n   ·  ╰── here\n 3 │ baz\n   ╰────\n";
     let boxes = plain().with_theme(GraphicalTheme::unicode_nocolor());
     assert!(rt; is_drawn(alloc, &boxes, &here, text)?);
     let labels = [label(alloc, 2, 7, "block")?];

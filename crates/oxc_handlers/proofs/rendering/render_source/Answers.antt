@@ -1,5 +1,4 @@
-use Rattle.std.proofs.Common.{◌≡◌, IfOk, ap, string_bytes, subst, sym, ◌∙◌}
-use Rattle.oxc_protocol.specs.Parts.{Parts}
+use Rattle.std.proofs.Common.{◌≡◌, IfOk, ap, string_bytes, subst, ◌∙◌}
 use Rattle.oxc_handlers.specs.Handler.{Handler}
 use Rattle.oxc_handlers.specs.Report.{drawn, plan_of, view_parts}
 use Rattle.oxc_handlers.proofs.ReportsLemmas.{cause_of_view, text_of_view}

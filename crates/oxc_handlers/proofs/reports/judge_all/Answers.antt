@@ -1,4 +1,4 @@
-use Rattle.std.proofs.Common.{◌≡◌, ◌∙◌, ap, arith, get_or, map, string_bytes, subst, sym}
+use Rattle.std.proofs.Common.{◌≡◌, ◌∙◌, ap, arith, get_or, map, subst, sym}
 use Rattle.oxc_span.specs.Views.{text_bytes}
 use Rattle.oxc_handlers.specs.Refusals.{IsFaultless, error_at}
 use Rattle.oxc_handlers.specs.Reports.{IsListRefusal}

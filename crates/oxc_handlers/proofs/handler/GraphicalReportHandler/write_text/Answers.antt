@@ -1,4 +1,4 @@
-use Rattle.std.proofs.Common.{◌≡◌, ◌++◌, ◌∙◌, ap, string_bytes}
+use Rattle.std.proofs.Common.{◌++◌, ◌∙◌, ap, string_bytes}
 use Rattle.oxc_handlers.proofs.ReportsLemmas.{refusal_of_view, text_of_view}
 use Rattle.oxc_handlers.proofs.handler.GraphicalReportHandler.write_text.Goals as goal
 
