@@ -157,18 +157,7 @@ behind_covers text change start end le within ordered behind =
     none_taken (edited text change) text (moved_start change start) (max (moved_start change start) (moved_end change end)) start end (omega (arith, low)) (omega arith))
     (cases_lt start end)
 
--- a label within a text that takes an edit stays in range
-pub moved_start_fits : (text : List ℕ) (change : Change) (start : ℕ) → change.start ≤ change.end → IsAcceptable text change → start ≤ length text → moved_start change start < 2 ^ 32
-moved_start_fits text change start le ok within =
-    let size = edited_length text change le ok.within in
-    ⊎_elim (λ before. omega (arith, before.0, before.1, size, ok.fits)) (⊎_elim (λ inside. omega (arith, inside, size, ok.fits)) (λ behind. omega (arith, behind.0, behind.1, within, size, ok.fits))) (start_cases change start le)
-
-pub moved_end_fits : (text : List ℕ) (change : Change) (end : ℕ) → change.start ≤ change.end → IsAcceptable text change → end ≤ length text → moved_end change end < 2 ^ 32
-moved_end_fits text change end le ok within =
-    let size = edited_length text change le ok.within in
-    ⊎_elim (λ before. omega (arith, before.0, before.1, size, ok.fits)) (⊎_elim (λ inside. omega (arith, inside, size, ok.fits)) (λ behind. omega (arith, behind.0, behind.1, within, size, ok.fits))) (end_cases change end)
-
--- and no label goes further on than what is inserted is long
+-- no label goes further on than what is inserted is long
 pub moved_start_le : (change : Change) (start : ℕ) → moved_start change start ≤ start + length change.insert
 moved_start_le change start = grind (arith, nat_tests)
 

@@ -9,11 +9,9 @@ use crate::Edit;
 use oxc_span::LabeledSpan;
 
 /// What [`move_label`](crate::move_label) asks for holds of a label within a text that takes the edit.
-pub fn label_stays_in_range(_text: &str, _label: &LabeledSpan, edit: &Edit)
-    requires accepted { IsAcceptable _text.now (change_of edit.now) }
+pub fn label_stays_in_range(_text: &str, _label: &LabeledSpan, _edit: &Edit)
+    requires accepted { IsAcceptable _text.now (change_of _edit.now) }
     requires within { label_end _label.now ≤ length _text.now }
-    ensures start { moved_start (change_of edit.now) _label.now.offset < 2 ^ 32 }
-    ensures end { moved_end (change_of edit.now) (label_end _label.now) < 2 ^ 32 }
-{
-    let _in_order = edit.range.start() <= edit.range.end();
-}
+    ensures start { moved_start (change_of _edit.now) _label.now.offset < 2 ^ 32 }
+    ensures end { moved_end (change_of _edit.now) (label_end _label.now) < 2 ^ 32 }
+{}
