@@ -84,7 +84,7 @@ meant letter =
 abbrev pub meaning_of : List ℕ → Option ℕ
 meaning_of text = option_and_then meant (slice_get text 0)
 
--- a text with its escapes turned back, and all else but a last backslash kept; the flag says that a backslash stands before it
+-- a text with its escapes turned back; a backslash that begins no escape is dropped, and all else is kept. The flag says that a backslash stands before the text
 unfoldable pub unescape_from : Bool → List ℕ → List ℕ
 unescape_from after [] = []
 unescape_from false (x ∷ xs) = if x == 0x5C then unescape_from true xs else x ∷ unescape_from false xs

@@ -147,7 +147,7 @@ fn unescape_rule(alloc: Global, rule: Option<&str>) -> Result<Option<String>, Al
     }
 }
 
-/// A text whose escapes are turned back. What is no escape is kept, but for a last backslash.
+/// A text whose escapes are turned back. A backslash that begins no escape is dropped.
 fn unescape(alloc: Global, text: &str) -> Result<String, AllocError>
     ensures { IfOk result (λ out. string_bytes out ≡ unescaped_text text.now) }
 {
