@@ -1,5 +1,5 @@
 -- What a plan promises of its snippets is what their drawing asks for.
-use Rattle.std.proofs.Common.{◌≡◌, ℕ, ◌+◌, ◌-◌, ◌<◌, ◌≤◌, ◌^◌, true, List, [], ◌∷◌, Option, Some, None, length, All, refl, arith, zero, suc, IfSome}
+use Rattle.std.proofs.Common.{◌≡◌, ℕ, ◌-◌, ◌<◌, ◌≤◌, ◌^◌, true, List, [], ◌∷◌, Option, Some, None, length, All, arith, zero, suc, IfSome}
 use Rattle.std.specs.Prelude.{decimal}
 use Rattle.std.specs.List.{slice_get}
 use Rattle.std.specs.Option.{option_map_or}
@@ -10,12 +10,12 @@ use Rattle.oxc_plan.specs.Marks.{AreInOrder}
 use Rattle.oxc_plan.specs.Plan.{Ordered, RowPlanView, SnippetView}
 use Rattle.oxc_plan.specs.declared.marks.MarkCells.{MarkCells}
 use Rattle.oxc_handlers.specs.Hangs.{has_mark}
-use Rattle.oxc_handlers.specs.Marks.{AreOrdered, IsMark}
+use Rattle.oxc_handlers.specs.Marks.{AreOrdered}
 use Rattle.oxc_handlers.specs.RowLines.{IsRow}
 use Rattle.oxc_handlers.specs.Snippet.{AreDrawable, IsSnippet, number_width, setting_of}
 use Rattle.oxc_handlers.specs.declared.theme.GraphicalTheme.{GraphicalTheme}
 
-in_order : (before : ℕ) (marks : List MarkCells) → AreInOrder before marks → AreOrdered before marks
+pub in_order : (before : ℕ) (marks : List MarkCells) → AreInOrder before marks → AreOrdered before marks
 in_order before [] order = tt
 in_order before (m ∷ more) (start, bar, end, order) = (record { start = start; bar = bar; end = end }, in_order m.end more order)
 

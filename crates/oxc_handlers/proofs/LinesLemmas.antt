@@ -1,10 +1,10 @@
 -- The lines of a text, taken one by one.
-use Rattle.std.proofs.Common.{◌≡◌, ℕ, ◌+◌, ◌-◌, ◌<◌, ◌≤◌, true, false, List, [], ◌∷◌, ◌++◌, Option, Some, None, Bor, length, take, drop, get_or, reverse, eqb, refl, sym, ap, ◌∙◌, arith, append_assoc, append-nil, map, count_by, suc, zero}
-use Rattle.std.specs.List.{flat_map, slice_split, position_or_len, before_first, after_first}
+use Rattle.std.proofs.Common.{◌≡◌, ℕ, ◌+◌, ◌<◌, ◌≤◌, true, false, List, [], ◌∷◌, ◌++◌, Option, Some, None, length, take, get_or, reverse, eqb, refl, sym, ap, ◌∙◌, arith, append_assoc, append-nil}
+use Rattle.std.specs.List.{flat_map, position_or_len, before_first, after_first}
 use Rattle.std.specs.Option.{option_map_or}
 use Rattle.std.proofs.lemmas.Bool.Decides.{nat_tests}
-use Rattle.std.proofs.lemmas.List.{at_drop_more, drop_all, take_more, take_all, reverse-append}
-use Rattle.std.proofs.lemmas.List.Splits.{slice_split_first, slice_split_none, length-slice_split}
+use Rattle.std.proofs.lemmas.List.{take_more, take_all, reverse-append}
+use Rattle.std.proofs.lemmas.List.Splits.{slice_split_first, length-slice_split}
 use Rattle.oxc_handlers.specs.declared.span.LabelRenderMode.{LabelRenderMode}
 use Rattle.oxc_handlers.specs.declared.span.LabelRenderMode.TheVariants.{SingleLine, BlockFirst, BlockRest}
 use Rattle.oxc_handlers.specs.RowLines.{lines_of, first_mode, modes_from, with_modes}

@@ -1,5 +1,5 @@
 -- A text without tabs is drawn as it is.
-use Rattle.std.proofs.Common.{◌≡◌, ℕ, ◌<◌, Bool, true, false, not, ◌&&◌, List, [], ◌∷◌, ◌++◌, All, map, length, get_or, encode_utf8, eqb, refl, sym, ap, subst, ◌∙◌, arith, append_assoc, append-nil, if◌then◌else◌}
+use Rattle.std.proofs.Common.{◌≡◌, ℕ, Bool, true, false, not, ◌&&◌, List, [], ◌∷◌, ◌++◌, map, length, get_or, encode_utf8, eqb, refl, sym, ap, subst, ◌∙◌, arith, if◌then◌else◌}
 use Rattle.std.specs.List.{concat, flat_map, list_all}
 use Rattle.std.specs.Str.{IsUtf8, all_scalars, chars, encode_utf8_all}
 use Rattle.std.proofs.lemmas.Bool.Decides.{nat_tests}
@@ -9,7 +9,7 @@ use Rattle.std.proofs.lemmas.List.Folds.{list_all-append}
 use Rattle.std.proofs.lemmas.List.Sums.{list_all-from_AllPass}
 use Rattle.std.proofs.lemmas.Str.{chars-encodes, encodes-chars, scalars-chars}
 use Rattle.memchr.specs.Find.{Nowhere, Passes, is_byte}
-use Rattle.unicode_segmentation.specs.Grapheme.{graphemes, is_grapheme_break}
+use Rattle.unicode_segmentation.specs.Grapheme.{is_grapheme_break}
 use Rattle.unicode_segmentation.specs.Segments.{Rule, cut, prepend, segments}
 use Rattle.oxc_plan.specs.declared.columns.Pen.{Pen}
 use Rattle.oxc_plan.specs.Width.{at_margin, led, led_text, moved, with_lead}

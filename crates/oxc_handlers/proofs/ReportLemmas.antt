@@ -1,7 +1,7 @@
 -- The snippets of a report, and why it is refused.
 use Rattle.std.proofs.Common.{◌≡◌, ℕ, ◌<◌, ◌≤◌, nat_lt, Bool, false, get_or, List, [], Option, Some, None, IfSome, Result, Ok, Err, OnOk, All, length, refl, sym, ap, subst, ◌∙◌, arith}
-use Rattle.std.specs.Option.{option_and_then, option_map_or}
-use Rattle.std.specs.List.{position, position_or_len}
+use Rattle.std.specs.Option.{option_map_or}
+use Rattle.std.specs.List.{position_or_len}
 use Rattle.std.proofs.lemmas.Bool.Decides.{nat_tests}
 use Rattle.std.proofs.lemmas.Bool.{lt-ltb}
 use Rattle.std.proofs.lemmas.List.{nil_from_length, take_all}
@@ -104,10 +104,10 @@ leaves : (parts : Parts) (source : SourceParts) (handed_in : Option Scan) (taken
 leaves parts source handed_in taken new there is on holds =
     rw there
     (λ some.
-        record {
-          reader = record { old = taken; new = new; there = refl; taken = is; on = on };
-          holds = subst (λ bytes. HoldsLabels bytes parts.labels taken new) is.reads holds;
-        })
+    record {
+      reader = record { old = taken; new = new; there = refl; taken = is; on = on };
+      holds = subst (λ bytes. HoldsLabels bytes parts.labels taken new) is.reads holds;
+    })
 
 on_ok : {T E : Type 0} (P Q : Type 0) → (P → Q) → (r : Result T E) → OnOk r P → OnOk r Q
 on_ok P Q f (Ok value) p = f p
@@ -135,3 +135,8 @@ pub not_no_text : {Q : Type 0} (parts : Parts) (source : SourceParts) (upto : �
 not_no_text parts source upto there is some other =
     let text : IsUtf8 source.bytes = (rw there at is.text some) in
     absurd (other text)
+
+pub faultless_there : (parts : Parts) (source : SourceParts) (input : List ℕ) → parts.source ≡ Some source → input ≡ source.bytes → All (λ label. label_end label ≤ length source.bytes) parts.labels → IsUtf8 input → IsFaultless parts
+faultless_there parts source input there same within utf8 =
+    let text : IsUtf8 source.bytes = subst IsUtf8 same utf8 in
+    record { within = rw there within; text = λ some. rw there text }

@@ -5,7 +5,7 @@ use Rattle.std.specs.List.{slice_get}
 use Rattle.std.specs.Option.{option_map}
 use Rattle.oxc_span.specs.Label.{Label}
 use Rattle.oxc_plan.specs.Order.{label_at, label_order}
-use Rattle.oxc_plan.specs.Plan.{Ordered, in_order, ordered_label}
+use Rattle.oxc_plan.specs.Plan.{in_order, ordered_label}
 
 pub get_map : {A B : Type 0} (f : A → B) (xs : List A) (i : ℕ) → slice_get (map f xs) i ≡ option_map f (slice_get xs i)
 get_map f [] i = refl

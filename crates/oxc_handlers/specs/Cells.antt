@@ -1,5 +1,5 @@
 -- Texts by columns.
-use Rattle.std.specs.Prelude.{ℕ, List, ◌++◌, replicate}
+use Rattle.std.specs.Prelude.{ℕ, List, replicate}
 use Rattle.std.specs.List.{concat, flat_map, range_with_len}
 
 -- a text some times over

@@ -1,5 +1,5 @@
 -- A drawn report: the plan of a diagnostic, and the text that it is drawn as.
-use Rattle.std.specs.Prelude.{ℕ, ◌-◌, List, [], ◌++◌, All, Option, Some, None, encode_utf8, codes}
+use Rattle.std.specs.Prelude.{ℕ, ◌-◌, List, [], ◌++◌, Option, None, encode_utf8, codes}
 use Rattle.std.specs.List.{flat_map}
 use Rattle.std.specs.Option.{option_copied, option_and_then, option_map_or, unwrap_or}
 use Rattle.oxc_plan.specs.Plan.{Ordered, SnippetView, in_order, snippets_of}
@@ -11,7 +11,7 @@ use Rattle.oxc_handlers.specs.declared.theme.GraphicalTheme.{GraphicalTheme}
 use Rattle.oxc_handlers.specs.declared.theme.Style.{Style}
 use Rattle.oxc_handlers.specs.declared.view.DiagnosticView.{DiagnosticView}
 use Rattle.oxc_handlers.specs.RowLines.{lf}
-use Rattle.oxc_handlers.specs.Snippet.{drawn_snippet, IsSnippet}
+use Rattle.oxc_handlers.specs.Snippet.{drawn_snippet}
 use Rattle.oxc_handlers.specs.Theme.{styled}
 use Rattle.textwrap.specs.Filled.{filled}
 
@@ -28,6 +28,10 @@ view_parts v =
       source = ref_views v.source;
       labels = v.labels.now;
     }
+
+-- the parts of a diagnostic that a view shows
+abbrev pub without_url : Parts → Parts
+without_url parts = record parts { url = None }
 
 -- what is drawn of a diagnostic: the distance of the tab stops, the title, the severity, the source's name, the labels in label
 -- order, the snippets, help and note

@@ -48,11 +48,7 @@ fn write_mark_line(
 
 /// Appends the texts that hang at the marks of a row, the last label's first.
 #[tactic(auto, using(crate::proofs::LinesLemmas::back_all))]
-fn write_hangs(
-    out: &mut String,
-    setting: &Setting<'_>,
-    row: &RowPlan<'_>,
-) -> Result<(), AllocError>
+fn write_hangs(out: &mut String, setting: &Setting<'_>, row: &RowPlan<'_>) -> Result<(), AllocError>
     requires { IsRow (setting_view setting.now) (row_plan_view row.now) }
     ensures { OnOk result (string_bytes out.new ≡ string_bytes out.old ++ flat_map (hang_lines (setting_view setting.now) (row_plan_view row.now)) (reverse (row_plan_view row.now).hangs)) }
 {

@@ -11,7 +11,11 @@ use unicode_segmentation::UnicodeSegmentation;
 use unicode_width::UnicodeWidthStr;
 
 /// Appends the text of a row: each tab as its advance in spaces, and as nothing in an escape, all else as it is.
-pub(crate) fn render_line_text(out: &mut String, text: &str, tabs: TabWidth) -> Result<(), AllocError>
+pub(crate) fn render_line_text(
+    out: &mut String,
+    text: &str,
+    tabs: TabWidth,
+) -> Result<(), AllocError>
     requires fits { length text.now < 2 ^ 32 }
     ensures { OnOk result (string_bytes out.new ≡ string_bytes out.old ++ shown_text tabs text.now) }
 {

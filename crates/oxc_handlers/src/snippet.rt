@@ -147,11 +147,7 @@ fn render_rows(
 
 /// Appends the lines of a row.
 #[tactic(auto, unfolding(crate::specs::RowLines::row_lines))]
-fn render_row(
-    out: &mut String,
-    setting: &Setting<'_>,
-    row: &RowPlan<'_>,
-) -> Result<(), AllocError>
+fn render_row(out: &mut String, setting: &Setting<'_>, row: &RowPlan<'_>) -> Result<(), AllocError>
     requires { IsRow (setting_view setting.now) (row_plan_view row.now) }
     ensures { OnOk result (string_bytes out.new ≡ string_bytes out.old ++ row_lines (setting_view setting.now) (row_plan_view row.now)) }
 {
@@ -162,11 +158,7 @@ fn render_row(
 
 /// Appends the row itself.
 #[tactic(auto, unfolding(crate::specs::RowLines::row_line))]
-fn render_line(
-    out: &mut String,
-    setting: &Setting<'_>,
-    row: &RowPlan<'_>,
-) -> Result<(), AllocError>
+fn render_line(out: &mut String, setting: &Setting<'_>, row: &RowPlan<'_>) -> Result<(), AllocError>
     requires { IsRow (setting_view setting.now) (row_plan_view row.now) }
     ensures { OnOk result (string_bytes out.new ≡ string_bytes out.old ++ row_line (setting_view setting.now) (row_plan_view row.now)) }
 {

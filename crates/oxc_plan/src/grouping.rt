@@ -36,7 +36,7 @@ pub fn groups<'a>(
     ensures held { IfOk result (λ found. HoldTheirLabels scanner.old.input labels.now found.items) }
     ensures unchanged { IsSameReader scanner.old scanner.new }
     // what the scanner holds
-    ensures on { ReadsOn scanner.old scanner.new }
+    ensures stays { ReadsOn scanner.old scanner.new }
     ensures first { OnOk result (0 < length labels.now → scanner.new.first ≡ Some (unwrap_or scanner.old.first (least_start labels.now))) }
     ensures keeps { OnOk result (KeepsGroups scanner.old.input labels.now scanner.new) }
 {
@@ -60,7 +60,7 @@ fn groups_of_spans<'a>(
     requires round { ReadsRound scanner.old }
     requires within { All (λ span. (span.start ≤ span.end) × (span.end ≤ length scanner.old.input)) spans.now }
     ensures groups { IfOk result (λ found. AreGroups (length scanner.old.input) (breaks_of scanner.old.input) spans.now 0 found.items) }
-    ensures on { ReadsOn scanner.old scanner.new }
+    ensures stays { ReadsOn scanner.old scanner.new }
     ensures first { OnOk result (0 < length spans.now → scanner.new.first ≡ Some (unwrap_or scanner.old.first (span_at spans.now 0).start)) }
     ensures keeps { IfOk result (λ found. All (λ group. KeepsRows scanner.old.input scanner.new (span_at spans.now group.start).start (group_window (length scanner.old.input) (breaks_of scanner.old.input) spans.now group).end) found.items) }
 {
@@ -84,7 +84,7 @@ fn group_end<'a>(
     requires within { All (λ span. (span.start ≤ span.end) × (span.end ≤ length scanner.old.input)) spans.now }
     requires some { first < length spans.now }
     ensures group { IfOk result (λ past. IsGroup (length scanner.old.input) (breaks_of scanner.old.input) spans.now first past) }
-    ensures on { ReadsOn scanner.old scanner.new }
+    ensures stays { ReadsOn scanner.old scanner.new }
     ensures first { OnOk result (scanner.new.first ≡ Some (unwrap_or scanner.old.first (span_at spans.now first).start)) }
     ensures keeps { IfOk result (λ past. KeepsRows scanner.old.input scanner.new (span_at spans.now first).start (joint_window (length scanner.old.input) (breaks_of scanner.old.input) spans.now first past).end) }
 {
@@ -109,7 +109,7 @@ fn reach_of<'a>(scanner: &mut SpanScanner<'a>, span: Span) -> Result<usize, Allo
     requires within { span.end ≤ length scanner.old.input }
     ensures reach { let window = window_round scanner.old.input span in
         IfOk result (λ reach. reach ≡ window.line + window.line_count) }
-    ensures on { ReadsOn scanner.old scanner.new }
+    ensures stays { ReadsOn scanner.old scanner.new }
     ensures first { OnOk result (scanner.new.first ≡ Some (unwrap_or scanner.old.first span.start)) }
     ensures keeps { OnOk result (KeepsRows scanner.old.input scanner.new span.start (window_round scanner.old.input span).end) }
 {
@@ -123,7 +123,7 @@ fn line_of<'a>(scanner: &mut SpanScanner<'a>, span: Span) -> Result<usize, Alloc
     requires ordered { span.start ≤ span.end }
     requires within { span.end ≤ length scanner.old.input }
     ensures line { IfOk result (λ line. line ≡ (window_round scanner.old.input span).line) }
-    ensures on { ReadsOn scanner.old scanner.new }
+    ensures stays { ReadsOn scanner.old scanner.new }
 {
     let contents = read(scanner, span)?;
     Ok(contents.line())

@@ -20,7 +20,7 @@ pub fn read<'a>(scanner: &mut SpanScanner<'a>, span: Span) -> Result<SpanContent
     ensures text { IsUtf8 scanner.old.input → IfOk result (λ contents. IsUtf8 contents.bytes) }
     ensures measured { IfOk result IsMeasured }
     ensures numbered { IfOk result IsNumbered }
-    ensures on { ReadsOn scanner.old scanner.new }
+    ensures stays { ReadsOn scanner.old scanner.new }
     ensures first { OnOk result (scanner.new.first ≡ Some (unwrap_or scanner.old.first span.start)) }
     ensures keeps { OnOk result (KeepsRows scanner.old.input scanner.new span.start (window_round scanner.old.input span).end) }
 {

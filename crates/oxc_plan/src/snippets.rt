@@ -79,7 +79,7 @@ pub fn plan_snippets<'a>(
     ensures drawable { IfOk result (λ plans. All (IsDrawable (length scanner.old.input) (length labels.now)) (map snippet_view plans.items)) }
     ensures unchanged { IsSameReader scanner.old scanner.new }
     // what the scanner holds
-    ensures on { ReadsOn scanner.old scanner.new }
+    ensures stays { ReadsOn scanner.old scanner.new }
     ensures first { OnOk result (0 < length labels.now → scanner.new.first ≡ Some (unwrap_or scanner.old.first (least_start labels.now))) }
     ensures keeps { OnOk result (KeepsGroups scanner.old.input labels.now scanner.new) }
 {
@@ -101,7 +101,7 @@ fn plan_groups<'a>(
     requires ordered { AreOrderedSpans (length scanner.old.input) (spans_of (map ordered_view labels.now)) }
     requires groups { AreGroups (length scanner.old.input) (breaks_of scanner.old.input) (spans_of (map ordered_view labels.now)) 0 groups.now }
     ensures plan { IfOk result (λ plans. map snippet_view plans.items ≡ map (snippet_of tabs scanner.old.input (map ordered_view labels.now)) groups.now) }
-    ensures on { ReadsOn scanner.old scanner.new }
+    ensures stays { ReadsOn scanner.old scanner.new }
 {
     let spans = spans_of(alloc, labels)?;
     let mut plans = Vec::new(alloc);
@@ -125,7 +125,7 @@ fn plan_snippet<'a>(
     requires ordered { AreOrderedSpans (length scanner.old.input) spans.now }
     requires alone { IsGroupAlone scanner.old.input spans.now group.now }
     ensures plan { IfOk result (λ plan. snippet_view plan ≡ snippet_of tabs scanner.old.input (map ordered_view labels.now) group.now) }
-    ensures on { ReadsOn scanner.old scanner.new }
+    ensures stays { ReadsOn scanner.old scanner.new }
 {
     let span = joint_span(spans, group);
     let contents = read(scanner, span)?;

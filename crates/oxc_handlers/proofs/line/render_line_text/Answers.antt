@@ -1,5 +1,4 @@
 use Rattle.std.proofs.Common.{rules, ◌≡◌, ◌++◌, OnOk, string_bytes, subst, sym}
-use Rattle.oxc_handlers.specs.Texts.{shown_text}
 use Rattle.oxc_handlers.proofs.PlainTexts.{HasNoTab, none_found, plain_text}
 use Rattle.oxc_handlers.proofs.line.render_line_text.Goals as goal
 

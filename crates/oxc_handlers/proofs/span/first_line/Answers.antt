@@ -1,4 +1,4 @@
-use Rattle.std.proofs.Common.{◌≡◌, lit<}
+use Rattle.std.proofs.Common.{lit<}
 use Rattle.oxc_handlers.proofs.LinesLemmas.{first_cut, uncut_lines}
 use Rattle.oxc_handlers.proofs.span.first_line.Goals as goal
 

@@ -1,5 +1,4 @@
-use Rattle.std.proofs.Common.{◌≡◌, lit<}
-use Rattle.std.proofs.lemmas.Str.Pattern.{split_once_first}
+use Rattle.std.proofs.Common.{lit<}
 use Rattle.oxc_handlers.proofs.LinesLemmas.{first_cut, uncut_lines, several, alone}
 use Rattle.oxc_handlers.proofs.span.first_mode.Goals as goal
 

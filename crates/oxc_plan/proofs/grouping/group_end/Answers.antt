@@ -15,7 +15,7 @@ loop-past-init c =
     let one = largest_end_one spans first c.requires.some in
     let valid = c.requires.within first d c.requires.some in
     record {
-      scanner = c.in_ok-reach.ensures.on;
+      scanner = c.in_ok-reach.ensures.stays;
       set = c.in_ok-reach.ensures.first;
       keeps = rw one c.in_ok-reach.ensures.keeps;
       some = omega arith;
@@ -40,13 +40,13 @@ loop-past-preserved c =
     let d : Span = record { start = 0; end = 0 } in
     let lt : past < length spans = c.loop-past-test.true in
     let end : c.max.result ≡ largest_end spans first (past + 1) = omega (arith, largest_end_more spans first past (omega (arith, kept.some)) lt, kept.end, c.max.ensures) in
-    let there = c.in_ok-line_of.ensures.on.same.input ∙ kept.scanner.same.input in
+    let there = c.in_ok-line_of.ensures.stays.same.input ∙ kept.scanner.same.input in
     let known = rw (there, kept.start, end) at c.in_ok-reach-2.ensures.reach in
     let here = rw kept.scanner.same.input at c.in_ok-line_of.ensures.line in
     let line : (span_window len breaks spans past).line ≤ reach len breaks spans first past = omega (arith, here, kept.reaches, c.if-branch.false) in
     record {
-      scanner = on_then c.args.scanner.now _ _ (on_then c.args.scanner.now _ _ kept.scanner c.in_ok-line_of.ensures.on) c.in_ok-reach-2.ensures.on;
-      set = c.in_ok-reach-2.ensures.on.first _ (c.in_ok-line_of.ensures.on.first _ kept.set);
+      scanner = on_then c.args.scanner.now _ _ (on_then c.args.scanner.now _ _ kept.scanner c.in_ok-line_of.ensures.stays) c.in_ok-reach-2.ensures.stays;
+      set = c.in_ok-reach-2.ensures.stays.first _ (c.in_ok-line_of.ensures.stays.first _ kept.set);
       keeps = rw (there, kept.start, end) at c.in_ok-reach-2.ensures.keeps;
       some = omega (arith, kept.some);
       within = omega arith;

@@ -21,7 +21,7 @@ returns-clause-apart c =
     let spans = spans_in_order labels in
     let same = c.deref.ensures.value ∙ c.in_ok-spans.ensures in
     groups_apart (length input) (breaks_of input) spans 0 c.in_ok-found.found.items (breaks_valid input)
-    (spans_ascend labels, spans_valid (length input) labels spans refl c.requires.within)
+    (record { ascend = spans_ascend labels; within = spans_valid (length input) labels spans refl c.requires.within })
     (subst (λ s. AreGroups (length input) (breaks_of input) s 0 c.in_ok-found.found.items) same c.in_ok-found.ensures.groups)
 
 pub returns-clause-held : goal.returns-clause-held
@@ -31,7 +31,7 @@ returns-clause-held c =
     let spans = spans_in_order labels in
     let same = c.deref.ensures.value ∙ c.in_ok-spans.ensures in
     groups_hold (length input) (breaks_of input) spans 0 c.in_ok-found.found.items (breaks_valid input)
-    (spans_ascend labels, spans_valid (length input) labels spans refl c.requires.within)
+    (record { ascend = spans_ascend labels; within = spans_valid (length input) labels spans refl c.requires.within })
     (subst (λ s. AreGroups (length input) (breaks_of input) s 0 c.in_ok-found.found.items) same c.in_ok-found.ensures.groups)
 
 pub returns-clause-value : goal.returns-clause-value

@@ -39,17 +39,17 @@ loop-first-preserved c =
     let is = subst (λ s. IsGroup (length s) (breaks_of s) spans first past) same c.in_ok-past.ensures.group in
     let here = subst (λ s. KeepsRows s c.group_end.new.scanner (span_at spans first).start (group_window (length s) (breaks_of s) spans (record { start = first; end = past })).end) same c.in_ok-past.ensures.keeps in
     record {
-      scanner = on_then c.args.scanner.now c.loop-first.scanner _ kept.scanner c.in_ok-past.ensures.on;
+      scanner = on_then c.args.scanner.now c.loop-first.scanner _ kept.scanner c.in_ok-past.ensures.stays;
       none = λ e. absurd (omega (arith, e, is.some));
       set = λ some.
           ⊎_elim
-          (λ later. c.in_ok-past.ensures.on.first _ (kept.set later))
+          (λ later. c.in_ok-past.ensures.stays.first _ (kept.set later))
           (λ begin. let zero_first : first ≡ 0 = omega (arith, begin) in
           c.in_ok-past.ensures.first ∙ ap (λ o. Some (unwrap_or o (span_at spans first).start)) (kept.none zero_first) ∙ ap (λ k. Some (unwrap_or c.args.scanner.now.first (span_at spans k).start)) zero_first)
           (cases_lt 0 first);
       keeps = rw c.in_ok-push.ensures.items
           (All-append (λ (group : Range ℕ). KeepsRows source c.group_end.new.scanner (span_at spans group.start).start (group_window (length source) (breaks_of source) spans group).end) c.loop-first.found.items (record { start = first; end = past } ∷ [])
-          (λ k d lt. keeps_later source c.loop-first.scanner _ _ _ c.in_ok-past.ensures.on (kept.keeps k d lt))
+          (λ k d lt. keeps_later source c.loop-first.scanner _ _ _ c.in_ok-past.ensures.stays (kept.keeps k d lt))
           (All-cons (λ (group : Range ℕ). KeepsRows source c.group_end.new.scanner (span_at spans group.start).start (group_window (length source) (breaks_of source) spans group).end) (record { start = first; end = past }) [] here
           (All-nil (λ (group : Range ℕ). KeepsRows source c.group_end.new.scanner (span_at spans group.start).start (group_window (length source) (breaks_of source) spans group).end))));
       within = is.within;

@@ -14,8 +14,8 @@ returns-clause-text c text =
     subst (λ found. IfSome found (λ contents. IsUtf8 contents.bytes)) c.in-Some.is
     (c.in_ok-contents.ensures.text (record { text = text; before = omega (arith, c.requires.round.before); after = omega (arith, c.requires.round.after) }))
 
-pub returns-clause-on : goal.returns-clause-on
-returns-clause-on c =
+pub returns-clause-stays : goal.returns-clause-stays
+returns-clause-stays c =
     on_read c.args.scanner.now c.read_span.new.self c.in_ok-contents.ensures.unchanged
     (λ f e. c.in_ok-contents.ensures.first ∙ first_kept (length c.args.scanner.now.input) c.args.scanner.now.first c.args.span.start c.args.span.end f e)
     c.in_ok-contents.ensures.stay c.in_ok-contents.ensures.kept

@@ -41,7 +41,7 @@ loop-group-preserved c =
     let group = get_or c.args.groups.now c.loop-group.group-index none in
     let made = c.in_ok-plan_snippet.ensures.plan ∙ ap (λ s. snippet_of c.args.tabs s (map ordered_view c.args.labels.now) group) c.loop-group.invariant.scanner.same.input in
     record {
-      scanner = on_then c.args.scanner.now c.loop-group.scanner _ c.loop-group.invariant.scanner c.in_ok-plan_snippet.ensures.on;
+      scanner = on_then c.args.scanner.now c.loop-group.scanner _ c.loop-group.invariant.scanner c.in_ok-plan_snippet.ensures.stays;
       plans = rw c.in_ok-push.ensures.items
           (views_more snippet_view (snippet_of c.args.tabs c.args.scanner.now.input (map ordered_view c.args.labels.now)) c.loop-group.plans.items c.in_ok-plan_snippet.field-0 c.args.groups.now c.loop-group.group-index none
           c.loop-group-test.true c.loop-group.invariant.plans made);

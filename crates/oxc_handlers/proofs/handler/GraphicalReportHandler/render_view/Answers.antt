@@ -1,4 +1,4 @@
-use Rattle.std.proofs.Common.{◌≡◌, ◌≤◌, ◌∙◌, All, Some, ap, arith, length, subst, sym, eqb, true}
+use Rattle.std.proofs.Common.{◌≡◌, ◌≤◌, ◌∙◌, All, ap, arith, length, subst, sym}
 use Rattle.std.proofs.lemmas.Bool.Decides.{nat_tests}
 use Rattle.oxc_span.specs.Label.{label_end}
 use Rattle.oxc_protocol.specs.SourceViews.{ref_view, ref_views}

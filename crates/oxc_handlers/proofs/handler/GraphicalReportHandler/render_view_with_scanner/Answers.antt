@@ -1,4 +1,4 @@
-use Rattle.std.proofs.Common.{◌≡◌, ◌<◌, ◌^◌, ◌∙◌, All, Some, ap, arith, length, map, subst, sym}
+use Rattle.std.proofs.Common.{◌≡◌, ◌<◌, ◌^◌, ◌∙◌, All, ap, arith, length, map, subst, sym}
 use Rattle.oxc_plan.specs.Drawable.{IsDrawable}
 use Rattle.oxc_plan.specs.Plan.{snippet_view}
 use Rattle.oxc_protocol.specs.SourceViews.{ref_view, ref_views}
