@@ -1,0 +1,8 @@
+pub mod EscapeLemmas
+pub mod CutLemmas
+pub mod UnescapeLemmas
+pub mod BackLemmas
+pub mod LinesLemmas
+pub mod ReadLemmas
+pub mod GivenBack
+pub mod ReportLemmas

@@ -1,0 +1,197 @@
+//! Problems out of lines.
+ghost use Rattle.std.specs.Prelude.{◌≡◌, List, ◌∷◌, ◌++◌, ◌<◌, ◌≤◌, true, [], IfOk, IfErr, OnOk, length, map, option_map, string_bytes};
+ghost use Rattle.std.specs.List.{All, flat_map};
+ghost use Rattle.std.specs.Option.{option_copied};
+ghost use Rattle.oxc_span.specs.Views.{text_bytes};
+ghost use Rattle.oxc_protocol.specs.Info.{InfoParts, info_parts};
+ghost use Rattle.problem_lines.specs.Line.{IsInRange, problem_line};
+ghost use Rattle.problem_lines.specs.Lines.{AreProblemsOf, GivesBack, IsCause, lines_of};
+ghost use Rattle.problem_lines.specs.Parsed.{meaning_of, meant as meant_by, texts_of, unescape as unescaped_text, unescape_from, unescaped};
+ghost use Rattle.problem_lines.specs.Read.{IsRead};
+ghost use Rattle.problem_lines.specs.Reported.{ReadsReported};
+
+use crate::parse::{LineParts, cut, parse};
+use crate::write::write_problem;
+use oxc_protocol::Info;
+use std::alloc::{AllocError, Global};
+use thiserror::Error;
+
+/// Why a text is not read.
+#[derive(Clone, Copy, Debug, PartialEq, Eq, Error)]
+pub enum ProblemError {
+    /// This line is the first that is no problem's.
+    #[error("line {line} is no problem")]
+    NotALine {
+        /// Its number, from 0.
+        line: usize,
+    },
+    /// There was no memory left.
+    #[error("out of memory")]
+    OutOfMemory,
+}
+
+impl From<AllocError> for ProblemError {
+    ghost use Rattle.std.specs.Prelude.{◌≡◌};
+    ghost use Rattle.problem_lines.specs.declared.read.ProblemError.TheVariants.{OutOfMemory};
+
+    ghost from_gives = { λ _ error. error ≡ OutOfMemory };
+
+    fn from(_error: AllocError) -> ProblemError {
+        ProblemError::OutOfMemory
+    }
+}
+
+/// The problem whose line a text is, or none, exactly where it is no problem's.
+///
+/// The line has its LF. It is taken apart, its escapes are turned back, and what that gives is written again: it is a
+/// problem's line exactly where the same comes out.
+///
+/// # Errors
+///
+/// Want of memory.
+#[tactic(auto, using(crate::proofs::BackLemmas::read_none, crate::proofs::BackLemmas::read_some, crate::proofs::BackLemmas::read_other))]
+pub fn read_problem(alloc: Global, line: &str) -> Result<Option<Info>, AllocError>
+    ensures { IfOk result (λ answer. IsRead line.now (option_map info_parts answer)) }
+{
+    let Some(parts) = parse(line) else {
+        return Ok(None);
+    };
+    let info = build(alloc, parts)?;
+    let written = write_problem(alloc, &info)?;
+    if written.as_str() == line {
+        Ok(Some(info))
+    } else {
+        Ok(None)
+    }
+}
+
+/// The problems whose lines a text is made of, in order.
+///
+/// The text is cut after each LF; a rest without one counts as a line, and as one that is no problem's. The empty text is
+/// the empty list.
+///
+/// # Errors
+///
+/// The first line that is no problem's, and want of memory.
+pub fn read_problems(alloc: Global, text: &str) -> Result<Vec<Info>, ProblemError>
+    ensures read { IfOk result (λ infos. AreProblemsOf (map info_parts infos.items) text.now) }
+    ensures cause { IfErr result (λ e. IsCause (lines_of text.now) e) }
+    ensures back { (problems : List InfoParts) → All IsInRange problems → text.now ≡ flat_map problem_line problems → GivesBack result problems }
+    ensures reported { ReadsReported text.now result }
+{
+    read_all(alloc, text)
+}
+
+/// The same, line by line.
+fn read_all(alloc: Global, text: &str) -> Result<Vec<Info>, ProblemError>
+    ensures read { IfOk result (λ infos. AreProblemsOf (map info_parts infos.items) text.now) }
+    ensures cause { IfErr result (λ e. IsCause (lines_of text.now) e) }
+{
+    let mut infos = Vec::new(alloc);
+    let mut rest = text;
+    while !rest.is_empty() {
+        let parts = first_line(rest);
+        match read_problem(alloc, parts.0)? {
+            Some(info) => keep(&mut infos, info)?,
+            None => return Err(ProblemError::NotALine { line: infos.len() }),
+        }
+        rest = parts.1;
+    }
+    Ok(infos)
+}
+
+/// Appends one that was read.
+fn keep(infos: &mut Vec<Info>, info: Info) -> Result<(), AllocError>
+    ensures { OnOk result (infos.new.items ≡ infos.old.items ++ info ∷ []) }
+{
+    infos.push(info)?;
+    Ok(())
+}
+
+/// The first line of a text, with its LF, and what follows it.
+fn first_line(text: &str) -> (&str, &str)
+    requires { 0 < length text.now }
+    ensures lines { lines_of text.now ≡ result.0.now ∷ lines_of result.1.now }
+    ensures shorter { length result.1.now < length text.now }
+{
+    match cut(text, '\n') {
+        Some(parts) => text.split_at(parts.0.len() + 1),
+        None => (text, ""),
+    }
+}
+
+/// A problem of parts whose escapes are turned back.
+fn build(alloc: Global, parts: LineParts<'_>) -> Result<Info, AllocError>
+    ensures { IfOk result (λ info. info_parts info ≡ unescaped (texts_of parts.entry)) }
+{
+    let filename = unescape(alloc, parts.filename)?;
+    let message = unescape(alloc, parts.message)?;
+    let rule_id = unescape_rule(alloc, parts.rule_id)?;
+    Ok(Info {
+        start: parts.start,
+        end: parts.end,
+        filename,
+        message,
+        severity: parts.severity,
+        rule_id,
+    })
+}
+
+/// A rule whose escapes are turned back.
+fn unescape_rule(alloc: Global, rule: Option<&str>) -> Result<Option<String>, AllocError>
+    ensures { IfOk result (λ out. text_bytes out ≡ option_map unescaped_text (option_copied rule.entry)) }
+{
+    match rule {
+        Some(rule) => Ok(Some(unescape(alloc, rule)?)),
+        None => Ok(None),
+    }
+}
+
+/// A text whose escapes are turned back. A backslash that begins no escape is dropped.
+fn unescape(alloc: Global, text: &str) -> Result<String, AllocError>
+    ensures { IfOk result (λ out. string_bytes out ≡ unescaped_text text.now) }
+{
+    let mut out = String::new(alloc);
+    let mut rest = text;
+    while let Some(parts) = cut(rest, '\\') {
+        out.push_str(parts.0)?;
+        rest = push_meant(&mut out, parts.1)?;
+    }
+    out.push_str(rest)?;
+    Ok(out)
+}
+
+/// Appends what the letter behind a backslash stands for, and gives what follows it.
+fn push_meant<'a>(out: &mut String, behind: &'a str) -> Result<&'a str, AllocError>
+    ensures text { IfOk result (λ rest. string_bytes out.new ++ unescaped_text rest.now ≡ string_bytes out.old ++ unescape_from true behind.now) }
+    ensures shorter { IfOk result (λ rest. length rest.now ≤ length behind.now) }
+{
+    match meaning(behind) {
+        Some(byte) => {
+            out.push(char::from(byte))?;
+            Ok(&behind[1..])
+        }
+        None => Ok(behind),
+    }
+}
+
+/// What the first byte of a text stands for behind a backslash.
+fn meaning(behind: &str) -> Option<u8>
+    ensures { result ≡ meaning_of behind.now }
+{
+    meant(*behind.as_bytes().first()?)
+}
+
+/// What a letter stands for behind a backslash.
+fn meant(letter: u8) -> Option<u8>
+    ensures { result ≡ meant_by letter }
+{
+    match letter {
+        b'\\' => Some(b'\\'),
+        b'n' => Some(b'\n'),
+        b'r' => Some(b'\r'),
+        b'c' => Some(b':'),
+        b'b' => Some(b']'),
+        _ => None,
+    }
+}
