@@ -1,5 +1,5 @@
 -- Texts by columns: cuts, and columns that hold the same.
-use Rattle.std.proofs.Common.{◌≡◌, ℕ, ◌+◌, ◌-◌, ◌<◌, ◌≤◌, List, [], ◌∷◌, ◌++◌, replicate, refl, sym, ap, ◌∙◌, arith, zero, suc}
+use Rattle.std.proofs.Common.{◌≡◌, ℕ, ◌+◌, ◌-◌, ◌*◌, ◌/◌, ◌%◌, ◌<◌, ◌≤◌, List, [], ◌∷◌, ◌++◌, replicate, refl, sym, ap, ◌∙◌, arith, zero, suc}
 use Rattle.std.specs.List.{concat}
 use Rattle.std.proofs.lemmas.List.{append_assoc, append-nil, replicate_more}
 use Rattle.std.proofs.lemmas.List.Folds.{concat-append}
@@ -101,3 +101,26 @@ cells_of_mark f before start bar end gap line marker bs sb be in_gap in_front at
     ∙ ap (λ l. l ++ cells f (bar + 1) (end - (bar + 1))) one
     ∙ ap (λ l. marker ++ l) last))
     ∙ simp append_assoc refl
+
+-- runs one after another
+repeated_add : (m n : ℕ) (text : List ℕ) → repeated (m + n) text ≡ repeated m text ++ repeated n text
+repeated_add zero n text =
+    let here : zero + n ≡ n = omega arith in
+    rw (here, repeated_none text) refl
+repeated_add (suc m) n text =
+    let here : suc m + n ≡ suc (m + n) = omega arith in
+    rw (here, repeated_first (m + n) text, repeated_first m text) (ap (λ l. text ++ l) (repeated_add m n text) ∙ sym (append_assoc text (repeated m text) (repeated n text)))
+
+-- the steps of a loop that writes blocks of sixteen
+pub blocks_none : (s text : List ℕ) → s ≡ s ++ repeated (0 * 16) text
+blocks_none s text = sym (ap (λ l. s ++ l) (repeated_none text) ∙ append-nil s)
+
+pub block_more : (s block text : List ℕ) (n : ℕ) → block ≡ repeated 16 text → (s ++ repeated (n * 16) text) ++ block ≡ s ++ repeated ((n + 1) * 16) text
+block_more s block text n is =
+    let next : (n + 1) * 16 ≡ n * 16 + 16 = omega arith in
+    rw (is, next) (append_assoc s (repeated (n * 16) text) (repeated 16 text) ∙ ap (λ l. s ++ l) (sym (repeated_add (n * 16) 16 text)))
+
+pub blocks_end : (s text : List ℕ) (n : ℕ) → (s ++ repeated (n / 16 * 16) text) ++ repeated (n % 16) text ≡ s ++ repeated n text
+blocks_end s text n =
+    let whole : n / 16 * 16 + n % 16 ≡ n = omega arith in
+    append_assoc s (repeated (n / 16 * 16) text) (repeated (n % 16) text) ∙ ap (λ l. s ++ l) (sym (repeated_add (n / 16 * 16) (n % 16) text)) ∙ ap (λ k. s ++ repeated k text) whole

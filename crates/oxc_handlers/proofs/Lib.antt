@@ -15,3 +15,4 @@ pub mod LinesLemmas
 pub mod TextsLemmas
 pub mod DrawableLemmas
 pub mod ReportLemmas
+pub mod PlainTexts

@@ -2,11 +2,11 @@
 use Rattle.std.proofs.Common.{ℕ, ◌+◌, ◌-◌, Bool, true, false, List, [], ◌∷◌, length, encode_utf8, eqb, Some, None, Option, refl, if◌then◌else◌}
 use Rattle.std.specs.List.{find}
 use Rattle.std.specs.Option.{option_map, option_map_or, unwrap_or, is_some}
-use Rattle.oxc_plan.specs.declared.plan.Bar.{Bar}
-use Rattle.oxc_plan.specs.declared.plan.BarKind.{BarKind}
-use Rattle.oxc_plan.specs.declared.plan.BarKind.TheVariants.{Passes, Starts, Ends}
+use Rattle.oxc_plan.specs.declared.bars.Bar.{Bar}
+use Rattle.oxc_plan.specs.declared.bars.BarKind.{BarKind}
+use Rattle.oxc_plan.specs.declared.bars.BarKind.TheVariants.{Passes, Starts, Ends}
 use Rattle.oxc_plan.specs.declared.marks.MarkCells.{MarkCells}
-use Rattle.oxc_plan.specs.declared.plan.Hang.{Hang}
+use Rattle.oxc_plan.specs.declared.hangs.Hang.{Hang}
 use Rattle.oxc_plan.specs.Plan.{RowPlanView}
 use Rattle.oxc_handlers.specs.declared.span.LabelRenderMode.{LabelRenderMode}
 use Rattle.oxc_handlers.specs.declared.span.LabelRenderMode.TheVariants.{SingleLine, BlockFirst, BlockRest}

@@ -1,20 +1,23 @@
 -- The snippets of a report, and why it is refused.
-use Rattle.std.proofs.Common.{◌≡◌, ℕ, ◌<◌, ◌≤◌, nat_lt, Bool, false, get_or, List, [], Option, Some, None, IfSome, All, length, refl, sym, ap, subst, ◌∙◌, arith}
+use Rattle.std.proofs.Common.{◌≡◌, ℕ, ◌<◌, ◌≤◌, nat_lt, Bool, false, get_or, List, [], Option, Some, None, IfSome, Result, Ok, Err, OnOk, All, length, refl, sym, ap, subst, ◌∙◌, arith}
 use Rattle.std.specs.Option.{option_and_then, option_map_or}
 use Rattle.std.specs.List.{position, position_or_len}
 use Rattle.std.proofs.lemmas.Bool.Decides.{nat_tests}
 use Rattle.std.proofs.lemmas.Bool.{lt-ltb}
-use Rattle.std.proofs.lemmas.List.{nil_from_length}
+use Rattle.std.proofs.lemmas.List.{nil_from_length, take_all}
 use Rattle.std.proofs.lemmas.List.Elements.{All-from_get_or}
 use Rattle.std.proofs.lemmas.List.Quantifiers.{position-Some}
 use Rattle.std.proofs.lemmas.List.Sums.{fails_before_first}
 use Rattle.std.specs.Str.{IsUtf8, IsValidUpTo}
 use Rattle.oxc_span.specs.Label.{Label, label_end}
+use Rattle.oxc_windows.specs.Scan.{Scan}
+use Rattle.oxc_plan.specs.Keeping.{ReadsOn}
 use Rattle.oxc_plan.specs.Groups.{groups_from, groups_of}
 use Rattle.oxc_plan.specs.Order.{label_order, ordered, spans_in_order}
 use Rattle.oxc_plan.specs.Plan.{SnippetView, snippets_of}
 use Rattle.oxc_protocol.specs.Parts.{Parts}
 use Rattle.oxc_protocol.specs.Source.{SourceParts}
+use Rattle.oxc_handlers.specs.Scanners.{HoldsLabels, IsDrawerOf, IsTaken}
 use Rattle.oxc_handlers.specs.Refusals.{IsNoText, IsFaultless, first_outside, outside_in}
 use Rattle.oxc_handlers.specs.Report.{name_in, snippets_in}
 
@@ -84,3 +87,51 @@ none_of tab (Some source) labels e = rw e (sym (no_labels tab source.bytes))
 pub no_label_snippets : (tab : ℕ) (parts : Parts) → length parts.labels ≡ 0 → [] ≡ snippets_in tab parts
 unfolding snippets_in
 no_label_snippets tab parts e = none_of tab parts.source parts.labels (nil_from_length parts.labels e)
+
+-- a scanner that reads nothing reads on
+pub stands_still : (scan : Scan) → ReadsOn scan scan
+stands_still scan =
+    record {
+      same = record { input = refl; before = refl; after = refl };
+      first = λ first set. set;
+      stay = take_all (length scan.kept) scan.kept (omega arith);
+      rows = λ kept. kept;
+    }
+
+-- what a drawing that went on with a scanner leaves
+leaves : (parts : Parts) (source : SourceParts) (handed_in : Option Scan) (taken new : Scan) → parts.source ≡ Some source → IsTaken source.bytes handed_in taken → ReadsOn taken new
+    → HoldsLabels taken.input parts.labels taken new → IsDrawerOf parts handed_in (Some new)
+leaves parts source handed_in taken new there is on holds =
+    rw there
+    (λ some.
+        record {
+          reader = record { old = taken; new = new; there = refl; taken = is; on = on };
+          holds = subst (λ bytes. HoldsLabels bytes parts.labels taken new) is.reads holds;
+        })
+
+on_ok : {T E : Type 0} (P Q : Type 0) → (P → Q) → (r : Result T E) → OnOk r P → OnOk r Q
+on_ok P Q f (Ok value) p = f p
+on_ok P Q f (Err e) p = tt
+
+pub leaves_on_ok : {T E : Type 0} (r : Result T E) (parts : Parts) (source : SourceParts) (bytes : List ℕ) (held handed_in : Option Scan) (taken new : Scan) → parts.source ≡ Some source → bytes ≡ source.bytes → held ≡ handed_in
+    → IsTaken bytes held taken → ReadsOn taken new → OnOk r (HoldsLabels taken.input parts.labels taken new) → OnOk r (IsDrawerOf parts handed_in (Some new))
+leaves_on_ok r parts source bytes held handed_in taken new there same was is on holds =
+    let here : IsTaken source.bytes handed_in taken = subst (λ bs. IsTaken bs handed_in taken) same (subst (λ h. IsTaken bytes h taken) was is) in
+    on_ok (HoldsLabels taken.input parts.labels taken new) (IsDrawerOf parts handed_in (Some new)) (λ h. leaves parts source handed_in taken new there here on h) r holds
+
+-- what can be drawn is not refused
+pub not_outside : {Q : Type 0} (parts : Parts) (label : ℕ) → IsFaultless parts → outside_in parts ≡ Some label → Q
+unfolding outside_in
+not_outside {Q = Q} parts label is found =
+    elim parts.source as (λ v. parts.source ≡ v → Q) [
+      | Some source ↦ λ there.
+          let within : All (λ l. label_end l ≤ length source.bytes) parts.labels = (rw there at is.within) in
+          let some : first_outside (length source.bytes) parts.labels ≡ Some label = (rw there at found) in
+          let no : None ≡ Some label = sym (none_fail (length source.bytes) parts.labels within) ∙ some in cc
+      | None ↦ λ there. let no : None ≡ Some label = (rw there at found) in cc
+    ] refl
+
+pub not_no_text : {Q : Type 0} (parts : Parts) (source : SourceParts) (upto : ℕ) → parts.source ≡ Some source → IsFaultless parts → 0 < length parts.labels → ¬ IsUtf8 source.bytes → Q
+not_no_text parts source upto there is some other =
+    let text : IsUtf8 source.bytes = (rw there at is.text some) in
+    absurd (other text)

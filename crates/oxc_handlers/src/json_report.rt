@@ -28,6 +28,7 @@ pub struct JSONReportHandler;
 
 impl JSONReportHandler {
     /// The handler.
+    #[must_use]
     pub fn new() -> Self
         ensures { result ≡ record {} }
     {

@@ -2,6 +2,7 @@
 //!
 //! A [`GraphicalReportHandler`] draws by a [`GraphicalTheme`], filled to a width, with a distance of the tab stops.
 //! What it draws is a [`DiagnosticView`]: the parts of a diagnostic, all of them borrowed.
+//! A [`JSONReportHandler`] sends the same parts as JSON, for programs to read.
 #![tactic(auto)]
 
 mod gutter;
@@ -27,3 +28,5 @@ pub use crate::view::{DiagnosticView, RenderError};
 
 #[cfg(test)]
 mod json_report_tests;
+#[cfg(test)]
+mod tests;

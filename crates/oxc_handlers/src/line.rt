@@ -4,14 +4,26 @@ ghost use Rattle.oxc_plan.specs.Width.{led, moved};
 ghost use Rattle.oxc_handlers.specs.Texts.{shown_char, shown_from, shown_text};
 
 use crate::runs::write_repeated_char;
+use memchr::memchr;
 use oxc_plan::{Pen, TabWidth, moved_over};
 use std::alloc::AllocError;
 use unicode_segmentation::UnicodeSegmentation;
 use unicode_width::UnicodeWidthStr;
 
 /// Appends the text of a row: each tab as its advance in spaces, and as nothing in an escape, all else as it is.
-#[tactic(auto, using(crate::proofs::TextsLemmas::shown_cluster, crate::proofs::TextsLemmas::shown_none))]
 pub(crate) fn render_line_text(out: &mut String, text: &str, tabs: TabWidth) -> Result<(), AllocError>
+    requires fits { length text.now < 2 ^ 32 }
+    ensures { OnOk result (string_bytes out.new ≡ string_bytes out.old ++ shown_text tabs text.now) }
+{
+    match memchr(b'\t', text.as_bytes()) {
+        Some(_) => write_clusters(out, text, tabs),
+        None => out.push_str(text),
+    }
+}
+
+/// Appends the text of a row, cluster by cluster.
+#[tactic(auto, using(crate::proofs::TextsLemmas::shown_cluster, crate::proofs::TextsLemmas::shown_none))]
+fn write_clusters(out: &mut String, text: &str, tabs: TabWidth) -> Result<(), AllocError>
     requires fits { length text.now < 2 ^ 32 }
     ensures { OnOk result (string_bytes out.new ≡ string_bytes out.old ++ shown_text tabs text.now) }
 {

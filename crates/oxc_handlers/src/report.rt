@@ -1,11 +1,11 @@
 //! Drawn reports: a title, the snippets, help and note.
-ghost use Rattle.std.specs.Prelude.{◌≡◌, ◌++◌, ◌-◌, ◌<◌, ◌≤◌, All, IfOk, IfSome, MatchResult, OnOk, Some, length, map, string_bytes};
+ghost use Rattle.std.specs.Prelude.{◌≡◌, ◌++◌, ◌-◌, ◌<◌, ◌≤◌, All, IfOk, IfSome, IsOkUnless, IsSome, MatchResult, OnOk, Some, length, map, string_bytes};
 ghost use Rattle.std.specs.Option.{option_copied};
 ghost use Rattle.oxc_span.specs.Label.{label_end};
-ghost use Rattle.oxc_windows.specs.Scan.{IsSameReader};
+ghost use Rattle.oxc_plan.specs.Keeping.{ReadsOn};
 ghost use Rattle.oxc_plan.specs.Scanned.{ReadsRound};
 ghost use Rattle.oxc_handlers.specs.Refusals.{IsFaultless, IsRefusal, first_outside};
-ghost use Rattle.oxc_handlers.specs.Scanners.{CanDraw, IsReaderOf, ReadsRoundIfThere};
+ghost use Rattle.oxc_handlers.specs.Scanners.{CanDraw, HoldsLabels, IsDrawerOf, IsTaken, ReadsRoundIfThere, StaysReader};
 ghost use Rattle.oxc_plan.specs.Plan.{snippet_view};
 ghost use Rattle.oxc_handlers.specs.Report.{code_part, drawn, drawn_snippets, footer, help_of, icon, name_in, note_of, plan_of, severity_in, severity_style, snippets_in, title, title_indent, title_of, view_parts};
 ghost use Rattle.oxc_handlers.specs.RowLines.{lf};
@@ -45,8 +45,11 @@ impl GraphicalReportHandler {
         requires { ReadsRoundIfThere scanner.old }
         ensures text { IfOk result (λ text. string_bytes text ≡ drawn self.now.theme self.now.width (plan_of self.now.tab (view_parts view.now))) }
         ensures cause { MatchResult result (λ _. IsFaultless (view_parts view.now)) (IsRefusal 0 (view_parts view.now)) }
+        ensures complete { IsFaultless (view_parts view.now) → IsOkUnless result RenderError.OutOfMemory }
+        // the scanner that is left
         ensures round { ReadsRoundIfThere scanner.new }
-        ensures reader { OnOk result (IsReaderOf (view_parts view.now) scanner.new) }
+        ensures drawer { OnOk result (IsDrawerOf (view_parts view.now) scanner.old scanner.new) }
+        ensures stays { StaysReader (view_parts view.now) scanner.old scanner.new }
     {
         let Some(source) = &view.source else {
             return Ok(self.render_planned(alloc, view, &[])?);
@@ -76,7 +79,9 @@ impl GraphicalReportHandler {
         requires some { 0 < length view.now.labels.now }
         ensures text { IfOk result (λ text. string_bytes text ≡ drawn self.now.theme self.now.width (plan_of self.now.tab (view_parts view.now))) }
         ensures cause { MatchResult result (λ _. IsFaultless (view_parts view.now)) (IsRefusal 0 (view_parts view.now)) }
-        ensures same { IsSameReader scanner.old scanner.new }
+        ensures complete { IsFaultless (view_parts view.now) → IsOkUnless result RenderError.OutOfMemory }
+        ensures on { ReadsOn scanner.old scanner.new }
+        ensures holds { OnOk result (HoldsLabels scanner.old.input view.now.labels.now scanner.old scanner.new) }
     {
         match scanner.text() {
             Ok(_) => Ok(self.render_view_with_scanner(alloc, view, scanner)?),
@@ -102,7 +107,9 @@ impl GraphicalReportHandler {
     ) -> Result<String, AllocError>
         requires { CanDraw scanner.old (view_parts view.now) }
         ensures text { IfOk result (λ text. string_bytes text ≡ drawn self.now.theme self.now.width (plan_of self.now.tab (view_parts view.now))) }
-        ensures same { IsSameReader scanner.old scanner.new }
+        // what the scanner holds
+        ensures on { ReadsOn scanner.old scanner.new }
+        ensures holds { IsSome (view_parts view.now).source → 0 < length view.now.labels.now → OnOk result (HoldsLabels scanner.old.input view.now.labels.now scanner.old scanner.new) }
     {
         let Some(_source) = &view.source else {
             return self.render_planned(alloc, view, &[]);
@@ -239,9 +246,8 @@ fn reader_of<'a>(
 ) -> SpanScanner<'a>
     requires fits { length source.now < 4294967295 }
     requires round { ReadsRoundIfThere held }
-    ensures source { result.input ≡ source.now }
+    ensures taken { IsTaken source.now held.entry result }
     ensures round { ReadsRound result }
-    ensures again { IfSome held.entry (λ scan. scan.input ≡ source.now → result ≡ scan) }
 {
     match held {
         Some(scanner) if scanner.is_for(source) => scanner,

@@ -1,5 +1,5 @@
 //! Runs of one character, and numbers, behind a text.
-ghost use Rattle.std.specs.Prelude.{◌≡◌, ◌++◌, OnOk, string_bytes, encode_utf8, decimal};
+ghost use Rattle.std.specs.Prelude.{◌≡◌, ◌++◌, IfSome, OnOk, string_bytes, encode_utf8, decimal};
 ghost use Rattle.oxc_handlers.specs.Cells.{repeated};
 ghost use Rattle.oxc_handlers.specs.Theme.{styled};
 
@@ -7,9 +7,46 @@ use crate::theme::Style;
 use itoa::Buffer;
 use std::alloc::AllocError;
 
+/// How many characters a block has.
+const BLOCK: usize = 16;
+
 /// Appends a character some times over.
-#[tactic(auto, using(crate::proofs::CellsLemmas::written_none, crate::proofs::CellsLemmas::written_more))]
 pub(crate) fn write_repeated_char(out: &mut String, c: char, count: usize) -> Result<(), AllocError>
+    ensures { OnOk result (string_bytes out.new ≡ string_bytes out.old ++ repeated count (encode_utf8 c)) }
+{
+    match block_of(c) {
+        Some(block) => write_blocks(out, c, block, count),
+        None => write_chars(out, c, count),
+    }
+}
+
+/// A block of a character of which long runs are drawn.
+fn block_of(c: char) -> Option<&'static str>
+    ensures { IfSome result (λ block. block.now ≡ repeated BLOCK (encode_utf8 c)) }
+{
+    match c {
+        ' ' => Some("                "),
+        '─' => Some("────────────────"),
+        '^' => Some("^^^^^^^^^^^^^^^^"),
+        _ => None,
+    }
+}
+
+/// Appends a character some times over, in blocks as far as they go.
+#[tactic(auto, using(crate::proofs::CellsLemmas::block_more, crate::proofs::CellsLemmas::blocks_end, crate::proofs::CellsLemmas::blocks_none))]
+fn write_blocks(out: &mut String, c: char, block: &str, count: usize) -> Result<(), AllocError>
+    requires { block.now ≡ repeated BLOCK (encode_utf8 c) }
+    ensures { OnOk result (string_bytes out.new ≡ string_bytes out.old ++ repeated count (encode_utf8 c)) }
+{
+    for _i in 0..count / BLOCK {
+        out.push_str(block)?;
+    }
+    write_chars(out, c, count % BLOCK)
+}
+
+/// Appends a character some times over, one by one.
+#[tactic(auto, using(crate::proofs::CellsLemmas::written_none, crate::proofs::CellsLemmas::written_more))]
+fn write_chars(out: &mut String, c: char, count: usize) -> Result<(), AllocError>
     ensures { OnOk result (string_bytes out.new ≡ string_bytes out.old ++ repeated count (encode_utf8 c)) }
 {
     for _i in 0..count {

@@ -229,7 +229,7 @@ unfolding column_in
 column_ascii tab text place true ascii within = rw (le-ltb (length text) place within, down_ascii text place ascii within) refl
 column_ascii tab text place false ascii within = rw (le-ltb (length text) place within, up_ascii text place ascii within) refl
 
-take_ascii : (text : List ℕ) (place : ℕ) → IsAscii text → IsAscii (take place text)
+pub take_ascii : (text : List ℕ) (place : ℕ) → IsAscii text → IsAscii (take place text)
 take_ascii text place ascii i = ⊎_elim (λ lt. rw (get_or-take place text i 0 lt) (ascii i)) (λ ge. let past : get_or (take place text) i 0 ≡ 0 = get_or_past (take place text) i 0 (omega (arith, length-take place text)) in omega (arith, past)) (cases_lt i place)
 
 pub columns_are_drawn : (tab : ℕ) (row : RowView) → HasColumnsAsDrawn tab row

@@ -1,5 +1,5 @@
 -- The clusters of the first part of a text: those of the whole, and a part of one.
-use Rattle.std.proofs.Common.{◌≡◌, ℕ, zero, suc, ◌+◌, ◌-◌, ◌<◌, ◌≤◌, ◌&&◌, Bool, true, false, inl, inr, List, [], ◌∷◌, ◌++◌, length, map, get_or, take, drop, fold, refl, sym, ap, subst, ◌∙◌, arith, append_assoc, append-nil, length-append, cond}
+use Rattle.std.proofs.Common.{◌≡◌, ℕ, zero, suc, ◌+◌, ◌-◌, ◌<◌, ◌≤◌, Bool, true, false, inl, inr, List, [], ◌∷◌, ◌++◌, length, map, get_or, take, drop, refl, sym, ap, subst, ◌∙◌, arith, append_assoc, append-nil, length-append, cond}
 use Rattle.std.specs.Prelude.{All, encode_utf8_all}
 use Rattle.std.specs.List.{concat, flat_map}
 use Rattle.std.specs.Str.{chars, IsCharBoundary, IsUtf8}
@@ -189,11 +189,11 @@ encodes_concat : (ps : List (List ℕ)) → encode_utf8_all (concat ps) ≡ conc
 encodes_concat [] = refl
 encodes_concat (p ∷ ps) = encodes-append p (concat ps) ∙ ap (λ l. encode_utf8_all p ++ l) (encodes_concat ps)
 
-concat_append : (xs ys : List (List ℕ)) → concat (xs ++ ys) ≡ concat xs ++ concat ys
+pub concat_append : (xs ys : List (List ℕ)) → concat (xs ++ ys) ≡ concat xs ++ concat ys
 concat_append [] ys = refl
 concat_append (x ∷ xs) ys = ap (λ l. x ++ l) (concat_append xs ys) ∙ sym (append_assoc x (concat xs) (concat ys))
 
-flat_append : {A B : Type 0} (f : A → List B) (xs ys : List A) → flat_map f (xs ++ ys) ≡ flat_map f xs ++ flat_map f ys
+pub flat_append : {A B : Type 0} (f : A → List B) (xs ys : List A) → flat_map f (xs ++ ys) ≡ flat_map f xs ++ flat_map f ys
 flat_append f [] ys = refl
 flat_append f (x ∷ xs) ys = ap (λ l. f x ++ l) (flat_append f xs ys) ∙ sym (append_assoc (f x) (flat_map f xs) (flat_map f ys))
 

@@ -25,7 +25,7 @@ use Rattle.oxc_plan.specs.Drawable.{IsDrawable, IsDrawableRow, is_marked}
 use Rattle.oxc_plan.specs.Groups.{group_window, groups_in, largest_end, span_at}
 use Rattle.oxc_plan.specs.Marks.{cells_at, cells_of, mark_end, mark_of, placed_marks, row_cells}
 use Rattle.oxc_plan.specs.Meets.{is_multi_row, multi_row_labels}
-use Rattle.oxc_plan.specs.Order.{label_order, ordered, placed, places, spans_in_order, start_at}
+use Rattle.oxc_plan.specs.Order.{label_order, inserted, ordered, places, spans_in_order, start_at}
 use Rattle.oxc_plan.specs.Plan.{Ordered, RowPlanView, across_row, bar_of, bars_of, ends_of, ends_with_text, gutter_of, hang_of, hang_place, hangs_of, head_label, in_order, is_like, ordered_at, row_plan_of, row_plans_of, snippet_of, snippets_of, spans_of, within_row}
 use Rattle.oxc_plan.specs.Rows.{RowView, ends_at, first_len, is_cut, numbered, pieces, row_of_piece, row_text, rows_in}
 use Rattle.oxc_plan.specs.declared.bars.Bar.{Bar}
@@ -269,23 +269,26 @@ rows_fit source spans g utf8 k d lt =
     (texts.0, below.1, inside, omega (arith, texts.1, inside))
 
 -- labels in order are as many as were given
-length_placed : (labels : List Label) (at : ℕ) (xs : List ℕ) → length (placed labels at xs) ≡ length xs + 1
-unfolding placed
-length_placed labels at [] = refl
-length_placed labels at (x ∷ xs) =
+length_inserted : (labels : List Label) (at : ℕ) (xs : List ℕ) → length (inserted labels at xs) ≡ length xs + 1
+unfolding inserted
+length_inserted labels at [] = refl
+length_inserted labels at (x ∷ xs) =
     elim (cases_Bool (ltb (start_at labels x) (start_at labels at))) [
-      | inl said ↦ rw said (omega (arith, length_placed labels at xs))
+      | inl said ↦ rw said (omega (arith, length_inserted labels at xs))
       | inr other ↦ rw other (omega arith)
     ]
 
 length_ordered : (labels : List Label) (xs : List ℕ) → length (ordered labels xs) ≡ length xs
 unfolding ordered
 length_ordered labels [] = refl
-length_ordered labels (x ∷ xs) = omega (arith, length_placed labels x (ordered labels xs), length_ordered labels xs)
+length_ordered labels (x ∷ xs) = omega (arith, length_inserted labels x (ordered labels xs), length_ordered labels xs)
 
 pub length_in_order : (labels : List Label) → length (in_order labels) ≡ length labels
 unfolding in_order label_order
 length_in_order labels = length-map (ordered labels (places labels)) _ ∙ length_ordered labels (places labels) ∙ length-range_with_len 0 (length labels)
+
+pub spans_as_many : (labels : List Label) → length (spans_in_order labels) ≡ length labels
+spans_as_many labels = ap length (sym (spans_ordered labels)) ∙ spans_count (in_order labels) ∙ length_in_order labels
 
 -- the head lies within the source
 settled_le : (list : List LineBreak) (o : ℕ) → settled list o ≤ o

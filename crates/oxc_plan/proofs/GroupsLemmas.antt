@@ -1,5 +1,5 @@
 -- Groups: there is one division into them, and their windows lie apart.
-use Rattle.std.proofs.Common.{◌≡◌, ℕ, zero, suc, ◌+◌, ◌-◌, ◌<◌, ◌≤◌, List, [], ◌∷◌, length, get_or, take, drop, fold, max, refl, ap, subst, ◌∙◌, arith, ⊎_elim, inl, inr, Bool, true, false, not, ltb, All}
+use Rattle.std.proofs.Common.{◌≡◌, ℕ, zero, suc, ◌+◌, ◌-◌, ◌<◌, ◌≤◌, List, [], ◌∷◌, length, ◌++◌, append_assoc, get_or, take, drop, fold, max, refl, sym, ap, subst, ◌∙◌, arith, ⊎_elim, inl, inr, Bool, true, false, not, ltb, All}
 use Rattle.std.specs.List.{position_or_len, range_with_len}
 use Rattle.std.specs.List.Sorted.{IsNonDecreasingBy}
 use Rattle.std.specs.declared.ops.Range.{Range}
@@ -16,6 +16,7 @@ use Rattle.oxc_windows.specs.Rows.{row_of}
 use Rattle.oxc_windows.specs.Window.{row_further, window_begin, window_end}
 use Rattle.oxc_windows.proofs.RowsLemmas.{row_le, ends_before_row, ends_from_row}
 use Rattle.oxc_windows.proofs.WindowLemmas.{row_start_mono, row_start_before, row_start_past_last, row_start_within}
+use Rattle.oxc_plan.specs.Order.{AreOrderedSpans}
 use Rattle.oxc_plan.specs.Groups.{AreApart, AreGroups, HoldsItsSpans, IsGroup, group_end, group_window, groups_from, groups_of, largest_end, reach, span_at, span_window}
 
 -- of two groups with one beginning, neither ends earlier
@@ -116,18 +117,14 @@ end_within : (len : ℕ) (breaks : List LineBreak) (end : ℕ) → IsBreakList l
 unfolding window_end
 end_within len breaks end ok = row_start_within len breaks (row_of breaks (end - 1) + 1 + row_further breaks (end - 1) + 1) ok
 
--- spans whose starts ascend and whose ends are within the source
-abbrev pub AreInOrder : ℕ → List Span → Type 0
-AreInOrder len spans = IsNonDecreasingBy (λ s. s.start) spans × All (λ s. (s.start ≤ s.end) × (s.end ≤ len)) spans
-
 -- the window of a group ends no later than that of any span after the group begins
-pub group_before : (len : ℕ) (breaks : List LineBreak) (spans : List Span) (first past at : ℕ) → IsBreakList len breaks → AreInOrder len spans
+pub group_before : (len : ℕ) (breaks : List LineBreak) (spans : List Span) (first past at : ℕ) → IsBreakList len breaks → AreOrderedSpans len spans
     → IsGroup len breaks spans first past → past ≤ at → at < length spans
     → window_end len breaks 1 (largest_end spans first past) ≤ window_begin len breaks 1 (span_at spans at).start
 group_before len breaks spans first past at ok order group le lt =
     let end = window_end len breaks 1 (largest_end spans first past) in
     let d : Span = record { start = 0; end = 0 } in
-    let later = row_of_mono breaks (span_at spans past).start (span_at spans at).start len ok (order.0 past at d le lt) in
+    let later = row_of_mono breaks (span_at spans past).start (span_at spans at).start len ok (order.ascend past at d le lt) in
     let before = row_of_mono breaks (end - 1) end len ok (omega arith) in
     row_start_past_last len breaks end (row_of breaks (span_at spans at).start - 1) ok (end_within len breaks (largest_end spans first past) ok)
     (omega (arith, group.full (omega (arith, le, lt)), later, before))
@@ -144,7 +141,7 @@ groups_begin len breaks spans from (group ∷ groups) are =
     All-cons (λ g. (from ≤ g.start) × (g.start < length spans)) group groups (omega (arith, start), omega (arith, some, within))
     (λ k d h. let one = rest k d h in (omega (arith, one.0, start, some), one.1))
 
-pub groups_apart : (len : ℕ) (breaks : List LineBreak) (spans : List Span) (from : ℕ) (groups : List (Range ℕ)) → IsBreakList len breaks → AreInOrder len spans
+pub groups_apart : (len : ℕ) (breaks : List LineBreak) (spans : List Span) (from : ℕ) (groups : List (Range ℕ)) → IsBreakList len breaks → AreOrderedSpans len spans
     → AreGroups len breaks spans from groups → AreApart len breaks spans groups
 groups_apart len breaks spans from [] ok order are = λ i j d lt h. absurd (omega arith)
 groups_apart len breaks spans from (group ∷ groups) ok order are =
@@ -154,20 +151,20 @@ groups_apart len breaks spans from (group ∷ groups) ok order are =
     (groups_apart len breaks spans group.end groups ok order are.2)
 
 -- a group's window holds its spans
-group_holds : (len : ℕ) (breaks : List LineBreak) (spans : List Span) (group : Range ℕ) → IsBreakList len breaks → AreInOrder len spans
+group_holds : (len : ℕ) (breaks : List LineBreak) (spans : List Span) (group : Range ℕ) → IsBreakList len breaks → AreOrderedSpans len spans
     → IsGroup len breaks spans group.start group.end → HoldsItsSpans len breaks spans group
 group_holds len breaks spans group ok order is at low high =
     let d : Span = record { start = 0; end = 0 } in
     let largest = largest_end spans group.start group.end in (
-      omega (arith, begin_before len breaks (span_at spans group.start).start ok, order.0 group.start at d low (omega (arith, is.within))),
+      omega (arith, begin_before len breaks (span_at spans group.start).start ok, order.ascend group.start at d low (omega (arith, is.within))),
       omega (
         arith,
         largest_end_reaches spans group.start group.end at low high is.within,
-        end_reaches len breaks largest ok (largest_end_within spans group.start group.end len order.1 (omega (arith, is.some)) is.within),
+        end_reaches len breaks largest ok (largest_end_within spans group.start group.end len order.within (omega (arith, is.some)) is.within),
       ),
     )
 
-pub groups_hold : (len : ℕ) (breaks : List LineBreak) (spans : List Span) (from : ℕ) (groups : List (Range ℕ)) → IsBreakList len breaks → AreInOrder len spans
+pub groups_hold : (len : ℕ) (breaks : List LineBreak) (spans : List Span) (from : ℕ) (groups : List (Range ℕ)) → IsBreakList len breaks → AreOrderedSpans len spans
     → AreGroups len breaks spans from groups → All (HoldsItsSpans len breaks spans) groups
 groups_hold len breaks spans from [] ok order are = All-nil (HoldsItsSpans len breaks spans)
 groups_hold len breaks spans from (group ∷ groups) ok order are =
@@ -210,3 +207,10 @@ groups_from_are len breaks spans (suc most) from le enough =
 pub groups_of_are : (len : ℕ) (breaks : List LineBreak) (spans : List Span) → AreGroups len breaks spans 0 (groups_of len breaks spans)
 unfolding groups_of
 groups_of_are len breaks spans = groups_from_are len breaks spans (length spans) 0 (omega arith) (omega arith)
+
+-- one group more
+pub group_added : (len : ℕ) (breaks : List LineBreak) (spans : List Span) (first past : ℕ) (found rest : List (Range ℕ)) → IsGroup len breaks spans first past
+    → ((more : List (Range ℕ)) → AreGroups len breaks spans first more → AreGroups len breaks spans 0 (found ++ more))
+    → AreGroups len breaks spans past rest → AreGroups len breaks spans 0 ((found ++ record { start = first; end = past } ∷ []) ++ rest)
+group_added len breaks spans first past found rest is ahead are =
+    subst (AreGroups len breaks spans 0) (sym (append_assoc found (record { start = first; end = past } ∷ []) rest)) (ahead (record { start = first; end = past } ∷ rest) (refl, is, are))

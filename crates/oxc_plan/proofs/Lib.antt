@@ -13,3 +13,5 @@ pub mod SweepLemmas
 pub mod DrawableLemmas
 pub mod ScannedLemmas
 pub mod ClustersLemmas
+pub mod MeasuringLemmas
+pub mod HangsLemmas

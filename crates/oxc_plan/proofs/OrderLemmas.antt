@@ -7,7 +7,7 @@ use Rattle.std.proofs.lemmas.Bool.Decides.{nat_tests}
 use Rattle.std.specs.List.Sorted.{ties, IsNonDecreasingBy, IsStableByKey}
 use Rattle.oxc_span.specs.declared.span.Span.{Span}
 use Rattle.oxc_span.specs.Label.{Label, label_end}
-use Rattle.oxc_plan.specs.Order.{no_label, label_at, start_at, starting_at, places, IsLabelOrder, placed, ordered, label_order, span_of, spans_in_order}
+use Rattle.oxc_plan.specs.Order.{no_label, label_at, start_at, starting_at, places, IsLabelOrder, inserted, ordered, label_order, span_of, spans_in_order}
 
 eqb_of : (m n : ℕ) → m ≡ n → eqb m n ≡ true
 eqb_of m n h = grind (arith, nat_tests)
@@ -19,10 +19,10 @@ dropped : (p : ℕ → Bool) (y : ℕ) (ys : List ℕ) → p y ≡ false → fil
 dropped p y ys h = cond-false _ _ _ h
 
 -- a place put among others keeps those of each start as they stood, itself first
-starting_placed : (labels : List Label) (start at : ℕ) (list : List ℕ) → starting_at labels start (placed labels at list) ≡ starting_at labels start (at ∷ list)
-unfolding placed
-starting_placed labels start at [] = refl
-starting_placed labels start at (next ∷ more) =
+starting_inserted : (labels : List Label) (start at : ℕ) (list : List ℕ) → starting_at labels start (inserted labels at list) ≡ starting_at labels start (at ∷ list)
+unfolding inserted
+starting_inserted labels start at [] = refl
+starting_inserted labels start at (next ∷ more) =
     let p : ℕ → Bool = λ k. eqb (start_at labels k) start in
     elim (cases_Bool (ltb (start_at labels next) (start_at labels at))) [
       | inr stays ↦ ap (filter p) (cond-false _ _ _ stays)
@@ -30,13 +30,13 @@ starting_placed labels start at (next ∷ more) =
           ap (filter p) (cond-true _ _ _ past)
           ∙ elim (cases_Bool (p next)) [
             | inr without ↦
-                dropped p next (placed labels at more) without ∙ starting_placed labels start at more
+                dropped p next (inserted labels at more) without ∙ starting_inserted labels start at more
                 ∙ ap (λ l. cond (p at) (at ∷ l) l) (sym (dropped p next more without))
             | inl with ↦
                 elim (cases_Bool (p at)) [
                   | inl both ↦ absurd (omega (arith, ltb-true _ _ past, eqb-true _ _ both, eqb-true _ _ with))
                   | inr only ↦
-                      kept p next (placed labels at more) with ∙ ap (λ l. next ∷ l) (starting_placed labels start at more ∙ dropped p at more only)
+                      kept p next (inserted labels at more) with ∙ ap (λ l. next ∷ l) (starting_inserted labels start at more ∙ dropped p at more only)
                       ∙ sym (dropped p at (next ∷ more) only ∙ kept p next more with)
                 ]
           ]
@@ -46,7 +46,7 @@ starting_ordered : (labels : List Label) (start : ℕ) (list : List ℕ) → sta
 unfolding ordered
 starting_ordered labels start [] = refl
 starting_ordered labels start (at ∷ more) =
-    starting_placed labels start at (ordered labels more)
+    starting_inserted labels start at (ordered labels more)
     ∙ ap (λ l. cond (eqb (start_at labels at) start) (at ∷ l) l) (starting_ordered labels start more)
 
 -- each start is n or more
@@ -62,21 +62,21 @@ at_least_le : (labels : List Label) (n m : ℕ) (ys : List ℕ) → n ≤ m → 
 at_least_le labels n m [] le h = tt
 at_least_le labels n m (y ∷ ys) le h = let first = h.0 in (omega arith, at_least_le labels n m ys le h.1)
 
-at_least_placed : (labels : List Label) (n at : ℕ) (ys : List ℕ) → n ≤ start_at labels at → AreAtLeast labels n ys → AreAtLeast labels n (placed labels at ys)
-unfolding placed
-at_least_placed labels n at [] le h = (le, tt)
-at_least_placed labels n at (y ∷ ys) le h =
+at_least_inserted : (labels : List Label) (n at : ℕ) (ys : List ℕ) → n ≤ start_at labels at → AreAtLeast labels n ys → AreAtLeast labels n (inserted labels at ys)
+unfolding inserted
+at_least_inserted labels n at [] le h = (le, tt)
+at_least_inserted labels n at (y ∷ ys) le h =
     elim (cases_Bool (ltb (start_at labels y) (start_at labels at))) [
-      | inl past ↦ rw past (h.0, at_least_placed labels n at ys le h.1)
+      | inl past ↦ rw past (h.0, at_least_inserted labels n at ys le h.1)
       | inr stays ↦ rw stays (le, h)
     ]
 
-rises_placed : (labels : List Label) (at : ℕ) (ys : List ℕ) → Rises labels ys → Rises labels (placed labels at ys)
-unfolding placed
-rises_placed labels at [] h = (tt, tt)
-rises_placed labels at (y ∷ ys) h =
+rises_inserted : (labels : List Label) (at : ℕ) (ys : List ℕ) → Rises labels ys → Rises labels (inserted labels at ys)
+unfolding inserted
+rises_inserted labels at [] h = (tt, tt)
+rises_inserted labels at (y ∷ ys) h =
     elim (cases_Bool (ltb (start_at labels y) (start_at labels at))) [
-      | inl past ↦ rw past (at_least_placed labels (start_at labels y) at ys (omega (arith, ltb-true _ _ past)) h.0, rises_placed labels at ys h.1)
+      | inl past ↦ rw past (at_least_inserted labels (start_at labels y) at ys (omega (arith, ltb-true _ _ past)) h.0, rises_inserted labels at ys h.1)
       | inr stays ↦
           let le : start_at labels at ≤ start_at labels y = ltb-false _ _ stays in
           rw stays ((le, at_least_le labels (start_at labels at) (start_at labels y) ys le h.0), h)
@@ -85,7 +85,7 @@ rises_placed labels at (y ∷ ys) h =
 rises_ordered : (labels : List Label) (list : List ℕ) → Rises labels (ordered labels list)
 unfolding ordered
 rises_ordered labels [] = tt
-rises_ordered labels (at ∷ more) = rises_placed labels at (ordered labels more) (rises_ordered labels more)
+rises_ordered labels (at ∷ more) = rises_inserted labels at (ordered labels more) (rises_ordered labels more)
 
 -- rising as std says it
 at_least_each : (labels : List Label) (n : ℕ) (ys : List ℕ) → AreAtLeast labels n ys → (j d : ℕ) → j < length ys → n ≤ start_at labels (get_or ys j d)

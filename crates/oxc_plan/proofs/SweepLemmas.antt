@@ -235,7 +235,7 @@ earlier_ends len breaks spans from (group ∷ groups) at ok order are low lt =
     let held = largest_end_reaches spans group.start group.end at (omega (arith, low, are.0)) here are.1.within in
     let valid = order.within at d lt in
     let most = largest_end_within spans group.start group.end len order.within (omega (arith, are.1.some)) are.1.within in
-    let apart = groups_apart len breaks spans from (group ∷ groups) ok (order.ascend, order.within) are in
+    let apart = groups_apart len breaks spans from (group ∷ groups) ok order are in
     λ k e h before.
     let later : end ≤ (group_window len breaks spans (get_or groups k e)).begin = apart 0 (suc k) e (omega arith) (omega (arith, h)) in
     ⊎_elim
@@ -266,7 +266,7 @@ alone_in source spans group order is earlier at lt outside k d inside met =
     (λ before. ⊎_elim (λ ended. omega (arith, ended, from, met.1, met.4)) (λ past. omega (arith, past, from, below, size, most, met.1, met.2)) (earlier at lt before))
     (λ after.
     let starts = begin_before len list (span_at spans at).start ok in
-    let apart = group_before len list spans group.start group.end at ok (order.ascend, order.within) is after lt in
+    let apart = group_before len list spans group.start group.end at ok order is after lt in
     omega (arith, starts, apart, below, from, size, most, met.1, met.2, met.3))
     outside
 
@@ -279,7 +279,7 @@ groups_alone source spans groups order are k d lt =
     record {
       some = within.0;
       within = within.1;
-      held = groups_hold len list spans 0 groups ok (order.ascend, order.within) are k d lt;
+      held = groups_hold len list spans 0 groups ok order are k d lt;
       alone = alone_in source spans (get_or groups k d) order (each_group len list spans 0 groups are k d lt)
           (λ at h before. earlier_ends len list spans 0 groups at ok order are (omega arith) h k d lt before);
     }

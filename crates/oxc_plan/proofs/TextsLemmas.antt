@@ -124,10 +124,10 @@ meets_test o e x y = ltb (max o x) (min e (x + max (y - x) 1))
 abbrev pub within_test : ℕ → ℕ → ℕ → ℕ → Bool
 within_test o e x y = leb o x && leb y e
 
-pub last_byte_held : (o e x y : ℕ) → x ≤ y
+pub byte_last_held : (o e x y : ℕ) → x ≤ y
     → cond (meets_test o e x y && within_test o e x y) 1 0 + cond (meets_test o e x y && not (within_test o e x y) && (not (leb o x) && leb y e)) 1 0
     ≡ cond (leb o (x + max (y - x) 1 - 1) && ltb (x + max (y - x) 1 - 1) e) 1 0
-last_byte_held o e x y le =
+byte_last_held o e x y le =
     let last = x + max (y - x) 1 - 1 in
     ⊎_elim
     (λ (before : last < o).
@@ -294,12 +294,12 @@ count_filters p q at n lt =
     ]
 
 -- how often the text of a label stands below a row: once where the row holds its last byte
-abbrev pub last_byte : Span → ℕ
-last_byte span = label_past span - 1
+abbrev pub byte_last : Span → ℕ
+byte_last span = label_past span - 1
 
 pub texts_of_row : (tab : ℕ) (labels : List Ordered) (row : RowView) (at : ℕ) → at < length labels → is_some (ordered_at labels at).text ≡ true
     → (ordered_at labels at).span.start ≤ (ordered_at labels at).span.end
-    → texts_below at (row_plan_of tab labels row) ≡ cond (holds_byte (last_byte (ordered_at labels at).span) row) 1 0
+    → texts_below at (row_plan_of tab labels row) ≡ cond (holds_byte (byte_last (ordered_at labels at).span) row) 1 0
 unfolding row_plan_of hangs_of ends_of one_row_labels multi_row_labels
 texts_of_row tab labels row at lt text ordered =
     let spans = spans_of labels in
@@ -320,23 +320,23 @@ texts_of_row tab labels row at lt text ordered =
     ∙ ap (λ b. cond b 1 0 + cond (m at && q at) 1 0) one
     ∙ ap (λ b. cond (meets_test row.offset e x y && within_test row.offset e x y) 1 0 + cond (b && q at) 1 0) many
     ∙ ap (λ b. cond (meets_test row.offset e x y && within_test row.offset e x y) 1 0 + cond (meets_test row.offset e x y && not (within_test row.offset e x y) && b) 1 0) said
-    ∙ last_byte_held row.offset e x y ordered
+    ∙ byte_last_held row.offset e x y ordered
 
 texts_of_rows : (tab : ℕ) (labels : List Ordered) (at : ℕ) (rows : List RowView) (more : List RowPlanView) → at < length labels → is_some (ordered_at labels at).text ≡ true
     → (ordered_at labels at).span.start ≤ (ordered_at labels at).span.end
-    → sum_by (texts_below at) (map (row_plan_of tab labels) rows ++ more) ≡ rows_with (last_byte (ordered_at labels at).span) rows + sum_by (texts_below at) more
+    → sum_by (texts_below at) (map (row_plan_of tab labels) rows ++ more) ≡ rows_with (byte_last (ordered_at labels at).span) rows + sum_by (texts_below at) more
 texts_of_rows tab labels at [] more lt text ordered = omega arith
 texts_of_rows tab labels at (row ∷ rows) more lt text ordered =
     sum_by-cons (texts_below at) (row_plan_of tab labels row) (map (row_plan_of tab labels) rows ++ more)
-    ∙ omega (arith, texts_of_row tab labels row at lt text ordered, texts_of_rows tab labels at rows more lt text ordered, rows_with_more (last_byte (ordered_at labels at).span) row rows)
+    ∙ omega (arith, texts_of_row tab labels row at lt text ordered, texts_of_rows tab labels at rows more lt text ordered, rows_with_more (byte_last (ordered_at labels at).span) row rows)
 
 texts_of_groups : (tab : ℕ) (source : List ℕ) (labels : List Ordered) (at : ℕ) (groups : List (Range ℕ)) → at < length labels → is_some (ordered_at labels at).text ≡ true
     → (ordered_at labels at).span.start ≤ (ordered_at labels at).span.end
-    → sum_by (texts_below at) (drawn_rows (map (snippet_of tab source labels) groups)) ≡ rows_with (last_byte (ordered_at labels at).span) (flat_map (window_rows source (spans_of labels)) groups)
+    → sum_by (texts_below at) (drawn_rows (map (snippet_of tab source labels) groups)) ≡ rows_with (byte_last (ordered_at labels at).span) (flat_map (window_rows source (spans_of labels)) groups)
 unfolding snippet_of row_plans_of
 texts_of_groups tab source labels at [] lt text ordered = refl
 texts_of_groups tab source labels at (g ∷ gs) lt text ordered =
-    let byte = last_byte (ordered_at labels at).span in
+    let byte = byte_last (ordered_at labels at).span in
     texts_of_rows tab labels at (window_rows source (spans_of labels) g) (drawn_rows (map (snippet_of tab source labels) gs)) lt text ordered
     ∙ ap (λ n. rows_with byte (window_rows source (spans_of labels) g) + n) (texts_of_groups tab source labels at gs lt text ordered)
     ∙ sym (sum_by-append (λ row. cond (holds_byte byte row) 1 0) (window_rows source (spans_of labels) g) (flat_map (window_rows source (spans_of labels)) gs))
@@ -394,18 +394,18 @@ ascend_groups tab source labels from (g ∷ gs) le apart each =
 -- the count of texts below each row, as above
 each_row : (tab : ℕ) (labels : List Ordered) (at : ℕ) (rows : List RowView) → at < length labels → is_some (ordered_at labels at).text ≡ true
     → (ordered_at labels at).span.start ≤ (ordered_at labels at).span.end
-    → All (λ plan. texts_below at plan ≡ cond (holds_byte (last_byte (ordered_at labels at).span) plan.row) 1 0) (map (row_plan_of tab labels) rows)
+    → All (λ plan. texts_below at plan ≡ cond (holds_byte (byte_last (ordered_at labels at).span) plan.row) 1 0) (map (row_plan_of tab labels) rows)
 unfolding row_plan_of
 each_row tab labels at rows lt text ordered =
-    All-map (λ plan. texts_below at plan ≡ cond (holds_byte (last_byte (ordered_at labels at).span) plan.row) 1 0) (row_plan_of tab labels) rows (λ k d _. texts_of_row tab labels (get_or rows k d) at lt text ordered)
+    All-map (λ plan. texts_below at plan ≡ cond (holds_byte (byte_last (ordered_at labels at).span) plan.row) 1 0) (row_plan_of tab labels) rows (λ k d _. texts_of_row tab labels (get_or rows k d) at lt text ordered)
 
 each_plan : (tab : ℕ) (source : List ℕ) (labels : List Ordered) (at : ℕ) (groups : List (Range ℕ)) → at < length labels → is_some (ordered_at labels at).text ≡ true
     → (ordered_at labels at).span.start ≤ (ordered_at labels at).span.end
-    → All (λ plan. texts_below at plan ≡ cond (holds_byte (last_byte (ordered_at labels at).span) plan.row) 1 0) (drawn_rows (map (snippet_of tab source labels) groups))
+    → All (λ plan. texts_below at plan ≡ cond (holds_byte (byte_last (ordered_at labels at).span) plan.row) 1 0) (drawn_rows (map (snippet_of tab source labels) groups))
 unfolding snippet_of row_plans_of
-each_plan tab source labels at [] lt text ordered = All-nil (λ plan. texts_below at plan ≡ cond (holds_byte (last_byte (ordered_at labels at).span) plan.row) 1 0)
+each_plan tab source labels at [] lt text ordered = All-nil (λ plan. texts_below at plan ≡ cond (holds_byte (byte_last (ordered_at labels at).span) plan.row) 1 0)
 each_plan tab source labels at (g ∷ gs) lt text ordered =
-    All-append (λ plan. texts_below at plan ≡ cond (holds_byte (last_byte (ordered_at labels at).span) plan.row) 1 0)
+    All-append (λ plan. texts_below at plan ≡ cond (holds_byte (byte_last (ordered_at labels at).span) plan.row) 1 0)
     (map (row_plan_of tab labels) (window_rows source (spans_of labels) g)) (drawn_rows (map (snippet_of tab source labels) gs))
     (each_row tab labels at (window_rows source (spans_of labels) g) lt text ordered) (each_plan tab source labels at gs lt text ordered)
 
@@ -417,12 +417,12 @@ holds_from o e byte some =
     ]
 
 pub last_met : (len : ℕ) (rows : List RowPlanView) (span : Span) (at : ℕ) → Ascend 0 rows len
-    → All (λ plan. texts_below at plan ≡ cond (holds_byte (last_byte span) plan.row) 1 0) rows
+    → All (λ plan. texts_below at plan ≡ cond (holds_byte (byte_last span) plan.row) 1 0) rows
     → All (λ plan. 0 < texts_below at plan → IsLastMet rows span plan) rows
 last_met len rows span at up each k d lt some =
     let plan = get_or rows k d in
-    let here = holds_from plan.row.offset (plan.row.offset + plan.row.length) (last_byte span) (omega (arith, some, each k d lt)) in (
-      (last_byte span, here.0, here.1, omega arith, omega arith),
+    let here = holds_from plan.row.offset (plan.row.offset + plan.row.length) (byte_last span) (omega (arith, some, each k d lt)) in (
+      (byte_last span, here.0, here.1, omega arith, omega arith),
       λ j e j_lt later met. omega (arith, ascend_apart 0 len rows up k j d e lt j_lt later, met.1, met.4, here.1),
     )
 
@@ -460,8 +460,8 @@ texts_once tab source labels all at lt some =
     let valid_there = spans_valid len labels (spans_in_order labels) refl all in
     let are_there = groups_of_are len list (spans_in_order labels) in
     let are = subst (λ s. AreGroups len list s 0 groups) (sym same) are_there in
-    let apart = subst (λ s. AreApart len list s groups) (sym same) (groups_apart len list (spans_in_order labels) 0 groups ok (spans_ascend labels, valid_there) are_there) in
-    let held = subst (λ s. All (HoldsItsSpans len list s) groups) (sym same) (groups_hold len list (spans_in_order labels) 0 groups ok (spans_ascend labels, valid_there) are_there) in
+    let apart = subst (λ s. AreApart len list s groups) (sym same) (groups_apart len list (spans_in_order labels) 0 groups ok (record { ascend = spans_ascend labels; within = valid_there }) are_there) in
+    let held = subst (λ s. All (HoldsItsSpans len list s) groups) (sym same) (groups_hold len list (spans_in_order labels) 0 groups ok (record { ascend = spans_ascend labels; within = valid_there }) are_there) in
     let valid = subst (All (λ (s : Span). (s.start ≤ s.end) × (s.end ≤ len))) (sym same) valid_there in
     let up_there = subst (IsNonDecreasingBy (λ (s : Span). s.start)) (sym same) (spans_ascend labels) in
     let rising : All (λ (s : Span). s.start ≤ s.end) (spans_of ordered) = λ k d h. (valid k d h).0 in
@@ -478,7 +478,7 @@ texts_once tab source labels all at lt some =
       once = λ inside.
           let short : span.start < len = ⊎_elim (λ h. h) (λ ge. absurd (inside ge)) (cases_lt span.start len) in
           counted
-          ∙ one_in_windows source (spans_of ordered) at (last_byte span) 0 groups are apart held rising zero-le (omega (arith, lt, size))
+          ∙ one_in_windows source (spans_of ordered) at (byte_last span) 0 groups are apart held rising zero-le (omega (arith, lt, size))
           (λ g low before within.
           let first = (span_at (spans_of ordered) g.start).start in
           omega (arith, row_start_before len list first (row_of list first - 1) ok (omega arith), up_there g.start at (record { start = 0; end = 0 }) low (omega (arith, lt, size)), start))
@@ -488,7 +488,7 @@ texts_once tab source labels all at lt some =
           let most = largest_end_within (spans_of ordered) g.start g.end len valid (omega (arith, low, before)) within in
           reaches_byte len list (largest_end (spans_of ordered) g.start g.end) span.start span.end ok most up (omega (arith, reach, end)) short);
       nowhere = λ past.
-          counted ∙ none_above_windows (last_byte span) source (spans_of ordered) groups (omega (arith, past)) (λ k d h. omega (arith, (windows k d h).1, (windows k d h).2));
+          counted ∙ none_above_windows (byte_last span) source (spans_of ordered) groups (omega (arith, past)) (λ k d h. omega (arith, (windows k d h).1, (windows k d h).2));
       last = last_met len (drawn_rows (map (snippet_of tab source ordered) groups)) span at
           (ascend_groups tab source ordered 0 groups zero-le apart windows) (each_plan tab source ordered at groups lt some up);
     }
@@ -604,8 +604,8 @@ rows_once tab source labels all paired at r lt met =
     let valid_there = spans_valid len labels (spans_in_order labels) refl all in
     let are_there = groups_of_are len list (spans_in_order labels) in
     let are = subst (λ s. AreGroups len list s 0 groups) (sym same) are_there in
-    let apart = subst (λ s. AreApart len list s groups) (sym same) (groups_apart len list (spans_in_order labels) 0 groups ok (spans_ascend labels, valid_there) are_there) in
-    let held = subst (λ s. All (HoldsItsSpans len list s) groups) (sym same) (groups_hold len list (spans_in_order labels) 0 groups ok (spans_ascend labels, valid_there) are_there) in
+    let apart = subst (λ s. AreApart len list s groups) (sym same) (groups_apart len list (spans_in_order labels) 0 groups ok (record { ascend = spans_ascend labels; within = valid_there }) are_there) in
+    let held = subst (λ s. All (HoldsItsSpans len list s) groups) (sym same) (groups_hold len list (spans_in_order labels) 0 groups ok (record { ascend = spans_ascend labels; within = valid_there }) are_there) in
     let valid = subst (All (λ (s : Span). (s.start ≤ s.end) × (s.end ≤ len))) (sym same) valid_there in
     let up_there = subst (IsNonDecreasingBy (λ (s : Span). s.start)) (sym same) (spans_ascend labels) in
     let rising : All (λ (s : Span). s.start ≤ s.end) (spans_of ordered) = λ k d h. (valid k d h).0 in

@@ -11,3 +11,5 @@ pub mod Laws
 pub mod Scanned
 pub mod Sweep
 pub mod Drawable
+pub mod Keeping
+pub mod Measuring

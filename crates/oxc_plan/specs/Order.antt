@@ -30,13 +30,13 @@ pub record IsLabelOrder (labels : List Label) (order : List ℕ) : Type 0 where
   pub as_given : (at : ℕ) → starting_at labels (start_at labels at) order ≡ starting_at labels (start_at labels at) (places labels)
 
 -- a label among labels in order that are given after it: before the first that starts no earlier
-unfoldable pub placed : List Label → ℕ → List ℕ → List ℕ
-placed labels at [] = at ∷ []
-placed labels at (next ∷ more) = if nat_lt (start_at labels next) (start_at labels at) then next ∷ placed labels at more else at ∷ next ∷ more
+unfoldable pub inserted : List Label → ℕ → List ℕ → List ℕ
+inserted labels at [] = at ∷ []
+inserted labels at (next ∷ more) = if nat_lt (start_at labels next) (start_at labels at) then next ∷ inserted labels at more else at ∷ next ∷ more
 
 unfoldable pub ordered : List Label → List ℕ → List ℕ
 ordered labels [] = []
-ordered labels (at ∷ more) = placed labels at (ordered labels more)
+ordered labels (at ∷ more) = inserted labels at (ordered labels more)
 
 -- the one label order
 unfoldable pub label_order : List Label → List ℕ

@@ -43,6 +43,9 @@ in_order labels = map (λ at. ordered_label (label_at labels at)) (label_order l
 abbrev pub ordered_at : List Ordered → ℕ → Ordered
 ordered_at labels at = slice_index_or labels at (record { span = record { start = 0; end = 0 }; text = None; primary = false })
 
+abbrev pub start_in : List Ordered → ℕ → ℕ
+start_in labels at = (ordered_at labels at).span.start
+
 abbrev pub spans_of : List Ordered → List Span
 spans_of labels = map (λ l. l.span) labels
 

@@ -20,7 +20,7 @@ pub fn column_of(row: &Row<'_>, offset: usize, at_start: bool, tabs: TabWidth) -
     requires fits { length row.now.text.now < 4294967295 }
     ensures { result ≡ column_at tabs (row_view row.now) offset at_start }
 {
-    column_at(row, offset, at_start, tabs)
+    column_in(row.text, offset - row.offset, at_start, tabs)
 }
 
 /// The law that in a row of ASCII the drawn text before an offset, escapes aside, has as many characters as the
@@ -29,22 +29,11 @@ pub fn columns_as_drawn(_row: &Row<'_>, _tab: usize)
     ensures { HasColumnsAsDrawn _tab (row_view _row.now) }
 {}
 
-/// The column of an offset of the source in a row, and that it is small.
-pub fn column_at(row: &Row<'_>, offset: usize, at_start: bool, tabs: TabWidth) -> usize
-    requires from { row.now.offset ≤ offset }
-    requires fits { length row.now.text.now < 2 ^ 32 }
-    ensures exact { result ≡ column_at tabs (row_view row.now) offset at_start }
-    ensures bound { result < 2 ^ 38 }
-{
-    column_in(row.text, offset - row.offset, at_start, tabs)
-}
-
 /// The column of a place in a text.
 #[tactic(auto, unfolding(crate::specs::Columns::column_in))]
 fn column_in(text: &str, place: usize, at_start: bool, tabs: TabWidth) -> usize
     requires fits { length text.now < 2 ^ 32 }
-    ensures exact { result ≡ column_in tabs text.now place at_start }
-    ensures bound { result < 2 ^ 38 }
+    ensures { result ≡ column_in tabs text.now place at_start }
 {
     if place > text.len() {
         return text_width(text, tabs) + 1;

@@ -1,8 +1,10 @@
 //! The labels that share a snippet.
-ghost use Rattle.std.specs.Prelude.{◌≡◌, ◌+◌, ◌<◌, ◌≤◌, IfOk, length, All};
+ghost use Rattle.std.specs.Prelude.{◌≡◌, ◌+◌, ◌<◌, ◌≤◌, IfOk, OnOk, Some, length, All};
+ghost use Rattle.std.specs.Option.{unwrap_or};
 ghost use Rattle.oxc_windows.specs.Breaks.{breaks_of};
 ghost use Rattle.oxc_windows.specs.Scan.{IsSameReader};
-ghost use Rattle.oxc_plan.specs.Groups.{AreApartIn, AreGroups, AreGroupsIn, HasOneGrouping, HoldTheirLabels, IsGroup, groups_in, window_round};
+ghost use Rattle.oxc_plan.specs.Groups.{AreApartIn, AreGroups, AreGroupsIn, HasOneGrouping, HoldTheirLabels, IsGroup, group_window, groups_in, joint_window, span_at, window_round};
+ghost use Rattle.oxc_plan.specs.Keeping.{KeepsGroups, KeepsRows, ReadsOn, least_start};
 ghost use Rattle.oxc_plan.specs.Order.{AreOrderedSpans};
 ghost use Rattle.oxc_plan.specs.Scanned.{CanGroup, ReadsRound};
 
@@ -33,6 +35,10 @@ pub fn groups<'a>(
     ensures apart { IfOk result (λ found. AreApartIn scanner.old.input labels.now found.items) }
     ensures held { IfOk result (λ found. HoldTheirLabels scanner.old.input labels.now found.items) }
     ensures unchanged { IsSameReader scanner.old scanner.new }
+    // what the scanner holds
+    ensures stays { ReadsOn scanner.old scanner.new }
+    ensures first { OnOk result (0 < length labels.now → scanner.new.first ≡ Some (unwrap_or scanner.old.first (least_start labels.now))) }
+    ensures keeps { OnOk result (KeepsGroups scanner.old.input labels.now scanner.new) }
 {
     let spans = spans_in_order(alloc, labels)?;
     let found = groups_of_spans(alloc, scanner, &spans)?;
@@ -54,7 +60,9 @@ fn groups_of_spans<'a>(
     requires round { ReadsRound scanner.old }
     requires within { All (λ span. (span.start ≤ span.end) × (span.end ≤ length scanner.old.input)) spans.now }
     ensures groups { IfOk result (λ found. AreGroups (length scanner.old.input) (breaks_of scanner.old.input) spans.now 0 found.items) }
-    ensures unchanged { IsSameReader scanner.old scanner.new }
+    ensures stays { ReadsOn scanner.old scanner.new }
+    ensures first { OnOk result (0 < length spans.now → scanner.new.first ≡ Some (unwrap_or scanner.old.first (span_at spans.now 0).start)) }
+    ensures keeps { IfOk result (λ found. All (λ group. KeepsRows scanner.old.input scanner.new (span_at spans.now group.start).start (group_window (length scanner.old.input) (breaks_of scanner.old.input) spans.now group).end) found.items) }
 {
     let mut found = Vec::new(alloc);
     let mut first = 0;
@@ -76,7 +84,9 @@ fn group_end<'a>(
     requires within { All (λ span. (span.start ≤ span.end) × (span.end ≤ length scanner.old.input)) spans.now }
     requires some { first < length spans.now }
     ensures group { IfOk result (λ past. IsGroup (length scanner.old.input) (breaks_of scanner.old.input) spans.now first past) }
-    ensures unchanged { IsSameReader scanner.old scanner.new }
+    ensures stays { ReadsOn scanner.old scanner.new }
+    ensures first { OnOk result (scanner.new.first ≡ Some (unwrap_or scanner.old.first (span_at spans.now first).start)) }
+    ensures keeps { IfOk result (λ past. KeepsRows scanner.old.input scanner.new (span_at spans.now first).start (joint_window (length scanner.old.input) (breaks_of scanner.old.input) spans.now first past).end) }
 {
     let mut joint = spans[first];
     let mut reach = reach_of(scanner, joint)?;
@@ -99,7 +109,9 @@ fn reach_of<'a>(scanner: &mut SpanScanner<'a>, span: Span) -> Result<usize, Allo
     requires within { span.end ≤ length scanner.old.input }
     ensures reach { let window = window_round scanner.old.input span in
         IfOk result (λ reach. reach ≡ window.line + window.line_count) }
-    ensures unchanged { IsSameReader scanner.old scanner.new }
+    ensures stays { ReadsOn scanner.old scanner.new }
+    ensures first { OnOk result (scanner.new.first ≡ Some (unwrap_or scanner.old.first span.start)) }
+    ensures keeps { OnOk result (KeepsRows scanner.old.input scanner.new span.start (window_round scanner.old.input span).end) }
 {
     let contents = read(scanner, span)?;
     Ok(contents.line() + contents.line_count())
@@ -111,7 +123,7 @@ fn line_of<'a>(scanner: &mut SpanScanner<'a>, span: Span) -> Result<usize, Alloc
     requires ordered { span.start ≤ span.end }
     requires within { span.end ≤ length scanner.old.input }
     ensures line { IfOk result (λ line. line ≡ (window_round scanner.old.input span).line) }
-    ensures unchanged { IsSameReader scanner.old scanner.new }
+    ensures stays { ReadsOn scanner.old scanner.new }
 {
     let contents = read(scanner, span)?;
     Ok(contents.line())

@@ -1,10 +1,10 @@
 //! The texts that hang below a row.
-ghost use Rattle.std.specs.Prelude.{◌≡◌, ◌<◌, ◌≤◌, IfOk, length, map, drop, slice_index};
+ghost use Rattle.std.specs.Prelude.{◌≡◌, ◌<◌, ◌≤◌, ◌==◌, IfOk, length, map, slice_index, if◌then◌else◌};
 ghost use Rattle.std.specs.List.{filter_map, find};
 ghost use Rattle.std.specs.List.Sorted.{IsNonDecreasingBy};
 ghost use Rattle.std.specs.Option.{option_copied};
 ghost use Rattle.oxc_span.specs.LabelEq.{text_eq};
-ghost use Rattle.oxc_plan.specs.Plan.{hang_of, is_like, ordered_at, ordered_view};
+ghost use Rattle.oxc_plan.specs.Plan.{hang_of, is_like, ordered_at, ordered_view, start_in};
 
 use crate::labels::{OrderedLabel, ordered_at};
 use std::alloc::{AllocError, Global};
@@ -67,11 +67,31 @@ pub fn hangs_at(
     labels: &[OrderedLabel<'_>],
     places: &[usize],
 ) -> Result<Vec<Hang>, AllocError>
+    requires { IsNonDecreasingBy (start_in (map ordered_view labels.now)) places.now }
     ensures { IfOk result (λ hangs. hangs.items ≡ filter_map (hang_of (map ordered_view labels.now) places.now) places.now) }
 {
-    let hangs = places
-        .iter()
-        .filter_map(|at| hang_of(labels, places, *at))
-        .collect(alloc)?;
+    let mut hangs = Vec::new(alloc);
+    let mut run = 0;
+    for i in 0..places.len() {
+        run = run_at(labels, places, run, i);
+        match hang_of(labels, &places[run..], places[i]) {
+            Some(hang) => hangs.push(hang)?,
+            None => {}
+        }
+    }
     Ok(hangs)
+}
+
+/// Where the places begin whose labels start with that of place `i`, given where those of the place before begin. Only
+/// such labels can be equal.
+fn run_at(labels: &[OrderedLabel<'_>], places: &[usize], run: usize, i: usize) -> usize
+    requires from { run ≤ i }
+    requires within { i < length places.now }
+    ensures { result ≡ (if start_in (map ordered_view labels.now) (slice_index places.now run) == start_in (map ordered_view labels.now) (slice_index places.now i) then run else i) }
+{
+    if ordered_at(labels, places[run]).span.start == ordered_at(labels, places[i]).span.start {
+        run
+    } else {
+        i
+    }
 }

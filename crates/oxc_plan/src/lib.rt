@@ -15,6 +15,7 @@ mod heads;
 mod labels;
 mod laws;
 mod marks;
+mod measuring;
 mod order;
 mod reading;
 mod rows;

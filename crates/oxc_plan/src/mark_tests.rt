@@ -1,9 +1,10 @@
-// Columns and marks by example.
-ghost use Rattle.std.specs.Prelude.{◌≡◌};
+// Tab widths, columns and marks by example.
+ghost use Rattle.std.specs.Prelude.{◌≡◌, ◌<◌, ◌≤◌, length};
 
 use crate::marks::placed;
 use crate::{MarkCells, Row, TabWidth, column_of};
 use oxc_span::Span;
+use std::alloc::{AllocError, Global};
 use std::test::Fail;
 
 /// The first row of a source, with this text and no break.
@@ -19,6 +20,64 @@ fn row_of(text: &str) -> Row<'_>
     }
 }
 
+/// The text of a row, an offset, whether it is a start, how many columns the tab stops are apart, and its column.
+type Example = (&'static str, usize, bool, usize, usize);
+
+const COLUMNS: [Example; 15] = [
+    ("\u{e9}\txyz", 0, true, 4, 0),
+    ("\u{e9}\txyz", 1, true, 4, 0),
+    ("\u{e9}\txyz", 1, false, 4, 1),
+    ("\u{e9}\txyz", 3, true, 4, 4),
+    ("\u{e9}\txyz", 5, true, 4, 6),
+    ("\u{e9}\txyz", 6, false, 4, 7),
+    ("\u{e9}\txyz", 7, false, 4, 8),
+    ("\u{65e5}\u{672c} x", 6, true, 4, 4),
+    ("\t\u{65e5}\u{301}x", 6, true, 4, 6),
+    ("\u{1b}[31mred", 8, true, 4, 3),
+    ("a\tb\x7fc", 4, true, 4, 6),
+    ("a\tb", 2, true, 1, 2),
+    ("\tlet x", 5, true, 2, 6),
+    ("\u{e9}\txyz", 5, true, 16, 18),
+    ("x", 1, false, 16, 1),
+];
+
+/// Whether an example is true.
+fn holds(example: &Example) -> bool {
+    let (text, offset, at_start, width, column) = *example;
+    match TabWidth::new(width) {
+        Some(tabs) if text.len() < 100 => column_of(&row_of(text), offset, at_start, tabs)
+            == column,
+        _ => false,
+    }
+}
+
+#[test]
+fn a_column_is_the_width_of_the_text_before(rt: HostRuntime) {
+    assert!(rt; COLUMNS.iter().all(|example| holds(example)));
+}
+
+#[test]
+fn tab_stops_are_from_one_to_sixteen_columns_apart(rt: HostRuntime) {
+    assert!(rt; TabWidth::new(0).is_none() && TabWidth::new(17).is_none());
+    assert_eq!(rt; TabWidth::default().get(), 4);
+}
+
+/// The marks of labels of a row.
+fn marks_of(
+    alloc: Global,
+    text: &str,
+    spans: [Span; 2],
+    width: usize,
+) -> Result<Vec<MarkCells>, AllocError>
+    requires fits { length text.now < 4294967295 }
+{
+    let tabs = TabWidth::new(width).unwrap_or(TabWidth::default());
+    if spans[0].start > spans[0].end || spans[1].start > spans[1].end {
+        return Ok(Vec::new(alloc));
+    }
+    placed(alloc, &row_of(text), &spans, &[0, 1], tabs)
+}
+
 fn mark(label: usize, start: usize, end: usize, bar: usize) -> MarkCells {
     MarkCells {
         label,
@@ -29,58 +88,18 @@ fn mark(label: usize, start: usize, end: usize, bar: usize) -> MarkCells {
 }
 
 #[test]
-fn a_column_is_the_width_of_the_text_before(rt: HostRuntime) {
-    let four = TabWidth::default();
-    let tabbed = row_of("\u{e9}\txyz");
-    assert_eq!(rt; column_of(&tabbed, 0, true, four), 0);
-    assert_eq!(rt; column_of(&tabbed, 1, true, four), 0);
-    assert_eq!(rt; column_of(&tabbed, 1, false, four), 1);
-    assert_eq!(rt; column_of(&tabbed, 3, true, four), 4);
-    assert_eq!(rt; column_of(&tabbed, 5, true, four), 6);
-    assert_eq!(rt; column_of(&tabbed, 6, false, four), 7);
-    assert_eq!(rt; column_of(&tabbed, 7, false, four), 8);
-    assert_eq!(rt; column_of(&row_of("\u{65e5}\u{672c} x"), 6, true, four), 4);
-    assert_eq!(rt; column_of(&row_of("\t\u{65e5}\u{301}x"), 6, true, four), 6);
-    assert_eq!(rt; column_of(&row_of("\u{1b}[31mred"), 8, true, four), 3);
-    assert_eq!(rt; column_of(&row_of("a\tb\x7fc"), 4, true, four), 6);
-}
-
-#[test]
-fn a_mark_starts_at_the_end_of_the_one_before(rt: HostRuntime) -> Result<(), Fail> {
+fn marks_stand_side_by_side_under_what_is_drawn(rt: HostRuntime) -> Result<(), Fail> {
     let alloc = rt.alloc();
-    let spans = [Span::new(0, 4), Span::new(2, 6)];
-    assert_eq!(rt;
-        placed(
-            alloc,
-            &row_of("abcdef"),
-            &spans,
-            &[0, 1],
-            TabWidth::default()
-        )?
-        .as_slice(),
-        [mark(0, 0, 4, 2), mark(1, 4, 6, 5)].as_slice()
-    );
-    Ok(())
-}
-
-#[test]
-fn marks_stand_under_what_is_drawn(rt: HostRuntime) -> Result<(), Fail> {
-    let alloc = rt.alloc();
-    let tabbed = row_of("\u{e9}\txyz");
-    let sixteen = TabWidth::new(16).expect(&rt, "a width of tabs");
-    let spans = [Span::new(5, 6)];
-    assert_eq!(rt;
-        placed(alloc, &tabbed, &spans, &[0], TabWidth::default())?.as_slice(),
-        [mark(0, 6, 7, 6)].as_slice()
-    );
-    assert_eq!(rt;
-        placed(alloc, &tabbed, &spans, &[0], sixteen)?.as_slice(),
-        [mark(0, 18, 19, 18)].as_slice()
-    );
-    let wide = row_of("\u{65e5}\u{672c} x");
-    assert_eq!(rt;
-        placed(alloc, &wide, &[Span::new(3, 6)], &[0], TabWidth::default())?.as_slice(),
-        [mark(0, 2, 4, 3)].as_slice()
-    );
+    let overlapping = marks_of(alloc, "abcdef", [Span::new(0, 4), Span::new(2, 6)], 4)?;
+    let past_tab = marks_of(alloc, "\u{e9}\txyz", [Span::new(5, 6), Span::new(6, 6)], 16)?;
+    let wide = marks_of(
+        alloc,
+        "\u{65e5}\u{672c} x",
+        [Span::new(3, 6), Span::new(7, 8)],
+        4,
+    )?;
+    assert!(rt; overlapping.as_slice() == [mark(0, 0, 4, 2), mark(1, 4, 6, 5)].as_slice());
+    assert!(rt; past_tab.as_slice() == [mark(0, 18, 19, 18), mark(1, 19, 20, 19)].as_slice());
+    assert!(rt; wide.as_slice() == [mark(0, 2, 4, 3), mark(1, 5, 6, 5)].as_slice());
     Ok(())
 }

@@ -2,10 +2,13 @@
 ghost use Rattle.std.specs.Prelude.{◌≡◌, ◌+◌, ◌^◌, ◌<◌, ◌≤◌, ◌↔◌, IfOk, IsTrue, true, length, All};
 ghost use Rattle.oxc_plan.specs.Groups.{span_at};
 ghost use Rattle.oxc_plan.specs.Meets.{IsMultiRow, IsOneRow, Meets, is_multi_row, is_one_row, is_within, label_past, meets};
+ghost use Rattle.std.specs.Str.{IsCharBoundary};
+ghost use Rattle.oxc_plan.specs.Measuring.{HoldsColumns};
 ghost use Rattle.oxc_plan.specs.Rows.{row_view};
 ghost use Rattle.oxc_plan.specs.Marks.{AreInOrder, HasEndsByColumns, HasExactMarks, cells_at, cells_between, cells_of, mark_of, placed_marks};
 
-use crate::columns::column_at;
+use crate::columns::boundary_near;
+use crate::measuring::{MeasuredText, column_known, measure};
 use crate::rows::Row;
 use crate::tabs::TabWidth;
 use oxc_span::Span;
@@ -57,14 +60,70 @@ pub fn placed(
     ensures exact { IfOk result (λ marks. marks.items ≡ placed_marks 0 (cells_at tabs (row_view row.now) spans.now places.now)) }
     ensures order { IfOk result (λ marks. AreInOrder 0 marks.items) }
 {
+    if places.is_empty() {
+        return Ok(Vec::new(alloc));
+    }
+    let ends = ends_of(alloc, row, spans, places)?;
+    let text = measure(alloc, row.text, ends, tabs)?;
+    placed_in_turn(alloc, row, &text, spans, places, tabs)
+}
+
+/// The placed marks of labels, one after another, in a row whose text was measured.
+fn placed_in_turn(
+    alloc: Global,
+    row: &Row<'_>,
+    text: &MeasuredText<'_>,
+    spans: &[Span],
+    places: &[usize],
+    tabs: TabWidth,
+) -> Result<Vec<MarkCells>, AllocError>
+    requires starts { All (λ at. row.now.offset ≤ (span_at spans.now at).start) places.now }
+    requires ordered { All (λ at. (span_at spans.now at).start ≤ (span_at spans.now at).end) places.now }
+    requires within { All (λ at. at < length spans.now) places.now }
+    requires fits { length row.now.text.now < 2 ^ 32 }
+    requires text { text.now.text.now ≡ row.now.text.now }
+    requires known { HoldsColumns tabs text.now }
+    ensures exact { IfOk result (λ marks. marks.items ≡ placed_marks 0 (cells_at tabs (row_view row.now) spans.now places.now)) }
+    ensures order { IfOk result (λ marks. AreInOrder 0 marks.items) }
+{
     let mut before = 0;
     let mut marks = Vec::new(alloc);
     for at in places {
-        let mark = mark_after(before, cells_of(row, *at, spans[*at], tabs));
+        let mark = mark_after(before, cells_of(row, text, *at, spans[*at], tabs));
         before = mark.end;
         marks.push(mark)?;
     }
     Ok(marks)
+}
+
+/// Where the labels of a row at these places start and end in its text, each moved between two characters.
+fn ends_of(
+    alloc: Global,
+    row: &Row<'_>,
+    spans: &[Span],
+    places: &[usize],
+) -> Result<Vec<usize>, AllocError>
+    requires starts { All (λ at. row.now.offset ≤ (span_at spans.now at).start) places.now }
+    requires ordered { All (λ at. (span_at spans.now at).start ≤ (span_at spans.now at).end) places.now }
+    requires within { All (λ at. at < length spans.now) places.now }
+    ensures { IfOk result (λ ends. All (IsCharBoundary row.now.text.now) ends.items) }
+{
+    let mut ends = Vec::new(alloc);
+    for at in places {
+        let span = spans[*at];
+        ends.push(end_in(row, span.start as usize, true))?;
+        ends.push(end_in(row, span.end as usize, false))?;
+    }
+    Ok(ends)
+}
+
+/// An offset as a place in a row's text, at most its end, moved between two characters.
+fn end_in(row: &Row<'_>, offset: usize, at_start: bool) -> usize
+    requires { row.now.offset ≤ offset }
+    ensures { IsCharBoundary row.now.text.now result }
+{
+    let place = (offset - row.offset).min(row.text.len());
+    boundary_near(row.text, place, at_start)
 }
 
 /// The mark of a label, after the marks that end before this cell.
@@ -84,17 +143,25 @@ fn mark_after(before: usize, cells: LabelCells) -> MarkCells
     }
 }
 
-/// The cells of a one-row label of a row.
-fn cells_of(row: &Row<'_>, label: usize, span: Span, tabs: TabWidth) -> LabelCells
+/// The cells of a one-row label of a row whose text was measured.
+fn cells_of(
+    row: &Row<'_>,
+    text: &MeasuredText<'_>,
+    label: usize,
+    span: Span,
+    tabs: TabWidth,
+) -> LabelCells
     requires from { row.now.offset ≤ span.start }
     requires ordered { span.start ≤ span.end }
     requires fits { length row.now.text.now < 2 ^ 32 }
+    requires text { text.now.text.now ≡ row.now.text.now }
+    requires known { HoldsColumns tabs text.now }
     ensures exact { result ≡ cells_of tabs (row_view row.now) label span }
     ensures first { result.start < 2 ^ 38 }
     ensures last { result.end ≤ 2 ^ 38 }
 {
-    let first = column_at(row, span.start as usize, true, tabs);
-    let past = column_at(row, span.end as usize, false, tabs);
+    let first = column_known(text, span.start as usize - row.offset, true, tabs);
+    let past = column_known(text, span.end as usize - row.offset, false, tabs);
     cells_between(label, span, first, past)
 }
 

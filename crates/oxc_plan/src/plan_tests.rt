@@ -7,7 +7,6 @@ use crate::{Bar, BarKind, Hang, MarkCells, RowPlan, SnippetPlan, TabWidth, plan_
 use oxc_span::LabeledSpan;
 use oxc_windows::SpanScanner;
 use std::alloc::{AllocError, Global};
-use std::process::Abort;
 use std::test::Fail;
 
 /// Whether labels end within so many bytes.
@@ -41,16 +40,16 @@ fn label(alloc: Global, start: u32, len: u32, text: &str) -> Result<LabeledSpan,
     Ok(LabeledSpan::new(Some(String::from_str(alloc, text)?), start, len))
 }
 
-fn has_bar(rt: &impl Abort, row: &RowPlan<'_>, kind: BarKind, ends: &[usize]) {
-    assert_eq!(rt; row.bars.as_slice(), [Bar { label: 0, kind }].as_slice());
-    assert_eq!(rt; row.ends.as_slice(), ends);
-    assert!(rt; row.marks.is_empty() && row.hangs.is_empty());
+/// Whether one bar stands beside a row, and nothing below it but these texts at bars' ends.
+fn has_bar(row: &RowPlan<'_>, kind: BarKind, ends: &[usize]) -> bool {
+    row.bars.as_slice() == [Bar { label: 0, kind }].as_slice()
+        && row.ends.as_slice() == ends
+        && row.marks.is_empty()
+        && row.hangs.is_empty()
 }
 
-fn has_head(rt: &impl Abort, plan: &SnippetPlan<'_>, line: usize, column: usize, gutter: usize) {
-    assert_eq!(rt; plan.head_line, line);
-    assert_eq!(rt; plan.head_column, column);
-    assert_eq!(rt; plan.gutter, gutter);
+fn has_head(plan: &SnippetPlan<'_>, line: usize, column: usize, gutter: usize) -> bool {
+    plan.head_line == line && plan.head_column == column && plan.gutter == gutter
 }
 
 #[test]
@@ -59,12 +58,12 @@ fn a_label_over_rows_has_a_bar_beside_each(rt: HostRuntime) -> Result<(), Fail> 
     let labels = [label(alloc, 2, 7, "block")?];
     let plans = plans_of(alloc, "a {\n  b\n}\n", &labels)?.expect(&rt, "labels within the text");
     assert_eq!(rt; plans.len(), 1);
-    has_head(&rt, &plans[0], 1, 3, 1);
+    assert!(rt; has_head(&plans[0], 1, 3, 1));
     let rows = &plans[0].rows;
     assert_eq!(rt; rows.len(), 3);
-    has_bar(&rt, &rows[0], BarKind::Starts, &[]);
-    has_bar(&rt, &rows[1], BarKind::Passes, &[]);
-    has_bar(&rt, &rows[2], BarKind::Ends, &[0]);
+    assert!(rt; has_bar(&rows[0], BarKind::Starts, &[]));
+    assert!(rt; has_bar(&rows[1], BarKind::Passes, &[]));
+    assert!(rt; has_bar(&rows[2], BarKind::Ends, &[0]));
     assert_eq!(rt; rows[2].row.number, 3);
     Ok(())
 }
@@ -134,7 +133,7 @@ fn a_head_is_at_the_first_primary_label_and_equal_texts_hang_together(
     ];
     let plans = plans_of(alloc, "a\r\nb", &labels)?.expect(&rt, "labels within the text");
     assert_eq!(rt; plans.len(), 1);
-    has_head(&rt, &plans[0], 2, 1, 0);
+    assert!(rt; has_head(&plans[0], 2, 1, 0));
     assert_eq!(rt; plans[0].rows.len(), 2);
     assert_eq!(rt;
         plans[0].rows[0].hangs.as_slice(),

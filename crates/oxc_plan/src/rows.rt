@@ -7,7 +7,7 @@ ghost use Rattle.oxc_plan.specs.Rows.{first_len, row_of_piece, row_text, row_vie
 use memchr::memchr;
 use oxc_windows::SpanContents;
 use std::alloc::{AllocError, Global};
-use std::str::from_utf8;
+use std::str::from_utf8_unchecked;
 
 /// A row of a snippet.
 #[derive(Clone, Copy, Debug)]
@@ -37,10 +37,9 @@ pub fn rows_of<'a>(alloc: Global, contents: &SpanContents<'a>) -> Result<Vec<Row
     ensures { IfOk result (λ rows. map row_view rows.items ≡ rows_of contents.now) }
 {
     let span = *contents.span();
-    match from_utf8(contents.bytes()) {
-        Ok(text) => rows_of_text(alloc, text, span.start as usize, contents.line()),
-        Err(_) => unreachable!(),
-    }
+    // contents are asked to be UTF-8, so they are not checked again
+    let text = unsafe { from_utf8_unchecked(contents.bytes()) };
+    rows_of_text(alloc, text, span.start as usize, contents.line())
 }
 
 /// The rows of a text that begins at an offset, below so many rows.

@@ -1,11 +1,13 @@
 //! The snippets of a report: what they mean before a character is drawn.
-ghost use Rattle.std.specs.Prelude.{◌≡◌, ◌+◌, ◌^◌, ◌<◌, ◌≤◌, IfOk, length, map, filter, fold, max, All};
+ghost use Rattle.std.specs.Prelude.{◌≡◌, ◌+◌, ◌^◌, ◌<◌, ◌≤◌, IfOk, OnOk, Some, length, map, filter, fold, max, All};
 ghost use Rattle.std.specs.List.Sorted.{IsNonDecreasingBy};
+ghost use Rattle.std.specs.Option.{unwrap_or};
 ghost use Rattle.std.specs.Str.{IsUtf8};
 ghost use Rattle.oxc_windows.specs.Breaks.{breaks_of};
 ghost use Rattle.oxc_windows.specs.Scan.{IsMeasured, IsNumbered, IsSameReader};
 ghost use Rattle.oxc_plan.specs.Drawable.{IsDrawable};
 ghost use Rattle.oxc_plan.specs.Groups.{AreGroups, largest_end, span_at};
+ghost use Rattle.oxc_plan.specs.Keeping.{KeepsGroups, ReadsOn, least_start};
 ghost use Rattle.oxc_plan.specs.Meets.{is_multi_row, is_one_row, meeting_labels, meets, multi_row_labels, one_row_labels};
 ghost use Rattle.oxc_plan.specs.Order.{AreOrderedSpans};
 ghost use Rattle.oxc_plan.specs.Plan.{gutter_of, ordered_view, row_plan_of, row_plan_view, snippet_of, snippet_view, snippets_of, spans_of};
@@ -76,6 +78,10 @@ pub fn plan_snippets<'a>(
     ensures plan { IfOk result (λ plans. map snippet_view plans.items ≡ snippets_of tabs scanner.old.input labels.now) }
     ensures drawable { IfOk result (λ plans. All (IsDrawable (length scanner.old.input) (length labels.now)) (map snippet_view plans.items)) }
     ensures unchanged { IsSameReader scanner.old scanner.new }
+    // what the scanner holds
+    ensures stays { ReadsOn scanner.old scanner.new }
+    ensures first { OnOk result (0 < length labels.now → scanner.new.first ≡ Some (unwrap_or scanner.old.first (least_start labels.now))) }
+    ensures keeps { OnOk result (KeepsGroups scanner.old.input labels.now scanner.new) }
 {
     let ordered = labels_in_order(alloc, labels)?;
     let groups = groups(alloc, scanner, labels)?;
@@ -95,7 +101,7 @@ fn plan_groups<'a>(
     requires ordered { AreOrderedSpans (length scanner.old.input) (spans_of (map ordered_view labels.now)) }
     requires groups { AreGroups (length scanner.old.input) (breaks_of scanner.old.input) (spans_of (map ordered_view labels.now)) 0 groups.now }
     ensures plan { IfOk result (λ plans. map snippet_view plans.items ≡ map (snippet_of tabs scanner.old.input (map ordered_view labels.now)) groups.now) }
-    ensures unchanged { IsSameReader scanner.old scanner.new }
+    ensures stays { ReadsOn scanner.old scanner.new }
 {
     let spans = spans_of(alloc, labels)?;
     let mut plans = Vec::new(alloc);
@@ -119,7 +125,7 @@ fn plan_snippet<'a>(
     requires ordered { AreOrderedSpans (length scanner.old.input) spans.now }
     requires alone { IsGroupAlone scanner.old.input spans.now group.now }
     ensures plan { IfOk result (λ plan. snippet_view plan ≡ snippet_of tabs scanner.old.input (map ordered_view labels.now) group.now) }
-    ensures unchanged { IsSameReader scanner.old scanner.new }
+    ensures stays { ReadsOn scanner.old scanner.new }
 {
     let span = joint_span(spans, group);
     let contents = read(scanner, span)?;
@@ -215,6 +221,7 @@ fn plan_row<'a>(
     requires small { row.now.offset + row.now.length < 2 ^ 32 }
     requires fits { length row.now.text.now < 2 ^ 32 }
     requires spans { spans.now ≡ spans_of (map ordered_view labels.now) }
+    requires rising { IsNonDecreasingBy (λ span. span.start) spans.now }
     requires ordered { All (λ span. span.start ≤ span.end) spans.now }
     requires among { filter (λ at. meets row.now.offset row.now.length (span_at spans.now at)) active.now ≡ meeting_labels row.now.offset row.now.length spans.now }
     ensures { IfOk result (λ plan. row_plan_view plan ≡ row_plan_of tabs (map ordered_view labels.now) (row_view row.now)) }
@@ -237,6 +244,7 @@ fn plan_at<'a>(
     requires small { row.now.offset + row.now.length < 2 ^ 32 }
     requires fits { length row.now.text.now < 2 ^ 32 }
     requires spans { spans.now ≡ spans_of (map ordered_view labels.now) }
+    requires rising { IsNonDecreasingBy (λ span. span.start) spans.now }
     requires ordered { All (λ span. span.start ≤ span.end) spans.now }
     requires within { within.now ≡ one_row_labels row.now.offset row.now.length spans.now }
     requires across { across.now ≡ multi_row_labels row.now.offset row.now.length spans.now }

@@ -11,3 +11,8 @@ pub mod LendingList
 pub mod Faults
 pub mod Sink
 pub mod MemorySink
+pub mod Reporters
+pub mod Counts
+pub mod Places
+pub mod Info
+pub mod Laws

@@ -11,9 +11,12 @@
 mod code;
 mod diagnostic;
 mod diagnostics;
+pub mod laws;
 mod memory;
 mod named_source;
+mod place;
 mod protocol;
+mod reporter;
 mod sink;
 mod source_impls;
 
@@ -23,6 +26,7 @@ pub use crate::diagnostics::{Diagnostics, Errors, Warnings};
 pub use crate::memory::MemorySink;
 pub use crate::named_source::NamedSource;
 pub use crate::protocol::{Diagnostic, Severity, SourceCode, SourceRef};
+pub use crate::reporter::{DiagnosticReporter, DiagnosticResult, Info, InfoPosition};
 pub use crate::sink::{Failed, Sink, write_all};
 pub use crate::source_impls::TextSource;
 pub use oxc_span::LabeledSpan;
@@ -40,5 +44,7 @@ pub type Labels = SmallVec<LabeledSpan, 2, Global>;
 
 #[cfg(test)]
 mod record_tests;
+#[cfg(test)]
+mod reporter_tests;
 #[cfg(test)]
 mod tests;

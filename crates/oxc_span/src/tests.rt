@@ -1,10 +1,16 @@
 //! Spans and labels by example.
-ghost use Rattle.std.specs.Prelude.{◌≤◌};
+ghost use Rattle.std.specs.Prelude.{◌≡◌, ◌≤◌, ◌↔◌, IsTrue};
 ghost use Rattle.std.specs.Option.{SomeIff};
 ghost use Rattle.oxc_span.specs.Label.{label_end};
 
 use crate::{LabeledSpan, Span};
 use std::test::Fail;
+
+fn is_same_span(a: Span, b: Span) -> bool
+    ensures { IsTrue result ↔ (a ≡ b) }
+{
+    a == b
+}
 
 #[test]
 fn spans_by_their_ends_and_by_their_size(rt: HostRuntime) -> Result<(), Fail> {

@@ -1,5 +1,5 @@
 -- Breaks of bytes, found by LF and CR.
-use Rattle.std.proofs.Common.{cond, count_by, eqb, not, ⊎_elim, ap, ◌≡◌, ℕ, ◌+◌, ◌-◌, ◌<◌, ◌≤◌, ◌&&◌, Bool, true, false, List, ◌∷◌, length, take, drop, get_or, slice_range, Option, Some, None, refl, sym, subst, ◌∙◌, arith, zero, suc, if◌then◌else◌}
+use Rattle.std.proofs.Common.{cond, count_by, eqb, not, ⊎_elim, ap, ◌≡◌, ℕ, ◌+◌, ◌-◌, ◌<◌, ◌≤◌, ◌&&◌, Bool, true, false, List, [], ◌∷◌, length, take, drop, get_or, slice_range, Option, Some, None, refl, sym, subst, ◌∙◌, arith, zero, suc, if◌then◌else◌}
 use Rattle.std.specs.List.{cons_option, filter, filter_map, range_with_len}
 use Rattle.std.proofs.lemmas.Bool.{cases_lt, eqb-true, false≢true}
 use Rattle.std.proofs.lemmas.Bool.Decides.{nat_tests}
@@ -75,6 +75,52 @@ pair_second bytes at cr lf le =
 
 pub part_long : (bytes : List ℕ) (from to : ℕ) → to ≤ length bytes → length (slice_range bytes from to) ≡ to - from
 part_long bytes from to within = length-take-le (to - from) (drop from bytes) (omega (arith, length-drop from bytes, within))
+
+-- what the first of the places says
+pub places_none : (test : ℕ → Bool) (hay : List ℕ) (i n : ℕ) → places_from test hay i n ≡ [] → Nowhere (Passes test hay) i (i + n)
+unfolding places_from
+places_none test hay i zero e = λ k low high passes. omega (arith, low, high)
+places_none test hay i (suc n) e = by_case (places_none test hay (i + 1) n) (test (get_or hay i 0)) refl e
+  where
+    by_case : (places_from test hay (i + 1) n ≡ [] → Nowhere (Passes test hay) (i + 1) (i + 1 + n)) → (said : Bool) → test (get_or hay i 0) ≡ said → (if said then i ∷ places_from test hay (i + 1) n else places_from test hay (i + 1) n) ≡ [] → Nowhere (Passes test hay) i (i + suc n)
+    by_case rest true s f = let no_way : i ∷ places_from test hay (i + 1) n ≡ [] = f in cc
+    by_case rest false s f = λ k low high passes.
+        ⊎_elim (λ lt. rest f k (omega (arith, lt)) (omega (arith, high)) passes)
+        (λ ge. let same : k ≡ i = omega (arith, low, ge) in false≢true (sym s ∙ subst (λ j. test (get_or hay j 0) ≡ true) same passes))
+        (cases_lt i k)
+
+pub record IsFirstPlace (test : ℕ → Bool) (hay : List ℕ) (from to place : ℕ) : Type 0 where
+  pub low : from ≤ place
+  pub high : place < to
+  pub before : Nowhere (Passes test hay) from place
+  pub here : Passes test hay place
+
+pub places_first : (test : ℕ → Bool) (hay : List ℕ) (i n place : ℕ) (more : List ℕ) → places_from test hay i n ≡ place ∷ more → IsFirstPlace test hay i (i + n) place
+unfolding places_from
+places_first test hay i zero place more e = let no_way : [] ≡ place ∷ more = e in cc
+places_first test hay i (suc n) place more e = by_case (places_first test hay (i + 1) n place more) (test (get_or hay i 0)) refl e
+  where
+    by_case : (places_from test hay (i + 1) n ≡ place ∷ more → IsFirstPlace test hay (i + 1) (i + 1 + n) place) → (said : Bool) → test (get_or hay i 0) ≡ said → (if said then i ∷ places_from test hay (i + 1) n else places_from test hay (i + 1) n) ≡ place ∷ more → IsFirstPlace test hay i (i + suc n) place
+    by_case rest true s f =
+        let both : i ∷ places_from test hay (i + 1) n ≡ place ∷ more = f in
+        let same : i ≡ place = cc in
+        record {
+          low = omega (arith, same);
+          high = omega (arith, same);
+          before = λ k low high passes. omega (arith, low, high, same);
+          here = subst (λ j. test (get_or hay j 0) ≡ true) same s;
+        }
+    by_case rest false s f =
+        let later = rest f in
+        record {
+          low = omega (arith, later.low);
+          high = omega (arith, later.high);
+          before = λ k low high passes.
+              ⊎_elim (λ lt. later.before k (omega (arith, lt)) high passes)
+              (λ ge. let same : k ≡ i = omega (arith, low, ge) in false≢true (sym s ∙ subst (λ j. test (get_or hay j 0) ≡ true) same passes))
+              (cases_lt i k);
+          here = later.here;
+        }
 
 -- the search forward
 pub first_none : (bytes : List ℕ) (from to len : ℕ) → from ≤ to → to ≤ length bytes → len ≡ to - from → Nowhere (Passes (is_byte2 10 13) (slice_range bytes from to)) 0 len

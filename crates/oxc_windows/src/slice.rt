@@ -9,7 +9,7 @@ ghost use Rattle.oxc_windows.specs.Source.{first_between, is_before_no_lf, last_
 use crate::breaks::break_starting;
 use crate::{BreakSource, LineBreak, Steps};
 use bytecount::count;
-use memchr::{memchr_iter, memchr2, memrchr2};
+use memchr::{memchr_iter, memchr2_iter, memrchr2};
 use std::sync::ledger::Ledger;
 
 /// A slice of bytes as a source of breaks, which are found by words and vectors.
@@ -70,7 +70,9 @@ fn first_in(bytes: &[u8], from: usize, to: usize) -> Option<LineBreak>
     ensures value { result ≡ first_between (breaks_of bytes.now) from to }
     ensures place { IfSome result (λ found. (from ≤ found.start) × (found.start ≤ found.end) × (found.end < length bytes.now)) }
 {
-    let further = memchr2(b'\n', b'\r', &bytes[from..to])?;
+    let mut places = memchr2_iter(b'\n', b'\r', &bytes[from..to]);
+    // an iterator looks near before it looks far
+    let further = places.next()?;
     break_starting(bytes, from + further)
 }
 

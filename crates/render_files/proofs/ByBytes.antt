@@ -34,7 +34,7 @@ start_is : (text : List ℕ) (place : LabelPlace) (o : ℕ) → start_in text pl
 start_is text (Rows start end) o e = largest text o (offset_at text start) start (offset_at_is text start) e
 start_is text (Bytes start end) o e = itself text start o e
 
-end_is : (text : List ℕ) (place : LabelPlace) (o : ℕ) → end_in text place ≡ Some o → boundary_at text o ≡ Some o
+pub end_is : (text : List ℕ) (place : LabelPlace) (o : ℕ) → end_in text place ≡ Some o → boundary_at text o ≡ Some o
 end_is text (Rows start end) o e = largest text o (offset_at text end) end (offset_at_is text end) e
 end_is text (Bytes start end) o e = itself text end o e
 
@@ -49,13 +49,13 @@ record SamePositions (text : List ℕ) (label other : GivenLabel) : Type 0 where
 abbrev judged : ℕ → ℕ → Option ℕ → Option ℕ → Option ReportError
 judged report at start end = if is_none start then Some (PositionOutside report at false) else if is_none end then Some (PositionOutside report at true) else None
 
-record Both (start end : Option ℕ) : Type 0 where
-  first : ℕ
-  last : ℕ
-  start_at : start ≡ Some first
-  end_at : end ≡ Some last
+pub record Both (start end : Option ℕ) : Type 0 where
+  pub first : ℕ
+  pub last : ℕ
+  pub start_at : start ≡ Some first
+  pub end_at : end ≡ Some last
 
-both : (report at : ℕ) (start end : Option ℕ) → judged report at start end ≡ None → Both start end
+pub both : (report at : ℕ) (start end : Option ℕ) → judged report at start end ≡ None → Both start end
 both report at None end fine = cc
 both report at (Some s) None fine = cc
 both report at (Some s) (Some e) fine = record { first = s; last = e; start_at = refl; end_at = refl }
@@ -81,7 +81,7 @@ label_same text report at label other fine (inr e) =
 abbrev turned : ℕ → ℕ → ℕ → ℕ → Option ReportError
 turned report at start end = if nat_lt end start then Some (LabelReversed report at start end) else None
 
-neither : {A : Type 0} (a b : Option A) → option_or a b ≡ None → (a ≡ None) × (b ≡ None)
+pub neither : {A : Type 0} (a b : Option A) → option_or a b ≡ None → (a ≡ None) × (b ≡ None)
 neither None b e = (refl, e)
 neither (Some x) b e = cc
 
@@ -111,7 +111,7 @@ record SameReport (files : List NamedText) (at : ℕ) (report other : GivenRepor
   refusal : refusal_in files at other ≡ refusal_in files at report
   view : view_of files other ≡ view_of files report
 
-known : (said : Bool) (labels : Option ReportError) (file : ReportError) → cond said labels (Some file) ≡ None → labels ≡ None
+pub known : (said : Bool) (labels : Option ReportError) (file : ReportError) → cond said labels (Some file) ≡ None → labels ≡ None
 known true labels file e = e
 known false labels file e = cc
 

@@ -1,55 +1,220 @@
-// The call that draws reports into a sink.
-ghost use Rattle.std.specs.Prelude.{◌≡◌, ◌≤◌, ◌<◌, None, length, map, string_bytes, All, OnOk, IfOk, IfErr, MatchResult, IsErrOf};
+// Reports on files, drawn or as JSON, and sent to a sink.
+ghost use Rattle.std.specs.Prelude.{◌≡◌, ◌≢◌, ◌++◌, ◌∷◌, [], ◌<◌, ◌≤◌, All, None, OnOk, IfOk, IfErr, IsErrOf, MatchResult, length, map, string_bytes};
 ghost use Rattle.std.specs.Io.KnownBytes.{Appends};
+ghost use Rattle.codespan.specs.Texts.{text_of};
+ghost use Rattle.oxc_span.specs.Views.{text_bytes};
 ghost use Rattle.oxc_protocol.specs.Faults.{Rose};
-ghost use Rattle.render_files.specs.Report.{report_view};
-ghost use Rattle.render_files.specs.Drawable.{first_undrawable};
-ghost use Rattle.render_files.specs.Drawing.{drawn};
-ghost use Rattle.render_files.specs.Answer.{IsCause, Leaves};
+ghost use Rattle.oxc_handlers.specs.Report.{view_parts};
+ghost use Rattle.render_files.specs.declared.places.ReportError.{ReportError};
+ghost use Rattle.render_files.specs.Given.{given_report};
+ghost use Rattle.render_files.specs.Refusal.{refusal_of};
+ghost use Rattle.render_files.specs.Shown.{placed_labels, view_of as shown_of};
+ghost use Rattle.oxc_handlers.specs.JsonText.{json_of};
+ghost use Rattle.render_files.specs.Causes.{IsRefusal, IsSendingCause, Leaves};
+ghost use Rattle.render_files.specs.Rendered.{StandsInFile, code_of, drawn_reports, json_lines};
 
-use crate::drawable::is_drawable;
-use crate::drawing::push_report;
-use crate::report::{PlainError, PlainReport};
+use crate::judge::place_labels;
+use crate::places::{FileReport, ReportError};
+use crate::readers::Readers;
 use codespan::Files;
-use oxc_protocol::{Sink, write_all};
-use std::alloc::Global;
+use oxc_handlers::{DiagnosticView, GraphicalReportHandler, push_json};
+use oxc_protocol::{Diagnostic, LabeledSpan, Sink, SourceRef, write_all};
+use std::alloc::{AllocError, Global};
 
-/// Draws the reports, one after another, and sends the drawing to the sink.
+/// Draws reports on the files of a database, and sends the drawings to the sink one after another.
 ///
-/// `NotBuilt` names the first report that can't be drawn yet; then, and for want of memory, nothing was
-/// written. The whole text is built before its first byte goes out; `SinkFault` comes only where the
-/// sink's faults rose, and the sink took a first part of the text. Each file must be in the database.
-pub fn render_plain<K: Sink>(
+/// The whole text is built before its first byte goes out. A file's source is read by one scanner for all reports on it.
+///
+/// # Errors
+///
+/// The refusals of [`ReportError`], by the first report that has a fault, and want of memory, which may come before any
+/// other: nothing was written. `SinkFault`: the sink took a first part of the text.
+pub fn render_files<K: Sink>(
     alloc: Global,
+    handler: &GraphicalReportHandler,
     files: &Files<String>,
-    reports: &[PlainReport],
+    reports: &[FileReport],
     sink: &mut K,
-) -> Result<(), PlainError>
-    requires known { All (λ report. report.file < length files.now) reports.now }
-    ensures drawn { OnOk result (Appends (K.received sink.old) (K.received sink.new) (drawn files.now (map report_view reports.now))) }
-    ensures left { IfErr result (Leaves (K.received sink.old) (K.received sink.new) (drawn files.now (map report_view reports.now))) }
-    ensures cause { MatchResult result (λ _. first_undrawable files.now (map report_view reports.now) ≡ None) (IsCause files.now (map report_view reports.now)) }
-    ensures fault { IsErrOf result PlainError.SinkFault → Rose (K.faults sink.old) (K.faults sink.new) }
+) -> Result<(), ReportError>
+    ensures drawn { OnOk result (Appends (K.received sink.old) (K.received sink.new) (drawn_reports handler.now files.now (map given_report reports.now))) }
+    ensures cause { MatchResult result (λ _. refusal_of files.now (map given_report reports.now) ≡ None) (IsSendingCause (refusal_of files.now (map given_report reports.now))) }
+    ensures left { IfErr result (Leaves (K.received sink.old) (K.received sink.new) (drawn_reports handler.now files.now (map given_report reports.now))) }
+    ensures fault { IsErrOf result ReportError.SinkFault → Rose (K.faults sink.old) (K.faults sink.new) }
     ensures later { K.faults sink.old ≤ K.faults sink.new }
 {
-    let text = draw(alloc, files, reports)?;
+    let text = files_text(alloc, handler, files, reports)?;
     write_all(sink, text.as_bytes())?;
     Ok(())
 }
 
-// The whole text.
-fn draw(alloc: Global, files: &Files<String>, reports: &[PlainReport]) -> Result<String, PlainError>
-    requires known { All (λ report. report.file < length files.now) reports.now }
-    ensures drawn { IfOk result (λ text. string_bytes text ≡ drawn files.now (map report_view reports.now)) }
-    ensures cause { MatchResult result (λ _. first_undrawable files.now (map report_view reports.now) ≡ None) (IsCause files.now (map report_view reports.now)) }
-    ensures sinkless { ¬ IsErrOf result PlainError.SinkFault }
+/// Sends reports on the files of a database to the sink as JSON: an object and an LF for each.
+///
+/// The whole text is built before its first byte goes out.
+///
+/// # Errors
+///
+/// As those of [`render_files`].
+pub fn render_files_json<K: Sink>(
+    alloc: Global,
+    files: &Files<String>,
+    reports: &[FileReport],
+    sink: &mut K,
+) -> Result<(), ReportError>
+    ensures written { OnOk result (Appends (K.received sink.old) (K.received sink.new) (json_lines files.now (map given_report reports.now))) }
+    ensures cause { MatchResult result (λ _. refusal_of files.now (map given_report reports.now) ≡ None) (IsSendingCause (refusal_of files.now (map given_report reports.now))) }
+    ensures left { IfErr result (Leaves (K.received sink.old) (K.received sink.new) (json_lines files.now (map given_report reports.now))) }
+    ensures fault { IsErrOf result ReportError.SinkFault → Rose (K.faults sink.old) (K.faults sink.new) }
+    ensures later { K.faults sink.old ≤ K.faults sink.new }
 {
+    let text = json_text(alloc, files, reports)?;
+    write_all(sink, text.as_bytes())?;
+    Ok(())
+}
+
+/// The text that [`render_files`] sends.
+///
+/// # Errors
+///
+/// The same refusals, and want of memory; never `SinkFault`.
+#[tactic(auto, using(crate::proofs::Standing::never_fault))]
+pub fn files_text(
+    alloc: Global,
+    handler: &GraphicalReportHandler,
+    files: &Files<String>,
+    reports: &[FileReport],
+) -> Result<String, ReportError>
+    ensures drawn { IfOk result (λ text. string_bytes text ≡ drawn_reports handler.now files.now (map given_report reports.now)) }
+    ensures cause { MatchResult result (λ _. refusal_of files.now (map given_report reports.now) ≡ None) (IsRefusal (refusal_of files.now (map given_report reports.now))) }
+    ensures never { IfErr result (λ error. error ≢ ReportError.SinkFault) }
+{
+    let spans = place_labels(alloc, files, reports)?;
+    let codes = codes_of(alloc, reports)?;
+    Ok(draw_all(alloc, handler, files, reports, &spans, &codes)?)
+}
+
+/// The text that [`render_files_json`] sends.
+#[tactic(auto, using(crate::proofs::Standing::never_fault))]
+fn json_text(
+    alloc: Global,
+    files: &Files<String>,
+    reports: &[FileReport],
+) -> Result<String, ReportError>
+    ensures written { IfOk result (λ text. string_bytes text ≡ json_lines files.now (map given_report reports.now)) }
+    ensures cause { MatchResult result (λ _. refusal_of files.now (map given_report reports.now) ≡ None) (IsRefusal (refusal_of files.now (map given_report reports.now))) }
+    ensures never { IfErr result (λ error. error ≢ ReportError.SinkFault) }
+{
+    let spans = place_labels(alloc, files, reports)?;
+    let codes = codes_of(alloc, reports)?;
+    Ok(write_all_json(alloc, files, reports, &spans, &codes)?)
+}
+
+/// The codes of reports, as they are shown.
+fn codes_of(alloc: Global, reports: &[FileReport]) -> Result<Vec<Option<String>>, AllocError>
+    ensures { IfOk result (λ codes. map text_bytes codes.items ≡ map code_of (map given_report reports.now)) }
+{
+    let mut codes = Vec::with_capacity(alloc, reports.len())?;
+    for report in reports {
+        codes.push(report.diagnostic.code(alloc)?)?;
+    }
+    Ok(codes)
+}
+
+/// The drawings of reports of which none is refused, with their labels and their codes.
+fn draw_all<'a>(
+    alloc: Global,
+    handler: &GraphicalReportHandler,
+    files: &'a Files<String>,
+    reports: &'a [FileReport],
+    spans: &'a [Vec<LabeledSpan>],
+    codes: &'a [Option<String>],
+) -> Result<String, AllocError>
+    requires stand { All (StandsInFile files.now) (map given_report reports.now) }
+    requires spans { map (λ labels. labels.items) spans.now ≡ map (placed_labels files.now) (map given_report reports.now) }
+    requires codes { map text_bytes codes.now ≡ map code_of (map given_report reports.now) }
+    ensures { IfOk result (λ text. string_bytes text ≡ drawn_reports handler.now files.now (map given_report reports.now)) }
+{
+    let mut readers = readers_for(alloc, files, reports, spans)?;
     let mut text = String::new(alloc);
-    for (place, report) in reports.iter().enumerate() {
-        if !is_drawable(files, report) {
-            return Err(PlainError::NotBuilt { report: place });
-        }
-        push_report(&mut text, files, report)?;
+    for (at, report) in reports.iter().enumerate() {
+        let view = view_of(files, report, &codes[at], spans[at].as_slice());
+        text.push_str(readers.draw(handler, report.file, &view)?.as_str())?;
     }
     Ok(text)
+}
+
+/// Readers of the database that were told where the labels of reports start.
+fn readers_for<'a>(
+    alloc: Global,
+    files: &'a Files<String>,
+    reports: &[FileReport],
+    spans: &[Vec<LabeledSpan>],
+) -> Result<Readers<'a>, AllocError>
+    ensures { IfOk result (λ readers. readers ≡ files.now) }
+{
+    let mut readers = Readers::new(alloc, files);
+    for (report, labels) in reports.iter().zip(spans) {
+        if let Some(start) = labels.iter().map(|label| label.offset()).min() {
+            readers.tell(report.file, start)?;
+        }
+    }
+    Ok(readers)
+}
+
+/// The lines of reports of which none is refused, with their labels and their codes.
+fn write_all_json(
+    alloc: Global,
+    files: &Files<String>,
+    reports: &[FileReport],
+    spans: &[Vec<LabeledSpan>],
+    codes: &[Option<String>],
+) -> Result<String, AllocError>
+    requires stand { All (StandsInFile files.now) (map given_report reports.now) }
+    requires spans { map (λ labels. labels.items) spans.now ≡ map (placed_labels files.now) (map given_report reports.now) }
+    requires codes { map text_bytes codes.now ≡ map code_of (map given_report reports.now) }
+    ensures { IfOk result (λ text. string_bytes text ≡ json_lines files.now (map given_report reports.now)) }
+{
+    let mut text = String::new(alloc);
+    for (at, report) in reports.iter().enumerate() {
+        let view = view_of(files, report, &codes[at], spans[at].as_slice());
+        push_line(&mut text, alloc, report, &view)?;
+    }
+    Ok(text)
+}
+
+/// Appends the line of a report that shows as this view.
+#[tactic(auto, unfolding(crate::specs::Rendered::json_line))]
+fn push_line(
+    text: &mut String,
+    alloc: Global,
+    report: &FileReport,
+    view: &DiagnosticView<'_>,
+) -> Result<(), AllocError>
+    ensures { OnOk result (string_bytes text.new ≡ string_bytes text.old ++ (json_of (record (view_parts view.now) { url = report.now.diagnostic.url }) ++ 10 ∷ [])) }
+{
+    push_json(text, alloc, view, report.diagnostic.url())?;
+    text.push('\n')
+}
+
+/// What a report shows, with its code and its labels, of a database that has its file.
+fn view_of<'a>(
+    files: &'a Files<String>,
+    report: &'a FileReport,
+    code: &'a Option<String>,
+    labels: &'a [LabeledSpan],
+) -> DiagnosticView<'a>
+    requires held { report.now.file < length files.now }
+    requires labels { labels.now ≡ placed_labels files.now (given_report report.now) }
+    requires code { text_bytes code.now ≡ code_of (given_report report.now) }
+    ensures { view_parts result ≡ record (shown_of files.now (given_report report.now)) { url = None } }
+{
+    let source = files.source(report.file).as_str().as_bytes();
+    DiagnosticView {
+        message: report.diagnostic.message(),
+        code: code.as_deref(),
+        severity: report.diagnostic.severity(),
+        help: report.diagnostic.help(),
+        note: report.diagnostic.note(),
+        source: Some(SourceRef::new(source, Some(files.name(report.file)))),
+        labels,
+    }
 }

@@ -1,2 +1,8 @@
 pub mod Consuming
-pub mod Documents
+pub mod FirstLemmas
+pub mod KeyLemmas
+pub mod KindLemmas
+pub mod WordLemmas
+pub mod GeneratedLemmas
+pub mod PlacesLemmas
+pub mod FormLemmas

@@ -1,119 +1,139 @@
--- Which input is a document that can be drawn, and what its drawing is.
-use Rattle.std.specs.Prelude.{ℕ, ◌^◌, List, [], ◌∷◌, ◌&&◌, ◌==◌, Bool, true, false, nat_lt, if◌then◌else◌, length, Option, Some, None, option_map, option_and_then, unwrap_or, codes}
-use Rattle.std.specs.List.{list_any}
-use Rattle.std.specs.Option.{is_none}
-use Rattle.std.specs.Str.{is_utf8, bytes_eq}
-use Rattle.serde_json.specs.Data.{Data, Items, no_items, item, Members, no_members, member}
+-- Which input is a document, and what it says. The tables give for each key the kind of its value, and whether it must
+-- be there; the records below them give what each part means, and what a part that is left out means.
+use Rattle.std.specs.Prelude.{ℕ, ◌^◌, ◌-◌, List, [], ◌∷◌, ◌==◌, false, nat_lt, if◌then◌else◌, length, Option, None, option_map, option_and_then, unwrap_or, codes}
+use Rattle.std.specs.Option.{option_or}
+use Rattle.std.specs.Str.{is_utf8}
+use Rattle.serde_json.specs.Data.{Data}
 use Rattle.serde_json.specs.Read.{read}
-use Rattle.serde_json.specs.Find.{get, as_object, as_array, as_str, as_number, as_u64}
 use Rattle.source_location.specs.declared.SourceLocation.{SourceLocation}
 use Rattle.codespan.specs.Texts.{NamedText}
-use Rattle.render_files.specs.Report.{Label, Report}
-use Rattle.render_files.specs.Drawable.{first_undrawable}
-use Rattle.render_files.specs.Drawing.{drawn}
+use Rattle.oxc_protocol.specs.declared.protocol.Severity.TheVariants.{Error}
+use Rattle.oxc_protocol.specs.Parts.{OxcParts}
+use Rattle.render_files.specs.declared.places.LabelPlace.{LabelPlace}
+use Rattle.render_files.specs.declared.places.LabelPlace.TheVariants.{Rows, Bytes}
+use Rattle.render_files.specs.Given.{GivenLabel, GivenReport}
+use Rattle.report.specs.Kinds.{Key, must, may, only_if, object_of, under, array_of, text, some_text, source, truth, whole, severity, place, bytes_pair}
+use Rattle.report.specs.declared.document.Version.{Version}
+use Rattle.report.specs.declared.document.Version.TheVariants.{One, Two}
 
 -- the source files and the reports on them
 pub record Document : Type 0 where
   pub files : List NamedText
-  pub reports : List Report
+  pub reports : List GivenReport
 
--- each key is one of these
-abbrev pub only_keys : List (List ℕ) → Members → Bool
-only_keys keys no_members = true
-only_keys keys (member key _ rest) = list_any (λ known. bytes_eq known key) keys && only_keys keys rest
+-- a file
+abbrev pub file_keys : List Key
+file_keys = must (codes "name") text ∷ must (codes "source") source ∷ []
 
--- an object with no other keys than these
-abbrev pub has_only_keys : List (List ℕ) → Data → Bool
-has_only_keys keys value = unwrap_or (option_map (only_keys keys) (as_object value)) false
+unfoldable pub file : Data → Option NamedText
+file it =
+    object_of file_keys (record {
+      name = unwrap_or (under (codes "name") text it) [];
+      text = unwrap_or (under (codes "source") source it) [];
+    }) it
 
--- the text under a key
-abbrev pub text_in : List ℕ → Data → Option (List ℕ)
-text_in key value = option_and_then as_str (get key value)
+-- a label by rows and columns
+abbrev pub row_keys : List Key
+row_keys = must (codes "start") place ∷ must (codes "end") place ∷ may (codes "text") text ∷ may (codes "primary") truth ∷ []
 
--- the one value of an array of one
-abbrev pub only_item : Items → Option Data
-only_item no_items = None
-only_item (item value no_items) = Some value
-only_item (item value (item other rest)) = None
+-- a label by bytes
+abbrev pub byte_keys : List Key
+byte_keys = must (codes "bytes") bytes_pair ∷ may (codes "text") text ∷ may (codes "primary") truth ∷ []
 
--- the one value of the array under a key
-abbrev pub only_in : List ℕ → Data → Option Data
-only_in key value = option_and_then only_item (option_and_then as_array (get key value))
+abbrev pub first_place : SourceLocation
+first_place = record { row = 1; column = 1 }
 
--- a whole number
-abbrev pub whole : Data → Option ℕ
-whole value = option_and_then as_u64 (as_number value)
+abbrev pub rows_in : Data → LabelPlace
+rows_in it = Rows (unwrap_or (under (codes "start") place it) first_place) (unwrap_or (under (codes "end") place it) first_place)
 
--- a whole number from 1 to `u32::MAX`
-abbrev pub counted : Data → Option ℕ
-counted value = option_and_then (λ n. if nat_lt 0 n && nat_lt n (2 ^ 32) then Some n else None) (whole value)
+abbrev pub bytes_in : Data → LabelPlace
+bytes_in it = let pair = unwrap_or (under (codes "bytes") bytes_pair it) (0, 0) in Bytes pair.0 pair.1
 
--- a row and a column, in an array of two
-abbrev pub pair_of : Items → Option SourceLocation
-pair_of no_items = None
-pair_of (item row no_items) = None
-pair_of (item row (item column no_items)) = option_and_then (λ r. option_map (λ c. record { row = r; column = c }) (counted column)) (counted row)
-pair_of (item row (item column (item other rest))) = None
+abbrev pub label_at : LabelPlace → Data → GivenLabel
+label_at place it =
+    record {
+      place = place;
+      text = under (codes "text") text it;
+      primary = unwrap_or (under (codes "primary") truth it) false;
+    }
 
--- the place under a key
-abbrev pub place_in : List ℕ → Data → Option SourceLocation
-place_in key value = option_and_then pair_of (option_and_then as_array (get key value))
+unfoldable pub label_by_rows : Data → Option GivenLabel
+label_by_rows it = object_of row_keys (label_at (rows_in it) it) it
 
--- a text whose bytes are fewer than `u32::MAX`
-abbrev pub fitting : List ℕ → Option (List ℕ)
-fitting text = if nat_lt (length text) 4294967295 then Some text else None
+unfoldable pub label_by_bytes : Data → Option GivenLabel
+label_by_bytes it = object_of byte_keys (label_at (bytes_in it) it) it
 
--- a file: `name` and `source`
-unfoldable pub file_of : Data → Option NamedText
-file_of value =
-    if has_only_keys (codes "name" ∷ codes "source" ∷ []) value
-    then option_and_then (λ name. option_map (λ source. record { name = name; text = source }) (option_and_then fitting (text_in (codes "source") value))) (text_in (codes "name") value)
-    else None
+-- a label: in the first version by rows and columns, in the second by either
+abbrev pub label : Version → Data → Option GivenLabel
+label One it = label_by_rows it
+label Two it = option_or (label_by_rows it) (label_by_bytes it)
 
--- a label: `start`, `end` and `text`
-unfoldable pub label_of : Data → Option Label
-label_of value =
-    if has_only_keys (codes "start" ∷ codes "end" ∷ codes "text" ∷ []) value
-    then option_and_then (λ start. option_and_then (λ end. option_map (λ text. record { start = start; end = end; text = Some text; primary = false })
-    (text_in (codes "text") value)) (place_in (codes "end") value)) (place_in (codes "start") value)
-    else None
+-- where a report is
+abbrev pub file_number : Data → Option ℕ
+file_number value = whole 0 (2 ^ 32 - 2) value
 
--- the number 0 under a key
-abbrev pub is_first_in : List ℕ → Data → Bool
-is_first_in key value = unwrap_or (option_map (λ n. n == 0) (option_and_then whole (get key value))) false
+abbrev pub labels : Version → Data → Option (List GivenLabel)
+labels version value = array_of (label version) value
 
--- a report: `file`, which is the first, `message`, and `labels`, of which there is one
-unfoldable pub report_of : Data → Option Report
-report_of value =
-    if has_only_keys (codes "file" ∷ codes "message" ∷ codes "labels" ∷ []) value && is_first_in (codes "file") value
-    then option_and_then (λ message. option_map (λ label. record { file = 0; message = message; labels = label ∷ [] }) (option_and_then label_of (only_in (codes "labels") value)))
-    (text_in (codes "message") value)
-    else None
+-- what a report says
+abbrev pub said_keys : List Key
+said_keys =
+    must (codes "message") text ∷ may (codes "severity") severity
+    ∷ may (codes "scope") some_text ∷ may (codes "number") some_text
+    ∷ may (codes "help") text ∷ may (codes "note") text ∷ may (codes "url") text ∷ []
 
--- a document: `files` and `reports`, of which there is one each
+abbrev pub said_in : Data → OxcParts
+said_in it =
+    record {
+      message = unwrap_or (under (codes "message") text it) [];
+      severity = unwrap_or (under (codes "severity") severity it) Error;
+      code = record { scope = under (codes "scope") some_text it; number = under (codes "number") some_text it };
+      help = under (codes "help") text it;
+      note = under (codes "note") text it;
+      url = under (codes "url") text it;
+      labels = [];
+    }
+
+-- a report: on which file, where, and what it says
+abbrev pub report_keys : Version → List Key
+report_keys version = must (codes "file") file_number ∷ may (codes "labels") (labels version) ∷ said_keys
+
+unfoldable pub report : Version → Data → Option GivenReport
+report version it =
+    object_of (report_keys version) (record {
+      file = unwrap_or (under (codes "file") file_number it) 0;
+      diagnostic = said_in it;
+      labels = unwrap_or (under (codes "labels") (labels version) it) [];
+    }) it
+
+-- a document: its version, its files, fewer than 2 ^ 32, and its reports
+abbrev pub version_in : Data → Option Version
+version_in value = option_map (λ n. if n == 1 then One else Two) (whole 1 2 value)
+
+abbrev pub files_in : Data → Option (List NamedText)
+files_in value = option_and_then (only_if (λ list. nat_lt (length list) (2 ^ 32))) (array_of file value)
+
+abbrev pub reports_in : Version → Data → Option (List GivenReport)
+reports_in version value = array_of (report version) value
+
+abbrev pub document_keys : Version → List Key
+document_keys version = may (codes "version") version_in ∷ must (codes "files") files_in ∷ must (codes "reports") (reports_in version) ∷ []
+
+abbrev pub version_of : Data → Version
+version_of it = unwrap_or (under (codes "version") version_in it) One
+
 unfoldable pub form_of : Data → Option Document
-form_of value =
-    if has_only_keys (codes "files" ∷ codes "reports" ∷ []) value
-    then option_and_then (λ file. option_map (λ report. record { files = file ∷ []; reports = report ∷ [] }) (option_and_then report_of (only_in (codes "reports") value)))
-    (option_and_then file_of (only_in (codes "files") value))
-    else None
+form_of it =
+    let version = version_of it in
+    object_of (document_keys version) (record {
+      files = unwrap_or (under (codes "files") files_in it) [];
+      reports = unwrap_or (under (codes "reports") (reports_in version) it) [];
+    }) it
 
 -- the value that the whole input is as JSON
 abbrev pub json_in : List ℕ → Option Data
 json_in bytes = if is_utf8 bytes then read bytes else None
 
--- the document that an input has the form of
-unfoldable pub form_in : List ℕ → Option Document
-form_in bytes = option_and_then form_of (json_in bytes)
-
--- a document whose reports can all be drawn
-abbrev pub only_drawable : Document → Option Document
-only_drawable document = if is_none (first_undrawable document.files document.reports) then Some document else None
-
 -- the document that an input is
 unfoldable pub document_of : List ℕ → Option Document
-document_of bytes = option_and_then only_drawable (form_in bytes)
-
--- the drawing of its reports, one after another
-abbrev pub drawing_of : Document → List ℕ
-drawing_of document = drawn document.files document.reports
+document_of bytes = option_and_then form_of (json_in bytes)

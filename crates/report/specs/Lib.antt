@@ -1,6 +1,14 @@
 pub mod Reading
 pub mod MemorySource
+pub mod Kinds
 pub mod Document
+pub mod Fields
 pub mod Views
+pub mod Generated
+pub mod Words
+pub mod Settled
+pub mod First
+pub mod FirstViews
 pub mod Code
+pub mod Ending
 pub mod Run

@@ -1,14 +1,27 @@
 // The document: source files, and reports on them.
-ghost use Rattle.std.specs.Prelude.{◌≡◌, ◌<◌, ◌∷◌, [], All, IfOk, IfSome, length, option_map};
-ghost use Rattle.serde_json.specs.View.{view};
-ghost use Rattle.render_files.specs.Report.{label_view, report_view};
-ghost use Rattle.report.specs.Document.{file_of, label_of, report_of, form_of, form_in};
-ghost use Rattle.report.specs.Views.{document_view};
+ghost use Rattle.std.specs.Prelude.{◌≡◌, ◌<◌, ◌^◌, [], is_some, length, map, nat_lt, string_bytes, option_and_then, option_map, unwrap_or, IfOk, IfSome};
+ghost use Rattle.codespan.specs.Texts.{Fits};
+ghost use Rattle.serde_json.specs.View.{view, items_view, members_view};
+ghost use Rattle.serde_json.specs.Data.{object};
+ghost use Rattle.oxc_protocol.specs.Views.{inner_parts};
+ghost use Rattle.render_files.specs.Given.{given_label, given_report};
+ghost use Rattle.report.specs.declared.document.Version.TheVariants.{One, Two};
+ghost use Rattle.report.specs.Kinds.{all_of, is_allowed, only_if};
+ghost use Rattle.report.specs.Document.{document_of, file, file_number, files_in, form_of, label, label_by_rows, label_by_bytes, labels, report, reports_in, version_in};
+ghost use Rattle.report.specs.Fields.{are_said, said};
+ghost use Rattle.report.specs.Views.{document_view, named_text};
 
-use crate::place::{has_only_keys, is_first_in, only_in, place_in, text_in};
+use crate::fields::{
+    SaidFields, byte_fields, document_fields, file_fields, has_key, report_fields, row_fields,
+};
+use crate::values::{
+    bytes_pair, optional_severity, optional_some_text, optional_text, optional_truth, place,
+    source, text, whole,
+};
 use codespan::{AddError, FileId, Files};
-use render_files::{PlainLabel, PlainReport};
-use serde_json::Value;
+use oxc_protocol::{Labels, OxcCode, OxcDiagnostic, OxcDiagnosticInner, Severity};
+use render_files::{FileReport, LabelPlace, PlaceLabel};
+use serde_json::{Map, Value};
 use std::alloc::{AllocError, Global};
 
 /// Source files, and reports on them.
@@ -17,21 +30,27 @@ pub struct Document {
     /// The files, which reports name by their place.
     pub files: Files<String>,
     /// The reports.
-    pub reports: Vec<PlainReport>,
+    pub reports: Vec<FileReport>,
 }
 
-/// The document that the bytes have the form of, or none.
+/// Which form a document has.
+#[derive(Clone, Copy, Debug, PartialEq, Eq)]
+pub(crate) enum Version {
+    /// Labels are given by rows and columns.
+    One,
+    /// Labels are given by rows and columns, or by bytes.
+    Two,
+}
+
+/// The document that the bytes are, or none: exactly where the whole input is JSON of the form that
+/// `docs/DOCUMENT.md` states.
 ///
-/// The form is an object with the keys `files` and `reports`. `files` holds one file, with the texts
-/// `name` and `source`. `reports` holds one report, with `file` 0, the text `message`, and `labels` with
-/// one label: `start` and `end`, each `[row, column]` from 1, and the text `text`. No other key may be
-/// there.
+/// Texts are moved out of the JSON value that was read.
 pub fn read_document(alloc: Global, bytes: &[u8]) -> Result<Option<Document>, AllocError>
-    ensures form { IfOk result (λ it. option_map document_view it ≡ form_in bytes.now) }
-    ensures known { IfOk result (λ it. IfSome it (λ document. All (λ report. report.file < length document.files) document.reports.items)) }
+    ensures { IfOk result (λ it. option_map document_view it ≡ document_of bytes.now) }
 {
     match Value::from_slice(alloc, bytes) {
-        Ok(value) => read_form(alloc, &value),
+        Ok(value) => read_form(alloc, value),
         Err(e) => {
             if e.is_memory() {
                 Err(AllocError)
@@ -43,105 +62,299 @@ pub fn read_document(alloc: Global, bytes: &[u8]) -> Result<Option<Document>, Al
 }
 
 #[tactic(auto, unfolding(crate::specs::Document::form_of))]
-fn read_form(alloc: Global, value: &Value) -> Result<Option<Document>, AllocError>
-    ensures form { IfOk result (λ it. option_map document_view it ≡ form_of (view value.now)) }
-    ensures known { IfOk result (λ it. IfSome it (λ document. All (λ report. report.file < length document.files) document.reports.items)) }
+fn read_form(alloc: Global, value: Value) -> Result<Option<Document>, AllocError>
+    ensures { IfOk result (λ it. option_map document_view it ≡ form_of (view value)) }
 {
-    if !has_only_keys(value, &["files", "reports"]) {
+    let Value::Object(members) = value else {
+        return Ok(None);
+    };
+    let fields = document_fields(members);
+    let Some(version) = read_version(&fields.version.value) else {
+        return Ok(None);
+    };
+    let Some(files) = found_files(alloc, fields.files.value)? else {
+        return Ok(None);
+    };
+    let Some(reports) = found_reports(alloc, version, fields.reports.value)? else {
+        return Ok(None);
+    };
+    if !fields.are_all {
         return Ok(None);
     }
-    let Some(file) = only_in(value, "files") else {
-        return Ok(None);
-    };
-    let Some(report) = only_in(value, "reports") else {
-        return Ok(None);
-    };
-    let Some(files) = read_files(alloc, file)? else {
-        return Ok(None);
-    };
-    let Some(report) = read_report(alloc, report)? else {
-        return Ok(None);
-    };
-    let mut reports = Vec::new(alloc);
-    reports.push(report)?;
     Ok(Some(Document { files, reports }))
 }
 
-// The one file, in a database of its own.
-#[tactic(auto, unfolding(crate::specs::Document::file_of))]
-fn read_files(alloc: Global, value: &Value) -> Result<Option<Files<String>>, AllocError>
-    ensures { IfOk result (λ it. option_map (λ files. files) it ≡ option_map (λ file. file ∷ []) (file_of (view value.now))) }
+// The version, which may be left out.
+fn read_version(found: &Option<Value>) -> Option<Version>
+    ensures allowed { is_some result ≡ is_allowed version_in (option_map view found.now) }
+    ensures value { IfSome result (λ it. it ≡ unwrap_or (option_and_then version_in (option_map view found.now)) One) }
 {
-    if !has_only_keys(value, &["name", "source"]) {
-        return Ok(None);
-    }
-    let Some(name) = text_in(value, "name") else {
-        return Ok(None);
-    };
-    let Some(source) = text_in(value, "source") else {
-        return Ok(None);
-    };
-    let name = String::from_str(alloc, name)?;
-    let source = String::from_str(alloc, source)?;
-    let mut files = Files::new(alloc);
-    match files.add(name, source) {
-        Ok(_) => Ok(Some(files)),
-        Err(AddError::SourceTooLong { .. }) => Ok(None),
-        Err(_) => Err(AllocError),
+    match found {
+        Some(value) => match whole(1, 2, value)? {
+            1 => Some(Version::One),
+            _ => Some(Version::Two),
+        },
+        None => Some(Version::One),
     }
 }
 
-#[tactic(auto, unfolding(crate::specs::Document::report_of))]
-fn read_report(alloc: Global, value: &Value) -> Result<Option<PlainReport>, AllocError>
-    ensures form { IfOk result (λ it. option_map report_view it ≡ report_of (view value.now)) }
-    ensures first { IfOk result (λ it. IfSome it (λ report. report.file ≡ 0)) }
+fn found_files(alloc: Global, found: Option<Value>) -> Result<Option<Files<String>>, AllocError>
+    ensures { IfOk result (λ it. option_map (λ files. files) it ≡ option_and_then files_in (option_map view found)) }
 {
-    if !has_only_keys(value, &["file", "message", "labels"]) || !is_first_in(value, "file") {
+    match found {
+        Some(Value::Array(values)) => read_files(alloc, values),
+        _ => Ok(None),
+    }
+}
+
+fn found_reports(
+    alloc: Global,
+    version: Version,
+    found: Option<Value>,
+) -> Result<Option<Vec<FileReport>>, AllocError>
+    ensures { IfOk result (λ it. option_map (λ list. map given_report list.items) it ≡ option_and_then (reports_in version) (option_map view found)) }
+{
+    match found {
+        Some(Value::Array(values)) => read_reports(alloc, version, values),
+        _ => Ok(None),
+    }
+}
+
+// The files of a document, which are fewer than a database could not hold.
+#[tactic(auto, using(crate::proofs::KindLemmas::too_many, crate::proofs::KindLemmas::few_enough))]
+fn read_files(alloc: Global, values: Vec<Value>) -> Result<Option<Files<String>>, AllocError>
+    ensures { IfOk result (λ it. option_map (λ files. files) it ≡ option_and_then (only_if (λ list. nat_lt (length list) (2 ^ 32))) (all_of file (items_view values.items))) }
+{
+    if values.len() > u32::MAX as usize {
         return Ok(None);
     }
-    let Some(file) = FileId::from_index(0) else {
-        return Ok(None);
+    add_files(alloc, values)
+}
+
+fn add_files(alloc: Global, values: Vec<Value>) -> Result<Option<Files<String>>, AllocError>
+    requires { length values.items < 2 ^ 32 }
+    ensures { IfOk result (λ it. option_map (λ files. files) it ≡ all_of file (items_view values.items)) }
+{
+    let mut files = Files::new(alloc);
+    for value in values {
+        let Some((name, source)) = read_file(value) else {
+            return Ok(None);
+        };
+        match files.add(name, source) {
+            Ok(_) => {}
+            Err(AddError::OutOfMemory) => return Err(AllocError),
+            Err(AddError::SourceTooLong { .. } | AddError::TooManyFiles) => unreachable!(),
+        }
+    }
+    Ok(Some(files))
+}
+
+// A file's name and its source.
+#[tactic(auto, unfolding(crate::specs::Document::file))]
+fn read_file(value: Value) -> Option<(String, String)>
+    ensures value { option_map named_text result ≡ file (view value) }
+    ensures fits { IfSome result (λ file. Fits (string_bytes file.1)) }
+{
+    let Value::Object(members) = value else {
+        return None;
     };
-    let Some(message) = text_in(value, "message") else {
-        return Ok(None);
-    };
-    let Some(label) = only_in(value, "labels") else {
-        return Ok(None);
-    };
-    let Some(label) = read_label(alloc, label)? else {
-        return Ok(None);
-    };
-    let message = String::from_str(alloc, message)?;
-    let mut labels = Vec::new(alloc);
-    labels.push(label)?;
-    Ok(Some(PlainReport {
-        file,
+    let fields = file_fields(members);
+    let name = text(fields.name.value?)?;
+    let source = source(fields.source.value?)?;
+    if !fields.are_all {
+        return None;
+    }
+    Some((name, source))
+}
+
+#[tactic(auto, unfolding(crate::specs::Document::label_by_rows))]
+fn label_by_rows(members: Map<String, Value>) -> Option<PlaceLabel>
+    ensures { option_map given_label result ≡ label_by_rows (object (members_view members.entries)) }
+{
+    let fields = row_fields(members);
+    let start = place(&fields.start.value?)?;
+    let end = place(&fields.end.value?)?;
+    let text = optional_text(fields.text.value)?;
+    let primary = optional_truth(&fields.primary.value)?;
+    if !fields.are_all {
+        return None;
+    }
+    Some(PlaceLabel {
+        place: LabelPlace::Rows { start, end },
+        text,
+        primary: primary.unwrap_or(false),
+    })
+}
+
+#[tactic(auto, unfolding(crate::specs::Document::label_by_bytes))]
+fn label_by_bytes(members: Map<String, Value>) -> Option<PlaceLabel>
+    ensures { option_map given_label result ≡ label_by_bytes (object (members_view members.entries)) }
+{
+    let fields = byte_fields(members);
+    let (start, end) = bytes_pair(&fields.bytes.value?)?;
+    let text = optional_text(fields.text.value)?;
+    let primary = optional_truth(&fields.primary.value)?;
+    if !fields.are_all {
+        return None;
+    }
+    Some(PlaceLabel {
+        place: LabelPlace::Bytes { start, end },
+        text,
+        primary: primary.unwrap_or(false),
+    })
+}
+
+// A label of the version.
+#[tactic(auto, unfolding(crate::specs::Document::label_by_rows, crate::specs::Document::label_by_bytes))]
+fn read_label(version: Version, value: Value) -> Option<PlaceLabel>
+    ensures { option_map given_label result ≡ label version (view value) }
+{
+    match value {
+        Value::Object(members) => label_in(version, members),
+        _ => None,
+    }
+}
+
+fn label_in(version: Version, members: Map<String, Value>) -> Option<PlaceLabel>
+    ensures { option_map given_label result ≡ label version (object (members_view members.entries)) }
+{
+    match version {
+        Version::One => label_by_rows(members),
+        Version::Two => label_by_either(members),
+    }
+}
+
+fn label_by_either(members: Map<String, Value>) -> Option<PlaceLabel>
+    ensures { option_map given_label result ≡ label Two (object (members_view members.entries)) }
+{
+    if has_key(&members, "bytes") {
+        label_by_bytes(members)
+    } else {
+        label_by_rows(members)
+    }
+}
+
+// The labels of a report.
+fn read_labels(
+    alloc: Global,
+    version: Version,
+    values: Vec<Value>,
+) -> Result<Option<Vec<PlaceLabel>>, AllocError>
+    ensures { IfOk result (λ it. option_map (λ labels. map given_label labels.items) it ≡ all_of (label version) (items_view values.items)) }
+{
+    let mut labels = Vec::with_capacity(alloc, values.len())?;
+    for value in values {
+        let Some(label) = read_label(version, value) else {
+            return Ok(None);
+        };
+        labels.push(label)?;
+    }
+    Ok(Some(labels))
+}
+
+// The labels that stand under a key that may be left out.
+fn optional_labels(
+    alloc: Global,
+    version: Version,
+    found: Option<Value>,
+) -> Result<Option<Vec<PlaceLabel>>, AllocError>
+    ensures allowed { IfOk result (λ it. is_some it ≡ is_allowed (labels version) (option_map view found)) }
+    ensures value { IfOk result (λ it. IfSome it (λ list. map given_label list.items ≡ unwrap_or (option_and_then (labels version) (option_map view found)) [])) }
+{
+    match found {
+        Some(Value::Array(values)) => read_labels(alloc, version, values),
+        Some(_) => Ok(None),
+        None => Ok(Some(Vec::new(alloc))),
+    }
+}
+
+// A diagnostic of these parts.
+fn diagnostic(alloc: Global, parts: OxcDiagnosticInner) -> Result<OxcDiagnostic, AllocError>
+    ensures { IfOk result (λ it. it ≡ inner_parts parts) }
+{
+    let mut diagnostic = OxcDiagnostic::error(alloc, "")?;
+    *diagnostic.inner_mut() = parts;
+    Ok(diagnostic)
+}
+
+// What a report says.
+fn diagnostic_parts(alloc: Global, fields: SaidFields) -> Option<OxcDiagnosticInner>
+    ensures allowed { is_some result ≡ are_said fields }
+    ensures parts { IfSome result (λ parts. inner_parts parts ≡ said fields) }
+{
+    let message = text(fields.message.value?)?;
+    let severity = optional_severity(&fields.severity.value)?;
+    let scope = optional_some_text(fields.scope.value)?;
+    let number = optional_some_text(fields.number.value)?;
+    let help = optional_text(fields.help.value)?;
+    let note = optional_text(fields.note.value)?;
+    let url = optional_text(fields.url.value)?;
+    if !fields.are_all {
+        return None;
+    }
+    Some(OxcDiagnosticInner {
         message,
+        labels: Labels::new(alloc),
+        help,
+        note,
+        severity: severity.unwrap_or(Severity::Error),
+        code: OxcCode { scope, number },
+        url,
+    })
+}
+
+// The file that a report names by its place, from 0.
+fn file_id(found: &Option<Value>) -> Option<FileId>
+    ensures { result ≡ option_and_then file_number (option_map view found.now) }
+{
+    match found {
+        Some(value) => FileId::from_index(whole(0, u32::MAX - 1, value)?),
+        None => None,
+    }
+}
+
+#[tactic(auto, unfolding(crate::specs::Document::report))]
+fn read_report(
+    alloc: Global,
+    version: Version,
+    value: Value,
+) -> Result<Option<FileReport>, AllocError>
+    ensures { IfOk result (λ it. option_map given_report it ≡ report version (view value)) }
+{
+    let Value::Object(members) = value else {
+        return Ok(None);
+    };
+    let fields = report_fields(members);
+    let Some(file) = file_id(&fields.file.value) else {
+        return Ok(None);
+    };
+    let Some(labels) = optional_labels(alloc, version, fields.labels.value)? else {
+        return Ok(None);
+    };
+    let Some(parts) = diagnostic_parts(alloc, fields.said) else {
+        return Ok(None);
+    };
+    Ok(Some(FileReport {
+        file,
+        diagnostic: diagnostic(alloc, parts)?,
         labels,
     }))
 }
 
-#[tactic(auto, unfolding(crate::specs::Document::label_of))]
-fn read_label(alloc: Global, value: &Value) -> Result<Option<PlainLabel>, AllocError>
-    ensures { IfOk result (λ it. option_map label_view it ≡ label_of (view value.now)) }
+// The reports of a document.
+fn read_reports(
+    alloc: Global,
+    version: Version,
+    values: Vec<Value>,
+) -> Result<Option<Vec<FileReport>>, AllocError>
+    ensures { IfOk result (λ it. option_map (λ reports. map given_report reports.items) it ≡ all_of (report version) (items_view values.items)) }
 {
-    if !has_only_keys(value, &["start", "end", "text"]) {
-        return Ok(None);
+    let mut reports = Vec::with_capacity(alloc, values.len())?;
+    for value in values {
+        let Some(report) = read_report(alloc, version, value)? else {
+            return Ok(None);
+        };
+        reports.push(report)?;
     }
-    let Some(start) = place_in(value, "start") else {
-        return Ok(None);
-    };
-    let Some(end) = place_in(value, "end") else {
-        return Ok(None);
-    };
-    let Some(text) = text_in(value, "text") else {
-        return Ok(None);
-    };
-    let text = String::from_str(alloc, text)?;
-    Ok(Some(PlainLabel {
-        start,
-        end,
-        text: Some(text),
-        primary: false,
-    }))
+    Ok(Some(reports))
 }

@@ -5,18 +5,28 @@
 #![tactic(auto)]
 
 mod document;
+mod ending;
+mod fields;
+mod first;
+mod first_values;
+mod generate;
 mod memory;
-mod place;
 mod source;
 mod status;
 mod streams;
 mod top;
+mod values;
+mod words;
 
 pub use document::{Document, read_document};
+pub use first::{FirstDocument, read_first};
+pub use generate::generate;
 pub use memory::MemorySource;
 pub use source::{Reading, Source, read_all};
 pub use status::Status;
 
+#[cfg(test)]
+mod document_tests;
 #[cfg(test)]
 mod tests;
 
@@ -25,6 +35,7 @@ use std::io::ErrorKind;
 use std::process::ExitCode;
 pub use streams::{ReaderSource, StderrSink, StdinSource, StdoutSink, WriterSink};
 pub use top::run;
+pub use words::{Command, ThemeName, read_words};
 
 /// The system gave no words, for another cause than memory.
 const NO_WORDS: u8 = 9;

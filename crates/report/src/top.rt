@@ -3,7 +3,7 @@ ghost use Rattle.std.specs.Prelude.{◌≡◌, ◌≢◌, ◌⊎◌, ◌↔◌, 
 ghost use Rattle.oxc_protocol.specs.Faults.{Rose};
 ghost use Rattle.report.specs.Run.{Means, Settles, Draws, device, settled_status, IsDocument};
 
-use crate::document::read_document;
+use crate::first::read_first;
 use crate::source::{Reading, Source, read_all};
 use crate::status::Status;
 use oxc_protocol::Sink;
@@ -56,11 +56,11 @@ pub fn run<I: Source, O: Sink, E: Sink>(
 }
 
 // Draws the document that the bytes are.
-#[tactic(auto, unfolding(crate::specs::Document::document_of))]
+#[tactic(auto, unfolding(crate::specs::First::document_of))]
 fn draw<O: Sink>(alloc: Global, bytes: &[u8], out: &mut O) -> Status
     ensures { Draws result bytes.now (device O.received O.faults out.old out.new) }
 {
-    let document = match read_document(alloc, bytes) {
+    let document = match read_first(alloc, bytes) {
         Ok(Some(document)) => document,
         Ok(None) => return Status::NotBuilt,
         Err(_) => return Status::OutOfMemory,

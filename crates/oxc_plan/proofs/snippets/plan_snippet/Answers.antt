@@ -23,7 +23,7 @@ head_label-head-requires-clause-within c = omega (arith, c.requires.alone.within
 
 pub place_in-place-requires-clause-known : goal.place_in-place-requires-clause-known
 place_in-place-requires-clause-known c =
-    subst (λ source. c.in_ok-contents.contents ≡ contents_of source (window_round source c.joint_span-span.result)) (sym c.in_ok-contents.ensures.unchanged.input) c.in_ok-contents.ensures.exact
+    subst (λ source. c.in_ok-contents.contents ≡ contents_of source (window_round source c.joint_span-span.result)) (sym c.in_ok-contents.ensures.stays.same.input) c.in_ok-contents.ensures.exact
 
 pub place_in-place-requires-clause-from : goal.place_in-place-requires-clause-from
 place_in-place-requires-clause-from c =
@@ -37,7 +37,7 @@ place_in-place-requires-clause-upto c =
 
 pub place_in-place-requires-clause-within : goal.place_in-place-requires-clause-within
 place_in-place-requires-clause-within c =
-    omega (arith, c.joint_span-span.ensures.end, largest_end_within c.args.spans.now c.args.group.now.start c.args.group.now.end (length c.args.scanner.now.input) c.requires.ordered.within (omega (arith, c.requires.alone.some)) c.requires.alone.within, ap length c.in_ok-contents.ensures.unchanged.input)
+    omega (arith, c.joint_span-span.ensures.end, largest_end_within c.args.spans.now c.args.group.now.start c.args.group.now.end (length c.args.scanner.now.input) c.requires.ordered.within (omega (arith, c.requires.alone.some)) c.requires.alone.within, ap length c.in_ok-contents.ensures.stays.same.input)
 
 pub plan_rows-requires-clause-small : goal.plan_rows-requires-clause-small
 plan_rows-requires-clause-small c =
@@ -59,7 +59,7 @@ pub returns-clause-plan : goal.returns-clause-plan
 returns-clause-plan c =
     let source = c.args.scanner.now.input in
     let labels = map ordered_view c.args.labels.now in
-    let same = c.in_ok-contents.ensures.unchanged.input in
+    let same = c.in_ok-contents.ensures.stays.same.input in
     let offset = c.head_label-head.result.span.start in
     let row = ap (λ p. p.0) c.place_in-place.ensures.place ∙ ap (λ s. (place_of (length s) (breaks_of s) offset).row) same in
     let column = ap (λ p. p.1) c.place_in-place.ensures.place ∙ ap (λ s. (place_of (length s) (breaks_of s) offset).column) same in

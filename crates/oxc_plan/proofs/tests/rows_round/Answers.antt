@@ -1,4 +1,4 @@
-use Rattle.std.proofs.Common.{◌≡◌, ◌∙◌, ℕ, List, Some, ap, sym, length, subst}
+use Rattle.std.proofs.Common.{◌≡◌, ◌∙◌, ℕ, List, Some, ap, sym, length}
 use Rattle.oxc_span.specs.declared.span.Span.{Span}
 use Rattle.oxc_windows.specs.Breaks.{breaks_of}
 use Rattle.oxc_windows.specs.Window.{window_at}
@@ -8,15 +8,15 @@ use Rattle.oxc_plan.specs.Rows.{rows_from, rows_in}
 use Rattle.oxc_plan.proofs.tests.rows_round.Goals as goal
 
 -- the rows of what was read are those of the window
-rows_read : (text : List ℕ) (scan : Scan) (span : Span) (contents : Contents) → scan ≡ record { input = text; before = 1; after = 1 } → contents_read scan span ≡ Some contents
+rows_read : (text : List ℕ) (scan : Scan) (span : Span) (contents : Contents) → scan.input ≡ text → scan.before ≡ 1 → scan.after ≡ 1 → contents_read scan span ≡ Some contents
     → rows_from contents.line contents.span.start contents.bytes ≡ rows_in text (window_at (length text) (breaks_of text) 1 1 span.start span.end)
-rows_read text scan span contents made e =
-    let known = read_known (record { input = text; before = 1; after = 1 }) span contents (subst (λ s. contents_read s span ≡ Some contents) made e) in
+rows_read text scan span contents input before after e =
+    let known = rw (input, before, after) at (read_known scan span contents e) in
     ap (λ k. rows_from k.line k.span.start k.bytes) known
 
-pub returns-in_ok-rows_of-in-Some-clause-rows : goal.returns-in_ok-rows_of-in-Some-clause-rows
-returns-in_ok-rows_of-in-Some-clause-rows c =
+pub returns-in-Some-clause-rows : goal.returns-in-Some-clause-rows
+returns-in-Some-clause-rows c =
     c.in_ok-rows_of-in-Some.ensures
     ∙ rows_read c.args.text.now c.new-scanner.result c.args.span c.in-Some.contents
-    (c.new-scanner.ensures ∙ ap (λ bytes. record { input = bytes; before = 1; after = 1 }) c.as_bytes.ensures.value)
+    (ap (λ s. s.input) c.new-scanner.ensures ∙ c.as_bytes.ensures.value) (ap (λ s. s.before) c.new-scanner.ensures) (ap (λ s. s.after) c.new-scanner.ensures)
     (sym c.in_ok-contents.ensures.value ∙ c.in-Some.is)

@@ -1,7 +1,7 @@
 -- The document that was read is the one that is drawn.
 use Rattle.std.proofs.Common.{refl}
-use Rattle.report.proofs.Documents.{document_of-drawable}
-use Rattle.report.specs.Views.{document_view}
+use Rattle.report.proofs.FirstLemmas.{document_of-drawable}
+use Rattle.report.specs.FirstViews.{document_view}
 use Rattle.report.proofs.top.draw.Goals as goal
 
 pub returns-in-Ok : goal.returns-in-Ok

@@ -3,7 +3,7 @@ use Rattle.std.proofs.lemmas.Bool.Decides.{nat_tests}
 use Rattle.oxc_span.specs.Label.{label_end}
 use Rattle.oxc_protocol.specs.SourceViews.{ref_view, ref_views}
 use Rattle.oxc_handlers.specs.Report.{view_parts}
-use Rattle.oxc_handlers.proofs.ReportLemmas.{no_label_snippets, no_snippets, none_outside, outside_there, whole_source}
+use Rattle.oxc_handlers.proofs.ReportLemmas.{leaves_on_ok, no_label_snippets, no_snippets, none_outside, not_outside, outside_there, whole_source}
 use Rattle.oxc_handlers.proofs.handler.GraphicalReportHandler.render_view.Goals as goal
 
 pub render_planned-requires-clause-planned : goal.render_planned-requires-clause-planned
@@ -22,9 +22,20 @@ returns-in-Some-first_outside-clause-cause c =
 
 pub render_text-answer-requires-clause-source : goal.render_text-answer-requires-clause-source
 render_text-answer-requires-clause-source c =
-    whole_source (view_parts c.args.view.now) (ref_view c.in-Some.source) c.reader_of-reader.result.input (ap ref_views c.in-Some.is) (c.reader_of-reader.ensures.source ∙ c.bytes-2.ensures.value)
+    whole_source (view_parts c.args.view.now) (ref_view c.in-Some.source) c.reader_of-reader.result.input (ap ref_views c.in-Some.is) (c.reader_of-reader.ensures.taken.reads ∙ c.bytes-2.ensures.value)
 
 pub render_text-answer-requires-clause-within : goal.render_text-answer-requires-clause-within
 render_text-answer-requires-clause-within c =
-    subst (λ len. All (λ label. label_end label ≤ len) c.args.view.now.labels.now) (ap length (c.bytes.ensures.value ∙ sym c.bytes-2.ensures.value ∙ sym c.reader_of-reader.ensures.source))
+    subst (λ len. All (λ label. label_end label ≤ len) c.args.view.now.labels.now) (ap length (c.bytes.ensures.value ∙ sym c.bytes-2.ensures.value ∙ sym c.reader_of-reader.ensures.taken.reads))
     (none_outside (length c.bytes.result.now) c.args.view.now.labels.now (sym c.first_outside.ensures ∙ c.in_default-first_outside.is))
+
+pub returns-clause-drawer : goal.returns-clause-drawer
+returns-clause-drawer c =
+    leaves_on_ok c.render_text-answer.result (view_parts c.args.view.now) (ref_view c.in-Some.source) c.bytes-2.result.now c.take.result c.args.scanner.now c.reader_of-reader.result c.render_text-answer.new.scanner
+    (ap ref_views c.in-Some.is) c.bytes-2.ensures.value c.take.ensures.value c.reader_of-reader.ensures.taken c.render_text-answer.ensures.on c.render_text-answer.ensures.holds
+
+pub returns-in-Some-first_outside-clause-complete : goal.returns-in-Some-first_outside-clause-complete
+returns-in-Some-first_outside-clause-complete c =
+    λ is. not_outside (view_parts c.args.view.now) c.in-Some-first_outside.label is
+    (outside_there (view_parts c.args.view.now) (ref_view c.in-Some.source) c.bytes.result.now c.in-Some-first_outside.label (ap ref_views c.in-Some.is) c.bytes.ensures.value
+    (sym c.first_outside.ensures ∙ c.in-Some-first_outside.is)).1

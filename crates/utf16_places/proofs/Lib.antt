@@ -1,0 +1,9 @@
+pub mod UnitsLemmas
+pub mod CharacterLemmas
+pub mod WideLemmas
+pub mod LineLemmas
+pub mod SearchLemmas
+pub mod PlaceLemmas
+pub mod ViewLemmas
+pub mod MarkLemmas
+pub mod BuildLemmas

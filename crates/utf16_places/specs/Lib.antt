@@ -1,0 +1,5 @@
+pub mod Units
+pub mod Places
+pub mod Index
+pub mod Parts
+pub mod Bytes
