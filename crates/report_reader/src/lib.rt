@@ -6,6 +6,7 @@
 #![tactic(auto)]
 
 mod checks;
+mod laws;
 mod lines;
 mod marks;
 mod reader;
@@ -14,6 +15,7 @@ mod shows;
 mod texts;
 
 pub use crate::checks::well_formed;
+pub use crate::laws::drawings_read_back;
 pub use crate::reader::read_report;
 pub use crate::seen::{Seen, SeenHead, SeenMark, SeenRow, SeenSnippet};
 pub use crate::shows::show_report;

@@ -1,9 +1,14 @@
 //! Reports read back, and shown again.
-ghost use Rattle.std.specs.Prelude.{◌≡◌, IfOk, Some, true};
-ghost use Rattle.report_reader.specs.Seen.{Report};
+ghost use Rattle.std.specs.Prelude.{◌≡◌, IfOk, Some, true, option_map};
+ghost use Rattle.oxc_handlers.specs.Report.{plan_of, view_parts};
 ghost use Rattle.report_reader.specs.Reading.{IsRead};
+ghost use Rattle.report_reader.specs.ReadsBack.{IsReadable};
+ghost use Rattle.report_reader.specs.Seen.{Report, report_model};
+ghost use Rattle.report_reader.specs.SeenOf.{seen_of};
 
-use crate::{Seen, SeenHead, SeenMark, SeenRow, read_report, show_report};
+use crate::{Seen, SeenHead, SeenMark, SeenRow, drawings_read_back, read_report, show_report};
+use oxc_handlers::{DiagnosticView, GraphicalReportHandler, GraphicalTheme, RenderError};
+use oxc_plan::TabWidth;
 use oxc_protocol::Severity;
 use std::alloc::{AllocError, Global};
 
@@ -112,4 +117,21 @@ fn reports_are_compared_by_meaning(rt: HostRuntime) {
         "\n  x Oops\n    ,-[b.js:12:1]\n 11 | foo\n 12 | bar\n    : ^|^\n    :  `-- here\n    `----\n";
     let same = say_the_same(alloc, LABELED, moved).expect(&rt, "memory");
     assert!(rt; same == Some(true));
+}
+
+/// Draws a view in the plain theme, and reads the drawing back.
+fn drawn_and_read(
+    alloc: Global,
+    width: usize,
+    tabs: TabWidth,
+    view: &DiagnosticView<'_>,
+) -> Result<Option<Seen>, RenderError>
+    ensures { IfOk result (λ seen. IsReadable width (plan_of tabs (view_parts view.now)) → option_map report_model seen ≡ Some (seen_of (plan_of tabs (view_parts view.now)))) }
+{
+    let plain = GraphicalReportHandler::new_themed(GraphicalTheme::none());
+    let handler = plain.with_width(width).with_tabs(tabs);
+    let mut scanner = None;
+    let text = handler.render_view(alloc, view, &mut scanner)?;
+    drawings_read_back(width, tabs, view);
+    Ok(read_report(alloc, text.as_str())?)
 }
