@@ -1,15 +1,15 @@
 -- A text has few columns: at most 19 for each byte.
-use Rattle.std.proofs.Common.{◌≡◌, ℕ, ◌+◌, ◌-◌, ◌*◌, ◌<◌, ◌≤◌, ◌==◌, nat_le, Bool, true, false, not, ◌&&◌, List, [], ◌∷◌, ◌++◌, length, map, fold, take, drop, get_or, Option, Some, None, if◌then◌else◌, ltb, refl, sym, ap, subst, ◌∙◌, arith, zero, suc}
+use Rattle.std.proofs.Common.{◌≡◌, ℕ, ◌+◌, ◌-◌, ◌*◌, ◌≤◌, ◌==◌, nat_le, Bool, true, false, not, ◌&&◌, List, [], ◌∷◌, ◌++◌, length, map, fold, take, drop, get_or, Option, Some, None, if◌then◌else◌, ltb, refl, subst, arith, zero, suc}
 use lib.Utf8.{scalar}
 use Rattle.std.specs.List.{flat_map, prefix_len}
 use Rattle.std.specs.Str.{chars, IsUtf8, IsCharBoundary, encode_utf8_all, all_scalars}
 use Rattle.std.proofs.lemmas.Bool.Decides.{nat_tests}
-use Rattle.std.proofs.lemmas.List.{length-append, length-take, length-drop, get_or-drop}
-use Rattle.std.proofs.lemmas.List.Sums.{fold-append, prefix_len-le-length, prefix_len_stops}
+use Rattle.std.proofs.lemmas.List.{length-take, length-drop, get_or-drop}
+use Rattle.std.proofs.lemmas.List.Sums.{prefix_len-le-length, prefix_len_stops}
 use Rattle.std.proofs.lemmas.Str.{chars-encodes, scalars-chars, IsUtf8-take, IsCharBoundary-start}
 use Rattle.unicode_segmentation.specs.Grapheme.{graphemes, is_grapheme_break}
 use Rattle.unicode_segmentation.specs.Segments.{Rule, cut, prepend, segments}
-use Rattle.unicode_width.specs.Width.{added, alone, of_kind, single, changed, if_kept, is_emoji_variation_base, is_joined_emoji, is_line_feed, is_plain, is_quote, joined_or, skips_marks, joins, past_selectors, in_context, past_emoji, step, read_before, plain, str_width}
+use Rattle.unicode_width.specs.Width.{added, alone, of_kind, single, changed, is_emoji_variation_base, is_joined_emoji, is_line_feed, is_plain, is_quote, joined_or, skips_marks, joins, past_selectors, in_context, past_emoji, step, read_before, plain, str_width}
 use Rattle.unicode_width.specs.declared.kind.Kind.{Kind}
 use Rattle.unicode_width.specs.declared.kind.Kind.TheVariants.{Zero, Narrow, Wide, Ambiguous, Alef, KhmerLetter, TifinaghConsonant, LisuTone, RegionalIndicator, EmojiModifier, Emoji, Single}
 use Rattle.unicode_width.specs.Kind.{kind, is_ligature_transparent, is_text_presentation_base}

@@ -1,5 +1,5 @@
 -- The drawing of a view in the plain theme is read back to what its plan says.
-use Rattle.std.proofs.Common.{◌≡◌, ℕ, ◌+◌, ◌<◌, ◌≤◌, ◌^◌, Bool, true, false, not, ◌&&◌, List, [], ◌∷◌, ◌++◌, length, map, nat_le, codes, All, Option, Some, None, IfSome, if◌then◌else◌, refl, sym, ap, subst, ◌∙◌, arith, zero, suc}
+use Rattle.std.proofs.Common.{◌≡◌, ℕ, ◌<◌, ◌≤◌, ◌^◌, Bool, true, false, not, List, [], ◌∷◌, ◌++◌, length, map, nat_le, codes, All, Option, Some, None, IfSome, if◌then◌else◌, refl, sym, ap, subst, ◌∙◌, arith, zero, suc}
 use Rattle.std.specs.List.{flat_map, list_all}
 use Rattle.std.specs.Str.{IsAscii, IsUtf8}
 use Rattle.std.proofs.lemmas.Str.{IsUtf8-append, IsUtf8-from_ascii}
@@ -16,14 +16,12 @@ use Rattle.oxc_plan.proofs.DrawableLemmas.{snippets_drawable}
 use Rattle.oxc_protocol.specs.Parts.{Parts}
 use Rattle.oxc_protocol.specs.Source.{SourceParts}
 use Rattle.oxc_handlers.specs.Refusals.{IsFaultless}
-use Rattle.oxc_handlers.specs.Report.{Plan, code_part, drawn, drawn_snippets, footer, help_of, note_of, plan_of, snippets_in, title, title_of}
-use Rattle.oxc_handlers.specs.RowLines.{lf}
+use Rattle.oxc_handlers.specs.Report.{Plan, code_part, drawn, drawn_snippets, footer, help_of, note_of, plan_of, snippets_in, title_of}
 use Rattle.oxc_handlers.specs.Snippet.{drawn_snippet}
 use Rattle.oxc_handlers.specs.Theme.{none_theme}
 use Rattle.oxc_handlers.proofs.ReportLemmas.{no_label_snippets}
-use Rattle.report_reader.specs.Reading.{IsRead}
 use Rattle.report_reader.specs.ReadsBack.{IsLine, IsOneRowSnippet, IsReadable, ReadsBack}
-use Rattle.report_reader.specs.SeenOf.{seen_head, seen_of, seen_row, seen_snippet}
+use Rattle.report_reader.specs.SeenOf.{seen_head, seen_of, seen_snippet}
 use Rattle.report_reader.specs.Seen.{Snippet, bare, dashes}
 use Rattle.report_reader.specs.Shown as seen
 use Rattle.report_reader.specs.Shown.{ended, shown}

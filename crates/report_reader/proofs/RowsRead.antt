@@ -1,5 +1,5 @@
 -- The rows of a plan can be read back where they have no bars and their marks stand apart.
-use Rattle.std.proofs.Common.{◌≡◌, ℕ, ◌+◌, ◌-◌, ◌*◌, ◌<◌, ◌≤◌, ◌^◌, ◌==◌, max, Bool, true, false, not, ◌&&◌, List, [], ◌∷◌, length, map, filter, take, All, Option, Some, None, IfSome, slice_index, if◌then◌else◌, refl, sym, ap, subst, ◌∙◌, arith, zero, suc}
+use Rattle.std.proofs.Common.{◌≡◌, ℕ, ◌+◌, ◌-◌, ◌*◌, ◌<◌, ◌≤◌, ◌^◌, ◌==◌, max, Bool, true, false, not, ◌&&◌, List, [], ◌∷◌, length, map, filter, take, All, IfSome, slice_index, if◌then◌else◌, refl, sym, ap, ◌∙◌, arith, zero, suc}
 use Rattle.std.specs.Str.{IsUtf8}
 use Rattle.std.proofs.lemmas.Bool.Decides.{nat_tests}
 use Rattle.std.proofs.lemmas.List.{length-map, nil_from_length}
@@ -20,7 +20,7 @@ use Rattle.report_reader.specs.WellFormed.{is_line, HasRowSizes}
 use Rattle.report_reader.proofs.BytesLemmas.{both, both_first, both_last}
 use Rattle.report_reader.proofs.ColumnsLemmas.{column_le}
 use Rattle.report_reader.proofs.PlacedLaw.{AreMarksRead, marks_read}
-use Rattle.report_reader.proofs.RowWords.{hangs_of, AreApart, IsReadableRow, AreReadableRows, AreSized, AreRowsFrom}
+use Rattle.report_reader.proofs.RowWords.{IsReadableRow, AreReadableRows, AreSized, AreRowsFrom}
 
 -- labels by their places
 

@@ -1,16 +1,15 @@
 -- A title of one line, drawn under the plain theme.
-use Rattle.std.proofs.Common.{◌≡◌, ℕ, ◌-◌, ◌==◌, Bool, true, false, List, [], ◌∷◌, ◌++◌, length, slice_index, encode_utf8, if◌then◌else◌, refl, sym, ap, subst, ◌∙◌, arith, suc}
+use Rattle.std.proofs.Common.{◌≡◌, ℕ, ◌-◌, ◌==◌, true, false, List, [], ◌∷◌, ◌++◌, length, slice_index, encode_utf8, if◌then◌else◌, refl, sym, ap, subst, ◌∙◌, arith, suc}
 use Rattle.std.specs.Str.{IsUtf8}
 use Rattle.oxc_protocol.specs.declared.protocol.Severity.{Severity}
 use Rattle.oxc_protocol.specs.declared.protocol.Severity.TheVariants.{Error, Warning, Advice}
 use Rattle.oxc_handlers.specs.Report as drawn
 use Rattle.oxc_handlers.specs.Report.{Plan, severity_style, title, title_indent}
 use Rattle.oxc_handlers.specs.Theme.{none_theme, styled}
-use Rattle.textwrap.specs.Filled.{filled}
 use Rattle.report_reader.specs.ReadsBack.{IsLine, filled_title}
 use Rattle.report_reader.specs.Shown as seen
 use Rattle.report_reader.specs.Title.{kept, without_last_spaces}
-use Rattle.report_reader.specs.WellFormed.{is_line, ends_in_space}
+use Rattle.report_reader.specs.WellFormed.{ends_in_space}
 use Rattle.report_reader.proofs.PlainTheme.{newline, styled_plain}
 use Rattle.report_reader.proofs.TitleLemmas.{one_line}
 use Rattle.report_reader.proofs.TitleWords.{has_no_last}

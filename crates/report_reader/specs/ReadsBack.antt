@@ -1,7 +1,7 @@
 -- The law that a drawing in the plain theme is read back to what its plan says.
 use Rattle.std.specs.Prelude.{ℕ, true, ◌+◌, ◌-◌, ◌≤◌, ◌≡◌, List, [], ◌∷◌, All, None, IfSome}
 use Rattle.oxc_plan.specs.declared.marks.MarkCells.{MarkCells}
-use Rattle.oxc_plan.specs.Plan.{RowPlanView, SnippetView}
+use Rattle.oxc_plan.specs.Plan.{SnippetView}
 use Rattle.oxc_protocol.specs.Parts.{Parts}
 use Rattle.oxc_handlers.specs.Refusals.{IsFaultless}
 use Rattle.oxc_handlers.specs.Report.{Plan, drawn, icon, plan_of, severity_style, title_indent}
