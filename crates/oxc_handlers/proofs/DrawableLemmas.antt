@@ -15,7 +15,7 @@ use Rattle.oxc_handlers.specs.RowLines.{IsRow}
 use Rattle.oxc_handlers.specs.Snippet.{AreDrawable, IsSnippet, number_width, setting_of}
 use Rattle.oxc_handlers.specs.declared.theme.GraphicalTheme.{GraphicalTheme}
 
-in_order : (before : ℕ) (marks : List MarkCells) → AreInOrder before marks → AreOrdered before marks
+pub in_order : (before : ℕ) (marks : List MarkCells) → AreInOrder before marks → AreOrdered before marks
 in_order before [] order = tt
 in_order before (m ∷ more) (start, bar, end, order) = (record { start = start; bar = bar; end = end }, in_order m.end more order)
 

@@ -16,3 +16,7 @@ pub mod TextsLemmas
 pub mod DrawableLemmas
 pub mod ReportLemmas
 pub mod PlainTexts
+pub mod ReportsLemmas
+pub mod KeepsLemmas
+pub mod PlacesLemmas
+pub mod PlainLemmas

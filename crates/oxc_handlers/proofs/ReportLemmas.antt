@@ -135,3 +135,8 @@ pub not_no_text : {Q : Type 0} (parts : Parts) (source : SourceParts) (upto : �
 not_no_text parts source upto there is some other =
     let text : IsUtf8 source.bytes = (rw there at is.text some) in
     absurd (other text)
+
+pub faultless_there : (parts : Parts) (source : SourceParts) (input : List ℕ) → parts.source ≡ Some source → input ≡ source.bytes → All (λ label. label_end label ≤ length source.bytes) parts.labels → IsUtf8 input → IsFaultless parts
+faultless_there parts source input there same within utf8 =
+    let text : IsUtf8 source.bytes = subst IsUtf8 same utf8 in
+    record { within = rw there within; text = λ some. rw there text }

@@ -19,3 +19,6 @@ pub mod Report
 pub mod Handler
 pub mod Refusals
 pub mod Scanners
+pub mod Reports
+pub mod Keeping
+pub mod Places

@@ -36,3 +36,10 @@ IsRefusal place parts (LabelOutside report label) = (report ≡ place) × (outsi
 IsRefusal place parts (NotUtf8 report valid_up_to) = (report ≡ place) × (outside_in parts ≡ None) × IsNoText parts valid_up_to
 IsRefusal place parts SinkFault = ⊥
 IsRefusal place parts OutOfMemory = ⊤
+
+-- the same error of the report at another place
+abbrev pub error_at : ℕ → RenderError → RenderError
+error_at place (LabelOutside report label) = LabelOutside place label
+error_at place (NotUtf8 report valid_up_to) = NotUtf8 place valid_up_to
+error_at place SinkFault = SinkFault
+error_at place OutOfMemory = OutOfMemory

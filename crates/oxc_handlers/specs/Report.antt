@@ -29,6 +29,10 @@ view_parts v =
       labels = v.labels.now;
     }
 
+-- the parts of a diagnostic that a view shows
+abbrev pub without_url : Parts → Parts
+without_url parts = record parts { url = None }
+
 -- what is drawn of a diagnostic: the distance of the tab stops, the title, the severity, the source's name, the labels in label
 -- order, the snippets, help and note
 pub record Plan : Type 0 where

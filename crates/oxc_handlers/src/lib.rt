@@ -12,7 +12,10 @@ mod label;
 mod laws;
 mod line;
 mod marks;
+mod places;
+mod rendering;
 mod report;
+mod reports;
 mod runs;
 mod setting;
 mod snippet;
@@ -23,10 +26,15 @@ mod view;
 pub use crate::handler::GraphicalReportHandler;
 pub use crate::json_report::{JSONReportHandler, escaped_text_comes_back, push_json};
 pub use crate::laws::colors_only;
+pub use crate::places::{gutter_by_places, marks_by_columns};
+pub use crate::rendering::{render, render_with_source_code};
+pub use crate::reports::Keep;
 pub use crate::theme::GraphicalTheme;
 pub use crate::view::{DiagnosticView, RenderError};
 
 #[cfg(test)]
 mod json_report_tests;
+#[cfg(test)]
+mod report_tests;
 #[cfg(test)]
 mod tests;

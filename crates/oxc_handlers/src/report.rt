@@ -229,6 +229,38 @@ impl GraphicalReportHandler {
     }
 }
 
+/// Whether a view can be drawn, by a scanner that is used again or replaced as in
+/// [`render_view`](GraphicalReportHandler::render_view). It takes no memory.
+pub(crate) fn judge<'a>(
+    alloc: Global,
+    view: &DiagnosticView<'a>,
+    scanner: &mut Option<SpanScanner<'a>>,
+) -> Result<(), RenderError>
+    requires { ReadsRoundIfThere scanner.old }
+    ensures cause { MatchResult result (λ _. IsFaultless (view_parts view.now)) (IsRefusal 0 (view_parts view.now)) }
+    ensures round { ReadsRoundIfThere scanner.new }
+{
+    let Some(source) = &view.source else {
+        return Ok(());
+    };
+    if view.labels.is_empty() {
+        return Ok(());
+    }
+    if let Some(label) = first_outside(view.labels, source.bytes().len()) {
+        return Err(RenderError::LabelOutside { report: 0, label });
+    }
+    let mut reader = reader_of(alloc, scanner.take(), source.bytes());
+    let text = reader.text();
+    *scanner = Some(reader);
+    match text {
+        Ok(_) => Ok(()),
+        Err(valid_up_to) => Err(RenderError::NotUtf8 {
+            report: 0,
+            valid_up_to,
+        }),
+    }
+}
+
 /// The place of the first label that ends past a source of so many bytes.
 fn first_outside(labels: &[LabeledSpan], len: usize) -> Option<usize>
     ensures { result ≡ first_outside len labels.now }

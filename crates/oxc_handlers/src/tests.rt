@@ -1,5 +1,9 @@
 // Drawn reports by example, and that memory suffices for them. What is expected was worked out by hand.
-ghost use Rattle.std.specs.Prelude.{◌≡◌, ◌<◌, ◌+◌, ◌^◌, length};
+ghost use Rattle.std.specs.Prelude.{◌≡◌, ◌<◌, ◌+◌, ◌^◌, IfOk, MatchResult, length, string_bytes};
+ghost use Rattle.oxc_handlers.specs.Refusals.{IsFaultless, IsRefusal};
+ghost use Rattle.oxc_handlers.specs.Report.{drawn, plan_of, view_parts};
+ghost use Rattle.oxc_handlers.specs.Scanners.{ReadsRoundIfThere};
+ghost use Rattle.oxc_handlers.specs.Theme.{unicode_theme};
 
 use crate::{DiagnosticView, GraphicalReportHandler, GraphicalTheme, RenderError};
 use oxc_plan::TabWidth;
@@ -8,35 +12,6 @@ use oxc_windows::SpanScanner;
 use std::alloc::{AllocError, Global};
 use std::test::Fail;
 
-/// A view of a message alone.
-fn message(text: &str) -> DiagnosticView<'_> {
-    DiagnosticView {
-        message: text,
-        code: None,
-        severity: None,
-        help: None,
-        note: None,
-        source: None,
-        labels: &[],
-    }
-}
-
-/// A view of a message, and of labels in a source.
-fn view_of<'a>(
-    text: &'a str,
-    name: Option<&'a str>,
-    source: &'a [u8],
-    labels: &'a [LabeledSpan],
-) -> DiagnosticView<'a>
-    requires { length source.now < 4294967295 }
-{
-    DiagnosticView {
-        source: Some(SourceRef::new(source, name)),
-        labels,
-        ..message(text)
-    }
-}
-
 /// A label with a text.
 fn label(alloc: Global, start: u32, len: u32, text: &str) -> Result<LabeledSpan, AllocError>
     requires { start + len < 2 ^ 32 }
@@ -44,30 +19,75 @@ fn label(alloc: Global, start: u32, len: u32, text: &str) -> Result<LabeledSpan,
     Ok(LabeledSpan::new(Some(String::from_str(alloc, text)?), start, len))
 }
 
-/// Whether a view is drawn as a text.
+/// What is drawn: a message, and labels in a source with a name.
+#[derive(Clone, Copy)]
+struct Case<'a> {
+    message: &'a str,
+    name: Option<&'a str>,
+    source: &'a [u8],
+    labels: &'a [LabeledSpan],
+}
+
+/// Whether a case is drawn as a text.
 fn is_drawn(
     alloc: Global,
     handler: &GraphicalReportHandler,
-    view: &DiagnosticView<'_>,
+    case: &Case<'_>,
     text: &str,
-) -> Result<bool, RenderError> {
+) -> Result<bool, RenderError>
+    requires { length case.now.source.now < 4294967295 }
+{
+    let view = DiagnosticView {
+        message: case.message,
+        code: None,
+        severity: None,
+        help: None,
+        note: None,
+        source: Some(SourceRef::new(case.source, case.name)),
+        labels: case.labels,
+    };
     let mut scanner = None;
-    let drawn = handler.render_view(alloc, view, &mut scanner)?;
+    let drawn = handler.render_view(alloc, &view, &mut scanner)?;
     Ok(drawn.as_str() == text)
 }
 
-/// Whether a view is not drawn for that reason.
+/// Whether a message alone is drawn for a terminal as a text.
+fn is_on_terminal(alloc: Global, message: &str, text: &str) -> Result<bool, RenderError> {
+    let view = DiagnosticView {
+        message,
+        code: None,
+        severity: None,
+        help: None,
+        note: None,
+        source: None,
+        labels: &[],
+    };
+    Ok(for_terminal(alloc, &view)?.as_str() == text)
+}
+
+/// Whether a case is not drawn for that reason.
 fn is_refused(
     alloc: Global,
     handler: &GraphicalReportHandler,
-    view: &DiagnosticView<'_>,
+    case: &Case<'_>,
     reason: RenderError,
-) -> bool {
-    let mut scanner = None;
-    match handler.render_view(alloc, view, &mut scanner) {
+) -> bool
+    requires { length case.now.source.now < 4294967295 }
+{
+    match is_drawn(alloc, handler, case, "") {
         Ok(_) => false,
         Err(error) => error == reason,
     }
+}
+
+/// A diagnostic for a terminal of 120 columns.
+fn for_terminal(alloc: Global, view: &DiagnosticView<'_>) -> Result<String, RenderError>
+    ensures text { IfOk result (λ text. string_bytes text ≡ drawn unicode_theme 120 (plan_of 4 (view_parts view.now))) }
+    ensures cause { MatchResult result (λ _. IsFaultless (view_parts view.now)) (IsRefusal 0 (view_parts view.now)) }
+{
+    let handler = GraphicalReportHandler::new_themed(GraphicalTheme::unicode()).with_width(120);
+    let mut scanner = None;
+    handler.render_view(alloc, view, &mut scanner)
 }
 
 fn plain() -> GraphicalReportHandler {
@@ -78,21 +98,28 @@ const ROWS: &[u8] = b"foo\nbar\nbaz";
 const MARKED: &str = "\n  x Oops\n   ,-[a.js:2:1]\n 1 | foo\n 2 | bar\n   : ^|^\n   :  `-- here\n 3 | baz\n   `----\n";
 const LAST: &str = "\n  x Oops\n   ,-[a.js:3:1]\n 2 | bar\n 3 | baz\n   : |\n   : `-- here\n   `----\n";
 
-#[test]
-fn a_scanner_that_reads_the_source_is_used_again(rt: HostRuntime) -> Result<(), Fail> {
-    let alloc = rt.alloc();
-    let first = [label(alloc, 4, 3, "here")?];
-    let second = [label(alloc, 8, 1, "here")?];
-    let mut scanner: Option<SpanScanner<'_>> = None;
-    let view = view_of("Oops", Some("a.js"), ROWS, &first);
-    let text = plain().render_view(alloc, &view, &mut scanner)?;
-    assert!(rt; text.as_str() == MARKED);
-    assert!(rt; keeps(&scanner, &[0, 4, 8]));
-    let view = view_of("Oops", Some("a.js"), ROWS, &second);
-    let text = plain().render_view(alloc, &view, &mut scanner)?;
-    assert!(rt; text.as_str() == LAST);
-    assert!(rt; keeps(&scanner, &[0, 4, 8]));
-    Ok(())
+/// Whether a label of a source is drawn as a text by a scanner, which keeps the starts of three rows then.
+fn is_drawn_by<'a>(
+    alloc: Global,
+    scanner: &mut Option<SpanScanner<'a>>,
+    case: &Case<'a>,
+    text: &str,
+) -> Result<bool, RenderError>
+    requires fits { length case.now.source.now < 4294967295 }
+    requires round { ReadsRoundIfThere scanner.old }
+    ensures { ReadsRoundIfThere scanner.new }
+{
+    let view = DiagnosticView {
+        message: case.message,
+        code: None,
+        severity: None,
+        help: None,
+        note: None,
+        source: Some(SourceRef::new(case.source, case.name)),
+        labels: case.labels,
+    };
+    let drawn = plain().render_view(alloc, &view, scanner)?;
+    Ok(drawn.as_str() == text && keeps(scanner, &[0, 4, 8]))
 }
 
 /// Whether there is a scanner, and it keeps these row starts.
@@ -103,52 +130,122 @@ fn keeps(scanner: &Option<SpanScanner<'_>>, starts: &[u32]) -> bool {
     }
 }
 
+/// Whether two labels of a source are drawn one after the other by one scanner.
+fn are_drawn_in_turn<'a>(
+    alloc: Global,
+    first: &Case<'a>,
+    second: &Case<'a>,
+) -> Result<bool, RenderError>
+    requires first { length first.now.source.now < 4294967295 }
+    requires second { length second.now.source.now < 4294967295 }
+{
+    let mut scanner = None;
+    let before = is_drawn_by(alloc, &mut scanner, first, MARKED)?;
+    let after = is_drawn_by(alloc, &mut scanner, second, LAST)?;
+    Ok(before && after)
+}
+
+#[test]
+fn a_scanner_that_reads_the_source_is_used_again(rt: HostRuntime) -> Result<(), Fail> {
+    let alloc = rt.alloc();
+    let first = [label(alloc, 4, 3, "here")?];
+    let second = [label(alloc, 8, 1, "here")?];
+    let marked = Case {
+        message: "Oops",
+        name: Some("a.js"),
+        source: ROWS,
+        labels: &first,
+    };
+    let last = Case {
+        message: "Oops",
+        name: Some("a.js"),
+        source: ROWS,
+        labels: &second,
+    };
+    assert!(rt; are_drawn_in_turn(alloc, &marked, &last)?);
+    Ok(())
+}
+
+/// Whether an ordinary warning is drawn.
+fn is_warning_drawn(alloc: Global, labels: &[LabeledSpan]) -> Result<bool, RenderError> {
+    let source = b"import { a } from \"x\";\n\nfunction f(b) {\n\treturn a + c;\n}\n";
+    let view = DiagnosticView {
+        message: "'c' is not defined.",
+        code: Some("eslint(no-undef)"),
+        severity: Some(Severity::Warning),
+        help: Some("Declare it or import it."),
+        note: None,
+        source: Some(SourceRef::new(source, Some("src/app.js"))),
+        labels,
+    };
+    let mut scanner = None;
+    let text = plain().render_view(alloc, &view, &mut scanner)?;
+    Ok(text.as_str() == WARNING)
+}
+
+const WARNING: &str = "\n  ! eslint(no-undef): 'c' is not defined.\n   ,-[src/app.js:3:10]\n 2 | \n 3 | function f(b) {\n   :          |\n   :          `-- in this function\n 4 |     return a + c;\n   :                |\n   :                `-- not found\n 5 | }\n   `----\n  help: Declare it or import it.\n";
+
 #[test]
 fn a_report_has_title_snippet_and_help(rt: HostRuntime) -> Result<(), Fail> {
     let alloc = rt.alloc();
-    let source = b"import { a } from \"x\";\n\nfunction f(b) {\n\treturn a + c;\n}\n";
     let labels = [
         label(alloc, 52, 1, "not found")?,
         label(alloc, 33, 1, "in this function")?,
     ];
-    let view = DiagnosticView {
-        code: Some("eslint(no-undef)"),
-        severity: Some(Severity::Warning),
-        help: Some("Declare it or import it."),
-        ..view_of("'c' is not defined.", Some("src/app.js"), source, &labels)
-    };
-    let text = "\n  ! eslint(no-undef): 'c' is not defined.\n   ,-[src/app.js:3:10]\n 2 | \n 3 | function f(b) {\n   :          |\n   :          `-- in this function\n 4 |     return a + c;\n   :                |\n   :                `-- not found\n 5 | }\n   `----\n  help: Declare it or import it.\n";
-    assert!(rt; is_drawn(alloc, &plain(), &view, text)?);
+    assert!(rt; is_warning_drawn(alloc, &labels)?);
     Ok(())
 }
 
 #[test]
 fn labels_over_rows_have_a_gutter(rt: HostRuntime) -> Result<(), Fail> {
     let alloc = rt.alloc();
-    let block = [label(alloc, 2, 7, "block\nhere")?];
-    let view = view_of("m", Some("b.js"), b"a {\n  b\n}\n", &block);
+    let labels = [label(alloc, 2, 7, "block\nhere")?];
+    let block = Case {
+        message: "m",
+        name: Some("b.js"),
+        source: b"a {\n  b\n}\n",
+        labels: &labels,
+    };
     let text = "\n  x m\n   ,-[b.js:1:3]\n 1 | ,-> a {\n 2 | |     b\n 3 | |-> }\n   : `--| block\n   :    | here\n   `----\n";
-    assert!(rt; is_drawn(alloc, &plain(), &view, text)?);
-    let two = [LabeledSpan::new(None, 0, 3), label(alloc, 0, 3, "z")?];
-    let view = view_of("m", Some("m"), b"a\nb\n", &two);
+    assert!(rt; is_drawn(alloc, &plain(), &block, text)?);
+    let labels = [LabeledSpan::new(None, 0, 3), label(alloc, 0, 3, "z")?];
+    let two = Case {
+        message: "m",
+        name: Some("m"),
+        source: b"a\nb\n",
+        labels: &labels,
+    };
     let text = "\n  x m\n   ,-[m:1:1]\n 1 | ,--> a\n 2 | `--> b\n   : `----- z\n   `----\n";
-    assert!(rt; is_drawn(alloc, &plain(), &view, text)?);
+    assert!(rt; is_drawn(alloc, &plain(), &two, text)?);
     Ok(())
 }
+
+const COLORED: &str = "\n  \u{1b}[38;2;225;80;80;1m×\u{1b}[0m \u{1b}[38;2;225;80;80;1mm\u{1b}[0m\n   ╭─[\u{1b}[38;2;92;157;255;1mb.js\u{1b}[0m:1:3]\n \u{1b}[2m1\u{1b}[0m │ \u{1b}[38;2;246;87;248m╭\u{1b}[0m\u{1b}[38;2;246;87;248m─\u{1b}[0m\u{1b}[38;2;246;87;248m▶\u{1b}[0m a {\n \u{1b}[2m2\u{1b}[0m │ \u{1b}[38;2;246;87;248m│\u{1b}[0m     b\n \u{1b}[2m3\u{1b}[0m │ \u{1b}[38;2;246;87;248m├\u{1b}[0m\u{1b}[38;2;246;87;248m─\u{1b}[0m\u{1b}[38;2;246;87;248m▶\u{1b}[0m }\n   · \u{1b}[38;2;246;87;248m╰\u{1b}[0m\u{1b}[38;2;246;87;248m───\u{1b}[0m\u{1b}[38;2;246;87;248m─\u{1b}[0m \u{1b}[38;2;246;87;248mblock\u{1b}[0m\n   ╰────\n";
 
 #[test]
 fn a_theme_gives_characters_and_colors(rt: HostRuntime) -> Result<(), Fail> {
     let alloc = rt.alloc();
-    let here = [label(alloc, 4, 3, "here")?];
-    let view = view_of("Oops", Some("a.js"), ROWS, &here);
+    let labels = [label(alloc, 4, 3, "here")?];
+    let here = Case {
+        message: "Oops",
+        name: Some("a.js"),
+        source: ROWS,
+        labels: &labels,
+    };
     let text = "\n  × Oops\n   ╭─[a.js:2:1]\n 1 │ foo\n 2 │ bar\n   · ─┬─\n   ·  ╰── here\n 3 │ baz\n   ╰────\n";
     let boxes = plain().with_theme(GraphicalTheme::unicode_nocolor());
-    assert!(rt; is_drawn(alloc, &boxes, &view, text)?);
-    let block = [label(alloc, 2, 7, "block")?];
-    let view = view_of("m", Some("b.js"), b"a {\n  b\n}\n", &block);
-    let text = "\n  \u{1b}[38;2;225;80;80;1m×\u{1b}[0m \u{1b}[38;2;225;80;80;1mm\u{1b}[0m\n   ╭─[\u{1b}[38;2;92;157;255;1mb.js\u{1b}[0m:1:3]\n \u{1b}[2m1\u{1b}[0m │ \u{1b}[38;2;246;87;248m╭\u{1b}[0m\u{1b}[38;2;246;87;248m─\u{1b}[0m\u{1b}[38;2;246;87;248m▶\u{1b}[0m a {\n \u{1b}[2m2\u{1b}[0m │ \u{1b}[38;2;246;87;248m│\u{1b}[0m     b\n \u{1b}[2m3\u{1b}[0m │ \u{1b}[38;2;246;87;248m├\u{1b}[0m\u{1b}[38;2;246;87;248m─\u{1b}[0m\u{1b}[38;2;246;87;248m▶\u{1b}[0m }\n   · \u{1b}[38;2;246;87;248m╰\u{1b}[0m\u{1b}[38;2;246;87;248m───\u{1b}[0m\u{1b}[38;2;246;87;248m─\u{1b}[0m \u{1b}[38;2;246;87;248mblock\u{1b}[0m\n   ╰────\n";
+    assert!(rt; is_drawn(alloc, &boxes, &here, text)?);
+    let labels = [label(alloc, 2, 7, "block")?];
+    let block = Case {
+        message: "m",
+        name: Some("b.js"),
+        source: b"a {\n  b\n}\n",
+        labels: &labels,
+    };
     let colors = plain().with_theme(GraphicalTheme::unicode());
-    assert!(rt; is_drawn(alloc, &colors, &view, text)?);
+    assert!(rt; is_drawn(alloc, &colors, &block, COLORED)?);
+    let text = "\n  \u{1b}[38;2;225;80;80;1m×\u{1b}[0m \u{1b}[38;2;225;80;80;1mm\u{1b}[0m\n";
+    assert!(rt; is_on_terminal(alloc, "m", text)?);
     Ok(())
 }
 
@@ -165,35 +262,57 @@ fn a_warning_stands_in_its_style(rt: HostRuntime) -> Result<(), Fail> {
 fn tabs_and_the_width_are_those_of_the_handler(rt: HostRuntime) -> Result<(), Fail> {
     let alloc = rt.alloc();
     let labels = [LabeledSpan::new(None, 5, 1)];
-    let view = view_of("m", None, b"\tlet x", &labels);
+    let case = Case {
+        message: "m",
+        name: None,
+        source: b"\tlet x",
+        labels: &labels,
+    };
     let text = "\n  x m\n   ,----\n 1 |     let x\n   :         ^\n   `----\n";
-    assert!(rt; is_drawn(alloc, &plain(), &view, text)?);
+    assert!(rt; is_drawn(alloc, &plain(), &case, text)?);
     let two = plain().with_tabs(TabWidth::new(2).unwrap_or_default());
     let text = "\n  x m\n   ,----\n 1 |   let x\n   :       ^\n   `----\n";
-    assert!(rt; is_drawn(alloc, &two, &view, text)?);
-    let narrow = plain().with_width(0);
-    assert!(rt; is_drawn(alloc, &narrow, &message("ab"), "\n  x a\n  | b\n")?);
+    assert!(rt; is_drawn(alloc, &two, &case, text)?);
+    let title = Case {
+        message: "ab",
+        name: None,
+        source: b"ab",
+        labels: &[],
+    };
+    assert!(rt; is_drawn(alloc, &plain().with_width(0), &title, "\n  x a\n  | b\n")?);
     Ok(())
 }
 
 #[test]
 fn what_can_t_be_drawn_is_refused(rt: HostRuntime) -> Result<(), Fail> {
     let alloc = rt.alloc();
-    let outside = [LabeledSpan::new(None, 5, 4)];
-    let view = view_of("m", None, b"\tlet x", &outside);
+    let labels = [LabeledSpan::new(None, 0, 1), LabeledSpan::new(None, 5, 4)];
+    let outside = Case {
+        message: "m",
+        name: None,
+        source: b"\tlet x",
+        labels: &labels,
+    };
     let reason = RenderError::LabelOutside {
         report: 0,
-        label: 0,
+        label: 1,
     };
-    assert!(rt; is_refused(alloc, &plain(), &view, reason));
-    let inside = [LabeledSpan::new(None, 0, 1)];
-    let bytes = [b'a', 0xFF];
+    assert!(rt; is_refused(alloc, &plain(), &outside, reason));
+    let bytes = Case {
+        source: b"a\xFF",
+        labels: &labels[..1],
+        ..outside
+    };
     let reason = RenderError::NotUtf8 {
         report: 0,
         valid_up_to: 1,
     };
-    assert!(rt; is_refused(alloc, &plain(), &view_of("m", None, &bytes, &inside), reason));
-    assert!(rt; is_drawn(alloc, &plain(), &view_of("m", None, &bytes, &[]), "\n  x m\n")?);
+    assert!(rt; is_refused(alloc, &plain(), &bytes, reason));
+    let bare = Case {
+        labels: &[],
+        ..bytes
+    };
+    assert!(rt; is_drawn(alloc, &plain(), &bare, "\n  x m\n")?);
     Ok(())
 }
 

@@ -135,6 +135,7 @@ impl ThemeStyles {
     fn rgb() -> Self
         ensures { result ≡ rgb_styles }
     {
+        let highlights = [Style::Highlight1, Style::Highlight2, Style::Highlight3];
         ThemeStyles {
             error: Style::Error,
             warning: Style::Warning,
@@ -143,7 +144,7 @@ impl ThemeStyles {
             note: Style::Info,
             link: Style::Link,
             linum: Style::LineNumber,
-            highlights: [Style::Highlight1, Style::Highlight2, Style::Highlight3],
+            highlights,
         }
     }
 

@@ -1,4 +1,7 @@
 //! What is drawn, and why it was not.
+ghost use Rattle.std.specs.Prelude.{◌≡◌};
+ghost use Rattle.oxc_handlers.specs.Refusals.{error_at};
+
 use oxc_protocol::{Failed, LabeledSpan, Severity, SourceRef};
 use std::alloc::AllocError;
 use thiserror::Error;
@@ -47,6 +50,25 @@ pub enum RenderError {
     /// There was no memory left.
     #[error("out of memory")]
     OutOfMemory,
+}
+
+impl RenderError {
+    /// The same error of the report at another place.
+    pub(crate) fn at(self, place: usize) -> RenderError
+        ensures { result ≡ error_at place self }
+    {
+        match self {
+            RenderError::LabelOutside { label, .. } => RenderError::LabelOutside {
+                report: place,
+                label,
+            },
+            RenderError::NotUtf8 { valid_up_to, .. } => RenderError::NotUtf8 {
+                report: place,
+                valid_up_to,
+            },
+            other => other,
+        }
+    }
 }
 
 impl From<AllocError> for RenderError {

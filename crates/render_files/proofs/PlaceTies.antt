@@ -4,7 +4,10 @@ use Rattle.codespan.proofs.Counting.{count_by_map}
 use Rattle.source_location.specs.Rows as rows
 use Rattle.oxc_windows.specs.Rows as windows
 use Rattle.oxc_windows.specs.declared.breaks.LineBreak.{LineBreak as WindowBreak}
-use Rattle.render_files.specs.Ties.{as_break, as_place, AgreeOnPlaces}
+use Rattle.source_location.specs.Locations.{location_of}
+use Rattle.source_location.specs.Rows.{Place}
+use Rattle.oxc_protocol.proofs.InfoLemmas.{one_row}
+use Rattle.render_files.specs.Ties.{as_break, as_place, AgreeOnPlaces, AllTellOneRow}
 use Rattle.render_files.proofs.BreakTies.{breaks_agree}
 
 same_row : (breaks : List WindowBreak) (offset : ℕ) → windows.row_of breaks offset ≡ rows.row_of (map as_break breaks) offset
@@ -36,4 +39,12 @@ pub places_agree : (text : List ℕ) → AgreeOnPlaces text
 places_agree text = record {
   starts = λ row. same_start (length text) _ row ∙ ap (λ breaks. rows.row_start (length text) breaks row) (breaks_agree text);
   places = λ offset. same_place (length text) _ offset ∙ ap (λ breaks. rows.place_of (length text) breaks offset) (breaks_agree text);
+}
+
+-- and so each offset has one row, whoever tells it
+pub all_one_row : (text : List ℕ) (offset : ℕ) → AllTellOneRow text offset
+unfolding location_of
+all_one_row text offset = record {
+  located = ap (λ (p : Place). p.row + 1) (sym ((places_agree text).places offset));
+  told = one_row text offset;
 }

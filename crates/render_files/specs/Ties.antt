@@ -4,7 +4,9 @@ use Rattle.std.specs.List.{AllZip}
 use Rattle.source_location.specs.Breaks.{LineBreak, breaks_of}
 use Rattle.source_location.specs.Rows.{Place, line_starts, place_of, row_start}
 use Rattle.oxc_windows.specs.Breaks.{breaks_of as window_breaks}
-use Rattle.oxc_windows.specs.Rows.{Place as WindowPlace, place_of as window_place, row_start as window_row_start}
+use Rattle.source_location.specs.Locations.{location_of}
+use Rattle.oxc_windows.specs.Rows.{Place as WindowPlace, place_of as window_place, row_of as window_row_of, row_start as window_row_start}
+use Rattle.oxc_protocol.specs.Laws.{TellOneRow}
 use Rattle.oxc_windows.specs.declared.breaks.LineBreak.{LineBreak as WindowBreak}
 use Rattle.codespan.specs.Lines.{line_starts_lf}
 use Rattle.codespan.specs.Texts.{NamedText, text_of}
@@ -32,6 +34,12 @@ AgreeOnRowStarts text = (row : ℕ) → window_row_start (length text) (window_b
 pub record AgreeOnPlaces (text : List ℕ) : Type 0 where
   pub starts : AgreeOnRowStarts text
   pub places : (offset : ℕ) → as_place (window_place (length text) (window_breaks text) offset) ≡ place_of (length text) (breaks_of text) offset
+
+-- the row of an offset is one and the same, but for the number that rows are counted from, in its location, in what an editor is told
+-- of a diagnostic that points there, and in what a scanner without rows of context reads there
+pub record AllTellOneRow (text : List ℕ) (offset : ℕ) : Type 0 where
+  pub located : (location_of text offset).row ≡ window_row_of (window_breaks text) offset + 1
+  pub told : TellOneRow text offset
 
 -- CR stands only before LF
 abbrev pub HasPairedCrs : List ℕ → Type 0

@@ -22,12 +22,16 @@ fn location(at: (u32, u32)) -> SourceLocation {
     }
 }
 
-fn bytes(start: u32, end: u32) -> LabelPlace {
+pub(crate) fn bytes(start: u32, end: u32) -> LabelPlace {
     LabelPlace::Bytes { start, end }
 }
 
 /// One report on a file, by the file's number.
-fn report(alloc: Global, file: FileId, places: &[LabelPlace]) -> Result<FileReport, AllocError> {
+pub(crate) fn report(
+    alloc: Global,
+    file: FileId,
+    places: &[LabelPlace],
+) -> Result<FileReport, AllocError> {
     let mut labels = Vec::new(alloc);
     for place in places {
         labels.push(PlaceLabel {

@@ -5,7 +5,7 @@ ghost use Rattle.std.specs.List.{AllZip};
 ghost use Rattle.render_files.specs.Given.{given_report};
 ghost use Rattle.render_files.specs.Refusal.{refusal_of};
 ghost use Rattle.render_files.specs.Shown.{view_of};
-ghost use Rattle.render_files.specs.Ties.{AgreeOnBreaks, AgreeOnLines, AgreeOnPlaces, HasPairedCrs, IsByBytes};
+ghost use Rattle.render_files.specs.Ties.{AgreeOnBreaks, AgreeOnLines, AgreeOnPlaces, AllTellOneRow, HasPairedCrs, IsByBytes};
 
 use crate::places::FileReport;
 use codespan::Files;
@@ -20,6 +20,13 @@ pub fn breaks_are_the_same(_text: &[u8])
 /// from its start. It does nothing: a caller calls it to know the law.
 pub fn places_are_the_same(_text: &[u8])
     ensures { AgreeOnPlaces _text.now }
+{}
+
+/// The law that the row of an offset is told alike, but for the number that rows are counted from: by a line
+/// index, by what an editor is told of a diagnostic that points there, and by a scanner without rows of context
+/// that reads an empty span there. It does nothing: a caller calls it to know the law.
+pub fn all_tell_one_row(_text: &[u8], _offset: usize)
+    ensures { AllTellOneRow _text.now _offset }
 {}
 
 /// The law that, where CR stands only before LF, lines under LF alone start where rows under LF, CR and

@@ -14,10 +14,13 @@ mod laws;
 mod places;
 mod readers;
 mod render;
+#[cfg(test)]
+mod render_tests;
 
 pub use judge::place_labels;
 pub use laws::{
-    breaks_are_the_same, line_starts_are_the_same, offsets_show_the_same, places_are_the_same,
+    all_tell_one_row, breaks_are_the_same, line_starts_are_the_same, offsets_show_the_same,
+    places_are_the_same,
 };
 pub use places::{FileReport, LabelPlace, PlaceLabel, ReportError};
 pub use render::{files_text, render_files, render_files_json};

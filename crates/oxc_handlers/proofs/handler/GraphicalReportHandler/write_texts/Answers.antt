@@ -1,0 +1,38 @@
+use Rattle.std.proofs.Common.{◌≡◌, ◌∙◌, ap, arith, get_or, map, string_bytes, subst, sym}
+use Rattle.oxc_span.specs.Views.{text_bytes}
+use Rattle.oxc_handlers.specs.Refusals.{IsFaultless, error_at}
+use Rattle.oxc_handlers.specs.Reports.{IsListRefusal, text_of}
+use Rattle.oxc_handlers.proofs.ReportsLemmas.{alike_at, before_all, before_more, got_map, items_more, refused_at, same_length}
+use Rattle.oxc_handlers.proofs.handler.GraphicalReportHandler.write_texts.Goals as goal
+
+pub write_text-written-requires-clause-code : goal.write_text-written-requires-clause-code
+write_text-written-requires-clause-code g c =
+    let len = same_length text_bytes (λ b. ((goal.Diagnostic-dyn g (b.vtable, b.value)).parts b.value).code) c.args.codes.now c.args.diagnostics.now c.requires in
+    alike_at text_bytes (λ b. ((goal.Diagnostic-dyn g (b.vtable, b.value)).parts b.value).code) c.args.codes.now c.args.diagnostics.now c.loop-diagnostic.diagnostic-index c.index-codes-report.result c.diagnostic-item.result c.requires
+    (omega (arith, len, c.loop-diagnostic-test.true)) c.loop-diagnostic-test.true
+    (subst (λ i. c.index-codes-report.result ≡ get_or c.args.codes.now i c.index-codes-report.result) c.loop-diagnostic.invariant.report c.index-codes-report.is) c.diagnostic-item.is
+
+pub returns-in-Err-clause-cause : goal.returns-in-Err-clause-cause
+returns-in-Err-clause-cause g c =
+    let list = map (λ b. (goal.Diagnostic-dyn g (b.vtable, b.value)).parts b.value) c.args.diagnostics.now in
+    subst (IsListRefusal list) (sym (c.at.ensures ∙ ap (λ i. error_at i c.in-Err.error) c.loop-diagnostic.invariant.report))
+    (refused_at list c.loop-diagnostic.diagnostic-index _ c.in-Err.error
+    (got_map (λ b. (goal.Diagnostic-dyn g (b.vtable, b.value)).parts b.value) c.args.diagnostics.now c.loop-diagnostic.diagnostic-index c.diagnostic-item.result c.loop-diagnostic-test.true c.diagnostic-item.is)
+    c.loop-diagnostic.invariant.before c.in-Err.ensures.cause)
+
+pub loop-diagnostic-preserved : goal.loop-diagnostic-preserved
+loop-diagnostic-preserved g c =
+    record {
+      report = omega (arith, c.loop-diagnostic.invariant.report);
+      round = c.write_text-written.ensures.round;
+      before = before_more IsFaultless (λ b. (goal.Diagnostic-dyn g (b.vtable, b.value)).parts b.value) c.args.diagnostics.now c.loop-diagnostic.diagnostic-index c.diagnostic-item.result c.loop-diagnostic-test.true c.diagnostic-item.is
+          c.loop-diagnostic.invariant.before c.in_default.ensures.cause;
+      ahead = rw c.in_default.ensures.text
+          (items_more (text_of c.args.self.now) (λ b. (goal.Diagnostic-dyn g (b.vtable, b.value)).parts b.value) (string_bytes c.loop-diagnostic.out) c.args.diagnostics.now c.loop-diagnostic.diagnostic-index c.diagnostic-item.result
+          c.loop-diagnostic-test.true c.diagnostic-item.is
+          ∙ c.loop-diagnostic.invariant.ahead);
+    }
+
+pub returns-clause-cause : goal.returns-clause-cause
+returns-clause-cause g c =
+    before_all IsFaultless (λ b. (goal.Diagnostic-dyn g (b.vtable, b.value)).parts b.value) c.args.diagnostics.now c.loop-diagnostic.diagnostic-index c.loop-diagnostic-test.false c.loop-diagnostic.invariant.before

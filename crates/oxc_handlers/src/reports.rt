@@ -1,0 +1,311 @@
+//! Diagnostics that are drawn by the trait [`Diagnostic`] alone, and lists of them.
+ghost use Rattle.std.specs.Prelude.{◌≡◌, ◌++◌, ◌≤◌, ℕ, Bool, List, All, IfErr, IfOk, IsErrOf, MatchResult, OnErr, OnOk, map, string_bytes};
+ghost use Rattle.std.specs.Io.KnownBytes.{Appends};
+ghost use Rattle.oxc_protocol.specs.Faults.{Rose};
+ghost use Rattle.oxc_protocol.specs.Parts.{Parts};
+ghost use Rattle.oxc_span.specs.Views.{text_bytes};
+ghost use Rattle.oxc_handlers.specs.Keeping.{KeepsAtError, KeepsPart, KeepsUntil};
+ghost use Rattle.oxc_handlers.specs.Refusals.{IsFaultless, IsRefusal};
+ghost use Rattle.oxc_handlers.specs.Report.{view_parts, without_url};
+ghost use Rattle.oxc_handlers.specs.Reports.{IsListRefusal, IsSendRefusal, LeavesText, text_of, texts_of};
+ghost use Rattle.oxc_handlers.specs.Scanners.{ReadsRoundIfThere};
+
+use crate::handler::GraphicalReportHandler;
+use crate::report::judge;
+use crate::view::{DiagnosticView, RenderError};
+use oxc_protocol::{Diagnostic, Error, Sink, write_all};
+use oxc_windows::SpanScanner;
+use std::alloc::{AllocError, Global};
+
+/// What is asked of each text that is handed on, as a closure would be.
+pub trait Keep {
+    ghost keeps: { Self → Parts → List ℕ → Bool → Self → Type 0 };
+
+    /// Takes the text of a diagnostic, and answers whether more are wanted.
+    fn keep(&mut self, diagnostic: &dyn Diagnostic, text: &str) -> bool
+        ensures { keeps self.old (parts diagnostic.now) text.now result self.new };
+}
+
+impl GraphicalReportHandler {
+    /// Sends the report of a diagnostic to a sink. The whole text is built before its first byte goes out.
+    ///
+    /// # Errors
+    ///
+    /// Those of [`render_view`](GraphicalReportHandler::render_view), and nothing was written; or
+    /// [`RenderError::SinkFault`], and the sink took a first part of the text.
+    pub fn render_report<K: Sink>(
+        &self,
+        alloc: Global,
+        sink: &mut K,
+        diagnostic: &dyn Diagnostic,
+    ) -> Result<(), RenderError>
+        ensures sent { OnOk result (Appends (K.received sink.old) (K.received sink.new) (text_of self.now (parts diagnostic.now))) }
+        ensures cause { MatchResult result (λ _. IsFaultless (parts diagnostic.now)) (IsSendRefusal (IsFaultless (parts diagnostic.now)) (IsRefusal 0 (parts diagnostic.now))) }
+        ensures left { IfErr result (LeavesText (K.received sink.old) (K.received sink.new) (text_of self.now (parts diagnostic.now))) }
+        ensures fault { IsErrOf result RenderError.SinkFault → Rose (K.faults sink.old) (K.faults sink.new) }
+        ensures later { K.faults sink.old ≤ K.faults sink.new }
+    {
+        let text = self.text_of(alloc, diagnostic)?;
+        write_all(sink, text.as_bytes())?;
+        Ok(())
+    }
+
+    /// Sends the reports of diagnostics to a sink, one after another, by one scanner for all that have the same source.
+    /// The whole text is built before its first byte goes out.
+    ///
+    /// # Errors
+    ///
+    /// Those of [`render_view`](GraphicalReportHandler::render_view) for the first diagnostic that can't be drawn, with its
+    /// place in the list, and nothing was written; or [`RenderError::SinkFault`], and the sink took a first part of the text.
+    pub fn render_reports<K: Sink>(
+        &self,
+        alloc: Global,
+        sink: &mut K,
+        diagnostics: &[Error],
+    ) -> Result<(), RenderError>
+        ensures sent { OnOk result (Appends (K.received sink.old) (K.received sink.new) (texts_of self.now (map parts diagnostics.now))) }
+        ensures cause { MatchResult result (λ _. All IsFaultless (map parts diagnostics.now)) (IsSendRefusal (All IsFaultless (map parts diagnostics.now)) (IsListRefusal (map parts diagnostics.now))) }
+        ensures left { IfErr result (LeavesText (K.received sink.old) (K.received sink.new) (texts_of self.now (map parts diagnostics.now))) }
+        ensures fault { IsErrOf result RenderError.SinkFault → Rose (K.faults sink.old) (K.faults sink.new) }
+        ensures later { K.faults sink.old ≤ K.faults sink.new }
+    {
+        let text = self.texts_of(alloc, diagnostics)?;
+        write_all(sink, text.as_bytes())?;
+        Ok(())
+    }
+
+    /// Hands the reports of diagnostics on in order, each as a text of its own, and stops after the first that is not kept;
+    /// answers how many it handed on. One scanner serves all that have the same source.
+    ///
+    /// # Errors
+    ///
+    /// Those of [`render_view`](GraphicalReportHandler::render_view) for the first diagnostic of the whole list that can't be
+    /// drawn, with its place in the list, and nothing was handed on; or [`RenderError::OutOfMemory`], and a first part of the
+    /// texts was handed on, all of which were kept.
+    pub fn render_reports_until<K: Keep>(
+        &self,
+        alloc: Global,
+        diagnostics: &[Error],
+        keep: &mut K,
+    ) -> Result<usize, RenderError>
+        ensures handed { IfOk result (λ n. KeepsUntil K.keeps self.now keep.old (map parts diagnostics.now) n keep.new) }
+        ensures cause { MatchResult result (λ _. All IsFaultless (map parts diagnostics.now)) (IsListRefusal (map parts diagnostics.now)) }
+        ensures left { IfErr result (λ error. KeepsAtError K.keeps self.now keep.old (map parts diagnostics.now) error keep.new) }
+    {
+        let codes = codes_of(alloc, diagnostics)?;
+        if let Err(error) = judge_all(alloc, diagnostics, &codes) {
+            return Err(error);
+        }
+        let count = self.hand_on(alloc, diagnostics, &codes, keep)?;
+        Ok(count)
+    }
+
+    /// Hands on the texts of diagnostics that can be drawn, whose codes are at hand.
+    fn hand_on<'a, K: Keep>(
+        &self,
+        alloc: Global,
+        diagnostics: &'a [Error],
+        codes: &'a [Option<String>],
+        keep: &mut K,
+    ) -> Result<usize, AllocError>
+        requires codes { map text_bytes codes.now ≡ map (λ e. (parts e).code) diagnostics.now }
+        requires faultless { All IsFaultless (map parts diagnostics.now) }
+        ensures handed { IfOk result (λ n. KeepsUntil K.keeps self.now keep.old (map parts diagnostics.now) n keep.new) }
+        ensures left { OnErr result (KeepsPart K.keeps self.now keep.old (map parts diagnostics.now) keep.new) }
+    {
+        let mut scanner = None;
+        let mut count = 0;
+        for diagnostic in diagnostics {
+            let code = &codes[count];
+            let kept = self.hand_one(alloc, diagnostic, code, &mut scanner, keep)?;
+            count += 1;
+            if !kept {
+                return Ok(count);
+            }
+        }
+        Ok(count)
+    }
+
+    /// Hands on the text of a diagnostic that can be drawn, whose code is at hand.
+    fn hand_one<'a, K: Keep>(
+        &self,
+        alloc: Global,
+        diagnostic: &'a Error,
+        code: &'a Option<String>,
+        scanner: &mut Option<SpanScanner<'a>>,
+        keep: &mut K,
+    ) -> Result<bool, AllocError>
+        requires code { text_bytes code.now ≡ (parts diagnostic.now).code }
+        requires faultless { IsFaultless (parts diagnostic.now) }
+        requires round { ReadsRoundIfThere scanner.old }
+        ensures handed { IfOk result (λ kept. K.keeps keep.old (parts diagnostic.now) (text_of self.now (parts diagnostic.now)) kept keep.new) }
+        ensures still { OnErr result (keep.new ≡ keep.old) }
+        ensures round { ReadsRoundIfThere scanner.new }
+    {
+        let view = view_of_box(diagnostic, code);
+        match self.render_view(alloc, &view, scanner) {
+            Ok(text) => Ok(ask(keep, diagnostic, text.as_str())),
+            Err(_) => Err(AllocError),
+        }
+    }
+
+    /// The text of a diagnostic.
+    pub(crate) fn text_of(
+        &self,
+        alloc: Global,
+        diagnostic: &dyn Diagnostic,
+    ) -> Result<String, RenderError>
+        ensures text { IfOk result (λ text. string_bytes text ≡ text_of self.now (parts diagnostic.now)) }
+        ensures cause { MatchResult result (λ _. IsFaultless (parts diagnostic.now)) (IsRefusal 0 (parts diagnostic.now)) }
+    {
+        let code = diagnostic.code(alloc)?;
+        let view = view_of(diagnostic, &code);
+        let mut scanner = None;
+        self.render_view(alloc, &view, &mut scanner)
+    }
+
+    /// The texts of diagnostics, one after another.
+    fn texts_of(&self, alloc: Global, diagnostics: &[Error]) -> Result<String, RenderError>
+        ensures text { IfOk result (λ text. string_bytes text ≡ texts_of self.now (map parts diagnostics.now)) }
+        ensures cause { MatchResult result (λ _. All IsFaultless (map parts diagnostics.now)) (IsListRefusal (map parts diagnostics.now)) }
+    {
+        let codes = codes_of(alloc, diagnostics)?;
+        let mut out = String::new(alloc);
+        self.write_texts(alloc, &mut out, diagnostics, &codes)?;
+        Ok(out)
+    }
+
+    /// Appends the texts of diagnostics, whose codes are at hand.
+    fn write_texts<'a>(
+        &self,
+        alloc: Global,
+        out: &mut String,
+        diagnostics: &'a [Error],
+        codes: &'a [Option<String>],
+    ) -> Result<(), RenderError>
+        requires { map text_bytes codes.now ≡ map (λ e. (parts e).code) diagnostics.now }
+        ensures text { OnOk result (string_bytes out.new ≡ string_bytes out.old ++ texts_of self.now (map parts diagnostics.now)) }
+        ensures cause { MatchResult result (λ _. All IsFaultless (map parts diagnostics.now)) (IsListRefusal (map parts diagnostics.now)) }
+    {
+        let mut scanner = None;
+        let mut report = 0;
+        for diagnostic in diagnostics {
+            let code = &codes[report];
+            let written = self.write_text(alloc, out, diagnostic, code, &mut scanner);
+            if let Err(error) = written {
+                return Err(error.at(report));
+            }
+            report += 1;
+        }
+        Ok(())
+    }
+
+    /// Appends the text of a diagnostic, whose code is at hand.
+    fn write_text<'a>(
+        &self,
+        alloc: Global,
+        out: &mut String,
+        diagnostic: &'a Error,
+        code: &'a Option<String>,
+        scanner: &mut Option<SpanScanner<'a>>,
+    ) -> Result<(), RenderError>
+        requires code { text_bytes code.now ≡ (parts diagnostic.now).code }
+        requires round { ReadsRoundIfThere scanner.old }
+        ensures text { OnOk result (string_bytes out.new ≡ string_bytes out.old ++ text_of self.now (parts diagnostic.now)) }
+        ensures cause { MatchResult result (λ _. IsFaultless (parts diagnostic.now)) (IsRefusal 0 (parts diagnostic.now)) }
+        ensures round { ReadsRoundIfThere scanner.new }
+    {
+        let view = view_of_box(diagnostic, code);
+        match self.render_view(alloc, &view, scanner) {
+            Ok(text) => Ok(out.push_str(text.as_str())?),
+            Err(error) => Err(error),
+        }
+    }
+}
+
+/// Whether diagnostics can be drawn, whose codes are at hand.
+fn judge_all<'a>(
+    alloc: Global,
+    diagnostics: &'a [Error],
+    codes: &'a [Option<String>],
+) -> Result<(), RenderError>
+    requires { map text_bytes codes.now ≡ map (λ e. (parts e).code) diagnostics.now }
+    ensures { MatchResult result (λ _. All IsFaultless (map parts diagnostics.now)) (IsListRefusal (map parts diagnostics.now)) }
+{
+    let mut scanner = None;
+    let mut report = 0;
+    for diagnostic in diagnostics {
+        let code = &codes[report];
+        let judged = judge_box(alloc, diagnostic, code, &mut scanner);
+        if let Err(error) = judged {
+            return Err(error.at(report));
+        }
+        report += 1;
+    }
+    Ok(())
+}
+
+/// Whether a diagnostic in a box can be drawn, whose code is at hand.
+fn judge_box<'a>(
+    alloc: Global,
+    diagnostic: &'a Error,
+    code: &'a Option<String>,
+    scanner: &mut Option<SpanScanner<'a>>,
+) -> Result<(), RenderError>
+    requires code { text_bytes code.now ≡ (parts diagnostic.now).code }
+    requires round { ReadsRoundIfThere scanner.old }
+    ensures cause { MatchResult result (λ _. IsFaultless (parts diagnostic.now)) (IsRefusal 0 (parts diagnostic.now)) }
+    ensures round { ReadsRoundIfThere scanner.new }
+{
+    let view = view_of_box(diagnostic, code);
+    judge(alloc, &view, scanner)
+}
+
+/// What is drawn of a diagnostic, whose code is at hand.
+fn view_of<'a>(diagnostic: &'a dyn Diagnostic, code: &'a Option<String>) -> DiagnosticView<'a>
+    requires { text_bytes code.now ≡ (parts diagnostic.now).code }
+    ensures { view_parts result ≡ without_url (parts diagnostic.now) }
+{
+    DiagnosticView {
+        message: diagnostic.message(),
+        code: code.as_deref(),
+        severity: diagnostic.severity(),
+        help: diagnostic.help(),
+        note: diagnostic.note(),
+        source: diagnostic.source_code(),
+        labels: diagnostic.labels(),
+    }
+}
+
+/// What is drawn of a diagnostic in a box, whose code is at hand.
+fn view_of_box<'a>(diagnostic: &'a Error, code: &'a Option<String>) -> DiagnosticView<'a>
+    requires { text_bytes code.now ≡ (parts diagnostic.now).code }
+    ensures { view_parts result ≡ without_url (parts diagnostic.now) }
+{
+    view_of(&**diagnostic, code)
+}
+
+/// Hands on the text of a diagnostic in a box.
+fn ask<K: Keep>(keep: &mut K, diagnostic: &Error, text: &str) -> bool
+    ensures { K.keeps keep.old (parts diagnostic.now) text.now result keep.new }
+{
+    keep.keep(&**diagnostic, text)
+}
+
+/// The code of a diagnostic in a box.
+fn code_of(alloc: Global, diagnostic: &Error) -> Result<Option<String>, AllocError>
+    ensures { IfOk result (λ code. text_bytes code ≡ (parts diagnostic.now).code) }
+{
+    diagnostic.code(alloc)
+}
+
+/// The codes of diagnostics.
+fn codes_of(alloc: Global, diagnostics: &[Error]) -> Result<Vec<Option<String>>, AllocError>
+    ensures { IfOk result (λ codes. map text_bytes codes.items ≡ map (λ e. (parts e).code) diagnostics.now) }
+{
+    let mut codes = Vec::new(alloc);
+    for diagnostic in diagnostics {
+        codes.push(code_of(alloc, diagnostic)?)?;
+    }
+    Ok(codes)
+}

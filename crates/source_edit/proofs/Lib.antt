@@ -1,0 +1,6 @@
+mod RangesLemmas
+mod StartsLemmas
+mod StepsLemmas
+mod FoundLemmas
+mod AllLemmas
+mod LabelsLemmas

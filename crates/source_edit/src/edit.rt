@@ -1,0 +1,99 @@
+// Edits, and why one is refused.
+ghost use Rattle.std.specs.Prelude.{◌≡◌, ◌⊎◌, MatchOption, MatchResult};
+ghost use Rattle.std.specs.Str.{IsCharBoundary};
+ghost use Rattle.source_edit.specs.Edits.{change_of};
+ghost use Rattle.source_edit.specs.Causes.{IsAcceptable, IsCause};
+
+use text_size::{TextRange, TextSize};
+
+/// The bytes of a range of a text, and what is put in their place. An empty range inserts.
+#[derive(Debug, Drop)]
+pub struct Edit {
+    /// Which bytes of the text give way.
+    pub range: TextRange,
+    /// What is put there.
+    pub insert: String,
+}
+
+/// Why an edit was refused. `edit` is its place in the list of edits, from 0, and 0 for a single one.
+///
+/// The causes are judged in this order. A refusal changes nothing.
+#[derive(Clone, Copy, Debug, thiserror::Error, PartialEq, Eq)]
+pub enum EditError {
+    /// The range ends behind the text.
+    #[error("edit {edit}: the range ends at {end}, and the text has {length} bytes")]
+    Outside {
+        /// The edit's place in its list.
+        edit: usize,
+        /// Where the range ends, in bytes.
+        end: u32,
+        /// The text's length in bytes.
+        length: usize,
+    },
+    /// The range's start, or else its end, lies inside a character.
+    #[error("edit {edit}: byte {at} is inside a character")]
+    NotBoundary {
+        /// The edit's place in its list.
+        edit: usize,
+        /// That start or end, in bytes.
+        at: u32,
+    },
+    /// The new text would have `u32::MAX` bytes or more.
+    #[error("edit {edit}: the text would have {length} bytes, and no place past 4294967294 can be named")]
+    TooLong {
+        /// The edit's place in its list.
+        edit: usize,
+        /// The length in bytes that the text would have.
+        length: u64,
+    },
+    /// There was no memory left.
+    #[error("edit {edit}: out of memory")]
+    OutOfMemory {
+        /// The edit's place in its list.
+        edit: usize,
+    },
+}
+
+/// Whether a text takes the edit that stands at a place of its list, but for want of memory.
+pub(crate) fn check(place: usize, text: &str, edit: &Edit) -> Result<(), EditError>
+    ensures { MatchResult result (λ _. IsAcceptable text.now (change_of edit.now))
+        (λ error. IsCause place text.now (change_of edit.now) error) }
+{
+    let (start, end) = (edit.range.start(), edit.range.end());
+    if end.to_usize() > text.len() {
+        return Err(EditError::Outside {
+            edit: place,
+            end: end.to_u32(),
+            length: text.len(),
+        });
+    }
+    if let Some(at) = parted_end(text, start, end) {
+        return Err(EditError::NotBoundary {
+            edit: place,
+            at: at.to_u32(),
+        });
+    }
+    let kept = text.len() - (end.to_usize() - start.to_usize());
+    let length = kept as u64 + edit.insert.len() as u64;
+    if length >= u32::MAX as u64 {
+        return Err(EditError::TooLong {
+            edit: place,
+            length,
+        });
+    }
+    Ok(())
+}
+
+/// The first of two places that is no boundary.
+fn parted_end(text: &str, start: TextSize, end: TextSize) -> Option<TextSize>
+    ensures { MatchOption result (IsCharBoundary text.now start × IsCharBoundary text.now end)
+        (λ at. (¬ IsCharBoundary text.now start × (at ≡ start)) ⊎ (IsCharBoundary text.now start × ¬ IsCharBoundary text.now end × (at ≡ end))) }
+{
+    if !text.is_char_boundary(start.to_usize()) {
+        return Some(start);
+    }
+    if !text.is_char_boundary(end.to_usize()) {
+        return Some(end);
+    }
+    None
+}

@@ -1,0 +1,19 @@
+// What holds of the definitions that the contracts cite, as the contract of a function that does nothing.
+ghost use Rattle.std.specs.Prelude.{◌<◌, ◌≤◌, ◌^◌, length};
+ghost use Rattle.oxc_span.specs.Label.{label_end};
+ghost use Rattle.source_edit.specs.Edits.{change_of};
+ghost use Rattle.source_edit.specs.Causes.{IsAcceptable};
+ghost use Rattle.source_edit.specs.Labels.{moved_start, moved_end};
+
+use crate::Edit;
+use oxc_span::LabeledSpan;
+
+/// What [`move_label`](crate::move_label) asks for holds of a label within a text that takes the edit.
+pub fn label_stays_in_range(_text: &str, _label: &LabeledSpan, edit: &Edit)
+    requires accepted { IsAcceptable _text.now (change_of edit.now) }
+    requires within { label_end _label.now ≤ length _text.now }
+    ensures start { moved_start (change_of edit.now) _label.now.offset < 2 ^ 32 }
+    ensures end { moved_end (change_of edit.now) (label_end _label.now) < 2 ^ 32 }
+{
+    let _in_order = edit.range.start() <= edit.range.end();
+}
