@@ -1,0 +1,323 @@
+//! What a report looks like.
+ghost use Rattle.std.specs.Prelude.{◌≡◌, ◌++◌, ◌∷◌, [], ◌<◌, ◌≤◌, ◌^◌, IfOk, OnOk, decimal, length, map, replicate, reverse, string_bytes, None};
+ghost use Rattle.std.specs.List.{flat_map};
+ghost use Rattle.report_reader.specs.Seen.{head_model, mark_model, report_model, row_model, snippet_model};
+ghost use Rattle.report_reader.specs.Shown.{bar_of, bars_to, close_line, ended, gap, hang_line, hang_of, hangs_from, head_line, head_text, icon, mark_body, mark_cells, marker, marks_lines, number_width, other_front, row_front, row_lines, shown, snippet_lines, title_line, unders};
+
+use crate::seen::{Seen, SeenHead, SeenMark, SeenRow, SeenSnippet};
+use itoa::Buffer;
+use oxc_protocol::Severity;
+use std::alloc::{AllocError, Global};
+
+/// An ASCII character some times over.
+fn push_times(out: &mut String, c: char, count: usize) -> Result<(), AllocError>
+    requires { c < 128 }
+    ensures { OnOk result (string_bytes out.new ≡ string_bytes out.old ++ replicate count c) }
+{
+    for _i in 0..count {
+        out.push(c)?;
+    }
+    Ok(())
+}
+
+/// A number.
+fn push_number(out: &mut String, number: usize) -> Result<(), AllocError>
+    ensures { OnOk result (string_bytes out.new ≡ string_bytes out.old ++ decimal number) }
+{
+    let mut buffer = Buffer::new();
+    out.push_str(buffer.format(number))
+}
+
+/// How many digits a number has.
+fn digits_of(number: usize) -> usize
+    ensures value { result ≡ length (decimal number) }
+    ensures small { result ≤ 40 }
+{
+    let mut buffer = Buffer::new();
+    buffer.format(number).len()
+}
+
+/// The cell of a mark from which its text hangs.
+fn bar_cell(mark: &SeenMark) -> usize
+    ensures { result ≡ bar_of (mark_model mark.now) }
+{
+    let (start, end) = (mark.start, mark.end);
+    start / 2 + end / 2 + (start % 2 + end % 2) / 2
+}
+
+/// The cells of a mark.
+#[tactic(auto, unfolding(crate::specs::Shown::mark_body))]
+fn push_mark(out: &mut String, mark: &SeenMark) -> Result<(), AllocError>
+    ensures { OnOk result (string_bytes out.new ≡ string_bytes out.old ++ mark_body (mark_model mark.now)) }
+{
+    let bar = bar_cell(mark);
+    push_times(out, '^', bar.saturating_sub(mark.start))?;
+    out.push_str(if mark.text.is_some() && !mark.arrow {
+        "|"
+    } else {
+        "^"
+    })?;
+    push_times(out, '^', mark.end.saturating_sub(bar).saturating_sub(1))?;
+    Ok(())
+}
+
+/// The cells of the marks of a row.
+#[tactic(auto, using(crate::proofs::ShownLemmas::cells_more, crate::proofs::ShownLemmas::cells_none))]
+fn push_marks(out: &mut String, marks: &[SeenMark]) -> Result<(), AllocError>
+    ensures { OnOk result (string_bytes out.new ≡ string_bytes out.old ++ mark_cells 0 (map mark_model marks.now)) }
+{
+    let mut from = 0;
+    for mark in marks {
+        push_times(out, ' ', mark.start.saturating_sub(from))?;
+        push_mark(out, mark)?;
+        from = mark.end;
+    }
+    Ok(())
+}
+
+/// What stands before a line that is no row.
+#[tactic(auto, unfolding(crate::specs::Shown::other_front))]
+fn push_other_front(out: &mut String, digits: usize) -> Result<(), AllocError>
+    requires { digits < 2 ^ 62 }
+    ensures { OnOk result (string_bytes out.new ≡ string_bytes out.old ++ other_front digits) }
+{
+    push_times(out, ' ', digits + 2)?;
+    out.push_str(": ")?;
+    Ok(())
+}
+
+/// What stands before a row.
+#[tactic(auto, unfolding(crate::specs::Shown::row_front))]
+fn push_row_front(out: &mut String, digits: usize, number: usize) -> Result<(), AllocError>
+    ensures { OnOk result (string_bytes out.new ≡ string_bytes out.old ++ row_front digits number) }
+{
+    out.push_str(" ")?;
+    push_times(out, ' ', digits.saturating_sub(digits_of(number)))?;
+    push_number(out, number)?;
+    out.push_str(" | ")?;
+    Ok(())
+}
+
+/// The text of a head.
+#[tactic(auto, unfolding(crate::specs::Shown::head_text))]
+fn push_head_text(out: &mut String, head: &SeenHead) -> Result<(), AllocError>
+    ensures { OnOk result (string_bytes out.new ≡ string_bytes out.old ++ head_text (head_model head.now)) }
+{
+    match head {
+        SeenHead::Named { name, row, column } => {
+            out.push_str("[")?;
+            out.push_str(name)?;
+            out.push_str(":")?;
+            push_number(out, *row)?;
+            out.push_str(":")?;
+            push_number(out, *column)?;
+            out.push_str("]")?;
+        }
+        SeenHead::Bare { row, column } => {
+            out.push_str("[")?;
+            push_number(out, *row)?;
+            out.push_str(":")?;
+            push_number(out, *column)?;
+            out.push_str("]")?;
+        }
+        SeenHead::Dashes => out.push_str("---")?,
+    }
+    Ok(())
+}
+
+fn icon_of(severity: Severity) -> &'static str
+    ensures { result.now ≡ icon severity ∷ [] }
+{
+    match severity {
+        Severity::Error => "x",
+        Severity::Warning => "!",
+        Severity::Advice => ">",
+    }
+}
+
+/// The title's line.
+#[tactic(auto, unfolding(crate::specs::Shown::title_line))]
+fn push_title(out: &mut String, severity: Severity, title: &str) -> Result<(), AllocError>
+    ensures { OnOk result (string_bytes out.new ≡ string_bytes out.old ++ (title_line severity title.now ++ 0x0A ∷ [])) }
+{
+    out.push_str("  ")?;
+    out.push_str(icon_of(severity))?;
+    out.push_str(" ")?;
+    out.push_str(title)?;
+    out.push_str("\n")?;
+    Ok(())
+}
+
+fn gap_before(before: Option<usize>, cell: usize) -> usize
+    ensures { result ≡ gap before cell }
+{
+    match before {
+        None => cell,
+        Some(bar) => cell.saturating_sub(bar).saturating_sub(1),
+    }
+}
+
+/// The bars of marks, up to a cell.
+#[tactic(auto, using(crate::proofs::ShownLemmas::bars_more, crate::proofs::ShownLemmas::bars_none))]
+fn push_bars(out: &mut String, marks: &[SeenMark], to: usize) -> Result<(), AllocError>
+    ensures { OnOk result (string_bytes out.new ≡ string_bytes out.old ++ bars_to None to (map mark_model marks.now)) }
+{
+    let mut before = None;
+    for mark in marks {
+        let bar = bar_cell(mark);
+        push_times(out, ' ', gap_before(before, bar))?;
+        out.push_str("|")?;
+        before = Some(bar);
+    }
+    push_times(out, ' ', gap_before(before, to))?;
+    Ok(())
+}
+
+/// The hanging line of a mark that has a text.
+#[tactic(auto, unfolding(crate::specs::Shown::hang_line))]
+fn push_hang(
+    out: &mut String,
+    digits: usize,
+    earlier: &[SeenMark],
+    mark: &SeenMark,
+) -> Result<(), AllocError>
+    requires { digits < 2 ^ 62 }
+    ensures { OnOk result (string_bytes out.new ≡ string_bytes out.old ++ ended (unders digits (hang_of (map mark_model earlier.now) (bar_of (mark_model mark.now)) (mark_model mark.now).text))) }
+{
+    if let Some(text) = &mark.text {
+        push_other_front(out, digits)?;
+        push_bars(out, earlier, bar_cell(mark))?;
+        out.push_str("`-- ")?;
+        out.push_str(text)?;
+        out.push_str("\n")?;
+    }
+    Ok(())
+}
+
+/// The hanging lines of marks, from the last to the first.
+fn push_hangs(out: &mut String, digits: usize, marks: &[SeenMark]) -> Result<(), AllocError>
+    requires { digits < 2 ^ 62 }
+    ensures { OnOk result (string_bytes out.new ≡ string_bytes out.old ++ ended (unders digits (reverse (hangs_from [] (map mark_model marks.now))))) }
+{
+    let mut left = marks.len();
+    while left > 0 {
+        left -= 1;
+        push_hang(out, digits, &marks[..left], &marks[left])?;
+    }
+    Ok(())
+}
+
+/// The lines under a row.
+#[tactic(auto, using(crate::proofs::ShownLemmas::under_none, crate::proofs::ShownLemmas::under_some))]
+fn push_under(out: &mut String, digits: usize, marks: &[SeenMark]) -> Result<(), AllocError>
+    requires { digits < 2 ^ 62 }
+    ensures { OnOk result (string_bytes out.new ≡ string_bytes out.old ++ ended (unders digits (marks_lines (map mark_model marks.now)))) }
+{
+    if marks.is_empty() {
+        return Ok(());
+    }
+    push_other_front(out, digits)?;
+    push_marks(out, marks)?;
+    out.push_str("\n")?;
+    push_hangs(out, digits, marks)?;
+    Ok(())
+}
+
+/// A row and the lines under it.
+#[tactic(auto, unfolding(crate::specs::Shown::row_lines))]
+fn push_row(out: &mut String, digits: usize, row: &SeenRow) -> Result<(), AllocError>
+    requires { digits < 2 ^ 62 }
+    ensures { OnOk result (string_bytes out.new ≡ string_bytes out.old ++ ended (row_lines digits (row_model row.now))) }
+{
+    push_row_front(out, digits, row.number)?;
+    out.push_str(&row.text)?;
+    out.push_str("\n")?;
+    push_under(out, digits, &row.marks)?;
+    Ok(())
+}
+
+/// The rows of a snippet.
+#[tactic(auto, using(crate::proofs::ShownLemmas::lines_more, crate::proofs::ShownLemmas::lines_none))]
+fn push_rows(out: &mut String, digits: usize, rows: &[SeenRow]) -> Result<(), AllocError>
+    requires { digits < 2 ^ 62 }
+    ensures { OnOk result (string_bytes out.new ≡ string_bytes out.old ++ ended (flat_map (row_lines digits) (map row_model rows.now))) }
+{
+    for row in rows {
+        push_row(out, digits, row)?;
+    }
+    Ok(())
+}
+
+/// The digits of the last row's number.
+fn width_of(rows: &[SeenRow]) -> usize
+    ensures value { result ≡ number_width (map row_model rows.now) }
+    ensures small { result < 2 ^ 62 }
+{
+    match rows.last() {
+        None => 1,
+        Some(row) => digits_of(row.number),
+    }
+}
+
+#[tactic(auto, unfolding(crate::specs::Shown::head_line))]
+fn push_head(out: &mut String, digits: usize, head: &SeenHead) -> Result<(), AllocError>
+    requires { digits < 2 ^ 62 }
+    ensures { OnOk result (string_bytes out.new ≡ string_bytes out.old ++ (head_line digits (head_model head.now) ++ 0x0A ∷ [])) }
+{
+    push_times(out, ' ', digits + 2)?;
+    out.push_str(",-")?;
+    push_head_text(out, head)?;
+    out.push_str("\n")?;
+    Ok(())
+}
+
+#[tactic(auto, unfolding(crate::specs::Shown::close_line))]
+fn push_close(out: &mut String, digits: usize) -> Result<(), AllocError>
+    requires { digits < 2 ^ 62 }
+    ensures { OnOk result (string_bytes out.new ≡ string_bytes out.old ++ (close_line digits ++ 0x0A ∷ [])) }
+{
+    push_times(out, ' ', digits + 2)?;
+    out.push_str("`----")?;
+    out.push_str("\n")?;
+    Ok(())
+}
+
+/// The lines of a snippet.
+#[tactic(auto, using(crate::proofs::ShownLemmas::snippet_whole))]
+fn push_snippet(out: &mut String, snippet: &SeenSnippet) -> Result<(), AllocError>
+    ensures { OnOk result (string_bytes out.new ≡ string_bytes out.old ++ ended (snippet_lines (snippet_model snippet.now))) }
+{
+    let digits = width_of(&snippet.rows);
+    push_head(out, digits, &snippet.head)?;
+    push_rows(out, digits, &snippet.rows)?;
+    push_close(out, digits)?;
+    Ok(())
+}
+
+/// The text of a drawn report that says this, in the plain theme.
+///
+/// For a value that isn't [`well_formed`](crate::well_formed) it is a text all the same, but nothing is promised about reading it.
+///
+/// # Errors
+///
+/// Want of memory.
+#[tactic(auto, unfolding(crate::specs::Shown::shown, crate::specs::Shown::report_lines))]
+pub fn show_report(alloc: Global, seen: &Seen) -> Result<String, AllocError>
+    ensures { IfOk result (λ text. string_bytes text ≡ shown (report_model seen.now)) }
+{
+    let mut out = String::new(alloc);
+    out.push_str("\n")?;
+    push_title(&mut out, seen.severity, &seen.title)?;
+    push_snippets(&mut out, &seen.snippets)?;
+    Ok(out)
+}
+
+#[tactic(auto, using(crate::proofs::ShownLemmas::lines_more, crate::proofs::ShownLemmas::lines_none))]
+fn push_snippets(out: &mut String, snippets: &[SeenSnippet]) -> Result<(), AllocError>
+    ensures { OnOk result (string_bytes out.new ≡ string_bytes out.old ++ ended (flat_map snippet_lines (map snippet_model snippets.now))) }
+{
+    for snippet in snippets {
+        push_snippet(out, snippet)?;
+    }
+    Ok(())
+}

@@ -1,0 +1,137 @@
+#!/usr/bin/env python3
+"""The public calls of all crates, read off the sources: usage: python3 docs/calls.py [--check]
+
+With no word it writes docs/CALLS.md anew; with --check it says whether that file has every public call, each with its
+conditions and its answers as the sources state them, and ends with 1 where it hasn't."""
+import os
+import re
+import sys
+
+TOP = os.path.dirname(os.path.dirname(os.path.abspath(__file__)))
+TAKES = re.compile(r"AllocError|AllocFailed|AddError|ReportError|RenderError|EditError|OutOfMemory|Reading\b|Status\b")
+
+
+def crates():
+    for line in open(os.path.join(TOP, "crates.txt"), encoding="utf-8"):
+        found = re.match(r"([a-z0-9_]+)[^:#]*:", line)
+        if found:
+            yield found.group(1)
+
+
+def sources(crate):
+    root = os.path.join(TOP, "crates", crate, "src")
+    for base, _, names in sorted(os.walk(root)):
+        for name in sorted(names):
+            if name.endswith(".rt") and "test" not in name and "plain" not in name:
+                yield os.path.join(base, name)
+
+
+def exported(crate):
+    """The names that other crates can write, and the modules all of whose public names they can."""
+    root = os.path.join(TOP, "crates", crate, "src")
+    path = next(p for p in (os.path.join(root, "lib.rt"), os.path.join(root, "main.rt")) if os.path.isfile(p))
+    text = open(path, encoding="utf-8").read()
+    names = set()
+    for use in re.findall(r"^pub use ([^;]*);", text, re.M):
+        names.update(re.findall(r"\w+", use.split("::")[-1] if "{" not in use else use[use.index("{"):]))
+    return path, names, set(re.findall(r"^pub mod (\w+);", text, re.M))
+
+
+def owner(line):
+    found = re.match(r"(?:unsafe )?impl(?:<[^{]*?>)? (?:([\w:]+)(?:<.*?>)? for )?&?(?:'\w+ )?([\w:]+)", line)
+    if found:
+        return (found.group(2).split("::")[-1], found.group(1))
+    found = re.match(r"pub(?:\(crate\))? trait (\w+)", line)
+    return (found.group(1), None) if found else None
+
+
+def public_items(text):
+    """Each public function: the type or trait it stands in, its name, its head and its clauses."""
+    lines = text.split("\n")
+    place, traits, at = None, False, 0
+    while at < len(lines):
+        line = lines[at]
+        if line and not line[0].isspace():
+            of = owner(line)
+            if of:
+                place, traits = of[0], of[1] is not None
+                in_trait = line.startswith("pub trait")
+            elif line.startswith("}"):
+                place, traits = None, False
+        begin = re.match(r"( *)(pub )?(?:const |final |unsafe )*fn (\w+)", line)
+        if begin and (begin.group(2) or (place and begin.group(1) and not traits and in_trait)):
+            head, clauses, end = [], [], at
+            while end < len(lines):
+                part = lines[end].strip()
+                clauses.append(part) if clauses or re.match(r"(requires|ensures)\b", part) else head.append(part)
+                if part == "{" or part == "{}" or part.endswith("{") and not clauses or part.endswith("};") or part == ";" or (part.endswith(";") and not clauses):
+                    break
+                end += 1
+            yield place, begin.group(3), " ".join(head), [c for c in clauses if c not in ("{", "{}")]
+            at = end
+        at += 1
+
+
+def conditions(clauses):
+    joined = " ".join(clauses)
+    return [c.strip() for c in re.findall(r"requires(?: \w+)? \{ (.*?) \}(?= requires| ensures|;|$)", joined)]
+
+
+def clause_names(clauses):
+    return re.findall(r"ensures\*? (\w+) \{", " ".join(clauses))
+
+
+def result_of(head):
+    found = re.search(r"-> (.*?)(?: where| \{|;|$)", head)
+    return found.group(1).strip() if found else ""
+
+
+def refusals(result):
+    if result.startswith("Result<Option"):
+        return "error, `None`"
+    if "Result" in result:
+        return "error"
+    return "`None`" if result.startswith("Option") else ""
+
+
+def escape(text):
+    return text.replace("|", "\\|")
+
+
+def table():
+    out = ["# Every public call", "",
+           "Read off the sources by `docs/calls.py`, which also checks that none is missing. A condition is stated in the words of the contract; a",
+           "caller can test it, or knows it from what it made. Where a call may answer otherwise than it is asked to, the clauses beside it say when. A call",
+           "that may take memory can answer want of memory, whenever it is.", ""]
+    for crate in crates():
+        rows = []
+        root, names, modules = exported(crate)
+        for path in sources(crate):
+            text = open(path, encoding="utf-8").read()
+            whole = path == root or os.path.basename(path)[:-3] in modules
+            for place, name, head, clauses in public_items(text):
+                if not whole and (place or name) not in names:
+                    continue
+                call = f"{place}::{name}" if place else name
+                asked = "; ".join(f"`{escape(c)}`" for c in conditions(clauses))
+                result = result_of(head)
+                stated = ", ".join(f"`{n}`" for n in clause_names(clauses))
+                memory = "yes" if TAKES.search(result) else ""
+                rows.append(f"| `{call}` | {asked} | {refusals(result)} | {stated} | {memory} |")
+        if rows:
+            out += [f"## `{crate}`", "", "| Call | Conditions | Other answers | Named clauses | Takes memory |", "|---|---|---|---|---|", *rows, ""]
+    return "\n".join(out)
+
+
+def main():
+    path = os.path.join(TOP, "docs", "CALLS.md")
+    text = table()
+    if "--check" in sys.argv:
+        same = os.path.isfile(path) and open(path, encoding="utf-8").read() == text
+        print("docs/CALLS.md has every public call" if same else "docs/CALLS.md is not what the sources say")
+        sys.exit(0 if same else 1)
+    with open(path, "w", encoding="utf-8") as file:
+        file.write(text)
+
+
+main()
