@@ -5,7 +5,7 @@ use std::alloc::{AllocError, Global};
 use std::test::Fail;
 
 // What a run answers: its status, and what `out` and `err` received.
-#[derive(PartialEq, Drop)]
+#[derive(Drop)]
 struct Answer {
     status: Status,
     out: Vec<u8>,
@@ -33,7 +33,7 @@ const WORKING: Devices<'static> = Devices {
 };
 
 // A run of words that are written with spaces between them.
-fn answer(
+fn answer_of(
     alloc: Global,
     line: &str,
     input: &[u8],
@@ -80,7 +80,7 @@ fn answers(
     out: &[u8],
     err: &str,
 ) -> Result<bool, AllocError> {
-    let answer = answer(alloc, line, input, devices)?;
+    let answer = answer_of(alloc, line, input, devices)?;
     Ok(
         answer.status == status
             && answer.out.as_slice() == out
