@@ -1,7 +1,7 @@
 -- The exit status of each end of a run.
 use Rattle.std.specs.Prelude.{ℕ}
 use Rattle.report.specs.declared.status.Status.{Status}
-use Rattle.report.specs.declared.status.Status.TheVariants.{Done, Refused, Usage, NoDocument, ReadFault, SinkFault, OutOfMemory, InputTooLong, NotBuilt}
+use Rattle.report.specs.declared.status.Status.TheVariants.{Done, Refused, Usage, NoDocument, ReadFault, SinkFault, OutOfMemory, InputTooLong}
 
 abbrev pub code_of : Status → ℕ
 code_of Done = 0
@@ -12,4 +12,3 @@ code_of ReadFault = 4
 code_of SinkFault = 5
 code_of OutOfMemory = 6
 code_of InputTooLong = 7
-code_of NotBuilt = 8

@@ -5,6 +5,8 @@ use Rattle.oxc_protocol.specs.Faults.{Rose}
 use Rattle.oxc_protocol.specs.Sink.{AppendsPrefix}
 use Rattle.render_files.specs.declared.places.ReportError.{ReportError}
 use Rattle.render_files.specs.declared.places.ReportError.TheVariants.{UnknownFile, PositionOutside, LabelReversed, SinkFault as sink_fault, OutOfMemory as out_of_memory}
+use Rattle.report.specs.declared.status.Status.{Status}
+use Rattle.report.specs.declared.status.Status.TheVariants as status
 use Rattle.report.specs.declared.ending.Ending.{Ending}
 use Rattle.report.specs.declared.ending.Ending.TheVariants.{Done, Refused, Usage, NoDocument, ReadFault, SinkFault, OutOfMemory, InputTooLong}
 
@@ -47,3 +49,13 @@ line_of InputTooLong = plain_line (codes "input too long")
 -- a sink received these bytes; only where its faults rose, a first part of them
 abbrev pub IsTold : Option (List ℕ) → Option (List ℕ) → ℕ → ℕ → List ℕ → Type 0
 IsTold before now faults_before faults_now bytes = Appends before now bytes ⊎ (AppendsPrefix before now bytes × Rose faults_before faults_now)
+
+abbrev pub status_of : Ending → Status
+status_of Done = status.Done
+status_of (Refused why) = status.Refused
+status_of Usage = status.Usage
+status_of NoDocument = status.NoDocument
+status_of ReadFault = status.ReadFault
+status_of SinkFault = status.SinkFault
+status_of OutOfMemory = status.OutOfMemory
+status_of InputTooLong = status.InputTooLong

@@ -7,8 +7,8 @@ pub mod Views
 pub mod Generated
 pub mod Words
 pub mod Settled
-pub mod First
-pub mod FirstViews
 pub mod Code
 pub mod Ending
+pub mod Tasks
+pub mod Drawn
 pub mod Run

@@ -1,11 +1,31 @@
 -- What the end of a run means.
-use Rattle.std.specs.Prelude.{◌≡◌, ◌≢◌, ◌==◌, if◌then◌else◌, nat_lt, ⊤, ℕ, ◌<◌, ◌≤◌, List, length, Option, Some, None, MatchOption}
+use Rattle.std.specs.Prelude.{◌≡◌, ⊤, ℕ, ◌<◌, ◌≤◌, List, length, map, All, IsTrue, Bool, true, false, nat_lt, if◌then◌else◌, Option, Some, None, option_map, unwrap_or}
 use Rattle.std.specs.Io.KnownBytes.{Appends, Keeps, Consumes, IsAtEnd}
 use Rattle.oxc_protocol.specs.Faults.{Rose}
+use Rattle.oxc_protocol.specs.Parts.{Parts}
 use Rattle.oxc_protocol.specs.Sink.{AppendsPrefix}
-use Rattle.report.specs.First.{Document, document_of, drawing_of}
+use Rattle.oxc_span.specs.Label.{Label}
+use Rattle.oxc_plan.specs.Laws.{HaveRowsOnce, drawn_rows}
+use Rattle.oxc_plan.specs.Marks.{DoNotOverlap, marked_cells, row_cells}
+use Rattle.oxc_plan.specs.Plan.{in_order, snippets_of, spans_of}
+use Rattle.codespan.specs.Texts.{NamedText, text_of}
+use Rattle.render_files.specs.Given.{GivenReport}
+use Rattle.render_files.specs.Refusal.{refusal_of}
+use Rattle.render_files.specs.Rendered.{StandsInFile}
+use Rattle.render_files.specs.Shown.{placed_labels}
+use Rattle.report.specs.Document.{Document, document_of}
+use Rattle.report.specs.Drawn.{measured, shown}
+use Rattle.report.specs.Ending.{IsTold, line_of, status_of}
+use Rattle.report.specs.Generated.{generated}
+use Rattle.report.specs.declared.ending.Ending.{Ending}
+use Rattle.report.specs.declared.ending.Ending.TheVariants.{Done, Refused, Usage, NoDocument, ReadFault, SinkFault, OutOfMemory, InputTooLong}
+use Rattle.report.specs.declared.words.Command.{Command}
+use Rattle.report.specs.declared.top.Look.{Look}
+use Rattle.report.specs.declared.words.Command.TheVariants.{Draw, Make}
 use Rattle.report.specs.declared.status.Status.{Status}
-use Rattle.report.specs.declared.status.Status.TheVariants.{Done, Refused, Usage, NoDocument, ReadFault, SinkFault, OutOfMemory, InputTooLong, NotBuilt}
+use Rattle.report.specs.declared.status.Status.TheVariants as status
+
+-- ---- devices
 
 -- the most bytes that a run reads
 abbrev pub limit : ℕ
@@ -24,9 +44,13 @@ device told faults old new = record { before = told old; now = told new; faults_
 abbrev pub HasRisen : Device → Type 0
 HasRisen it = Rose it.faults_before it.faults_now
 
--- it received nothing
+-- nothing was taken of it, or it received nothing
 abbrev pub IsKept : Device → Type 0
 IsKept it = Keeps it.before it.now
+
+-- it received the line that says how the run ended; only where its faults rose, a first part of it
+abbrev pub Hears : Device → Ending → Type 0
+Hears it how = IsTold it.before it.now it.faults_before it.faults_now (line_of how)
 
 -- the whole input was taken, to its end and within the limit, and these bytes are P
 pub record TookWhole (input : Device) (P : List ℕ → Type 0) : Type 0 where
@@ -42,55 +66,121 @@ pub record TookTooMuch (input : Device) : Type 0 where
   pub taken : Consumes input.before input.now bytes
   pub past : limit < length bytes
 
--- the end of a drawing of these bytes
-abbrev pub Draws : Status → List ℕ → Device → Type 0
-Draws Done bytes out = (document : Document) × (document_of bytes ≡ Some document) × Appends out.before out.now (drawing_of document)
-Draws NotBuilt bytes out = (document_of bytes ≡ None) × IsKept out
-Draws SinkFault bytes out = (document : Document) × (document_of bytes ≡ Some document) × AppendsPrefix out.before out.now (drawing_of document) × HasRisen out
-Draws OutOfMemory bytes out = IsKept out
-Draws Refused bytes out = ⊥
-Draws Usage bytes out = ⊥
-Draws NoDocument bytes out = ⊥
-Draws ReadFault bytes out = ⊥
-Draws InputTooLong bytes out = ⊥
+-- ---- what a drawing promises of the source
 
--- the end of a run, for the number of words and what was read and written
-abbrev pub Means : Status → ℕ → Device → Device → Type 0
--- the whole input is a document, and the output received its drawing
-Means Done words input out = (words ≡ 0) × ((document : Document) × TookWhole input (λ bytes. document_of bytes ≡ Some document) × Appends out.before out.now (drawing_of document))
--- there were words
-Means Usage words input out = (words ≢ 0) × IsKept input × IsKept out
--- the whole input is no document that can be drawn
-Means NotBuilt words input out = (words ≡ 0) × TookWhole input (λ bytes. document_of bytes ≡ None) × IsKept out
+-- the marks of each drawn row whose labels don't overlap are these labels' cells
+abbrev pub AreExactlyMarked : ℕ → List ℕ → List Label → Type 0
+AreExactlyMarked tabs source labels =
+    All (λ plan. DoNotOverlap (row_cells tabs plan.row (spans_of (in_order labels))) → map marked_cells plan.marks ≡ row_cells tabs plan.row (spans_of (in_order labels)))
+    (drawn_rows (snippets_of tabs source labels))
+
+-- the labels of a report end within its source; in its plan, where CR stands only before LF, each row that a label meets
+-- stands once, truly numbered; and labels of a row that don't overlap are marked in exactly their cells
+pub record IsTrueToSource (tabs : ℕ) (files : List NamedText) (it : GivenReport) : Type 0 where
+  pub stands : StandsInFile files it
+  pub rows : HaveRowsOnce tabs (text_of files it.file) (placed_labels files it)
+  pub marks : AreExactlyMarked tabs (text_of files it.file) (placed_labels files it)
+
+-- ---- the end of a run
+
+-- whether a command reads the input
+abbrev pub reads : Option Command → Bool
+reads None = false
+reads (Some (Make count)) = false
+reads (Some (Draw theme width tabs json)) = true
+
+-- the text that a command makes of the input
+abbrev pub Makes : Option Command → Device → List ℕ → Type 0
+Makes None input text = ⊥
+-- the whole input is a document without refusal; the text is its reports, each drawn by its plan, or each as JSON
+Makes (Some (Draw theme width tabs json)) input text =
+    (document : Document) × TookWhole input (λ bytes. document_of bytes ≡ Some document)
+    × (refusal_of document.files document.reports ≡ None)
+    × (text ≡ shown theme width tabs json document)
+    × All (IsTrueToSource tabs document.files) document.reports
+-- nothing is read; the text says how much the drawing of the generated document is
+Makes (Some (Make count)) input text =
+    (document : Document) × IsKept input × (document_of (generated count) ≡ Some document) × (text ≡ measured count document)
+
+-- what an ending says of the words, of what was read, and of what was written
+abbrev pub Means : Ending → Option Command → Device → Device → Type 0
+-- the output received the text, whole
+Means Done command input out = (text : List ℕ) × Makes command input text × Appends out.before out.now text
+-- the whole input is a document, and its reports are refused
+Means (Refused why) command input out =
+    IsTrue (reads command) × ((document : Document) × TookWhole input (λ bytes. document_of bytes ≡ Some document)
+    × (refusal_of document.files document.reports ≡ Some why)) × IsKept out
+-- the words are no command
+Means Usage command input out = (command ≡ None) × IsKept input × IsKept out
+-- the whole input is no document
+Means NoDocument command input out = IsTrue (reads command) × TookWhole input (λ bytes. document_of bytes ≡ None) × IsKept out
 -- the input failed
-Means ReadFault words input out = (words ≡ 0) × HasRisen input × IsKept out
--- the output failed, and received a first part of the drawing
-Means SinkFault words input out = (words ≡ 0) × ((document : Document) × TookWhole input (λ bytes. document_of bytes ≡ Some document) × AppendsPrefix out.before out.now (drawing_of document)) × HasRisen out
+Means ReadFault command input out = IsTrue (reads command) × HasRisen input × IsKept out
+-- the output failed, and received a first part of the text
+Means SinkFault command input out = ((text : List ℕ) × Makes command input text × AppendsPrefix out.before out.now text) × HasRisen out
 -- want of memory is free
-Means OutOfMemory words input out = IsKept out
+Means OutOfMemory command input out = IsKept out
 -- the input is longer than a run reads
-Means InputTooLong words input out = (words ≡ 0) × TookTooMuch input × IsKept out
--- these don't come yet
-Means Refused words input out = ⊥
-Means NoDocument words input out = ⊥
+Means InputTooLong command input out = IsTrue (reads command) × TookTooMuch input × IsKept out
 
--- the status of a document, or of none
-abbrev pub drawn_status : Option Document → Status
-drawn_status None = NotBuilt
-drawn_status (Some document) = Done
+-- a status is that of an ending, of which `err` heard
+abbrev pub Ends : Status → Option Command → Device → Device → Device → Type 0
+Ends result command input out err = (how : Ending) × (result ≡ status_of how) × Means how command input out × Hears err how
 
--- the status that the words and the input's bytes settle, where nothing fails and memory serves
-abbrev pub settled_status : ℕ → List ℕ → Status
-settled_status words bytes =
-    if words == 0 then (if nat_lt limit (length bytes) then InputTooLong else drawn_status (document_of bytes)) else Usage
+-- ---- which ending comes
+
+-- how a document, or none, is judged
+abbrev pub judged : Option Document → Ending
+judged None = NoDocument
+judged (Some document) = unwrap_or (option_map (λ why. Refused why) (refusal_of document.files document.reports)) Done
+
+-- the ending that a command, or none, and the input's bytes settle, where nothing fails and memory serves
+abbrev pub ending_of : Option Command → List ℕ → Ending
+ending_of None bytes = Usage
+ending_of (Some (Make count)) bytes = Done
+ending_of (Some (Draw theme width tabs json)) bytes = if nat_lt limit (length bytes) then InputTooLong else judged (document_of bytes)
 
 -- the status is the settled one, but for a fault that rose, and for want of memory
-abbrev pub Settles : Status → Status → Device → Device → Type 0
-Settles ReadFault wanted input out = (wanted ≢ Usage) × HasRisen input
-Settles SinkFault wanted input out = (wanted ≡ Done) × HasRisen out
-Settles OutOfMemory wanted input out = ⊤
-Settles status wanted input out = status ≡ wanted
+abbrev pub Settles : Status → Ending → Device → Device → Type 0
+Settles status.ReadFault wanted input out = HasRisen input
+Settles status.SinkFault wanted input out = (wanted ≡ Done) × HasRisen out
+Settles status.OutOfMemory wanted input out = ⊤
+Settles result wanted input out = result ≡ status_of wanted
 
--- an input within the limit that is a document
-abbrev pub IsDocument : List ℕ → Type 0
-IsDocument bytes = (length bytes ≤ limit) × MatchOption (document_of bytes) ⊥ (λ document. ⊤)
+-- the words are a command, and the input, where it is read, is told and is a document within the limit without refusal
+abbrev pub Succeeds : Option Command → Option (List ℕ) → Type 0
+Succeeds None told = ⊥
+Succeeds (Some (Make count)) told = ⊤
+Succeeds (Some (Draw theme width tabs json)) None = ⊥
+Succeeds (Some (Draw theme width tabs json)) (Some bytes) = ending_of (Some (Draw theme width tabs json)) bytes ≡ Done
+
+-- ---- a part of a run
+
+-- the end of showing the reports of the document that bytes are
+abbrev pub Shows : Ending → Look → List ℕ → Device → Type 0
+Shows Done look bytes out =
+    (document : Document) × (document_of bytes ≡ Some document) × (refusal_of document.files document.reports ≡ None)
+    × Appends out.before out.now (shown look.theme look.width look.tabs look.json document)
+Shows (Refused why) look bytes out =
+    ((document : Document) × (document_of bytes ≡ Some document) × (refusal_of document.files document.reports ≡ Some why)) × IsKept out
+Shows Usage look bytes out = ⊥
+Shows NoDocument look bytes out = (document_of bytes ≡ None) × IsKept out
+Shows ReadFault look bytes out = ⊥
+Shows SinkFault look bytes out =
+    ((document : Document) × (document_of bytes ≡ Some document) × (refusal_of document.files document.reports ≡ None)
+    × AppendsPrefix out.before out.now (shown look.theme look.width look.tabs look.json document)) × HasRisen out
+Shows OutOfMemory look bytes out = IsKept out
+Shows InputTooLong look bytes out = ⊥
+
+-- the end of measuring the drawing of the generated document
+abbrev pub Measures : Ending → ℕ → Device → Type 0
+Measures Done count out =
+    (document : Document) × (document_of (generated count) ≡ Some document) × Appends out.before out.now (measured count document)
+Measures (Refused why) count out = ⊥
+Measures Usage count out = ⊥
+Measures NoDocument count out = ⊥
+Measures ReadFault count out = ⊥
+Measures SinkFault count out =
+    ((document : Document) × (document_of (generated count) ≡ Some document) × AppendsPrefix out.before out.now (measured count document)) × HasRisen out
+Measures OutOfMemory count out = IsKept out
+Measures InputTooLong count out = ⊥

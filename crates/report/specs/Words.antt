@@ -1,5 +1,5 @@
 -- Which words are a command.
-use Rattle.std.specs.Prelude.{ℕ, ◌∷◌, List, [], length, filter_map, Option, Some, None, option_map, option_and_then, ◌==◌, ◌&&◌, not, nat_le, Bool, true, false, if◌then◌else◌, codes}
+use Rattle.std.specs.Prelude.{ℕ, ◌≤◌, ⊤, ◌∷◌, List, [], length, filter_map, Option, Some, None, option_map, option_and_then, ◌==◌, ◌&&◌, not, nat_le, Bool, true, false, if◌then◌else◌, codes}
 use Rattle.std.specs.List.{list_all}
 use Rattle.std.specs.Option.{option_or}
 use Rattle.std.specs.Str.{bytes_eq}
@@ -109,3 +109,8 @@ made_by (name ∷ count ∷ other ∷ more) = None
 -- the command that the words are, or none
 unfoldable pub command_of : List (List ℕ) → Option Command
 command_of words = option_or (option_map (λ count. Make count) (made_by words)) (option_and_then drawing_with (settings words))
+
+-- no more reports are made than the words can ask for
+abbrev pub IsFew : Command → Type 0
+IsFew (Draw theme width tabs json) = ⊤
+IsFew (Make count) = count ≤ 5000

@@ -1,7 +1,8 @@
 // How a run ended, and the line on `err` that says so. A line takes no memory.
 ghost use Rattle.std.specs.Prelude.{◌≡◌, ◌≤◌, length};
-ghost use Rattle.report.specs.Ending.{IsTold, label_line as labelled, line_of, no_position as unplaced, plain_line as plainly, refusal_line as refused_line, report_line as reported, reversed_line as reversed};
+ghost use Rattle.report.specs.Ending.{IsTold, label_line as labelled, line_of, status_of, no_position as unplaced, plain_line as plainly, refusal_line as refused_line, report_line as reported, reversed_line as reversed};
 
+use crate::status::Status;
 use arrayvec::ArrayString;
 use itoa::Buffer;
 use oxc_protocol::{Sink, write_all};
@@ -29,6 +30,24 @@ pub(crate) enum Ending {
     OutOfMemory,
     /// The input is longer than a run reads.
     InputTooLong,
+}
+
+impl Ending {
+    /// The status that stands for it.
+    pub(crate) fn status(self) -> Status
+        ensures { result ≡ status_of self }
+    {
+        match self {
+            Ending::Done => Status::Done,
+            Ending::Refused(_) => Status::Refused,
+            Ending::Usage => Status::Usage,
+            Ending::NoDocument => Status::NoDocument,
+            Ending::ReadFault => Status::ReadFault,
+            Ending::SinkFault => Status::SinkFault,
+            Ending::OutOfMemory => Status::OutOfMemory,
+            Ending::InputTooLong => Status::InputTooLong,
+        }
+    }
 }
 
 /// Writes the line that says how a run ended. A sink that fails receives a first part of it.

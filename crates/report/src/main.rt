@@ -7,8 +7,6 @@
 mod document;
 mod ending;
 mod fields;
-mod first;
-mod first_values;
 mod generate;
 mod memory;
 mod source;
@@ -19,7 +17,6 @@ mod values;
 mod words;
 
 pub use document::{Document, read_document};
-pub use first::{FirstDocument, read_first};
 pub use generate::generate;
 pub use memory::MemorySource;
 pub use source::{Reading, Source, read_all};
@@ -28,7 +25,7 @@ pub use status::Status;
 #[cfg(test)]
 mod document_tests;
 #[cfg(test)]
-mod tests;
+mod run_tests;
 
 use std::env;
 use std::io::ErrorKind;

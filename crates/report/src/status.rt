@@ -3,13 +3,13 @@
 /// What a run ended with; its [`code`](Status::code) is the program's exit status.
 #[derive(Clone, Copy, Debug, PartialEq, Eq)]
 pub enum Status {
-    /// The drawing was written whole.
+    /// The text was written whole.
     Done,
-    /// A report names no file or no place. Not answered yet.
+    /// A report names no file or no place.
     Refused,
     /// The words are no command.
     Usage,
-    /// The input is no document. Not answered yet: `NotBuilt` stands for it.
+    /// The input is no document.
     NoDocument,
     /// The input failed.
     ReadFault,
@@ -19,8 +19,6 @@ pub enum Status {
     OutOfMemory,
     /// The input is longer than a run reads.
     InputTooLong,
-    /// The input is nothing that can be drawn yet.
-    NotBuilt,
 }
 
 impl Status {
@@ -40,7 +38,6 @@ impl Status {
             Status::SinkFault => 5,
             Status::OutOfMemory => 6,
             Status::InputTooLong => 7,
-            Status::NotBuilt => 8,
         }
     }
 }

@@ -1,7 +1,7 @@
 // The words of the command line.
 ghost use Rattle.std.specs.Prelude.{◌≡◌, ◌<◌, ◌≤◌, IfSome, length, map, option_and_then, string_bytes};
 ghost use Rattle.std.specs.List.{list_all};
-ghost use Rattle.report.specs.Words.{begins_well as may_begin, command_of, drawing_with, is_digit as is_code_of_digit, made_by as count_made_by, number as number_of, number_in as number_between, setting_of as setting_named, settings, settings_with, theme_named as theme_of_name};
+ghost use Rattle.report.specs.Words.{begins_well as may_begin, command_of, drawing_with, IsFew, is_digit as is_code_of_digit, made_by as count_made_by, number as number_of, number_in as number_between, setting_of as setting_named, settings, settings_with, theme_named as theme_of_name};
 ghost use Rattle.report.specs.Settled.{begun_with, drawing_of, settled, with_setting};
 
 use oxc_plan::TabWidth;
@@ -63,7 +63,8 @@ pub(crate) struct Settings {
 /// is one to nine digits, of which the first isn't 0 unless it is the only one.
 #[tactic(auto, unfolding(crate::specs::Words::command_of))]
 pub fn read_words(words: &[String]) -> Option<Command>
-    ensures { result ≡ command_of (map string_bytes words.now) }
+    ensures value { result ≡ command_of (map string_bytes words.now) }
+    ensures few { IfSome result IsFew }
 {
     match made_by(words) {
         Some(count) => Some(Command::Make { count }),
@@ -74,7 +75,8 @@ pub fn read_words(words: &[String]) -> Option<Command>
 // The count behind `--make`.
 #[tactic(auto, using(crate::proofs::WordLemmas::not_two))]
 fn made_by(words: &[String]) -> Option<u32>
-    ensures { result ≡ count_made_by (map string_bytes words.now) }
+    ensures value { result ≡ count_made_by (map string_bytes words.now) }
+    ensures few { IfSome result (λ count. count ≤ 5000) }
 {
     match words {
         [name, count] => {
@@ -90,7 +92,8 @@ fn made_by(words: &[String]) -> Option<u32>
 
 #[tactic(auto, using(crate::proofs::WordLemmas::drawing_none))]
 fn read_drawing(words: &[String]) -> Option<Command>
-    ensures { result ≡ option_and_then drawing_with (settings (map string_bytes words.now)) }
+    ensures value { result ≡ option_and_then drawing_with (settings (map string_bytes words.now)) }
+    ensures few { IfSome result IsFew }
 {
     let nothing = Settings {
         theme: None,
@@ -203,7 +206,8 @@ fn theme_named(word: &str) -> Option<ThemeName>
 
 // A number from the least to the most.
 fn number_in(least: u32, most: u32, word: &str) -> Option<u32>
-    ensures { result ≡ number_between least most word.now }
+    ensures value { result ≡ number_between least most word.now }
+    ensures within { IfSome result (λ number. (least ≤ number) × (number ≤ most)) }
 {
     let number = number(word)?;
     if least <= number && number <= most {

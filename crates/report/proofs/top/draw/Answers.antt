@@ -1,19 +1,10 @@
--- The document that was read is the one that is drawn.
-use Rattle.std.proofs.Common.{refl}
-use Rattle.report.proofs.FirstLemmas.{document_of-drawable}
-use Rattle.report.specs.FirstViews.{document_view}
+-- What was shown is what the whole input is.
+use Rattle.report.proofs.RunLemmas.{shown_means}
+use Rattle.report.specs.Run.{device}
 use Rattle.report.proofs.top.draw.Goals as goal
 
-pub returns-in-Ok : goal.returns-in-Ok
-returns-in-Ok g c =
-    let read = rw c.in-Ok-Some.field-0-is at c.in-Ok-Some.ensures.form in
-    let all = rw c.deref.ensures.value at c.in-Ok.ensures.cause in
-    let drawn = rw c.deref.ensures.value at c.in-Ok.ensures.drawn in
-    (document_view c.in-Ok-Some.document, document_of-drawable c.args.bytes.now _ read all, drawn)
-
-pub returns-in-Err-SinkFault : goal.returns-in-Err-SinkFault
-returns-in-Err-SinkFault g c =
-    let read = rw c.in-Ok-Some.field-0-is at c.in-Ok-Some.ensures.form in
-    let all = rw (c.in-Err-SinkFault.field-0-is, c.deref.ensures.value) at c.in-Err-SinkFault.ensures.cause in
-    let part = rw (c.in-Err-SinkFault.field-0-is, c.deref.ensures.value) at c.in-Err-SinkFault.ensures.left in
-    (document_view c.in-Ok-Some.document, document_of-drawable c.args.bytes.now _ read all, part, c.in-Err-SinkFault.ensures.fault (rw c.in-Err-SinkFault.field-0-is refl))
+pub returns-in-Whole : goal.returns-in-Whole
+returns-in-Whole g c =
+    let shows = rw c.deref.ensures.value at c.show.ensures in
+    shown_means c.show.result c.args.look (device g.I.Source.left g.I.Source.faults c.args.input.now c.read_all.new.input) _ c.in-Whole.bytes.items
+    c.in-Whole.ensures.says.1 c.in-Whole.ensures.says.2 c.in-Whole.ensures.says.0 shows
