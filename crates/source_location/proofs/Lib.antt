@@ -10,3 +10,4 @@ pub mod OffsetLemmas
 pub mod LargestLemmas
 pub mod LinesLemmas
 pub mod EndingLemmas
+pub mod ScanLemmas

@@ -14,6 +14,7 @@ ghost use Rattle.source_location.specs.Index.{Fits, index_of};
 mod laws;
 mod line_index;
 mod newlines;
+mod scan_back;
 #[cfg(test)]
 mod tests;
 

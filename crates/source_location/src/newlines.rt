@@ -6,7 +6,8 @@ ghost use Rattle.source_location.specs.Breaks.{breaks_of};
 ghost use Rattle.source_location.specs.Newlines.{ending_bytes, ending_with, IsFirstBreak};
 ghost use Rattle.source_location.specs.Lines.{LineView, lines_of, lines_with_trailing, ending_length, without_ending, texts_of, IsFirstLine, IsLastLine};
 
-use memchr::{memchr2, memrchr2};
+use crate::scan_back::last_of_breaks;
+use memchr::memchr2;
 use std::marker::Model;
 use text_size::{TextLen, TextRange, TextSize};
 
@@ -149,7 +150,7 @@ fn last_line_start(text: &str) -> usize
 {
     let bytes = text.as_bytes();
     let inner = bytes.len() - length_of_ending(bytes);
-    match memrchr2(b'\n', b'\r', &bytes[..inner]) {
+    match last_of_breaks(&bytes[..inner]) {
         Some(position) => position + 1,
         None => 0,
     }

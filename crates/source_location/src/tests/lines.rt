@@ -73,6 +73,10 @@ fn lines_come_backwards(rt: HostRuntime) {
     }
     assert!(rt; lines.next_back().is_none());
     assert_eq!(rt; last_start("foo\nbop\n\n"), Some(8));
+    let long =
+        "the first line has more than thirty-two bytes, a vector\nand so has the last one, with its break at the end\n";
+    assert_eq!(rt; last_start(long), Some(56));
+    assert_eq!(rt; last_start(&long[..56]), Some(0));
 }
 
 #[test]
