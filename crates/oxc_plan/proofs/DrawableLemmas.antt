@@ -18,7 +18,7 @@ use Rattle.oxc_windows.specs.Breaks.{breaks_of}
 use Rattle.oxc_windows.specs.Rows.{byte_column, is_second_byte, row_of, row_start, settled}
 use Rattle.oxc_windows.specs.Window.{window_end}
 use Rattle.oxc_windows.proofs.BreaksLemmas.{breaks_valid}
-use Rattle.oxc_windows.proofs.RowsLemmas.{row_le}
+use Rattle.oxc_windows.proofs.RowsLemmas.{row_at_start, row_le, row_of_le}
 use Rattle.oxc_windows.proofs.TextLemmas.{window_text}
 use Rattle.oxc_windows.proofs.WindowLemmas.{row_start_within}
 use Rattle.oxc_plan.specs.Drawable.{IsDrawable, IsDrawableRow, is_marked}
@@ -34,7 +34,6 @@ use Rattle.oxc_plan.specs.declared.marks.MarkCells.{MarkCells}
 use Rattle.oxc_plan.proofs.GroupsLemmas.{groups_of_are}
 use Rattle.oxc_plan.proofs.MarksLemmas.{placed_in_order}
 use Rattle.oxc_plan.proofs.OrderLemmas.{spans_valid}
-use Rattle.oxc_plan.proofs.PlaceLemmas.{row_at_start, row_of_le}
 use Rattle.oxc_plan.proofs.PlanLemmas.{groups_within, head_holds, one_rows_within, range_below, rows_below, spans_ordered}
 use Rattle.oxc_plan.proofs.RowsLemmas.{first_len_bounds, pieces-nil, pieces_first}
 

@@ -1,7 +1,6 @@
 -- Groups: there is one division into them, and their windows lie apart.
 use Rattle.std.proofs.Common.{◌≡◌, ℕ, zero, suc, ◌+◌, ◌-◌, ◌<◌, ◌≤◌, List, [], ◌∷◌, length, ◌++◌, append_assoc, get_or, take, drop, fold, max, refl, sym, ap, subst, ◌∙◌, arith, ⊎_elim, inl, inr, Bool, true, false, not, ltb, All}
 use Rattle.std.specs.List.{position_or_len, range_with_len}
-use Rattle.std.specs.List.Sorted.{IsNonDecreasingBy}
 use Rattle.std.specs.declared.ops.Range.{Range}
 use Rattle.std.proofs.lemmas.Bool.{cases_lt, cases_Bool, ltb-true, ltb-false}
 use Rattle.std.proofs.lemmas.List.FromFn.{length-range_with_len, get_or-range_with_len}

@@ -2,15 +2,12 @@
 use Rattle.std.proofs.Common.{◌≡◌, ℕ, zero, suc, ◌<◌, ◌≤◌, Bool, true, false, cond, List, [], ◌∷◌, length, get_or, filter, eqb, ltb, nat_cmp, is_lt, refl, sym, ap, subst, ◌∙◌, arith, inl, inr, suc-le-suc, zero-le, ⊎_elim, All}
 use Rattle.std.proofs.lemmas.List.{get_or_past, get_or-map, length-map}
 use Rattle.std.proofs.lemmas.List.Elements.{All-map}
-use Rattle.std.proofs.lemmas.Bool.{cond-true, cond-false, cases_Bool, ltb-true, ltb-false, eqb-true, cases_lt}
+use Rattle.std.proofs.lemmas.Bool.{cond-true, cond-false, cases_Bool, ltb-true, ltb-false, eqb-true, cases_lt, eq-eqb}
 use Rattle.std.proofs.lemmas.Bool.Decides.{nat_tests}
 use Rattle.std.specs.List.Sorted.{ties, IsNonDecreasingBy, IsStableByKey}
 use Rattle.oxc_span.specs.declared.span.Span.{Span}
 use Rattle.oxc_span.specs.Label.{Label, label_end}
 use Rattle.oxc_plan.specs.Order.{no_label, label_at, start_at, starting_at, places, IsLabelOrder, inserted, ordered, label_order, span_of, spans_in_order}
-
-eqb_of : (m n : ℕ) → m ≡ n → eqb m n ≡ true
-eqb_of m n h = grind (arith, nat_tests)
 
 kept : (p : ℕ → Bool) (y : ℕ) (ys : List ℕ) → p y ≡ true → filter p (y ∷ ys) ≡ y ∷ filter p ys
 kept p y ys h = cond-true _ _ _ h
@@ -134,15 +131,15 @@ same_from_starts : (labels : List Label) (ys zs : List ℕ) → Rises labels ys 
     → ((at : ℕ) → starting_at labels (start_at labels at) ys ≡ starting_at labels (start_at labels at) zs) → ys ≡ zs
 same_from_starts labels [] [] left right same = refl
 same_from_starts labels [] (z ∷ zs) left right same =
-    let clash = same z ∙ kept (λ k. eqb (start_at labels k) (start_at labels z)) z zs (eqb_of _ _ refl) in cc
+    let clash = same z ∙ kept (λ k. eqb (start_at labels k) (start_at labels z)) z zs (eq-eqb _ _ refl) in cc
 same_from_starts labels (y ∷ ys) [] left right same =
-    let clash = sym (same y) ∙ kept (λ k. eqb (start_at labels k) (start_at labels y)) y ys (eqb_of _ _ refl) in cc
+    let clash = sym (same y) ∙ kept (λ k. eqb (start_at labels k) (start_at labels y)) y ys (eq-eqb _ _ refl) in cc
 same_from_starts labels (y ∷ ys) (z ∷ zs) left right same =
-    let at_y = kept (λ k. eqb (start_at labels k) (start_at labels y)) y ys (eqb_of _ _ refl) in
-    let at_z = kept (λ k. eqb (start_at labels k) (start_at labels z)) z zs (eqb_of _ _ refl) in
+    let at_y = kept (λ k. eqb (start_at labels k) (start_at labels y)) y ys (eq-eqb _ _ refl) in
+    let at_z = kept (λ k. eqb (start_at labels k) (start_at labels z)) z zs (eq-eqb _ _ refl) in
     let up = start_found labels (start_at labels z) (start_at labels y) (z ∷ zs) y _ (omega arith, right.0) (sym (same y) ∙ at_y) in
     let down = start_found labels (start_at labels y) (start_at labels z) (y ∷ ys) z _ (omega arith, left.0) (same z ∙ at_z) in
-    let heads = sym at_y ∙ same y ∙ kept (λ k. eqb (start_at labels k) (start_at labels y)) z zs (eqb_of _ _ (omega arith)) in
+    let heads = sym at_y ∙ same y ∙ kept (λ k. eqb (start_at labels k) (start_at labels y)) z zs (eq-eqb _ _ (omega arith)) in
     let head : y ≡ z = cc in
     let tails : (at : ℕ) → starting_at labels (start_at labels at) ys ≡ starting_at labels (start_at labels at) zs =
     λ at. let p : ℕ → Bool = λ k. eqb (start_at labels k) (start_at labels at) in

@@ -1,232 +1,29 @@
--- Rows and columns counted by the bytes that end breaks.
-use Rattle.std.proofs.Common.{◌≡◌, ℕ, zero, suc, ◌+◌, ◌-◌, ◌<◌, ◌≤◌, ◌⊎◌, ◌&&◌, ◌||◌, not, true, false, List, length, get_or, take, drop, slice_range, min, Some, refl, sym, ap, subst, ◌∙◌, arith, eqb, ⊎_elim, inl, inr}
-use Rattle.std.specs.List.{Contains}
-use Rattle.std.proofs.lemmas.Bool.{cases_lt, false≢true}
-use Rattle.std.proofs.lemmas.Bool.Decides.{nat_tests}
-use Rattle.std.proofs.lemmas.List.{get_or_past, get_or-take, get_or-drop, length-take, length-drop}
-use Rattle.std.proofs.lemmas.List.Elements.{Contains-append_left, Contains-push}
-use Rattle.oxc_windows.specs.declared.breaks.LineBreak.{LineBreak}
-use Rattle.oxc_windows.specs.Breaks.{break_at, breaks_before, breaks_of, AreBreaks, IsBreakList}
+-- Rows and columns counted in bytes that were read for a span.
+use Rattle.std.proofs.Common.{◌≡◌, ℕ, ◌+◌, ◌-◌, ◌<◌, ◌≤◌, ◌⊎◌, ◌&&◌, ◌||◌, not, true, false, List, length, get_or, take, drop, slice_range, min, sym, ap, ◌∙◌, arith, eqb, ⊎_elim, inl, inr}
+use Rattle.std.proofs.lemmas.Bool.{cases_lt}
+use Rattle.std.proofs.lemmas.List.{get_or_past, length-take, length-drop}
+use Rattle.oxc_windows.specs.Breaks.{breaks_of, ends_break}
 use Rattle.oxc_windows.specs.Rows.{row_of, row_start, settled}
-use Rattle.oxc_windows.specs.Window.{row_further, window_end}
-use Rattle.oxc_windows.proofs.BreaksLemmas.{breaks_before_found, breaks_before_more, breaks_found, breaks_valid}
-use Rattle.oxc_windows.proofs.RowsLemmas.{row_le, ends_before_row, ends_from_row, row_start_after, row_start_past, settled_at, settled_else}
+use Rattle.oxc_windows.specs.Window.{window_end}
+use Rattle.oxc_windows.proofs.BreaksLemmas.{breaks_valid}
+use Rattle.oxc_windows.proofs.ByteRowsLemmas.{number_cases, row_after_end, row_after_other, settled_other, settled_pair, uncut}
+use Rattle.oxc_windows.proofs.ListLemmas.{part_at}
+use Rattle.oxc_windows.proofs.RowsLemmas.{row_at_start, row_le}
+use Rattle.oxc_windows.proofs.WindowLemmas.{window_reaches}
 use Rattle.oxc_windows.specs.Scan.{Contents, contents_of}
 use Rattle.oxc_span.specs.declared.span.Span.{Span}
 use Rattle.oxc_plan.specs.Groups.{window_round}
-use Rattle.oxc_plan.specs.Place.{ends_break}
-
-no_break : LineBreak
-no_break = record { start = 0; end = 0 }
-
--- a break that starts at a place before n is among those before n
-found_in : (bytes : List ℕ) (n at : ℕ) (b : LineBreak) → break_at bytes at ≡ Some b → at < n → Contains (breaks_before bytes n) b
-found_in bytes zero at b e lt = absurd (omega arith)
-found_in bytes (suc n) at b e lt =
-    let one_more : n + 1 ≡ suc n = omega arith in
-    subst (λ m. Contains (breaks_before bytes m) b) one_more
-    (⊎_elim
-    (λ before. subst (λ l. Contains l b) (sym (breaks_before_more bytes n)) (Contains-append_left (breaks_before bytes n) _ b (found_in bytes n at b e before)))
-    (λ from.
-    let same : at ≡ n = omega arith in
-    subst (λ l. Contains l b) (sym (breaks_before_found bytes n b (subst (λ k. break_at bytes k ≡ Some b) same e))) (Contains-push (breaks_before bytes n) b))
-    (cases_lt at n))
-
-listed : (bytes : List ℕ) (at : ℕ) (b : LineBreak) → break_at bytes at ≡ Some b → at < length bytes → Contains (breaks_of bytes) b
-unfolding breaks_of
-listed bytes at b e lt = found_in bytes (length bytes) at b e lt
-
--- the last byte of a break says that it is one
-pub break_says : (bytes : List ℕ) (b : LineBreak) → break_at bytes b.start ≡ Some b → ends_break bytes b.end ≡ true
-break_says bytes b e = grind (arith, nat_tests)
-
--- a byte that ends a break ends one that starts there or one byte before
-lf_alone : (bytes : List ℕ) (at : ℕ) → get_or bytes at 0 ≡ 10 → (get_or bytes (at - 1) 0 ≡ 13 → ⊥) → break_at bytes at ≡ Some (record { start = at; end = at })
-lf_alone bytes at lf other = grind (arith, nat_tests)
-
-pair_there : (bytes : List ℕ) (at : ℕ) → get_or bytes at 0 ≡ 13 → get_or bytes (at + 1) 0 ≡ 10 → break_at bytes at ≡ Some (record { start = at; end = at + 1 })
-pair_there bytes at cr lf = grind (arith, nat_tests)
-
-cr_alone : (bytes : List ℕ) (at : ℕ) → get_or bytes at 0 ≡ 13 → (get_or bytes (at + 1) 0 ≡ 10 → ⊥) → break_at bytes at ≡ Some (record { start = at; end = at })
-cr_alone bytes at cr other = grind (arith, nat_tests)
-
-pub test_says : (a b : ℕ) → (eqb a 10 || eqb a 13 && not (eqb b 10)) ≡ true → (a ≡ 10) ⊎ ((a ≡ 13) × (b ≡ 10 → ⊥))
-test_says a b e = grind (arith, nat_tests)
-
-pub number_cases : (a b : ℕ) → (a ≡ b) ⊎ (a ≡ b → ⊥)
-number_cases a b =
-    ⊎_elim (λ lt. inr (λ e. omega arith)) (λ ge. ⊎_elim (λ gt. inr (λ e. omega arith)) (λ le. inl (omega arith)) (cases_lt b a)) (cases_lt a b)
-
--- a CRLF is listed
-pair_listed : (bytes : List ℕ) (at : ℕ) → 0 < at → at < length bytes → get_or bytes (at - 1) 0 ≡ 13 → get_or bytes at 0 ≡ 10
-    → Contains (breaks_of bytes) (record { start = at - 1; end = at })
-pair_listed bytes at some lt cr lf =
-    let place : at - 1 + 1 ≡ at = omega arith in
-    let next : get_or bytes (at - 1 + 1) 0 ≡ 10 = ap (λ k. get_or bytes k 0) place ∙ lf in
-    let found = pair_there bytes (at - 1) cr next in
-    listed bytes (at - 1) (record { start = at - 1; end = at }) (found ∙ ap (λ k. Some (record { start = at - 1; end = k })) place) (omega arith)
-
--- what a break that ends at a place is among the breaks
-pub record EndsAt (bytes : List ℕ) (at : ℕ) : Type 0 where
-  pub break : LineBreak
-  pub listed : Contains (breaks_of bytes) break
-  pub end : break.end ≡ at
-
-pub said_break : (bytes : List ℕ) (at : ℕ) → at < length bytes → ends_break bytes at ≡ true → EndsAt bytes at
-said_break bytes at lt said =
-    ⊎_elim
-    (λ lf. ⊎_elim
-    (λ cr. ⊎_elim
-    (λ some. record { break = record { start = at - 1; end = at }; listed = pair_listed bytes at some lt cr lf; end = refl })
-    (λ none. let same : at - 1 ≡ at = omega arith in absurd (omega (arith, ap (λ k. get_or bytes k 0) same, cr, lf)))
-    (cases_lt 0 at))
-    (λ other. record { break = record { start = at; end = at }; listed = listed bytes at _ (lf_alone bytes at lf other) lt; end = refl })
-    (number_cases (get_or bytes (at - 1) 0) 13))
-    (λ cr. record { break = record { start = at; end = at }; listed = listed bytes at _ (cr_alone bytes at cr.0 cr.1) lt; end = refl })
-    (test_says (get_or bytes at 0) (get_or bytes (at + 1) 0) said)
-
--- the row past the end of a break
-pub row_past_end : (list : List LineBreak) (k : ℕ) (d : LineBreak) → AreBreaks list → k < length list → row_of list ((get_or list k d).end + 1) ≡ k + 1
-row_past_end list k d ok lt =
-    let o = (get_or list k d).end + 1 in
-    let low : k < row_of list o = ⊎_elim (λ h. h) (λ ge. absurd (omega (arith, ends_from_row list o ok k d ge lt))) (cases_lt k (row_of list o)) in
-    let high : row_of list o ≤ k + 1 =
-    ⊎_elim
-    (λ past.
-    let inside : k + 1 < length list = omega (arith, past, row_le list o) in
-    absurd (omega (arith, ends_before_row list o ok (k + 1) d past, ok.apart k (k + 1) d (omega arith) inside, (ok.shape (k + 1) d inside).0)))
-    (λ le. le) (cases_lt (k + 1) (row_of list o)) in
-    omega (arith, low, high)
-
--- a break that ends at an offset is the one at the offset's row
-pub end_at_row : (list : List LineBreak) (o k : ℕ) (d : LineBreak) → AreBreaks list → k < length list → (get_or list k d).end ≡ o → k ≡ row_of list o
-end_at_row list o k d ok lt e =
-    let low : row_of list o ≤ k = ⊎_elim (λ before. absurd (omega (arith, ends_before_row list o ok k d before, e))) (λ ge. ge) (cases_lt k (row_of list o)) in
-    let high : k ≤ row_of list o =
-    ⊎_elim
-    (λ more. absurd (omega (arith, ends_from_row list o ok (row_of list o) d (omega arith) (omega (arith, more, lt)), ok.apart (row_of list o) k d more lt, (ok.shape k d lt).0, e)))
-    (λ le. le) (cases_lt (row_of list o) k) in
-    omega (arith, low, high)
-
--- past a byte that ends a break the next row begins
-pub row_after_end : (bytes : List ℕ) (at : ℕ) → at < length bytes → ends_break bytes at ≡ true
-    → (row_of (breaks_of bytes) (at + 1) ≡ row_of (breaks_of bytes) at + 1) × (row_start (length bytes) (breaks_of bytes) (row_of (breaks_of bytes) at + 1) ≡ at + 1)
-row_after_end bytes at lt said =
-    let list = breaks_of bytes in
-    let ok = (breaks_valid bytes).ordered in
-    let found = said_break bytes at lt said in
-    let k = found.listed.0 in
-    let inside = found.listed.1 in
-    let ends : (get_or list k found.break).end ≡ at = ap (λ b. b.end) found.listed.2 ∙ found.end in
-    let place : k ≡ row_of list at = end_at_row list at k found.break ok inside ends in
-    let next = row_past_end list k found.break ok inside in
-    let starts : row_start (length bytes) list (suc k) ≡ (get_or list k found.break).end + 1 = row_start_after (length bytes) list k found.break inside in
-    let one_more : suc k ≡ row_of list at + 1 = omega arith in (
-      ap (λ o. row_of list (o + 1)) (sym ends) ∙ next ∙ ap (λ r. r + 1) place,
-      sym (ap (row_start (length bytes) list) one_more) ∙ starts ∙ ap (λ o. o + 1) ends,
-    )
-
--- past another byte the row goes on
-pub row_after_other : (bytes : List ℕ) (at : ℕ) → ends_break bytes at ≡ false → row_of (breaks_of bytes) (at + 1) ≡ row_of (breaks_of bytes) at
-row_after_other bytes at said =
-    let list = breaks_of bytes in
-    let ok = (breaks_valid bytes).ordered in
-    let r = row_of list at in
-    let s = row_of list (at + 1) in
-    let low : r ≤ s = ⊎_elim (λ lt. absurd (omega (arith, ends_before_row list at ok s no_break lt, ends_from_row list (at + 1) ok s no_break (omega arith) (omega (arith, lt, row_le list at))))) (λ ge. ge) (cases_lt s r) in
-    let high : s ≤ r =
-    ⊎_elim
-    (λ lt.
-    let inside : r < length list = omega (arith, lt, row_le list (at + 1)) in
-    let end : (get_or list r no_break).end ≡ at = omega (arith, ends_before_row list (at + 1) ok r no_break lt, ends_from_row list at ok r no_break (omega arith) inside) in
-    absurd (false≢true (sym said ∙ sym (ap (ends_break bytes) end) ∙ break_says bytes (get_or list r no_break) (breaks_found bytes r no_break inside).0)))
-    (λ le. le) (cases_lt r s) in
-    omega (arith, low, high)
-
--- a row of the source starts in that row
-pub row_at_start : (len : ℕ) (list : List LineBreak) (r : ℕ) → AreBreaks list → r ≤ length list → row_of list (row_start len list r) ≡ r
-unfolding row_start
-row_at_start len list zero ok le =
-    ⊎_elim (λ some. absurd (omega (arith, ends_before_row list 0 ok 0 no_break some))) (λ none. omega arith) (cases_lt 0 (row_of list 0))
-row_at_start len list (suc k) ok le =
-    ap (row_of list) (row_start_after len list k no_break le) ∙ row_past_end list k no_break ok le ∙ omega arith
-
--- where an offset counts, by the bytes
-pub settled_pair : (bytes : List ℕ) (at : ℕ) → 0 < at → at < length bytes → get_or bytes (at - 1) 0 ≡ 13 → get_or bytes at 0 ≡ 10 → settled (breaks_of bytes) at ≡ at - 1
-settled_pair bytes at some lt cr lf =
-    let list = breaks_of bytes in
-    let ok = (breaks_valid bytes).ordered in
-    let found = pair_listed bytes at some lt cr lf in
-    let b : LineBreak = record { start = at - 1; end = at } in
-    let place = end_at_row list at found.0 b ok found.1 (ap (λ c. c.end) found.2) in
-    let there : get_or list (row_of list at) b ≡ b = ap (λ k. get_or list k b) (sym place) ∙ found.2 in
-    let inside : row_of list at < length list = omega (arith, found.1) in
-    settled_at list at b ok inside (ap (λ c. c.end) there) ∙ ap (λ c. c.start) there
-
-pair_said : (bytes : List ℕ) (b : LineBreak) (at : ℕ) → break_at bytes b.start ≡ Some b → b.end ≡ at → b.start < at
-    → (0 < at) × (get_or bytes (at - 1) 0 ≡ 13) × (get_or bytes at 0 ≡ 10)
-pair_said bytes b at e end lt = grind (arith, nat_tests)
-
-pub settled_other : (bytes : List ℕ) (at : ℕ) → (0 < at → get_or bytes (at - 1) 0 ≡ 13 → get_or bytes at 0 ≡ 10 → ⊥) → settled (breaks_of bytes) at ≡ at
-settled_other bytes at none =
-    let list = breaks_of bytes in
-    let ok = (breaks_valid bytes).ordered in
-    let r = row_of list at in
-    ⊎_elim
-    (λ inside. ⊎_elim
-    (λ end. settled_at list at no_break ok inside end
-    ∙ ⊎_elim
-    (λ lt. let said = pair_said bytes (get_or list r no_break) at (breaks_found bytes r no_break inside).0 end lt in absurd (none said.0 said.1 said.2))
-    (λ ge. omega (arith, ge, end, (ok.shape r no_break inside).0))
-    (cases_lt (get_or list r no_break).start at))
-    (λ other. settled_else list at no_break ok (λ h. other))
-    (number_cases (get_or list r no_break).end at))
-    (λ past. settled_else list at no_break ok (λ h end. omega (arith, h, past)))
-    (cases_lt r (length list))
 
 -- the bytes of a part of a source that reaches past a place, or to the source's end
-pub byte_within : (bytes : List ℕ) (begin end at : ℕ) → begin ≤ at → (at < end) ⊎ (end ≡ length bytes) → get_or (slice_range bytes begin end) (at - begin) 0 ≡ get_or bytes at 0
+byte_within : (bytes : List ℕ) (begin end at : ℕ) → begin ≤ at → (at < end) ⊎ (end ≡ length bytes) → get_or (slice_range bytes begin end) (at - begin) 0 ≡ get_or bytes at 0
 byte_within bytes begin end at from known =
-    let place : begin + (at - begin) ≡ at = omega arith in
-    let there : get_or (drop begin bytes) (at - begin) 0 ≡ get_or bytes at 0 = get_or-drop begin bytes (at - begin) 0 ∙ ap (λ k. get_or bytes k 0) place in
     ⊎_elim
-    (λ lt. get_or-take (end - begin) (drop begin bytes) (at - begin) 0 (omega arith) ∙ there)
+    (λ lt. part_at bytes begin end at from lt)
     (λ (ge : end ≤ at). ⊎_elim (λ lt. absurd (omega (arith, lt, ge)))
     (λ (all : end ≡ length bytes).
     let short : length (take (end - begin) (drop begin bytes)) ≤ at - begin = rw length-take (omega (arith, ge)) in
     get_or_past (take (end - begin) (drop begin bytes)) (at - begin) 0 short ∙ sym (get_or_past bytes at 0 (omega (arith, ge, all)))) known)
     (cases_lt at end)
-
--- a window of rows round a span reaches past each place up to the span's end, or to the source's end
-pub window_reaches : (len : ℕ) (list : List LineBreak) (end : ℕ) → IsBreakList len list → end ≤ len → (end < window_end len list 1 end) ⊎ (window_end len list 1 end ≡ len)
-unfolding window_end
-window_reaches len list end ok le =
-    let last = row_of list (end - 1) in
-    let k = last + 1 + row_further list (end - 1) in
-    let one_more : suc k ≡ last + 1 + row_further list (end - 1) + 1 = omega arith in
-    ⊎_elim
-    (λ inside.
-    let before = ends_from_row list (end - 1) ok.ordered (k - 1) no_break (omega arith) (omega (arith, inside)) in
-    let apart = ok.ordered.apart (k - 1) k no_break (omega arith) inside in
-    let shape = (ok.ordered.shape k no_break inside).0 in
-    inl (subst (λ r. end < row_start len list r) one_more (omega (arith, row_start_after len list k no_break inside, before, apart, shape))))
-    (λ past. inr (subst (λ r. row_start len list r ≡ len) one_more (row_start_past len list (suc k) (omega (arith, past)))))
-    (cases_lt k (length list))
-
--- no more rows than bytes
-place_le_start : (list : List LineBreak) → AreBreaks list → (k : ℕ) → k < length list → k ≤ (get_or list k no_break).start
-place_le_start list ok zero h = omega arith
-place_le_start list ok (suc k) h =
-    omega (arith, place_le_start list ok k (omega arith), ok.apart k (suc k) no_break (omega arith) h, (ok.shape k no_break (omega arith)).0)
-
-pub row_of_le : (list : List LineBreak) (o : ℕ) → AreBreaks list → row_of list o ≤ o
-row_of_le list o ok =
-    ⊎_elim
-    (λ some.
-    let k = row_of list o - 1 in
-    let inside : k < length list = omega (arith, row_le list o, some) in
-    omega (arith, place_le_start list ok k inside, (ok.shape k no_break inside).0, ends_before_row list o ok k no_break (omega (arith, some)), some))
-    (λ none. omega (arith, none)) (cases_lt 0 (row_of list o))
 
 -- bytes that were read for a span, from where a row begins
 pub record IsReadFor (source : List ℕ) (span : Span) (part : List ℕ) (from row : ℕ) : Type 0 where
@@ -290,21 +87,6 @@ pub read_after_other : (source : List ℕ) (span : Span) (bytes : List ℕ) (beg
     → row_of (breaks_of source) (at + 1) ≡ row_of (breaks_of source) at
 read_after_other source span bytes begin line at is from lt said =
     row_after_other source at (sym (read_ends source span bytes begin line at is from lt) ∙ said)
-
--- no CRLF stands across the start of a row
-uncut : (source : List ℕ) (begin line : ℕ) → begin ≡ row_start (length source) (breaks_of source) line → line ≡ row_of (breaks_of source) begin → 0 < begin → begin < length source
-    → get_or source (begin - 1) 0 ≡ 13 → get_or source begin 0 ≡ 10 → ⊥
-unfolding row_start
-uncut source begin zero starts counts some lt cr lf = omega (arith, starts, some)
-uncut source begin (suc k) starts counts some lt cr lf =
-    let list = breaks_of source in
-    let ok = (breaks_valid source).ordered in
-    let found = pair_listed source begin some lt cr lf in
-    let b : LineBreak = record { start = begin - 1; end = begin } in
-    let place : found.0 ≡ suc k = end_at_row list begin found.0 b ok found.1 (ap (λ c. c.end) found.2) ∙ sym counts in
-    let inside : suc k < length list = omega (arith, place, found.1) in
-    let there : (get_or list (suc k) b).start ≡ begin - 1 = ap (λ j. (get_or list j b).start) (sym place) ∙ ap (λ c. c.start) found.2 in
-    omega (arith, starts, row_start_after (length source) list k b (omega (arith, inside)), ok.apart k (suc k) b (omega arith) inside, there, some)
 
 pub read_settled : (source : List ℕ) (span : Span) (bytes : List ℕ) (begin line at counted : ℕ) → IsReadFor source span bytes begin line → begin ≤ at → at ≤ span.end
     → (0 < at - begin → get_or bytes (at - begin - 1) 0 ≡ 13 → get_or bytes (at - begin) 0 ≡ 10 → counted ≡ at - 1)

@@ -1,5 +1,5 @@
 -- What holds of a scanner holds of it after each read.
-use Rattle.std.proofs.Common.{◌≡◌, ℕ, zero, suc, ◌-◌, ◌<◌, ◌≤◌, ◌∙◌, List, [], ◌∷◌, Option, Some, None, length, take, get_or, refl, sym, ap, subst, arith}
+use Rattle.std.proofs.Common.{◌≡◌, ℕ, ◌-◌, ◌<◌, ◌≤◌, ◌∙◌, List, Option, Some, None, length, get_or, refl, sym, ap, subst, arith}
 use Rattle.std.specs.Option.{unwrap_or}
 use Rattle.std.specs.Str.{IsUtf8}
 use Rattle.std.proofs.lemmas.Bool.{le-ltb}
@@ -8,6 +8,7 @@ use Rattle.oxc_windows.specs.Breaks.{breaks_of}
 use Rattle.oxc_windows.specs.Kept.{AllStay, AreKept, AreKeptUpTo, first_after}
 use Rattle.oxc_windows.specs.Scan.{IsSameReader, KeepsUpTo, Scan}
 use Rattle.oxc_windows.specs.Window.{first_row}
+use Rattle.oxc_windows.proofs.KeptLemmas.{all_stay_on}
 use Rattle.oxc_plan.specs.Keeping.{KeepsRows, ReadsOn}
 use Rattle.oxc_plan.specs.Scanned.{ReadsRound, ReadsTextRound}
 
@@ -27,15 +28,6 @@ fewer old new stay = omega (arith, ap length stay, length-take (length old) new)
 there : (old new : List ℕ) (i d : ℕ) → AllStay old new → i < length old → get_or new i d ≡ get_or old i d
 there old new i d stay lt = sym (get_or-take (length old) new i d lt) ∙ ap (λ l. get_or l i d) stay
 
-take_least : (n m : ℕ) (xs : List ℕ) → n ≤ m → take n (take m xs) ≡ take n xs
-take_least zero m xs le = refl
-take_least (suc n) zero xs le = absurd (omega arith)
-take_least (suc n) (suc m) [] le = refl
-take_least (suc n) (suc m) (x ∷ xs) le = ap (λ l. x ∷ l) (take_least n m xs (omega arith))
-
-stay_then : (a b c : List ℕ) → AllStay a b → AllStay b c → AllStay a c
-stay_then a b c first then = sym (take_least (length a) (length b) c (fewer a b first)) ∙ ap (take (length a)) then ∙ first
-
 -- a scanner reads on
 pub on_self : (scan : Scan) → ReadsOn scan scan
 on_self scan = record { same = record { input = refl; before = refl; after = refl }; first = λ f e. e; stay = take_all (length scan.kept) scan.kept (omega arith); rows = λ h. h }
@@ -44,7 +36,7 @@ pub on_then : (a b c : Scan) → ReadsOn a b → ReadsOn b c → ReadsOn a c
 on_then a b c first then = record {
   same = same_then a b c first.same then.same;
   first = λ f e. then.first f (first.first f e);
-  stay = stay_then a.kept b.kept c.kept first.stay then.stay;
+  stay = all_stay_on a.kept b.kept c.kept first.stay then.stay;
   rows = λ h. then.rows (first.rows h);
 }
 

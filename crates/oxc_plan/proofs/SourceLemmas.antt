@@ -2,23 +2,19 @@
 use Rattle.std.proofs.Common.{◌≡◌, ℕ, zero, suc, ◌+◌, ◌-◌, ◌<◌, ◌≤◌, ◌&&◌, ◌||◌, not, Bool, true, false, eqb, cond, List, ◌∷◌, length, get_or, min, take, drop, slice_range, refl, sym, ap, subst, ◌∙◌, arith, ⊎_elim, All}
 use Rattle.std.proofs.lemmas.Bool.{cases_lt}
 use Rattle.std.proofs.lemmas.Bool.Decides.{nat_tests}
-use Rattle.std.proofs.lemmas.List.{get_or_past, get_or_default, get_or-take, get_or-drop, length-take, length-drop, take-take, drop-take, drop-drop}
+use Rattle.std.proofs.lemmas.List.{get_or_past, get_or_default, length-take, length-drop, take-take, drop-take, drop-drop}
 use Rattle.std.proofs.lemmas.List.Elements.{All-cons, All-nil}
 use Rattle.std.proofs.lemmas.List.Sums.{position_or_len_is}
-use Rattle.oxc_windows.specs.declared.breaks.LineBreak.{LineBreak}
-use Rattle.oxc_windows.specs.Breaks.{breaks_of}
+use Rattle.oxc_windows.specs.Breaks.{breaks_of, ends_break}
 use Rattle.oxc_windows.specs.Rows.{row_start}
 use Rattle.oxc_windows.proofs.BreaksLemmas.{breaks_found, breaks_valid, rising_ends}
-use Rattle.oxc_windows.proofs.RowsLemmas.{row_start_after, row_start_past, row_start_le_settled}
+use Rattle.oxc_windows.proofs.ByteRowsLemmas.{break_says, number_cases, said_break, test_says}
+use Rattle.oxc_windows.proofs.ListLemmas.{byte_at}
+use Rattle.oxc_windows.proofs.RowsLemmas.{end_at_row, no_break, row_start_after, row_start_past, row_start_le_settled}
 use Rattle.oxc_windows.proofs.WindowLemmas.{row_start_mono, row_start_within}
 use Rattle.oxc_plan.specs.Laws.{HasPairedCrs, source_row}
-use Rattle.oxc_plan.specs.Place.{ends_break}
 use Rattle.oxc_plan.specs.Rows.{RowView, first_len, numbered, pieces, row_of_piece, row_text}
-use Rattle.oxc_plan.proofs.PlaceLemmas.{break_says, end_at_row, number_cases, said_break, test_says}
 use Rattle.oxc_plan.proofs.RowsLemmas.{first_len_bounds, pieces_first, rows_none}
-
-no_break : LineBreak
-no_break = record { start = 0; end = 0 }
 
 lf_said : (a b : ℕ) → a ≡ 10 → (eqb a 10 || eqb a 13 && not (eqb b 10)) ≡ true
 lf_said a b lf = grind (arith, nat_tests)
@@ -28,9 +24,6 @@ not_lf a other = grind (arith, nat_tests)
 
 not_cr : (a : ℕ) → (a ≡ 13 → ⊥) → eqb a 13 ≡ false
 not_cr a other = grind (arith, nat_tests)
-
-byte_at : (source : List ℕ) (a e k : ℕ) → k < e - a → get_or (slice_range source a e) k 0 ≡ get_or source (a + k) 0
-byte_at source a e k lt = get_or-take (e - a) (drop a source) k 0 lt ∙ get_or-drop a source k 0
 
 -- a row begins no later than its break ends
 row_start_upto : (source : List ℕ) (r : ℕ) → r < length (breaks_of source) → row_start (length source) (breaks_of source) r ≤ (get_or (breaks_of source) r no_break).end

@@ -14,7 +14,7 @@ use Rattle.oxc_windows.specs.Breaks.{IsBreakList, breaks_of}
 use Rattle.oxc_windows.specs.Rows.{row_of}
 use Rattle.oxc_windows.specs.Window.{row_further, window_end}
 use Rattle.oxc_windows.proofs.BreaksLemmas.{breaks_valid}
-use Rattle.oxc_windows.proofs.WindowLemmas.{row_start_within}
+use Rattle.oxc_windows.proofs.WindowLemmas.{row_start_within, window_reaches}
 use Rattle.oxc_plan.specs.Groups.{AreGroups, IsGroup, group_window, largest_end, span_at}
 use Rattle.oxc_plan.specs.Meets.{Meets, is_one_row, is_multi_row, is_within, label_past, meeting_labels, meets, multi_row_labels, one_row_labels}
 use Rattle.oxc_plan.specs.Order.{AreOrderedSpans}
@@ -22,7 +22,6 @@ use Rattle.oxc_plan.specs.declared.rows.Row.{Row}
 use Rattle.oxc_plan.specs.Rows.{RowView, numbered, pieces, row_of_piece, row_view, rows_in}
 use Rattle.oxc_plan.specs.Sweep.{AscendIn, IsGroupAlone, MeetNoOthers, is_open}
 use Rattle.oxc_plan.proofs.GroupsLemmas.{begin_before, group_before, groups_apart, groups_hold, largest_end_reaches, largest_end_within}
-use Rattle.oxc_plan.proofs.PlaceLemmas.{window_reaches}
 use Rattle.oxc_plan.proofs.PlanLemmas.{groups_within, rows_below}
 
 -- a filter by two tests is by one after the other

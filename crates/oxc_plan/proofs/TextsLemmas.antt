@@ -3,7 +3,7 @@ use Rattle.std.proofs.Common.{◌≡◌, ℕ, zero, suc, ◌+◌, ◌-◌, ◌<�
 use Rattle.std.specs.List.Sorted.{IsNonDecreasingBy}
 use Rattle.std.specs.List.{filter, filter_map, flat_map, range_with_len, sum_by}
 use Rattle.std.specs.Option.{is_some}
-use Rattle.std.proofs.lemmas.Bool.{and_parts, cases_lt, cases_Bool, eqb-true, false≢true, leb-true, ltb-true}
+use Rattle.std.proofs.lemmas.Bool.{and_parts, cases_lt, cases_Bool, eqb-true, false≢true, leb-true, ltb-true, eq-eqb, le-leb, le-ltb, lt-leb, lt-ltb}
 use Rattle.std.proofs.lemmas.Bool.Decides.{nat_tests}
 use Rattle.std.proofs.lemmas.List.Sums.{sum_by-append, sum_by-cons}
 use Rattle.std.proofs.lemmas.List.{get_or-map, length-map, length-take, length-drop}
@@ -15,7 +15,8 @@ use Rattle.oxc_windows.specs.declared.breaks.LineBreak.{LineBreak}
 use Rattle.oxc_windows.specs.Rows.{row_of, row_start}
 use Rattle.oxc_windows.specs.Window.{row_further, window_end}
 use Rattle.oxc_windows.proofs.BreaksLemmas.{breaks_valid}
-use Rattle.oxc_windows.proofs.WindowLemmas.{row_start_before, row_start_mono, row_start_within}
+use Rattle.oxc_windows.proofs.ListLemmas.{count_cons}
+use Rattle.oxc_windows.proofs.WindowLemmas.{row_start_before, row_start_mono, row_start_within, window_reaches}
 use Rattle.oxc_windows.specs.Breaks.{IsBreakList, breaks_of}
 use Rattle.oxc_plan.specs.Groups.{AreApart, AreGroups, HoldsItsSpans, group_window, groups_of, largest_end, span_at}
 use Rattle.oxc_plan.specs.Laws.{HasPairedCrs, HaveRowsOnce, HaveTextsOnce, IsLastMet, drawn_rows, source_row, texts_below}
@@ -23,27 +24,22 @@ use Rattle.oxc_plan.proofs.SourceLemmas.{IsSourceRow, rows_are}
 use Rattle.oxc_plan.specs.Order.{spans_in_order}
 use Rattle.oxc_plan.proofs.GroupsLemmas.{groups_apart, groups_hold, groups_of_are, largest_end_reaches, largest_end_within}
 use Rattle.oxc_plan.proofs.OrderLemmas.{spans_ascend, spans_valid}
-use Rattle.oxc_plan.proofs.PlaceLemmas.{window_reaches}
 use Rattle.oxc_plan.specs.Meets.{is_multi_row, is_one_row, label_past, multi_row_labels, one_row_labels}
 use Rattle.oxc_plan.specs.Rows.{RowView, numbered, pieces, row_of_piece, rows_in}
 use Rattle.oxc_plan.proofs.PlanLemmas.{groups_within, spans_ordered, total, total_pieces}
 use Rattle.oxc_plan.specs.declared.hangs.Hang.{Hang}
 use Rattle.oxc_plan.specs.Plan.{Ordered, RowPlanView, ends_of, ends_with_text, hang_of, hang_place, hangs_of, in_order, ordered_at, row_plan_of, row_plans_of, snippet_of, snippets_of, spans_of}
 
--- one more element of a sum and of a count
-count_more : {X : Type 0} (p : X → Bool) (x : X) (xs : List X) → count_by p (x ∷ xs) ≡ cond (p x) 1 0 + count_by p xs
-count_more p x xs = sum_by-cons (λ y. cond (p y) 1 0) x xs
-
 -- how often a place stands among places that pass a test
 pub count_kept : (p : ℕ → Bool) (at : ℕ) (xs : List ℕ) → p at ≡ true → count_by (λ k. eqb k at) (filter p xs) ≡ count_by (λ k. eqb k at) xs
 count_kept p at [] said = refl
 count_kept p at (x ∷ xs) said =
     elim (cases_Bool (p x)) [
-      | inl kept ↦ rw kept (count_more (λ k. eqb k at) x (filter p xs) ∙ ap (λ n. cond (eqb x at) 1 0 + n) (count_kept p at xs said) ∙ sym (count_more (λ k. eqb k at) x xs))
+      | inl kept ↦ rw kept (count_cons (λ k. eqb k at) x (filter p xs) ∙ ap (λ n. cond (eqb x at) 1 0 + n) (count_kept p at xs said) ∙ sym (count_cons (λ k. eqb k at) x xs))
       | inr dropped ↦
           elim (cases_Bool (eqb x at)) [
             | inl same ↦ absurd (false≢true (sym dropped ∙ ap p (eqb-true x at same) ∙ said))
-            | inr other ↦ rw dropped (count_kept p at xs said ∙ sym (count_more (λ k. eqb k at) x xs ∙ rw other (omega arith)))
+            | inr other ↦ rw dropped (count_kept p at xs said ∙ sym (count_cons (λ k. eqb k at) x xs ∙ rw other (omega arith)))
           ]
     ]
 
@@ -54,7 +50,7 @@ count_dropped p at (x ∷ xs) said =
       | inl kept ↦
           elim (cases_Bool (eqb x at)) [
             | inl same ↦ absurd (false≢true (sym said ∙ sym (ap p (eqb-true x at same)) ∙ kept))
-            | inr other ↦ rw kept (count_more (λ k. eqb k at) x (filter p xs) ∙ rw other (omega (arith, count_dropped p at xs said)))
+            | inr other ↦ rw kept (count_cons (λ k. eqb k at) x (filter p xs) ∙ rw other (omega (arith, count_dropped p at xs said)))
           ]
       | inr dropped ↦ rw dropped (count_dropped p at xs said)
     ]
@@ -65,21 +61,18 @@ other_number a b lt = grind (arith, nat_tests)
 other_number_up : (a b : ℕ) → b < a → eqb a b ≡ false
 other_number_up a b lt = grind (arith, nat_tests)
 
-same_number : (a b : ℕ) → a ≡ b → eqb a b ≡ true
-same_number a b e = grind (arith, nat_tests)
-
 -- each place stands once in a range
 count_past : (at a n : ℕ) → at < a → count_by (λ k. eqb k at) (range_with_len a n) ≡ 0
 count_past at a zero lt = refl
 count_past at a (suc n) lt =
-    count_more (λ k. eqb k at) a (range_with_len (a + 1) n) ∙ rw (other_number_up a at lt) (omega (arith, count_past at (a + 1) n (omega arith)))
+    count_cons (λ k. eqb k at) a (range_with_len (a + 1) n) ∙ rw (other_number_up a at lt) (omega (arith, count_past at (a + 1) n (omega arith)))
 
 pub count_once : (at a n : ℕ) → a ≤ at → at < a + n → count_by (λ k. eqb k at) (range_with_len a n) ≡ 1
 count_once at a zero le lt = absurd (omega arith)
 count_once at a (suc n) le lt =
     ⊎_elim
-    (λ later. count_more (λ k. eqb k at) a (range_with_len (a + 1) n) ∙ rw (other_number a at later) (omega (arith, count_once at (a + 1) n (omega arith) (omega arith))))
-    (λ from. count_more (λ k. eqb k at) a (range_with_len (a + 1) n) ∙ rw (same_number a at (omega arith)) (omega (arith, count_past at (a + 1) n (omega arith))))
+    (λ later. count_cons (λ k. eqb k at) a (range_with_len (a + 1) n) ∙ rw (other_number a at later) (omega (arith, count_once at (a + 1) n (omega arith) (omega arith))))
+    (λ from. count_cons (λ k. eqb k at) a (range_with_len (a + 1) n) ∙ rw (eq-eqb a at (omega arith)) (omega (arith, count_past at (a + 1) n (omega arith))))
     (cases_lt a at)
 
 -- how often a place stands among the hanging texts
@@ -91,31 +84,18 @@ count_hangs labels places at (x ∷ xs) said =
       | inl text ↦
           let hang : Hang = record { label = x; at = hang_place labels places x } in
           rw text
-          (count_more (λ (h : Hang). eqb h.label at) hang (filter_map (hang_of labels places) xs) ∙ ap (λ n. cond (eqb x at) 1 0 + n) (count_hangs labels places at xs said)
-          ∙ sym (count_more (λ k. eqb k at) x xs))
+          (count_cons (λ (h : Hang). eqb h.label at) hang (filter_map (hang_of labels places) xs) ∙ ap (λ n. cond (eqb x at) 1 0 + n) (count_hangs labels places at xs said)
+          ∙ sym (count_cons (λ k. eqb k at) x xs))
       | inr bare ↦
           elim (cases_Bool (eqb x at)) [
             | inl same ↦ absurd (false≢true (sym bare ∙ ap (λ k. is_some (ordered_at labels k).text) (eqb-true x at same) ∙ said))
-            | inr other ↦ rw bare (count_hangs labels places at xs said ∙ sym (count_more (λ k. eqb k at) x xs ∙ rw other (omega arith)))
+            | inr other ↦ rw bare (count_hangs labels places at xs said ∙ sym (count_cons (λ k. eqb k at) x xs ∙ rw other (omega arith)))
           ]
     ]
 
 -- the byte lies in the row
 abbrev pub holds_byte : ℕ → RowView → Bool
 holds_byte byte row = leb row.offset byte && ltb byte (row.offset + row.length)
-
--- a row holds the last byte of a label exactly where the label lies within it, or ends there having started above
-less_said : (a b : ℕ) → a < b → ltb a b ≡ true
-less_said a b lt = grind (arith, nat_tests)
-
-less_not : (a b : ℕ) → b ≤ a → ltb a b ≡ false
-less_not a b le = grind (arith, nat_tests)
-
-upto_said : (a b : ℕ) → a ≤ b → leb a b ≡ true
-upto_said a b le = grind (arith, nat_tests)
-
-upto_not : (a b : ℕ) → b < a → leb a b ≡ false
-upto_not a b lt = grind (arith, nat_tests)
 
 -- the tests that the plan makes of a row from `o` to before `e` and a label from `x` to before `y`
 abbrev pub meets_test : ℕ → ℕ → ℕ → ℕ → Bool
@@ -124,6 +104,7 @@ meets_test o e x y = ltb (max o x) (min e (x + max (y - x) 1))
 abbrev pub within_test : ℕ → ℕ → ℕ → ℕ → Bool
 within_test o e x y = leb o x && leb y e
 
+-- a row holds the last byte of a label exactly where the label lies within it, or ends there having started above
 pub byte_last_held : (o e x y : ℕ) → x ≤ y
     → cond (meets_test o e x y && within_test o e x y) 1 0 + cond (meets_test o e x y && not (within_test o e x y) && (not (leb o x) && leb y e)) 1 0
     ≡ cond (leb o (x + max (y - x) 1 - 1) && ltb (x + max (y - x) 1 - 1) e) 1 0
@@ -131,31 +112,31 @@ byte_last_held o e x y le =
     let last = x + max (y - x) 1 - 1 in
     ⊎_elim
     (λ (before : last < o).
-    let apart : meets_test o e x y ≡ false = less_not (max o x) (min e (x + max (y - x) 1)) (omega (arith, before)) in
-    rw (apart, upto_not o last before) refl)
+    let apart : meets_test o e x y ≡ false = le-ltb (max o x) (min e (x + max (y - x) 1)) (omega (arith, before)) in
+    rw (apart, lt-leb o last before) refl)
     (λ (from : o ≤ last).
     ⊎_elim
     (λ (inside : last < e).
-    let met : meets_test o e x y ≡ true = less_said (max o x) (min e (x + max (y - x) 1)) (omega (arith, from, inside)) in
-    let ends : leb y e ≡ true = upto_said y e (omega (arith, inside)) in
-    let first = upto_said o last from in
-    let second = less_said last e inside in
+    let met : meets_test o e x y ≡ true = lt-ltb (max o x) (min e (x + max (y - x) 1)) (omega (arith, from, inside)) in
+    let ends : leb y e ≡ true = le-leb y e (omega (arith, inside)) in
+    let first = le-leb o last from in
+    let second = lt-ltb last e inside in
     ⊎_elim
-    (λ (above : x < o). rw (met, ends, upto_not o x above, first, second) refl)
-    (λ (here : o ≤ x). rw (met, ends, upto_said o x here, first, second) refl)
+    (λ (above : x < o). rw (met, ends, lt-leb o x above, first, second) refl)
+    (λ (here : o ≤ x). rw (met, ends, le-leb o x here, first, second) refl)
     (cases_lt x o))
     (λ (past : e ≤ last).
-    let second = less_not last e past in
-    let first = upto_said o last from in
+    let second = le-ltb last e past in
+    let first = le-leb o last from in
     ⊎_elim
     (λ (some : x < y).
-    let ends : leb y e ≡ false = upto_not y e (omega (arith, past, some)) in
+    let ends : leb y e ≡ false = lt-leb y e (omega (arith, past, some)) in
     elim (cases_Bool (meets_test o e x y)) [
       | inl met ↦ elim (cases_Bool (leb o x)) [ inl here ↦ rw (met, ends, here, first, second) refl | inr above ↦ rw (met, ends, above, first, second) refl ]
       | inr apart ↦ rw (apart, first, second) refl
     ])
     (λ (empty : y ≤ x).
-    let apart : meets_test o e x y ≡ false = less_not (max o x) (min e (x + max (y - x) 1)) (omega (arith, past, empty)) in
+    let apart : meets_test o e x y ≡ false = le-ltb (max o x) (min e (x + max (y - x) 1)) (omega (arith, past, empty)) in
     rw (apart, first, second) refl)
     (cases_lt x y))
     (cases_lt last e))

@@ -5,7 +5,6 @@ pub mod Meets
 pub mod Width
 pub mod Columns
 pub mod Marks
-pub mod Place
 pub mod Plan
 pub mod Laws
 pub mod Scanned

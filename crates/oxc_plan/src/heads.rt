@@ -1,11 +1,10 @@
 //! Where the head of a snippet points.
 ghost use Rattle.std.specs.Prelude.{◌≡◌, ◌+◌, ◌-◌, ◌<◌, ◌≤◌, slice_index, length, map};
 ghost use Rattle.std.specs.List.{find};
-ghost use Rattle.oxc_windows.specs.Breaks.{breaks_of};
+ghost use Rattle.oxc_windows.specs.Breaks.{breaks_of, ends_break};
 ghost use Rattle.oxc_windows.specs.Rows.{place_of};
 ghost use Rattle.oxc_windows.specs.Scan.{contents_of};
 ghost use Rattle.oxc_plan.specs.Groups.{window_round};
-ghost use Rattle.oxc_plan.specs.Place.{ends_break};
 ghost use Rattle.oxc_plan.specs.Plan.{head_label, ordered_view};
 
 use crate::labels::{OrderedLabel, ordered_at};

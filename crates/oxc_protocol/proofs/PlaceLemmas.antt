@@ -6,25 +6,11 @@ use Rattle.std.proofs.lemmas.List.{get_or_past, drop_more, get_or-take, get_or-d
 use Rattle.std.proofs.Math.ListN.{drop_of_length-le}
 use Rattle.std.proofs.lemmas.List.Sums.{sum_by-cons}
 use Rattle.memchr.specs.Find.{is_byte, is_byte2, places, places_from, IsLastByte}
-use Rattle.oxc_windows.specs.declared.breaks.LineBreak.{LineBreak}
-use Rattle.oxc_windows.specs.Breaks.{breaks_of}
+use Rattle.oxc_windows.specs.Breaks.{breaks_of, ends_break, is_lone_return}
 use Rattle.oxc_windows.specs.Rows.{byte_column, row_of, row_start, settled}
-use Rattle.oxc_windows.proofs.BreaksLemmas.{breaks_valid, few_breaks}
-use Rattle.oxc_windows.proofs.RowsLemmas.{ends_before_row, row_le}
-use Rattle.oxc_protocol.specs.Places.{ends_break, is_lone_return}
-use Rattle.oxc_protocol.proofs.RowLemmas.{number_cases, row_after_end, row_after_other, settled_other, settled_pair}
-
--- one place further, by what the byte there says
-row_further : (bytes : List ℕ) (at : ℕ) → at < length bytes → (ends : Bool) → ends_break bytes at ≡ ends → row_of (breaks_of bytes) (at + 1) ≡ row_of (breaks_of bytes) at + cond ends 1 0
-row_further bytes at lt true e = (row_after_end bytes at lt e).0
-row_further bytes at lt false e = omega (arith, row_after_other bytes at e)
-
-pub row_first : (bytes : List ℕ) → row_of (breaks_of bytes) 0 ≡ 0
-row_first bytes = ⊎_elim (λ some. absurd (omega (arith, ends_before_row (breaks_of bytes) 0 (breaks_valid bytes).ordered 0 (record { start = 0; end = 0 }) some))) (λ none. omega arith) (cases_lt 0 (row_of (breaks_of bytes) 0))
-
-row_start_first : (len : ℕ) (list : List LineBreak) → row_start len list 0 ≡ 0
-unfolding row_start
-row_start_first len list = refl
+use Rattle.oxc_windows.proofs.BreaksLemmas.{few_breaks}
+use Rattle.oxc_windows.proofs.ByteRowsLemmas.{number_cases, row_after_end, row_after_other, row_next, rows_begin, settled_other, settled_pair}
+use Rattle.oxc_windows.proofs.RowsLemmas.{row_le, row_start_first}
 
 pair_says : (a b : ℕ) → a ≡ 13 → b ≡ 10 → (eqb a 10 || (eqb a 13 && not (eqb b 10))) ≡ false
 pair_says a b cr lf = grind (arith, nat_tests)
@@ -56,7 +42,7 @@ ended_from bytes rest part from i (suc n) e fits all within =
     let later = ended_from bytes rest part from (i + 1) n (omega arith) fits all within in
     let rest_is : row_of (breaks_of bytes) (from + i + 1) + (count_by (λ byte. eqb byte 10) (drop (i + 1) part) + count_by (is_lone_return rest) (places_from (is_byte 13) part (i + 1) n)) ≡ row_of (breaks_of bytes) (from + length part) = rw place at later in
     let says : ends_break bytes (from + i) ≡ (eqb x 10 || (eqb x 13 && not (eqb b 10))) = rw is refl in
-    let row = row_further bytes (from + i) (omega arith) (eqb x 10 || (eqb x 13 && not (eqb b 10))) says in
+    let row = row_next bytes (from + i) (omega arith) (eqb x 10 || (eqb x 13 && not (eqb b 10))) says in
     let after : get_or rest (i + 1) 0 ≡ b = all (i + 1) ∙ ap (λ k. get_or bytes k 0) place in
     let lone : is_lone_return rest i ≡ (eqb x 13 && not (eqb b 10)) = rw (all i, after, is) refl in
     let lfs : count_by (λ byte. eqb byte 10) (drop i part) ≡ cond (eqb x 10) 1 0 + count_by (λ byte. eqb byte 10) (drop (i + 1) part) =
@@ -134,7 +120,7 @@ row_start_none bytes s le none =
     λ k h said. none k (omega arith) (omega (arith, long)) (ap (is_byte2 10 13) (get_or-take s bytes k 0 h) ∙ said) in
     let stays = row_stays bytes 0 s (λ k low high. ends_not bytes k (none_there k (omega (arith, high)))) in
     let start : 0 + s ≡ s = omega arith in
-    let row : row_of (breaks_of bytes) s ≡ 0 = ap (row_of (breaks_of bytes)) (sym start) ∙ stays ∙ row_first bytes in
+    let row : row_of (breaks_of bytes) s ≡ 0 = ap (row_of (breaks_of bytes)) (sym start) ∙ stays ∙ rows_begin bytes in
     ap (row_start (length bytes) (breaks_of bytes)) row ∙ row_start_first (length bytes) (breaks_of bytes)
 
 -- where an offset counts: at the CR of its CRLF, if it is the LF, and at itself else

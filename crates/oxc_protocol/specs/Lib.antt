@@ -13,6 +13,5 @@ pub mod Sink
 pub mod MemorySink
 pub mod Reporters
 pub mod Counts
-pub mod Places
 pub mod Info
 pub mod Laws

@@ -1,10 +1,9 @@
 //! The positions of a diagnostic in its source.
 ghost use Rattle.std.specs.Prelude.{◌≡◌, ◌+◌, ◌-◌, ◌<◌, ◌≤◌, count_by, length, slice_index};
 ghost use Rattle.memchr.specs.Find.{is_byte, places};
-ghost use Rattle.oxc_windows.specs.Breaks.{breaks_of};
+ghost use Rattle.oxc_windows.specs.Breaks.{breaks_of, is_lone_return};
 ghost use Rattle.oxc_windows.specs.Rows.{byte_column, row_of};
 ghost use Rattle.oxc_protocol.specs.Info.{position_of, positions_of};
-ghost use Rattle.oxc_protocol.specs.Places.{is_lone_return};
 ghost use Rattle.oxc_protocol.specs.Source.{Fits};
 ghost use Rattle.oxc_protocol.specs.SourceViews.{ref_views};
 

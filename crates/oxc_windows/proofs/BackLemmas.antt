@@ -1,7 +1,7 @@
 -- A walk back over the breaks.
 use Rattle.std.proofs.Common.{append_assoc, ◌≡◌, ℕ, ◌+◌, ◌-◌, ◌<◌, ◌≤◌, ◌&&◌, Bool, true, false, List, [], ◌∷◌, ◌++◌, length, map, get_or, take, drop, All, Some, None, refl, sym, ap, subst, ◌∙◌, arith, zero, suc, ltb, eqb, ⊎_elim, reverse}
 use Rattle.std.specs.List.{find}
-use Rattle.std.proofs.lemmas.Bool.{cases_lt, false≢true}
+use Rattle.std.proofs.lemmas.Bool.{cases_lt, false≢true, le-ltb, lt-ltb}
 use Rattle.std.proofs.lemmas.Bool.Decides.{nat_tests}
 use Rattle.std.proofs.lemmas.List.{length-append, length-reverse, reverse-append, get_or-reverse, get_or_append_left, get_or-append-add, take-append-drop, map-append}
 use Rattle.std.proofs.lemmas.List.Elements.{All-push, All-append, All-nil}
@@ -13,7 +13,7 @@ use Rattle.std.proofs.lemmas.Bool.{and_parts, eqb-true, ltb-true}
 use Rattle.std.proofs.lemmas.List.{get_or_default}
 use Rattle.std.proofs.lemmas.List.Folds.{Any-from_list_any}
 use Rattle.oxc_windows.proofs.Counting.{false_unless}
-use Rattle.oxc_windows.proofs.RowsLemmas.{second_only, row_le, row_start_after, ends_before_row, ends_from_row}
+use Rattle.oxc_windows.proofs.RowsLemmas.{end_at_row, row_le, row_start_after, row_start_first, ends_before_row, ends_from_row}
 use Rattle.oxc_windows.specs.Held.{Held, IsHeld, Back, IsBack, IsCut}
 use Rattle.oxc_windows.specs.Source.{last_before}
 use Rattle.oxc_windows.proofs.ListLemmas.{all_head, all_weaker, find_skip, breaks_left, breaks_right}
@@ -58,19 +58,13 @@ unfolding last_before
 last_is list top at ok h =
     let p : LineBreak → Bool = λ b. ltb b.end at in
     let shape = (breaks_right (reverse h.back) h.rest (subst AreBreaks h.split ok)).shape in
-    let none : All (λ b. p b ≡ false) h.rest = λ k d q. late (get_or h.rest k d).end at (omega (arith, h.ahead k d q, (shape k d q).0)) in
+    let none : All (λ b. p b ≡ false) h.rest = λ k d q. le-ltb (get_or h.rest k d).end at (omega (arith, h.ahead k d q, (shape k d q).0)) in
     ap (λ l. find p (reverse l)) h.split ∙ ap (find p) (reverse-append (reverse h.back) h.rest)
     ∙ find_skip p (reverse h.rest) (reverse (reverse h.back)) (all_reverse (λ b. p b ≡ false) h.rest none)
     ∙ ap (find p) (reverse_twice h.back)
-  where
-    late : (end at : ℕ) → at ≤ end → ltb end at ≡ false
-    late end at le = grind (arith, nat_tests)
 
 find_first : (at : ℕ) (b : LineBreak) (more : List LineBreak) → b.end < at → find (λ b. ltb b.end at) (b ∷ more) ≡ Some b
-find_first at b more lt = let e : ltb b.end at ≡ true = soon b.end at lt in rw e refl
-  where
-    soon : (end at : ℕ) → end < at → ltb end at ≡ true
-    soon end at lt = grind (arith, nat_tests)
+find_first at b more lt = rw (lt-ltb b.end at lt) refl
 
 -- what the search finds is the nearest of those above
 found_back : (at : ℕ) (b : LineBreak) (back : List LineBreak) → All (λ b. b.end < at) back → find (λ b. ltb b.end at) back ≡ Some b
@@ -253,12 +247,8 @@ turned_held len list top cut at begin starts pushed turned taken back valid h wi
     subst (λ l. Held len list top cut l back) (ap reverse (sym p) ∙ sym t)
     (subst (λ l. Held len list top cut (reverse (starts ++ begin ∷ [])) l) (sym b) (back_held len list top cut at begin starts taken valid h within begins low shown))
 
-pub begin_zero : (len : ℕ) (list : List LineBreak) → row_start len list 0 ≡ 0
-unfolding row_start
-begin_zero len list = refl
-
 pub first_begins : (len : ℕ) (list : List LineBreak) (top : ℕ) → top ≡ 0 → 0 ≡ row_start len list top
-first_begins len list top e = sym (ap (row_start len list) e ∙ begin_zero len list)
+first_begins len list top e = sym (ap (row_start len list) e ∙ row_start_first len list)
 
 -- a place that is not inside a CRLF cuts at itself
 pub cut_outside : (list : List LineBreak) (start : ℕ) → is_second_byte list start ≡ false → IsCut list start start
@@ -275,7 +265,7 @@ cut_inside list start ok inside =
     let ends : (get_or list k d).end ≡ start = ap (λ b. b.end) found.3 ∙ eqb-true d.end start parts.0 in
     let starts : (get_or list k d).start < start = subst (λ b. b.start < start) (sym found.3) (ltb-true d.start start parts.1) in
     let shape = ok.shape k d h in
-    let here = second_only list start k d ok h ends in
+    let here = end_at_row list start k d ok h ends in
     let same : row_of list start ≡ row_of list (start - 1) =
     sym here ∙ row_at list (start - 1) k d ok h (omega (arith, ends)) (λ j low. omega (arith, ok.apart j k d low h, shape, starts, ends)) in (
       record {

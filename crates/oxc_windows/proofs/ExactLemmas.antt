@@ -1,6 +1,6 @@
 -- An index that has searched far enough sees the window of the definition.
 use Rattle.std.proofs.Common.{if◌then◌else◌, ◌≡◌, ℕ, ◌+◌, ◌-◌, ◌<◌, ◌≤◌, ◌&&◌, Bool, true, false, List, length, map, get_or, Some, refl, sym, ap, subst, ◌∙◌, arith, zero, suc, eqb, min, ⊎_elim}
-use Rattle.std.proofs.lemmas.Bool.{cases_lt, and_parts, eqb-true}
+use Rattle.std.proofs.lemmas.Bool.{cases_lt, and_parts, eqb-true, le-ltb}
 use Rattle.std.proofs.lemmas.Bool.Decides.{nat_tests}
 use Rattle.std.proofs.lemmas.List.{get_or-map, get_or_past, length-map}
 use Rattle.std.proofs.lemmas.List.Folds.{Any-from_list_any}
@@ -12,7 +12,7 @@ use Rattle.oxc_windows.proofs.BackLemmas.{cut_inside}
 use Rattle.oxc_windows.specs.declared.window.Window.{Window}
 use Rattle.oxc_windows.specs.Window.{is_first_byte, row_further, last_byte, window_of, window_end}
 use Rattle.oxc_windows.specs.Held.{Held}
-use Rattle.oxc_windows.proofs.SeenLemmas.{started, row_held, started_held, settled_held, first_held, start_held, started_splits, kept_breaks, lt_no}
+use Rattle.oxc_windows.proofs.SeenLemmas.{started, row_held, started_held, settled_held, first_held, start_held, started_splits, kept_breaks}
 
 -- where the window ends, by the breaks that are held
 unfoldable pub end_by : ℕ → List ℕ → List LineBreak → ℕ → ℕ → ℕ
@@ -137,7 +137,7 @@ seen_exact len list top known starts kept before after start end valid h low lin
     let bounds = end_bounds len list top known starts kept after end valid h (omega (arith, low, ordered)) within reached gathered in
     let count : row_of list (window_end len list after end) ≡ top + row_of kept (end_by len starts kept after end) =
     ap (row_of list) stop ∙ row_held len list top known starts kept (end_by len starts kept after end) valid.ordered h bounds.0 bounds.1 in
-    rw (lt_no len end within)
+    rw (le-ltb len end within)
     (same_window _ _ _ _ _ _ _ _ _ _
     (ap (λ r. if eqb before 0 then start else r) begins)
     stop

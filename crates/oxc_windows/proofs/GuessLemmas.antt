@@ -1,25 +1,12 @@
 -- A guess that was tested needs no search.
-use Rattle.std.proofs.Common.{cond, ◌≡◌, ◌⊎◌, ℕ, ◌+◌, ◌-◌, ◌<◌, ◌≤◌, true, false, List, length, take, drop, get_or, count_by, sym, ◌∙◌, arith, leb, ltb, ⊎_elim}
+use Rattle.std.proofs.Common.{cond, ◌≡◌, ◌⊎◌, ℕ, ◌+◌, ◌-◌, ◌<◌, ◌≤◌, List, length, take, drop, get_or, count_by, sym, ◌∙◌, arith, leb, ltb, ⊎_elim}
 use Rattle.std.specs.List.Sorted.{IsNonDecreasing}
-use Rattle.std.proofs.lemmas.Bool.{cases_lt}
-use Rattle.std.proofs.lemmas.Bool.Decides.{nat_tests}
+use Rattle.std.proofs.lemmas.Bool.{cases_lt, le-leb, le-ltb, lt-leb, lt-ltb}
 use Rattle.std.proofs.lemmas.List.{get_or-take, get_or_default, get_or_past, length-take-le}
 use Rattle.std.proofs.lemmas.List.Sums.{sum_by-take-drop}
 use Rattle.oxc_windows.specs.Seen.{heads_before, row_seen}
 use Rattle.oxc_windows.proofs.Counting.{count_by_cut}
 use Rattle.oxc_windows.proofs.ListLemmas.{count_all}
-
-le_yes : (a b : ℕ) → a ≤ b → leb a b ≡ true
-le_yes a b h = grind (arith, nat_tests)
-
-le_no : (a b : ℕ) → b < a → leb a b ≡ false
-le_no a b h = grind (arith, nat_tests)
-
-lt_yes : (a b : ℕ) → a < b → ltb a b ≡ true
-lt_yes a b h = grind (arith, nat_tests)
-
-lt_no : (a b : ℕ) → b ≤ a → ltb a b ≡ false
-lt_no a b h = grind (arith, nat_tests)
 
 -- the row that starts at an offset or before, and whose next starts after it
 pub row_guessed : (starts : List ℕ) (row offset : ℕ) → IsNonDecreasing starts → row < length starts → get_or starts row 0 ≤ offset → offset < get_or starts (row + 1) 18446744073709551615
@@ -28,8 +15,8 @@ unfolding row_seen
 row_guessed starts row offset rising within low high =
     let count : count_by (λ s. leb s offset) starts ≡ row + 1 =
     count_by_cut (λ s. leb s offset) starts (row + 1) (omega (arith, within))
-    (λ k d h. le_yes (get_or starts k d) offset (omega (arith, rising k row d (omega (arith, h)) within, get_or_default starts row d 0 within, low)))
-    (λ k d from inside. le_no (get_or starts k d) offset
+    (λ k d h. le-leb (get_or starts k d) offset (omega (arith, rising k row d (omega (arith, h)) within, get_or_default starts row d 0 within, low)))
+    (λ k d from inside. lt-leb (get_or starts k d) offset
     (omega (arith, rising (row + 1) k d from inside, get_or_default starts (row + 1) d 18446744073709551615 (omega (arith, from, inside)), high))) in
     omega (arith, count)
 
@@ -40,8 +27,8 @@ unfolding heads_before
 count_guessed heads count to rising within low high =
     sym (count_by_cut (λ h. ltb h to) heads count within
     (λ k d lt. ⊎_elim (λ zero. absurd (omega (arith, lt, zero)))
-    (λ last. lt_yes (get_or heads k d) to (omega (arith, rising k (count - 1) d (omega (arith, lt)) (omega (arith, lt, within)), get_or_default heads (count - 1) d 0 (omega (arith, lt, within)), last))) low)
-    (λ k d from inside. lt_no (get_or heads k d) to
+    (λ last. lt-ltb (get_or heads k d) to (omega (arith, rising k (count - 1) d (omega (arith, lt)) (omega (arith, lt, within)), get_or_default heads (count - 1) d 0 (omega (arith, lt, within)), last))) low)
+    (λ k d from inside. le-ltb (get_or heads k d) to
     (omega (arith, rising count k d from inside, get_or_default heads count d 18446744073709551615 (omega (arith, from, inside)), high))))
 
 -- the numbers before one that is below a place are, too
@@ -53,7 +40,7 @@ count_tail heads tail to rising within low small =
     let front : count_by (λ h. ltb h to) (take tail heads) ≡ tail =
     count_all (λ h. ltb h to) (take tail heads) (λ k d h.
     let lt : k < tail = omega (arith, h, length-take-le tail heads within) in
-    lt_yes (get_or (take tail heads) k d) to
+    lt-ltb (get_or (take tail heads) k d) to
     (omega (arith, get_or-take tail heads k d lt, rising k tail d (omega (arith, lt)) inside, get_or_default heads tail d 18446744073709551615 inside, low)))
     ∙ length-take-le tail heads within in
     omega (arith, front, sum_by-take-drop (λ h. cond (ltb h to) 1 0) heads tail)

@@ -1,6 +1,6 @@
 -- What an index holds, and which spans it serves.
 use Rattle.std.proofs.Common.{IsSome, ◌≡◌, ℕ, ◌+◌, ◌-◌, ◌<◌, ◌≤◌, ◌&&◌, true, false, List, ◌++◌, length, map, get_or, Option, Some, None, refl, sym, ap, subst, ◌∙◌, arith, zero, suc, ltb, leb, eqb, ⊎_elim, if◌then◌else◌}
-use Rattle.std.proofs.lemmas.Bool.{cases_lt, and_parts, ltb-true, false≢true}
+use Rattle.std.proofs.lemmas.Bool.{cases_lt, and_parts, ltb-true, false≢true, lt-ltb}
 use Rattle.std.proofs.lemmas.Bool.Decides.{nat_tests}
 use Rattle.std.proofs.lemmas.List.{length-append, length-map, get_or_default}
 use Rattle.oxc_windows.specs.declared.breaks.LineBreak.{LineBreak}
@@ -11,12 +11,12 @@ use Rattle.oxc_windows.specs.Window.{window_of}
 use Rattle.oxc_windows.specs.declared.held.Rows.{Rows}
 use Rattle.oxc_windows.specs.Held.{Held, IsHeld}
 use Rattle.oxc_windows.specs.Index.{HoldsRows, IsSeeded, is_served}
-use Rattle.oxc_windows.proofs.SeenLemmas.{row_held, start_held, lt_yes}
+use Rattle.oxc_windows.proofs.SeenLemmas.{row_held, start_held}
 use Rattle.oxc_windows.proofs.ExactLemmas.{begin_low}
 
 pub window_none : (len : ℕ) (list : List LineBreak) (before after start end : ℕ) → len < end → None ≡ window_of len list before after start end
 unfolding window_of
-window_none len list before after start end h = rw (lt_yes len end h) refl
+window_none len list before after start end h = rw (lt-ltb len end h) refl
 
 -- a row that starts at an offset or before is the offset's or above it
 row_from : (len : ℕ) (list : List LineBreak) (k o : ℕ) → AreBreaks list → k ≤ length list → row_start len list k ≤ o → k ≤ row_of list o

@@ -1,7 +1,7 @@
 -- What the list of row starts holds.
 use Rattle.std.proofs.Common.{◌≡◌, ℕ, ◌+◌, ◌-◌, ◌<◌, ◌≤◌, List, [], ◌∷◌, ◌++◌, Option, Some, None, IfSome, refl, sym, ap, subst, ◌∙◌, arith, ltb, ⊎_elim, All, get_or, length, take, min, suc}
 use Rattle.std.proofs.Math.Seq.{take-length}
-use Rattle.std.proofs.lemmas.Bool.{cases_lt}
+use Rattle.std.proofs.lemmas.Bool.{cases_lt, lt-ltb}
 use Rattle.std.proofs.lemmas.List.{length-append, length-take, get_or-take, get_or_default, get_or-append-add}
 use Rattle.oxc_windows.specs.declared.breaks.LineBreak.{LineBreak}
 use Rattle.oxc_windows.specs.Breaks.{AreBreaks, IsBreakList, breaks_of}
@@ -14,7 +14,7 @@ use Rattle.oxc_windows.specs.Index.{HoldsRows, IsSeeded}
 use Rattle.oxc_windows.specs.Kept.{AllStay, AreKept, AreKeptUpTo}
 use Rattle.oxc_windows.specs.Scan.{Scan, IsSameReader, KeepsUpTo}
 use Rattle.oxc_windows.proofs.ListLemmas.{count_all}
-use Rattle.oxc_windows.proofs.SeenLemmas.{row_held, start_held, lt_yes}
+use Rattle.oxc_windows.proofs.SeenLemmas.{row_held, start_held}
 use Rattle.oxc_windows.proofs.IndexLemmas.{starts_long, kept_few}
 
 -- the numbers of a list stay, by place
@@ -36,7 +36,7 @@ stays_all (x ∷ old) (y ∷ new) stays =
 
 row_all : (kept : List LineBreak) (known : ℕ) → All (λ b. b.end < known) kept → row_of kept known ≡ length kept
 unfolding row_of
-row_all kept known high = count_all (λ b. ltb b.end known) kept (λ k d q. lt_yes (get_or kept k d).end known (high k d q))
+row_all kept known high = count_all (λ b. ltb b.end known) kept (λ k d q. lt-ltb (get_or kept k d).end known (high k d q))
 
 -- how many breaks are known
 kept_count : (len : ℕ) (list : List LineBreak) (top known : ℕ) (starts : List ℕ) (kept : List LineBreak) → AreBreaks list → Held len list top known starts kept

@@ -1,6 +1,7 @@
 pub mod Counting
 pub mod BreaksLemmas
 pub mod RowsLemmas
+pub mod ByteRowsLemmas
 pub mod PlacesLemmas
 pub mod WindowLemmas
 pub mod TextLemmas

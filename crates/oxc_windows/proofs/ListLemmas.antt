@@ -1,7 +1,7 @@
 -- Facts on lists in parts.
-use Rattle.std.proofs.Common.{cond, ◌≡◌, ◌+◌, ◌<◌, ◌≤◌, Bool, true, false, List, [], ◌∷◌, ◌++◌, length, get_or, All, Some, None, refl, sym, subst, ◌∙◌, arith, zero, suc, count_by, ⊎_elim}
+use Rattle.std.proofs.Common.{cond, ℕ, ◌≡◌, ◌+◌, ◌-◌, ◌<◌, ◌≤◌, Bool, true, false, List, [], ◌∷◌, ◌++◌, length, drop, get_or, slice_range, All, Some, None, refl, sym, ap, subst, ◌∙◌, arith, zero, suc, count_by, ⊎_elim}
 use Rattle.std.specs.List.{find}
-use Rattle.std.proofs.lemmas.List.{length-append, get_or_append_left, get_or-append-add}
+use Rattle.std.proofs.lemmas.List.{length-append, get_or_append_left, get_or-append-add, get_or-drop, get_or-take}
 use Rattle.std.proofs.lemmas.List.Elements.{All-head, All-tail, All-nil}
 use Rattle.std.proofs.lemmas.List.Sums.{sum_by-cons, sum_by-append}
 use Rattle.oxc_windows.specs.declared.breaks.LineBreak.{LineBreak}
@@ -89,3 +89,15 @@ pub rising_starts : (list : List LineBreak) → AreBreaks list → IsNonDecreasi
 rising_starts list ok i j d le h =
     ⊎_elim (λ lt. omega (arith, ok.apart i j d lt h, (ok.shape i d (omega (arith, le, h))).0))
     (λ ge. let same : i ≡ j = omega arith in let least : (get_or list i d).start ≤ (get_or list i d).start = omega arith in subst (λ m. (get_or list i d).start ≤ (get_or list m d).start) same least) (cases_lt i j)
+
+pub count_cons : {X : Type 0} (p : X → Bool) (x : X) (xs : List X) → count_by p (x ∷ xs) ≡ cond (p x) 1 0 + count_by p xs
+count_cons p x xs = sum_by-cons (λ y. cond (p y) 1 0) x xs
+
+-- the bytes of a part
+pub byte_at : (bytes : List ℕ) (from to k : ℕ) → k < to - from → get_or (slice_range bytes from to) k 0 ≡ get_or bytes (from + k) 0
+byte_at bytes from to k lt = get_or-take (to - from) (drop from bytes) k 0 lt ∙ get_or-drop from bytes k 0
+
+pub part_at : (bytes : List ℕ) (from to k : ℕ) → from ≤ k → k < to → get_or (slice_range bytes from to) (k - from) 0 ≡ get_or bytes k 0
+part_at bytes from to k low high =
+    let place : from + (k - from) ≡ k = omega (arith, low) in
+    byte_at bytes from to (k - from) (omega (arith, low, high)) ∙ ap (λ i. get_or bytes i 0) place

@@ -11,6 +11,7 @@ use Rattle.oxc_windows.specs.Breaks.{AreBreaks, IsBreakList}
 use Rattle.oxc_windows.specs.Rows.{row_of, row_start, is_second_byte}
 use Rattle.oxc_windows.proofs.Counting.{count_by_splits, false_unless}
 use Rattle.oxc_windows.proofs.RowsLemmas.{row_start_after, row_start_past}
+use Rattle.oxc_windows.proofs.WindowLemmas.{row_start_mono}
 use Rattle.oxc_windows.specs.Window.{is_first_byte, row_further, window_end}
 use Rattle.oxc_windows.specs.Held.{Held, past}
 use Rattle.oxc_windows.specs.Source.{first_between}
@@ -73,28 +74,13 @@ found_near len list top known to starts kept b ok h found =
         absurd (false≢true (sym e ∙ list_any_at (λ c. eqb c.end to && ltb c.start to) list k d h (subst (λ c. eqb c.end to && ltb c.start to ≡ true) (sym at) (both b.start b.end to ends early)))))
         (cases_lt b.end to)
 
--- row starts rise
-pub start_rises : (len : ℕ) (list : List LineBreak) (r s : ℕ) → IsBreakList len list → r ≤ s → row_start len list r ≤ row_start len list s
-unfolding row_start
-start_rises len list zero s valid le = omega arith
-start_rises len list (suc j) zero valid le = absurd (omega (arith, le))
-start_rises len list (suc j) (suc k) valid le =
-    let d : LineBreak = record { start = 0; end = 0 } in
-    let ok = valid.ordered in
-    ⊎_elim (λ some. ⊎_elim (λ other.
-    ⊎_elim (λ lt. omega (arith, row_start_after len list j d some, row_start_after len list k d other, ok.apart j k d lt other, (ok.shape k d other).0))
-    (λ ge. let same : j ≡ k = omega (arith, ge, le) in
-    let here : (get_or list j d).end ≡ (get_or list k d).end = ap (λ m. (get_or list m d).end) same in omega (arith, row_start_after len list j d some, row_start_after len list k d other, here)) (cases_lt j k))
-    (λ none. omega (arith, row_start_after len list j d some, row_start_past len list (suc k) (omega (arith, none)), valid.within j d some)) (cases_lt k (length list)))
-    (λ none. omega (arith, row_start_past len list (suc j) (omega (arith, none)), row_start_past len list (suc k) (omega (arith, none, le)))) (cases_lt j (length list))
-
 -- a break that is wanted ends before the row that is wanted
 pub found_most : (len : ℕ) (list : List LineBreak) (top known to want : ℕ) (starts : List ℕ) (kept : List LineBreak) (b : LineBreak) → IsBreakList len list
     → Held len list top known starts kept → first_between list known to ≡ Some b → length kept < want → b.end + 1 ≤ row_start len list (top + want)
 found_most len list top known to want starts kept b valid h found less =
     let at = found_index len list top known to starts kept b b valid.ordered h found in
     let e : row_start len list (suc (top + length kept)) ≡ b.end + 1 = row_start_after len list (top + length kept) b at.1 ∙ ap (λ c. c.end + 1) at.0 in
-    omega (arith, e, start_rises len list (suc (top + length kept)) (top + want) valid (omega (arith, less)))
+    omega (arith, e, row_start_mono len list (suc (top + length kept)) (top + want) valid (omega (arith, less)))
 
 -- where none is left, it starts at the end
 pub none_most : (len : ℕ) (list : List LineBreak) (top known want : ℕ) (starts : List ℕ) (kept : List LineBreak) → IsBreakList len list
@@ -140,7 +126,7 @@ near_row : (len : ℕ) (list : List LineBreak) (last after : ℕ) → IsBreakLis
 near_row len list last after valid =
     let d : LineBreak = record { start = 0; end = 0 } in
     let s = started list (last + 1) in
-    let rises = start_rises len list (suc s) (s + after + 1) valid (omega arith) in
+    let rises = row_start_mono len list (suc s) (s + after + 1) valid (omega arith) in
     ⊎_elim (λ some.
     let e = row_start_after len list s d some in
     let from = starts_from list (last + 1) valid.ordered s d (omega arith) some in

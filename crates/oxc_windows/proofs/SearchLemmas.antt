@@ -2,7 +2,6 @@
 use Rattle.std.proofs.Common.{cond, count_by, eqb, reverse, ⊎_elim, ap, ◌||◌, ◌≡◌, ℕ, ◌+◌, ◌-◌, ◌<◌, ◌≤◌, ◌&&◌, Bool, true, false, List, [], ◌∷◌, ◌++◌, length, get_or, All, Option, Some, None, refl, sym, subst, ◌∙◌, arith, zero, suc, ltb, leb}
 use Rattle.std.specs.List.{find}
 use Rattle.std.proofs.lemmas.Bool.Decides.{nat_tests}
-use Rattle.std.proofs.lemmas.List.Elements.{All-head, All-tail}
 use Rattle.std.proofs.lemmas.List.Folds.{find-append}
 use Rattle.oxc_windows.specs.declared.breaks.LineBreak.{LineBreak}
 use Rattle.oxc_windows.specs.Breaks.{break_at, breaks_before, breaks_of}
@@ -11,14 +10,14 @@ use Rattle.oxc_windows.specs.Source.{first_between, last_before}
 use Rattle.oxc_windows.specs.Rows.{row_of, is_second_byte}
 use Rattle.oxc_windows.specs.Valid.{breaks_before_start}
 use Rattle.std.specs.List.{list_any}
-use Rattle.std.proofs.lemmas.Bool.{cases_lt, false≢true, and_parts, eqb-true, ltb-true}
+use Rattle.std.proofs.lemmas.Bool.{cases_lt, false≢true, and_parts, eqb-true, ltb-true, eq-eqb, le-ltb, lt-ltb}
 use Rattle.std.proofs.lemmas.List.{length-append}
 use Rattle.oxc_windows.proofs.Counting.{false_unless}
 use Rattle.oxc_windows.proofs.BreaksLemmas.{breaks_found}
 use Rattle.std.proofs.lemmas.List.{reverse-append}
 use Rattle.std.proofs.lemmas.List.Folds.{list_any-append, Any-from_list_any}
 use Rattle.std.proofs.lemmas.List.Sums.{sum_by-append}
-use Rattle.oxc_windows.proofs.ListLemmas.{count_all}
+use Rattle.oxc_windows.proofs.ListLemmas.{count_all, find_no}
 
 grow_step : (bytes : List ℕ) (P : List LineBreak → Type 0) (k : ℕ) → ((b : LineBreak) → b.start ≡ k → P (breaks_before bytes k) → P (breaks_before bytes k ++ b ∷ []))
     → (found : Option LineBreak) → break_at bytes k ≡ found → P (breaks_before bytes k) → P (breaks_before bytes (k + 1))
@@ -45,10 +44,6 @@ grown bytes P n m le more start =
 between : ℕ → ℕ → LineBreak → Bool
 between from to b = leb from b.start && ltb b.start to
 
-find_none : {X : Type 0} (p : X → Bool) (xs : List X) → All (λ x. p x ≡ false) xs → find p xs ≡ None
-find_none p [] all = refl
-find_none p (x ∷ xs) all = rw (All-head (λ y. p y ≡ false) x xs all) (find_none p xs (All-tail (λ y. p y ≡ false) x xs all))
-
 push_none : {X : Type 0} (p : X → Bool) (xs : List X) (x : X) → find p xs ≡ None → p x ≡ false → find p (xs ++ x ∷ []) ≡ None
 push_none p xs x none e = find-append p xs (x ∷ []) ∙ rw none (rw e refl)
 
@@ -62,7 +57,7 @@ push_kept p xs ys x found = find-append p xs ys ∙ rw found refl
 pub none_before : (bytes : List ℕ) (from to : ℕ) → first_between (breaks_before bytes from) from to ≡ None
 unfolding first_between
 none_before bytes from to =
-    find_none (λ b. leb from b.start && ltb b.start to) (breaks_before bytes from)
+    find_no (λ b. leb from b.start && ltb b.start to) (breaks_before bytes from)
     (λ k d h. early from to (get_or (breaks_before bytes from) k d).start (breaks_start bytes from k d h).1)
   where
     early : (from to at : ℕ) → at < from → leb from at && ltb at to ≡ false
@@ -158,12 +153,6 @@ ends_early bytes to le outside = λ k d h.
 pub last_none : (bytes : List ℕ) (to at : ℕ) → break_at bytes at ≡ None → breaks_before bytes (at + 1) ≡ breaks_before bytes to → breaks_before bytes at ≡ breaks_before bytes to
 last_none bytes to at e same = sym (breaks_before_none bytes at e) ∙ same
 
-not_lt : (a b : ℕ) → b ≤ a → ltb a b ≡ false
-not_lt a b h = grind (arith, nat_tests)
-
-is_lt : (a b : ℕ) → a < b → ltb a b ≡ true
-is_lt a b h = grind (arith, nat_tests)
-
 shape_of : (bytes : List ℕ) (b : LineBreak) → break_at bytes b.start ≡ Some b → b.start ≤ b.end
 shape_of bytes b e = grind (arith, nat_tests)
 
@@ -172,7 +161,7 @@ pub last_upto : (bytes : List ℕ) (to : ℕ) → to ≤ length bytes → last_b
 unfolding breaks_of last_before
 last_upto bytes to le =
     grown_at bytes (λ l. find (λ b. ltb b.end to) (reverse l) ≡ find (λ b. ltb b.end to) (reverse (breaks_before bytes to))) to (length bytes) le
-    (λ k b low e here. ap (find (λ b. ltb b.end to)) (reverse-append (breaks_before bytes k) (b ∷ [])) ∙ skip (λ b. ltb b.end to) b (reverse (breaks_before bytes k)) (not_lt b.end to (omega (arith, low, found_there bytes k b e, shape_of bytes b (subst (λ m. break_at bytes m ≡ Some b) (sym (found_there bytes k b e)) e)))) ∙ here) refl
+    (λ k b low e here. ap (find (λ b. ltb b.end to)) (reverse-append (breaks_before bytes k) (b ∷ [])) ∙ skip (λ b. ltb b.end to) b (reverse (breaks_before bytes k)) (le-ltb b.end to (omega (arith, low, found_there bytes k b e, shape_of bytes b (subst (λ m. break_at bytes m ≡ Some b) (sym (found_there bytes k b e)) e)))) ∙ here) refl
   where
     skip : {X : Type 0} (p : X → Bool) (x : X) (xs : List X) → p x ≡ false → find p (x ∷ xs) ≡ find p xs
     skip p x xs e = rw e refl
@@ -188,7 +177,7 @@ last_found bytes to at b le e lt same =
     hit p x xs e = rw e refl
 
     first_back : (l : List LineBreak) (to : ℕ) (b : LineBreak) → b.end < to → last_before (l ++ b ∷ []) to ≡ Some b
-    first_back l to b lt = ap (find (λ b. ltb b.end to)) (reverse-append l (b ∷ [])) ∙ hit (λ b. ltb b.end to) b (reverse l) (is_lt b.end to lt)
+    first_back l to b lt = ap (find (λ b. ltb b.end to)) (reverse-append l (b ∷ [])) ∙ hit (λ b. ltb b.end to) b (reverse l) (lt-ltb b.end to lt)
 
 -- none at all
 pub last_missed : (bytes : List ℕ) (to : ℕ) → to ≤ length bytes → breaks_before bytes 0 ≡ breaks_before bytes to → last_before (breaks_of bytes) to ≡ None
@@ -203,8 +192,8 @@ pub counted_upto : (bytes : List ℕ) (to : ℕ) → to ≤ length bytes → is_
 unfolding breaks_of row_of
 counted_upto bytes to le outside =
     grown_at bytes (λ l. count_by (λ b. ltb b.end to) l ≡ length (breaks_before bytes to)) to (length bytes) le
-    (λ k b low e here. count_push (λ b. ltb b.end to) (breaks_before bytes k) b (not_lt b.end to (omega (arith, low, found_there bytes k b e, shape_of bytes b (subst (λ m. break_at bytes m ≡ Some b) (sym (found_there bytes k b e)) e)))) ∙ here)
-    (count_all (λ b. ltb b.end to) (breaks_before bytes to) (λ k d h. is_lt (get_or (breaks_before bytes to) k d).end to (ends_early bytes to le outside k d h)))
+    (λ k b low e here. count_push (λ b. ltb b.end to) (breaks_before bytes k) b (le-ltb b.end to (omega (arith, low, found_there bytes k b e, shape_of bytes b (subst (λ m. break_at bytes m ≡ Some b) (sym (found_there bytes k b e)) e)))) ∙ here)
+    (count_all (λ b. ltb b.end to) (breaks_before bytes to) (λ k d h. lt-ltb (get_or (breaks_before bytes to) k d).end to (ends_early bytes to le outside k d h)))
   where
     count_push : {X : Type 0} (p : X → Bool) (xs : List X) (x : X) → p x ≡ false → count_by p (xs ++ x ∷ []) ≡ count_by p xs
     count_push p xs x e = sum_by-append (λ y. cond (p y) 1 0) xs (x ∷ []) ∙ rw e (omega arith)
@@ -231,9 +220,6 @@ inside_zero bytes at e = sym (false_unless (is_second_byte (breaks_of bytes) at)
 pub inside_none : (bytes : List ℕ) (at : ℕ) → break_at bytes (at - 1) ≡ None → false ≡ is_second_byte (breaks_of bytes) at
 inside_none bytes at e = sym (false_unless (is_second_byte (breaks_of bytes) at) (λ yes_inside. let f = inside_from bytes at yes_inside in let both : None ≡ Some f.0 = sym e ∙ f.1 in cc))
 
-equal : (a b : ℕ) → a ≡ b → eqb a b ≡ true
-equal a b e = grind (arith, nat_tests)
-
 pub inside_some : (bytes : List ℕ) (at : ℕ) (b : LineBreak) → break_at bytes (at - 1) ≡ Some b → 0 < at → at ≤ length bytes → eqb b.end at ≡ is_second_byte (breaks_of bytes) at
 inside_some bytes at b e low le = by_case bytes at b e low le (eqb b.end at) refl
   where
@@ -250,7 +236,7 @@ inside_some bytes at b e low le = by_case bytes at b e low le (eqb b.end at) ref
         let both : Some b ≡ Some f.0 = sym e ∙ f.1 in
         let same : b ≡ f.0 = cc in
         let ends : b.end ≡ at = ap (λ x. x.end) same ∙ f.2 in
-        false≢true (sym s ∙ equal b.end at ends)))
+        false≢true (sym s ∙ eq-eqb b.end at ends)))
 
 -- a break that starts before a place that is not inside a CRLF ends before it
 pub ends_before : (bytes : List ℕ) (to at : ℕ) (b : LineBreak) → to ≤ length bytes → is_second_byte (breaks_of bytes) to ≡ false → break_at bytes at ≡ Some b → at < to → (b.end < to) × (b.start ≡ at)

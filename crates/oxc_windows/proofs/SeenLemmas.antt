@@ -1,7 +1,7 @@
 -- What an index sees is what the whole list says.
 use Rattle.std.proofs.Common.{cond, ◌≡◌, ℕ, ◌+◌, ◌<◌, ◌≤◌, ◌&&◌, ◌||◌, Bool, true, false, List, [], ◌∷◌, ◌++◌, length, map, get_or, All, refl, sym, ap, subst, ◌∙◌, arith, zero, suc, ltb, leb, eqb, count_by, ⊎_elim}
 use Rattle.std.specs.List.{list_any}
-use Rattle.std.proofs.lemmas.Bool.{cases_lt}
+use Rattle.std.proofs.lemmas.Bool.{cases_lt, le-ltb, lt-ltb}
 use Rattle.std.proofs.lemmas.Bool.Decides.{nat_tests}
 use Rattle.std.proofs.lemmas.List.{length-append, length-map, get_or-map, get_or_past, get_or_append_left, get_or-append-add}
 use Rattle.std.proofs.lemmas.List.Folds.{list_any_none, list_any-append}
@@ -17,12 +17,6 @@ use Rattle.oxc_windows.proofs.ListLemmas.{count_parts, all_right, all_weaker, br
 -- how many breaks start before a place
 unfoldable pub started : List LineBreak → ℕ → ℕ
 started list to = count_by (λ b. ltb b.start to) list
-
-pub lt_yes : (a b : ℕ) → a < b → ltb a b ≡ true
-lt_yes a b h = grind (arith, nat_tests)
-
-pub lt_no : (a b : ℕ) → b ≤ a → ltb a b ≡ false
-lt_no a b h = grind (arith, nat_tests)
 
 -- the shapes of the parts
 front_shape : (len : ℕ) (list : List LineBreak) (top known : ℕ) (starts : List ℕ) (kept : List LineBreak) → AreBreaks list
@@ -50,8 +44,8 @@ row_held len list top known starts kept o ok h low high =
     let p : LineBreak → Bool = λ b. ltb b.end o in
     ap (count_by p) h.split
     ∙ count_parts p h.front kept h.rest
-    (λ k d q. lt_yes (get_or h.front k d).end o (omega (arith, low, h.before k d q)))
-    (λ k d q. lt_no (get_or h.rest k d).end o (omega (arith, high, h.ahead k d q, (rest_shape len list top known starts kept ok h k d q).0)))
+    (λ k d q. lt-ltb (get_or h.front k d).end o (omega (arith, low, h.before k d q)))
+    (λ k d q. le-ltb (get_or h.rest k d).end o (omega (arith, high, h.ahead k d q, (rest_shape len list top known starts kept ok h k d q).0)))
     ∙ ap (λ n. n + count_by p kept) h.above
 
 -- the breaks that start before a known place
@@ -62,8 +56,8 @@ started_held len list top known starts kept o valid h low high =
     let p : LineBreak → Bool = λ b. ltb b.start o in
     ap (count_by p) h.split
     ∙ count_parts p h.front kept h.rest
-    (λ k d q. lt_yes (get_or h.front k d).start o (omega (arith, low, h.before k d q, (front_shape len list top known starts kept valid.ordered h k d q).0)))
-    (λ k d q. lt_no (get_or h.rest k d).start o (unless o known len (get_or h.rest k d).start high (h.ahead k d q)
+    (λ k d q. lt-ltb (get_or h.front k d).start o (omega (arith, low, h.before k d q, (front_shape len list top known starts kept valid.ordered h k d q).0)))
+    (λ k d q. le-ltb (get_or h.rest k d).start o (unless o known len (get_or h.rest k d).start high (h.ahead k d q)
     (omega (arith, (rest_shape len list top known starts kept valid.ordered h k d q).0, rest_within len list top known starts kept valid h k d q))))
     ∙ ap (λ n. n + count_by p kept) h.above
   where
@@ -157,8 +151,8 @@ none_started : (more : List LineBreak) (l : ℕ) → All (λ c. l < c.start) mor
     → (started more (l + 1) ≡ 0) × (row_of more l ≡ 0) × (is_in_break more l ≡ false)
 unfolding started row_of
 none_started more l later ok = (
-  count_no (λ b. ltb b.start (l + 1)) more (λ k d q. lt_no (get_or more k d).start (l + 1) (omega (arith, later k d q))),
-  count_no (λ b. ltb b.end l) more (λ k d q. lt_no (get_or more k d).end l (omega (arith, later k d q, (ok.shape k d q).0))),
+  count_no (λ b. ltb b.start (l + 1)) more (λ k d q. le-ltb (get_or more k d).start (l + 1) (omega (arith, later k d q))),
+  count_no (λ b. ltb b.end l) more (λ k d q. le-ltb (get_or more k d).end l (omega (arith, later k d q, (ok.shape k d q).0))),
   list_any_none (λ b. leb b.start l && leb l b.end) more (λ k d q. outside (get_or more k d).start (get_or more k d).end l (later k d q)),
 )
   where
@@ -179,16 +173,16 @@ split_cons b more l ok rest =
     let tail = breaks_tail b more ok in
     let later = after_first b more ok in
     ⊎_elim (λ past.
-    let e1 = lt_yes b.start (l + 1) (omega (arith, past, shape)) in
-    let e2 = lt_yes b.end l past in
+    let e1 = lt-ltb b.start (l + 1) (omega (arith, past, shape)) in
+    let e2 = lt-ltb b.end l past in
     let e3 = over b.start b.end l past in
     add.0 ∙ rw e1 (rw add.1 (rw e2 (rw e3 (omega (arith, rest))))))
     (λ upto. ⊎_elim (λ before.
     let none = none_started more l (all_weaker (λ c. b.end < c.start) (λ c. l < c.start) more (λ c q. omega (arith, q, before, shape)) later) tail in
-    add.0 ∙ rw (lt_no b.start (l + 1) (omega (arith, before))) (rw add.1 (rw (lt_no b.end l upto) (rw (under b.start b.end l before) (omega (arith, rest))))))
+    add.0 ∙ rw (le-ltb b.start (l + 1) (omega (arith, before))) (rw add.1 (rw (le-ltb b.end l upto) (rw (under b.start b.end l before) (omega (arith, rest))))))
     (λ from.
     let none = none_started more l (all_weaker (λ c. b.end < c.start) (λ c. l < c.start) more (λ c q. omega (arith, q, upto)) later) tail in
-    add.0 ∙ rw (lt_yes b.start (l + 1) (omega (arith, from))) (rw add.1 (rw (lt_no b.end l upto) (rw (within b.start b.end l from upto) (omega (arith, none.0, none.1))))))
+    add.0 ∙ rw (lt-ltb b.start (l + 1) (omega (arith, from))) (rw add.1 (rw (le-ltb b.end l upto) (rw (within b.start b.end l from upto) (omega (arith, none.0, none.1))))))
     (cases_lt l b.start))
     (cases_lt b.end l)
   where

@@ -1,11 +1,10 @@
 -- Breaks of bytes, found by LF and CR.
 use Rattle.std.proofs.Common.{cond, count_by, eqb, not, ⊎_elim, ap, ◌≡◌, ℕ, ◌+◌, ◌-◌, ◌<◌, ◌≤◌, ◌&&◌, Bool, true, false, List, [], ◌∷◌, length, take, drop, get_or, slice_range, Option, Some, None, refl, sym, subst, ◌∙◌, arith, zero, suc, if◌then◌else◌}
 use Rattle.std.specs.List.{cons_option, filter, filter_map, range_with_len}
-use Rattle.std.proofs.lemmas.Bool.{cases_lt, eqb-true, false≢true}
+use Rattle.std.proofs.lemmas.Bool.{cases_lt, eqb-true, false≢true, eq-eqb}
 use Rattle.std.proofs.lemmas.Bool.Decides.{nat_tests}
-use Rattle.std.proofs.lemmas.List.{get_or-drop, get_or-take, length-take-le, length-drop}
+use Rattle.std.proofs.lemmas.List.{get_or-take, length-take-le, length-drop}
 use Rattle.std.proofs.Math.Seq.{drop-cons}
-use Rattle.std.proofs.lemmas.List.Sums.{sum_by-cons}
 use Rattle.memchr.specs.Find.{Nowhere, Passes, is_byte, is_byte2, places, places_from}
 use Rattle.oxc_windows.specs.declared.breaks.LineBreak.{LineBreak}
 use Rattle.oxc_windows.specs.Breaks.{break_at, breaks_before, breaks_of}
@@ -13,6 +12,7 @@ use Rattle.oxc_windows.specs.Rows.{row_of, is_second_byte}
 use Rattle.oxc_windows.specs.Source.{first_between, is_before_no_lf, last_before}
 use Rattle.oxc_windows.specs.Valid.{breaks_before_none}
 use Rattle.oxc_windows.proofs.Counting.{false_unless}
+use Rattle.oxc_windows.proofs.ListLemmas.{count_cons, part_at}
 use Rattle.oxc_windows.proofs.PlacesLemmas.{none_elsewhere}
 use Rattle.oxc_windows.proofs.SearchLemmas.{counted_upto, ends_before, found_first, inside_some, last_found, last_missed, none_after, none_before, none_more}
 
@@ -22,11 +22,6 @@ IsBare bytes from to = (k : ℕ) → from ≤ k → k < to → is_byte2 10 13 (g
 
 bare_none : (bytes : List ℕ) (from to k : ℕ) → IsBare bytes from to → from ≤ k → k < to → break_at bytes k ≡ None
 bare_none bytes from to k bare low high = none_elsewhere bytes k (false_unless (is_byte2 10 13 (get_or bytes k 0)) (bare k low high))
-
-part_at : (bytes : List ℕ) (from to k : ℕ) → from ≤ k → k < to → get_or (slice_range bytes from to) (k - from) 0 ≡ get_or bytes k 0
-part_at bytes from to k low high =
-    let place : from + (k - from) ≡ k = omega (arith, low) in
-    get_or-take (to - from) (drop from bytes) (k - from) 0 (omega (arith, low, high)) ∙ get_or-drop from bytes (k - from) 0 ∙ ap (λ i. get_or bytes i 0) place
 
 -- what a search of a part says of the whole
 bare_part : (bytes : List ℕ) (from to upto : ℕ) → from + upto ≤ to → Nowhere (Passes (is_byte2 10 13) (slice_range bytes from to)) 0 upto → IsBare bytes from (from + upto)
@@ -65,13 +60,10 @@ pair_starts bytes at cr lf =
     let place : at ≡ at - 1 + 1 = omega (arith, pair_low bytes at cr lf) in
     pair_break bytes at cr (subst (λ k. get_or bytes k 0 ≡ 10) place lf)
 
-equal : (a b : ℕ) → a ≡ b → eqb a b ≡ true
-equal a b e = grind (arith, nat_tests)
-
 pair_second : (bytes : List ℕ) (at : ℕ) → get_or bytes (at - 1) 0 ≡ 13 → get_or bytes at 0 ≡ 10 → at ≤ length bytes → is_second_byte (breaks_of bytes) at ≡ true
 pair_second bytes at cr lf le =
     let low = pair_low bytes at cr lf in
-    sym (inside_some bytes at (record { start = at - 1; end = at - 1 + 1 }) (pair_starts bytes at cr lf) low le) ∙ equal (at - 1 + 1) at (omega (arith, low))
+    sym (inside_some bytes at (record { start = at - 1; end = at - 1 + 1 }) (pair_starts bytes at cr lf) low le) ∙ eq-eqb (at - 1 + 1) at (omega (arith, low))
 
 pub part_long : (bytes : List ℕ) (from to : ℕ) → to ≤ length bytes → length (slice_range bytes from to) ≡ to - from
 part_long bytes from to within = length-take-le (to - from) (drop from bytes) (omega (arith, length-drop from bytes, within))
@@ -221,9 +213,6 @@ balanced bytes i =
     (balance (eqb (get_or bytes i 0) 10) (eqb (get_or bytes i 0) 13) (eqb (get_or bytes (i - 1) 0) 13) (eqb (get_or bytes (i + 1) 0) 10)
     (record { start = i; end = i }) (record { start = i; end = i + 1 }) (record { start = i; end = i })
     (λ e f. let a = eqb-true (get_or bytes i 0) 10 e in omega (arith, a, eqb-true (get_or bytes i 0) 13 f)))
-
-count_cons : {X : Type 0} (p : X → Bool) (x : X) (xs : List X) → count_by p (x ∷ xs) ≡ cond (p x) 1 0 + count_by p xs
-count_cons p x xs = sum_by-cons (λ y. cond (p y) 1 0) x xs
 
 abbrev bit : Bool → ℕ
 bit b = cond b 1 0

@@ -1,12 +1,11 @@
 -- What the row starts held, and where their breaks start, say of places is what the breaks held say.
 use Rattle.std.proofs.Common.{cond, if◌then◌else◌, ◌≡◌, ℕ, ◌+◌, ◌-◌, ◌<◌, ◌≤◌, ◌&&◌, Bool, true, false, List, [], ◌∷◌, length, map, get_or, All, refl, sym, ap, ◌∙◌, arith, zero, suc, ltb, leb, eqb, count_by, min, ⊎_elim}
 use Rattle.std.specs.List.Sorted.{IsNonDecreasing}
-use Rattle.std.proofs.lemmas.Bool.{cases_lt, and_parts, eqb-true, ltb-true, ltb-false, false≢true}
+use Rattle.std.proofs.lemmas.Bool.{cases_lt, and_parts, eqb-true, ltb-true, ltb-false, false≢true, eq-eqb, le-leb}
 use Rattle.std.proofs.lemmas.Bool.Decides.{nat_tests}
 use Rattle.std.proofs.lemmas.List.{length-map, get_or-map, get_or_past, get_or_default}
 use Rattle.std.proofs.lemmas.List.Folds.{Any-from_list_any, list_any_at}
 use Rattle.std.proofs.lemmas.List.Sorted.{IsPartitionedBy-ltb}
-use Rattle.std.proofs.lemmas.List.Sums.{sum_by-cons}
 use Rattle.oxc_windows.specs.declared.breaks.LineBreak.{LineBreak}
 use Rattle.oxc_windows.specs.declared.window.Window.{Window}
 use Rattle.oxc_windows.specs.Breaks.{AreBreaks}
@@ -15,14 +14,11 @@ use Rattle.oxc_windows.specs.Window.{is_first_byte}
 use Rattle.oxc_windows.specs.Held.{IsHeld}
 use Rattle.oxc_windows.specs.Seen.{AreInOrder, column_seen, end_seen, heads_before, is_first_seen, is_second_seen, row_seen, seen, settled_seen}
 use Rattle.oxc_windows.proofs.Counting.{count_by_splits, false_unless}
-use Rattle.oxc_windows.proofs.RowsLemmas.{second_at, second_past}
-use Rattle.oxc_windows.proofs.ListLemmas.{rising_starts}
+use Rattle.oxc_windows.proofs.RowsLemmas.{no_break, second_at, second_past}
+use Rattle.oxc_windows.proofs.ListLemmas.{count_cons, rising_starts}
 use Rattle.oxc_windows.proofs.BreaksLemmas.{rising_ends}
 use Rattle.oxc_windows.proofs.SeenLemmas.{kept_breaks, started}
 use Rattle.oxc_windows.proofs.ExactLemmas.{end_by, seen_by}
-
-no_break : LineBreak
-no_break = record { start = 0; end = 0 }
 
 -- the starts of the rows held, and where their breaks start
 pub record AreNoted (begin : ℕ) (kept : List LineBreak) (starts heads : List ℕ) : Type 0 where
@@ -86,9 +82,6 @@ noted_order begin kept starts heads n = record { rows = starts_rise; breaks = he
     starts_rise : IsNonDecreasing starts
     starts_rise i j d le h = rise i j d le (omega (arith, h, starts_noted_long begin kept starts heads n))
 
-count_cons : {X : Type 0} (p : X → Bool) (x : X) (xs : List X) → count_by p (x ∷ xs) ≡ cond (p x) 1 0 + count_by p xs
-count_cons p x xs = sum_by-cons (λ y. cond (p y) 1 0) x xs
-
 ends_test : (end o : ℕ) → leb (end + 1) o ≡ ltb end o
 ends_test end o = ⊎_elim (λ lt. yes end o lt) (λ ge. no_end end o ge) (cases_lt end o)
   where
@@ -109,14 +102,11 @@ count_heads [] to = refl
 count_heads (b ∷ kept) to =
     count_cons (λ h. ltb h to) b.start (map (λ b. b.start) kept) ∙ ap (λ n. cond (ltb b.start to) 1 0 + n) (count_heads kept to) ∙ sym (count_cons (λ b. ltb b.start to) b kept)
 
-le_yes : (a b : ℕ) → a ≤ b → leb a b ≡ true
-le_yes a b h = grind (arith, nat_tests)
-
 -- the row of an offset
 pub row_seen_is : (begin : ℕ) (kept : List LineBreak) (starts heads : List ℕ) (o : ℕ) → AreNoted begin kept starts heads → begin ≤ o → row_seen starts o ≡ row_of kept o
 unfolding row_seen row_of
 row_seen_is begin kept starts heads o n low =
-    let one : cond (leb begin o) 1 0 ≡ 1 = ap (λ t. cond t 1 0) (le_yes begin o low) in
+    let one : cond (leb begin o) 1 0 ≡ 1 = ap (λ t. cond t 1 0) (le-leb begin o low) in
     let all = count_cons (λ s. leb s o) begin (map (λ b. b.end + 1) kept) in
     let whole : count_by (λ s. leb s o) starts ≡ 1 + count_by (λ b. ltb b.end o) kept =
     ap (count_by (λ s. leb s o)) n.shown ∙ all ∙ ap (λ c. c + count_by (λ s. leb s o) (map (λ b. b.end + 1) kept)) one ∙ ap (λ c. 1 + c) (count_ends kept o) in
@@ -139,9 +129,6 @@ started_there kept k at ok h e =
     (λ ge. ⊎_elim (λ lt. absurd (omega (arith, ltb-true (get_or kept k no_break).start at (split.0 k no_break lt), e)))
     (λ le. omega (arith, ge, le)) (cases_lt k r))
     (cases_lt r k)
-
-equal : (a b : ℕ) → a ≡ b → eqb a b ≡ true
-equal a b e = grind (arith, nat_tests)
 
 both_equal : (a b c d : ℕ) → a ≡ b → c ≡ d → eqb a b && eqb c d ≡ true
 both_equal a b c d e f = grind (arith, nat_tests)
@@ -182,8 +169,8 @@ same_test : (end o start : ℕ) → eqb (end + 1) (o + 1) && ltb start o ≡ eqb
 same_test end o start = ap (λ t. t && ltb start o) (by_case (eqb end o) refl)
   where
     by_case : (said : Bool) → eqb end o ≡ said → eqb (end + 1) (o + 1) ≡ eqb end o
-    by_case true e = equal (end + 1) (o + 1) (omega (arith, eqb-true end o e)) ∙ sym e
-    by_case false e = false_unless (eqb (end + 1) (o + 1)) (λ same. let f : end ≡ o = omega (arith, eqb-true (end + 1) (o + 1) same) in false≢true (sym e ∙ equal end o f)) ∙ sym e
+    by_case true e = eq-eqb (end + 1) (o + 1) (omega (arith, eqb-true end o e)) ∙ sym e
+    by_case false e = false_unless (eqb (end + 1) (o + 1)) (λ same. let f : end ≡ o = omega (arith, eqb-true (end + 1) (o + 1) same) in false≢true (sym e ∙ eq-eqb end o f)) ∙ sym e
 
 pub second_seen_is : (begin : ℕ) (kept : List LineBreak) (starts heads : List ℕ) (o : ℕ) → AreNoted begin kept starts heads → begin ≤ o → is_second_seen starts heads o ≡ is_second_byte kept o
 unfolding is_second_seen

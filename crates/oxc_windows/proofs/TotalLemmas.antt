@@ -1,6 +1,6 @@
 -- The steps of many reads.
 use Rattle.std.proofs.Common.{suc, zero, ◌≡◌, ℕ, ◌+◌, ◌<◌, ◌≤◌, List, [], ◌∷◌, ◌++◌, Option, Some, None, refl, sym, ap, subst, ◌∙◌, arith, ⊎_elim, if◌then◌else◌, All, get_or, drop, length, append_assoc}
-use Rattle.std.proofs.lemmas.Bool.{cases_lt}
+use Rattle.std.proofs.lemmas.Bool.{cases_lt, le-ltb, lt-ltb}
 use Rattle.oxc_span.specs.declared.span.Span.{Span}
 use Rattle.oxc_windows.specs.Kept.{first_after}
 use Rattle.std.proofs.Math.Seq.{drop-cons}
@@ -8,7 +8,6 @@ use Rattle.oxc_windows.specs.declared.breaks.LineBreak.{LineBreak}
 use Rattle.oxc_windows.specs.declared.window.Window.{Window}
 use Rattle.oxc_windows.specs.Window.{window_of}
 use Rattle.oxc_windows.specs.Total.{IsNotBefore, IsSpent, TicksAtMost, first_from, windows_of}
-use Rattle.oxc_windows.proofs.SeenLemmas.{lt_yes, lt_no}
 
 pub spent_next : (len base : ℕ) (old new : Option ℕ) (s : Span) (left_old left_new before after : ℕ) → new ≡ first_after len old s.start s.end
     → IsNotBefore len old s → IsSpent len base old left_old before
@@ -17,9 +16,9 @@ pub spent_next : (len base : ℕ) (old new : Option ℕ) (s : Span) (left_old le
     → ((x : ℕ) → old ≡ Some x → x ≤ s.start → after + left_new ≤ before + left_old)
     → IsSpent len base new left_new after
 spent_next len base None new s left_old left_new before after e calm spent refused first later =
-    ⊎_elim (λ lt. let same : new ≡ None = e ∙ ap (λ v. if v then None else Some s.start) (lt_yes len s.end lt) in
+    ⊎_elim (λ lt. let same : new ≡ None = e ∙ ap (λ v. if v then None else Some s.start) (lt-ltb len s.end lt) in
     subst (λ f. IsSpent len base f left_new after) (sym same) ((refused lt).1 ∙ spent))
-    (λ ge. let same : new ≡ Some s.start = e ∙ ap (λ v. if v then None else Some s.start) (lt_no len s.end ge) in
+    (λ ge. let same : new ≡ Some s.start = e ∙ ap (λ v. if v then None else Some s.start) (le-ltb len s.end ge) in
     subst (λ f. IsSpent len base f left_new after) (sym same) (omega (arith, first ge refl, spent)))
     (cases_lt len s.end)
 spent_next len base (Some x) new s left_old left_new before after e calm spent refused first later =

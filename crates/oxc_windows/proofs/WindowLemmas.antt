@@ -1,17 +1,13 @@
 -- Where windows begin and end.
-use Rattle.std.proofs.Common.{◌≡◌, ℕ, ◌+◌, ◌-◌, ◌<◌, ◌≤◌, ◌&&◌, true, false, List, length, min, Some, None, refl, sym, ap, ◌∙◌, arith, eqb, ltb, suc, zero, ⊎_elim}
-use Rattle.std.proofs.lemmas.Bool.{cases_lt, and_parts, eqb-true}
-use Rattle.std.proofs.lemmas.Bool.Decides.{nat_tests}
+use Rattle.std.proofs.Common.{◌≡◌, ◌⊎◌, ℕ, ◌+◌, ◌-◌, ◌<◌, ◌≤◌, ◌&&◌, true, List, length, min, Some, None, refl, sym, ap, ◌∙◌, arith, eqb, suc, zero, subst, inl, inr, ⊎_elim}
+use Rattle.std.proofs.lemmas.Bool.{cases_lt, and_parts, eqb-true, le-ltb, lt-ltb}
 use Rattle.std.proofs.lemmas.List.Folds.{Any-from_list_any}
 use Rattle.oxc_windows.specs.declared.breaks.LineBreak.{LineBreak}
 use Rattle.oxc_windows.specs.Breaks.{IsBreakList}
 use Rattle.oxc_windows.specs.Rows.{row_of, row_start}
-use Rattle.oxc_windows.specs.Window.{is_first_byte, window_at, window_of}
+use Rattle.oxc_windows.specs.Window.{is_first_byte, row_further, window_at, window_end, window_of}
 use Rattle.oxc_windows.proofs.BreaksLemmas.{rising_ends}
-use Rattle.oxc_windows.proofs.RowsLemmas.{row_start_after, row_start_past, row_start_le, ends_from_row, few_in_text}
-
-no_break : LineBreak
-no_break = record { start = 0; end = 0 }
+use Rattle.oxc_windows.proofs.RowsLemmas.{no_break, row_start_after, row_start_past, row_start_le, ends_from_row, few_in_text}
 
 -- a row starts within the text
 pub row_start_within : (len : ℕ) (list : List LineBreak) (r : ℕ) → IsBreakList len list → row_start len list r ≤ len
@@ -56,18 +52,28 @@ pair_within len list at ok said =
     let ends : found.1.end ≡ at + 1 = eqb-true found.1.end (at + 1) parts.1 in
     omega (arith, ok.within found.0 found.1 found.2, ap (λ b. b.end) found.3, ends)
 
-past_none : (len end : ℕ) → end ≤ len → ltb len end ≡ false
-past_none len end le = grind (arith, nat_tests)
-
 -- a span that ends within the text has a window
 pub window_of_inside : (len : ℕ) (list : List LineBreak) (before after start end : ℕ) → end ≤ len → window_of len list before after start end ≡ Some (window_at len list before after start end)
 unfolding window_of
-window_of_inside len list before after start end le = rw (past_none len end le) refl
+window_of_inside len list before after start end le = rw (le-ltb len end le) refl
 
 -- a span that ends past the text has none
-past_some : (len end : ℕ) → len < end → ltb len end ≡ true
-past_some len end lt = grind (arith, nat_tests)
-
 pub window_of_past : (len : ℕ) (list : List LineBreak) (before after start end : ℕ) → len < end → window_of len list before after start end ≡ None
 unfolding window_of
-window_of_past len list before after start end lt = rw (past_some len end lt) refl
+window_of_past len list before after start end lt = rw (lt-ltb len end lt) refl
+
+-- a window of rows round a span reaches past each place up to the span's end, or to the source's end
+pub window_reaches : (len : ℕ) (list : List LineBreak) (end : ℕ) → IsBreakList len list → end ≤ len → (end < window_end len list 1 end) ⊎ (window_end len list 1 end ≡ len)
+unfolding window_end
+window_reaches len list end ok le =
+    let last = row_of list (end - 1) in
+    let k = last + 1 + row_further list (end - 1) in
+    let one_more : suc k ≡ last + 1 + row_further list (end - 1) + 1 = omega arith in
+    ⊎_elim
+    (λ inside.
+    let before = ends_from_row list (end - 1) ok.ordered (k - 1) no_break (omega arith) (omega (arith, inside)) in
+    let apart = ok.ordered.apart (k - 1) k no_break (omega arith) inside in
+    let shape = (ok.ordered.shape k no_break inside).0 in
+    inl (subst (λ r. end < row_start len list r) one_more (omega (arith, row_start_after len list k no_break inside, before, apart, shape))))
+    (λ past. inr (subst (λ r. row_start len list r ≡ len) one_more (row_start_past len list (suc k) (omega (arith, past)))))
+    (cases_lt k (length list))

@@ -1,5 +1,5 @@
 -- The line breaks of a list of bytes: LF, CR, and CRLF taken as one.
-use Rattle.std.specs.Prelude.{ℕ, ◌+◌, ◌-◌, ◌<◌, ◌≤◌, ◌==◌, List, length, slice_index, Option, Some, None, if◌then◌else◌, All, AllPairs}
+use Rattle.std.specs.Prelude.{ℕ, ◌+◌, ◌-◌, ◌<◌, ◌≤◌, ◌==◌, ◌&&◌, ◌||◌, not, Bool, List, length, slice_index, Option, Some, None, if◌then◌else◌, All, AllPairs}
 use Rattle.std.specs.List.{filter_map, range_with_len}
 use Rattle.oxc_windows.specs.declared.breaks.LineBreak.{LineBreak}
 
@@ -20,6 +20,14 @@ breaks_before bytes to = filter_map (break_at bytes) (range_with_len 0 to)
 -- the breaks of a text, ascending
 unfoldable pub breaks_of : List ℕ → List LineBreak
 breaks_of bytes = breaks_before bytes (length bytes)
+
+-- the byte at a place is a CR with no LF behind it
+abbrev pub is_lone_return : List ℕ → ℕ → Bool
+is_lone_return bytes at = (slice_index bytes at == 13) && not (slice_index bytes (at + 1) == 10)
+
+-- the byte at a place is the last one of a break: an LF, or a CR with no LF behind it
+abbrev pub ends_break : List ℕ → ℕ → Bool
+ends_break bytes at = (slice_index bytes at == 10) || is_lone_return bytes at
 
 -- breaks of one byte or two, in order, no two of which share a byte
 pub record AreBreaks (breaks : List LineBreak) : Type 0 where

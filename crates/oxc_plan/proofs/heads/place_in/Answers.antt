@@ -2,7 +2,8 @@ use Rattle.std.proofs.Common.{◌≡◌, ◌∙◌, ◌<◌, ◌≤◌, ◌+◌,
 use Rattle.oxc_windows.specs.Breaks.{breaks_of}
 use Rattle.oxc_windows.specs.Rows.{row_of, row_start, byte_column, settled}
 use Rattle.oxc_windows.proofs.BreaksLemmas.{breaks_valid}
-use Rattle.oxc_plan.proofs.PlaceLemmas.{IsReadFor, read_after_end, read_after_other, read_for, read_len, read_settled, row_of_le}
+use Rattle.oxc_windows.proofs.RowsLemmas.{row_of_le}
+use Rattle.oxc_plan.proofs.PlaceLemmas.{IsReadFor, read_after_end, read_after_other, read_for, read_len, read_settled}
 use Rattle.oxc_plan.proofs.heads.place_in.Goals as goal
 use Rattle.oxc_plan.proofs.heads.place_in.Goals.{then-ends_break, else-ends_break}
 

@@ -6,7 +6,8 @@ use Rattle.oxc_windows.specs.Seen.{heads_before}
 use Rattle.oxc_windows.proofs.SeenLemmas.{started}
 use Rattle.oxc_windows.proofs.StartsLemmas.{noted, noted_order}
 use Rattle.oxc_windows.proofs.AnswerLemmas.{heads_same, wanted_row}
-use Rattle.oxc_windows.proofs.MostLemmas.{near_end, start_rises, window_row}
+use Rattle.oxc_windows.proofs.MostLemmas.{near_end, window_row}
+use Rattle.oxc_windows.proofs.WindowLemmas.{row_start_mono}
 use Rattle.oxc_windows.proofs.held.Rows.search_for.Goals as goal
 
 pub heads_before-below-requires : goal.heads_before-below-requires
@@ -50,7 +51,7 @@ returns-clause-most g c =
     let counted : c.heads_before-below.result ≡ heads_before c.reach.new.self.heads.items upto =
     c.heads_before-below.ensures.exact ∙ ap (λ l. heads_before l (c.saturating_sub-upto.result + 1)) c.deref.ensures.value ∙ ap (λ v. heads_before c.reach.new.self.heads.items (v + 1)) c.saturating_sub-upto.ensures in
     let row = wanted_row n list c.reach.new.self.top c.reach.new.self.known c.reach.new.self.starts.items c.reach.new.self.heads.items upto c.args.after (g.met.S.BreakSource.valid c.args.source.now) c.reach.ensures.held low reached in
-    let rises = start_rises n list (c.reach.new.self.top + c.saturating_add-want.result) (started list upto + c.args.after + 1) (g.met.S.BreakSource.valid c.args.source.now) (omega (arith, row, counted, c.saturating_add-want.ensures)) in
+    let rises = row_start_mono n list (c.reach.new.self.top + c.saturating_add-want.result) (started list upto + c.args.after + 1) (g.met.S.BreakSource.valid c.args.source.now) (omega (arith, row, counted, c.saturating_add-want.ensures)) in
     let stop = window_row n list c.args.after c.args.end (g.met.S.BreakSource.valid c.args.source.now).ordered (omega (arith, c.if-after-eq0.false)) in
     ⊎_elim (λ still. ⊎_elim (λ before. inl (still ∙ before)) (λ upto. inr (omega (arith, still, upto, same, near))) c.in_ok-reach.ensures.near)
     (λ upto. inr (omega (arith, upto, rises, stop)))

@@ -1,18 +1,14 @@
 -- Rows by the bytes that end breaks, and where an offset counts.
-use Rattle.std.proofs.Common.{◌≡◌, ℕ, zero, suc, ◌+◌, ◌-◌, ◌<◌, ◌≤◌, ◌⊎◌, ◌&&◌, ◌||◌, not, true, false, List, length, get_or, Some, refl, sym, ap, subst, ◌∙◌, arith, eqb, ⊎_elim, inl, inr}
+use Rattle.std.proofs.Common.{◌≡◌, ℕ, zero, suc, ◌+◌, ◌-◌, ◌<◌, ◌≤◌, ◌⊎◌, ◌&&◌, ◌||◌, not, Bool, true, false, cond, List, length, get_or, Some, refl, sym, ap, subst, ◌∙◌, arith, eqb, ⊎_elim, inl, inr}
 use Rattle.std.specs.List.{Contains}
 use Rattle.std.proofs.lemmas.Bool.{cases_lt, false≢true}
 use Rattle.std.proofs.lemmas.Bool.Decides.{nat_tests}
 use Rattle.std.proofs.lemmas.List.Elements.{Contains-append_left, Contains-push}
 use Rattle.oxc_windows.specs.declared.breaks.LineBreak.{LineBreak}
-use Rattle.oxc_windows.specs.Breaks.{break_at, breaks_before, breaks_of, AreBreaks}
+use Rattle.oxc_windows.specs.Breaks.{break_at, breaks_before, breaks_of, ends_break}
 use Rattle.oxc_windows.specs.Rows.{row_of, row_start, settled}
 use Rattle.oxc_windows.proofs.BreaksLemmas.{breaks_before_found, breaks_before_more, breaks_found, breaks_valid}
-use Rattle.oxc_windows.proofs.RowsLemmas.{row_le, ends_before_row, ends_from_row, row_start_after, settled_at, settled_else}
-use Rattle.oxc_protocol.specs.Places.{ends_break}
-
-no_break : LineBreak
-no_break = record { start = 0; end = 0 }
+use Rattle.oxc_windows.proofs.RowsLemmas.{end_at_row, ends_before_row, ends_from_row, no_break, row_le, row_of_le, row_past_end, row_start_after, settled_at, settled_else}
 
 -- a break that starts at a place before n is among those before n
 found_in : (bytes : List ℕ) (n at : ℕ) (b : LineBreak) → break_at bytes at ≡ Some b → at < n → Contains (breaks_before bytes n) b
@@ -80,29 +76,6 @@ said_break bytes at lt said =
     (λ cr. record { break = record { start = at; end = at }; listed = listed bytes at _ (cr_alone bytes at cr.0 cr.1) lt; end = refl })
     (test_says (get_or bytes at 0) (get_or bytes (at + 1) 0) said)
 
--- the row past the end of a break
-pub row_past_end : (list : List LineBreak) (k : ℕ) (d : LineBreak) → AreBreaks list → k < length list → row_of list ((get_or list k d).end + 1) ≡ k + 1
-row_past_end list k d ok lt =
-    let o = (get_or list k d).end + 1 in
-    let low : k < row_of list o = ⊎_elim (λ h. h) (λ ge. absurd (omega (arith, ends_from_row list o ok k d ge lt))) (cases_lt k (row_of list o)) in
-    let high : row_of list o ≤ k + 1 =
-    ⊎_elim
-    (λ past.
-    let inside : k + 1 < length list = omega (arith, past, row_le list o) in
-    absurd (omega (arith, ends_before_row list o ok (k + 1) d past, ok.apart k (k + 1) d (omega arith) inside, (ok.shape (k + 1) d inside).0)))
-    (λ le. le) (cases_lt (k + 1) (row_of list o)) in
-    omega (arith, low, high)
-
--- a break that ends at an offset is the one at the offset's row
-pub end_at_row : (list : List LineBreak) (o k : ℕ) (d : LineBreak) → AreBreaks list → k < length list → (get_or list k d).end ≡ o → k ≡ row_of list o
-end_at_row list o k d ok lt e =
-    let low : row_of list o ≤ k = ⊎_elim (λ before. absurd (omega (arith, ends_before_row list o ok k d before, e))) (λ ge. ge) (cases_lt k (row_of list o)) in
-    let high : k ≤ row_of list o =
-    ⊎_elim
-    (λ more. absurd (omega (arith, ends_from_row list o ok (row_of list o) d (omega arith) (omega (arith, more, lt)), ok.apart (row_of list o) k d more lt, (ok.shape k d lt).0, e)))
-    (λ le. le) (cases_lt (row_of list o) k) in
-    omega (arith, low, high)
-
 -- past a byte that ends a break the next row begins
 pub row_after_end : (bytes : List ℕ) (at : ℕ) → at < length bytes → ends_break bytes at ≡ true
     → (row_of (breaks_of bytes) (at + 1) ≡ row_of (breaks_of bytes) at + 1) × (row_start (length bytes) (breaks_of bytes) (row_of (breaks_of bytes) at + 1) ≡ at + 1)
@@ -138,6 +111,15 @@ row_after_other bytes at said =
     (λ le. le) (cases_lt r s) in
     omega (arith, low, high)
 
+-- the first place is in the first row
+pub rows_begin : (bytes : List ℕ) → row_of (breaks_of bytes) 0 ≡ 0
+rows_begin bytes = omega (arith, row_of_le (breaks_of bytes) 0 (breaks_valid bytes).ordered)
+
+-- one place further, by what the byte there says
+pub row_next : (bytes : List ℕ) (at : ℕ) → at < length bytes → (ends : Bool) → ends_break bytes at ≡ ends → row_of (breaks_of bytes) (at + 1) ≡ row_of (breaks_of bytes) at + cond ends 1 0
+row_next bytes at lt true e = (row_after_end bytes at lt e).0
+row_next bytes at lt false e = omega (arith, row_after_other bytes at e)
+
 -- where an offset counts, by the bytes
 pub settled_pair : (bytes : List ℕ) (at : ℕ) → 0 < at → at < length bytes → get_or bytes (at - 1) 0 ≡ 13 → get_or bytes at 0 ≡ 10 → settled (breaks_of bytes) at ≡ at - 1
 settled_pair bytes at some lt cr lf =
@@ -170,3 +152,18 @@ settled_other bytes at none =
     (number_cases (get_or list r no_break).end at))
     (λ past. settled_else list at no_break ok (λ h end. omega (arith, h, past)))
     (cases_lt r (length list))
+
+-- no CRLF stands across the start of a row
+pub uncut : (source : List ℕ) (begin line : ℕ) → begin ≡ row_start (length source) (breaks_of source) line → line ≡ row_of (breaks_of source) begin → 0 < begin → begin < length source
+    → get_or source (begin - 1) 0 ≡ 13 → get_or source begin 0 ≡ 10 → ⊥
+unfolding row_start
+uncut source begin zero starts counts some lt cr lf = omega (arith, starts, some)
+uncut source begin (suc k) starts counts some lt cr lf =
+    let list = breaks_of source in
+    let ok = (breaks_valid source).ordered in
+    let found = pair_listed source begin some lt cr lf in
+    let b : LineBreak = record { start = begin - 1; end = begin } in
+    let place : found.0 ≡ suc k = end_at_row list begin found.0 b ok found.1 (ap (λ c. c.end) found.2) ∙ sym counts in
+    let inside : suc k < length list = omega (arith, place, found.1) in
+    let there : (get_or list (suc k) b).start ≡ begin - 1 = ap (λ j. (get_or list j b).start) (sym place) ∙ ap (λ c. c.start) found.2 in
+    omega (arith, starts, row_start_after (length source) list k b (omega (arith, inside)), ok.apart k (suc k) b (omega arith) inside, there, some)
