@@ -4,7 +4,9 @@ ghost use Rattle.std.specs.Option.{option_copied};
 ghost use Rattle.std.specs.Io.KnownBytes.{Appends};
 ghost use Rattle.oxc_protocol.specs.Faults.{Rose};
 ghost use Rattle.oxc_protocol.specs.SourceViews.{ref_views};
+ghost use Rattle.oxc_handlers.specs.JsonPlaces.{read_bytes, ReadsRowsAlone};
 ghost use Rattle.oxc_handlers.specs.JsonView.{with_url};
+ghost use Rattle.oxc_handlers.specs.Report.{view_parts};
 ghost use Rattle.oxc_handlers.specs.JsonText.{details, file_name, json_of, severity_name as word_for, source_bytes};
 ghost use Rattle.oxc_handlers.specs.JsonValue.{ReadsBack};
 ghost use Rattle.oxc_handlers.specs.JsonSent.{LeavesJson};
@@ -18,8 +20,10 @@ mod places;
 pub use crate::json_report::escape::escaped_text_comes_back;
 use crate::json_report::labels::push_labels_member;
 use crate::json_report::members::{push_optional, push_text};
+use crate::json_report::places::Places;
 use crate::{DiagnosticView, RenderError};
 use oxc_protocol::{Diagnostic, Severity, Sink, SourceRef, write_all};
+use oxc_windows::SpanScanner;
 use std::alloc::{AllocError, Global};
 
 /// Renders diagnostics as JSON, one object each. It has no options.
@@ -88,7 +92,6 @@ fn json_text(alloc: Global, diagnostic: &dyn Diagnostic) -> Result<String, Alloc
 /// # Errors
 ///
 /// Want of memory.
-#[tactic(auto, unfolding(crate::specs::JsonText::json_of))]
 pub fn push_json(
     out: &mut String,
     alloc: Global,
@@ -98,12 +101,67 @@ pub fn push_json(
     ensures text { OnOk result (string_bytes out.new ≡ string_bytes out.old ++ json_of (with_url view.now (option_copied url.entry))) }
     ensures reads_back { OnOk result (ReadsBack (with_url view.now (option_copied url.entry))) }
 {
+    let mut scanner = scanner_of(alloc, view.source);
+    push_json_with_scanner(out, view, url, &mut scanner)
+}
+
+/// Appends what [`push_json`] does, with the places of labels by a scanner that the caller keeps for many reports on one source.
+///
+/// The scanner reads the view's source, with no rows of context round a span; where the view has no source, there is none.
+/// It is left fit for the next report, whatever the answer.
+///
+/// # Errors
+///
+/// Want of memory.
+pub fn push_json_with_scanner<'a>(
+    out: &mut String,
+    view: &DiagnosticView<'_>,
+    url: Option<&str>,
+    scanner: &mut Option<SpanScanner<'a>>,
+) -> Result<(), AllocError>
+    requires source { read_bytes scanner.old ≡ source_bytes (view_parts view.now).source }
+    requires alone { ReadsRowsAlone scanner.old }
+    ensures text { OnOk result (string_bytes out.new ≡ string_bytes out.old ++ json_of (with_url view.now (option_copied url.entry))) }
+    ensures reads_back { OnOk result (ReadsBack (with_url view.now (option_copied url.entry))) }
+    ensures same { read_bytes scanner.new ≡ read_bytes scanner.old }
+    ensures alone { ReadsRowsAlone scanner.new }
+{
+    let mut places = Places::new(scanner.take());
+    let answer = push_report(out, view, url, &mut places);
+    *scanner = places.into_scanner();
+    answer
+}
+
+// A scanner that finds the places of labels in a source. It takes no memory.
+fn scanner_of<'a>(alloc: Global, source: Option<SourceRef<'a>>) -> Option<SpanScanner<'a>>
+    ensures source { read_bytes result ≡ source_bytes (ref_views source.entry) }
+    ensures alone { ReadsRowsAlone result }
+{
+    match source {
+        Some(source) => Some(SpanScanner::new(alloc, source.bytes(), 0, 0)),
+        None => None,
+    }
+}
+
+// Appends a report whose labels have these places.
+#[tactic(auto, unfolding(crate::specs::JsonText::json_of))]
+fn push_report(
+    out: &mut String,
+    view: &DiagnosticView<'_>,
+    url: Option<&str>,
+    places: &mut Places<'_>,
+) -> Result<(), AllocError>
+    requires { places.old ≡ source_bytes (view_parts view.now).source }
+    ensures text { OnOk result (string_bytes out.new ≡ string_bytes out.old ++ json_of (with_url view.now (option_copied url.entry))) }
+    ensures reads_back { OnOk result (ReadsBack (with_url view.now (option_copied url.entry))) }
+    ensures same { places.new ≡ places.old }
+{
     out.push_str("{")?;
     push_text(out, "message", view.message)?;
     push_optional(out, "code", view.code)?;
     push_text(out, "severity", severity_name(view.severity))?;
     push_details(out, view, url)?;
-    push_labels_member(out, alloc, view.source, view.labels)?;
+    push_labels_member(out, places, view.labels)?;
     out.push_str("}")
 }
 

@@ -24,7 +24,9 @@ mod theme;
 mod view;
 
 pub use crate::handler::GraphicalReportHandler;
-pub use crate::json_report::{JSONReportHandler, escaped_text_comes_back, push_json};
+pub use crate::json_report::{
+    JSONReportHandler, escaped_text_comes_back, push_json, push_json_with_scanner,
+};
 pub use crate::laws::colors_only;
 pub use crate::places::{gutter_by_places, marks_by_columns};
 pub use crate::rendering::{render, render_with_source_code};

@@ -1,13 +1,13 @@
 -- Reports of which none is refused stand in their files, and no refusal is a fault of a sink.
-use Rattle.std.proofs.Common.{◌≡◌, inl, inr, ℕ, ◌+◌, ◌-◌, ◌<◌, ◌≤◌, Bool, true, false, cond, ◌&&◌, nat_le, nat_lt, List, [], ◌∷◌, length, map, Option, Some, None, All, refl, sym, ap, ◌∙◌, unwrap_or, if◌then◌else◌, arith, zero, suc}
+use Rattle.std.proofs.Common.{◌≡◌, inl, inr, ℕ, ◌+◌, ◌≤◌, Bool, true, false, cond, ◌&&◌, nat_le, nat_lt, List, [], ◌∷◌, length, map, Option, Some, None, All, refl, ap, ◌∙◌, unwrap_or, arith, zero, suc}
 use Rattle.std.specs.Option.{is_none, option_or}
 use Rattle.std.proofs.lemmas.Bool.{ltb-true}
 use Rattle.std.proofs.lemmas.Bool.Decides.{nat_tests}
 use Rattle.source_location.specs.Locations.{is_boundary}
 use Rattle.codespan.specs.Texts.{NamedText, text_of}
-use Rattle.oxc_span.specs.Label.{Label, label_end}
+use Rattle.oxc_span.specs.Label.{label_end}
 use Rattle.render_files.specs.declared.places.ReportError.{ReportError}
-use Rattle.render_files.specs.declared.places.ReportError.TheVariants.{UnknownFile, PositionOutside, LabelReversed, SinkFault, OutOfMemory}
+use Rattle.render_files.specs.declared.places.ReportError.TheVariants.{UnknownFile, PositionOutside, LabelReversed, SinkFault}
 use Rattle.render_files.specs.Given.{GivenLabel, GivenReport}
 use Rattle.render_files.specs.Refusal.{boundary_at, start_in, end_in, first_at, outside, reversed, start_offset, end_offset, refusal_in, refusal_of}
 use Rattle.render_files.specs.Shown.{placed, placed_labels}

@@ -1,49 +1,52 @@
-// Drawing by scanners that are kept, one for each file.
-ghost use Rattle.std.specs.Prelude.{◌≡◌, ◌<◌, ◌≤◌, All, IfOk, IfSome, length, string_bytes};
+// Reports drawn, or written as JSON, by scanners that are kept, one for each file.
+ghost use Rattle.std.specs.Prelude.{◌≡◌, ◌<◌, ◌≤◌, ◌++◌, All, IfOk, IfSome, OnOk, Some, length, string_bytes};
+ghost use Rattle.std.specs.Option.{option_copied};
 ghost use Rattle.codespan.specs.Texts.{text_of};
 ghost use Rattle.oxc_span.specs.Label.{label_end};
+ghost use Rattle.oxc_handlers.specs.JsonText.{json_of, source_bytes};
+ghost use Rattle.oxc_handlers.specs.JsonView.{with_url};
 ghost use Rattle.oxc_handlers.specs.Report.{drawn, plan_of, view_parts};
 ghost use Rattle.render_files.specs.Readers.{Reads};
 
 use codespan::{FileId, Files};
-use oxc_handlers::{DiagnosticView, GraphicalReportHandler};
+use oxc_handlers::{DiagnosticView, GraphicalReportHandler, push_json_with_scanner};
 use oxc_span::Span;
 use oxc_windows::SpanScanner;
 use std::alloc::{AllocError, Global};
 use std::collections::BTreeMap;
 use std::marker::Model;
 
-/// Scanners of the files of a database, which is what contracts see of it.
+/// Scanners of the files of a database. Contracts see the files, and how many rows of context the scanners read round a span.
 ///
-/// The scanner of a file is made when the first report on it is drawn, and kept for the reports to come. It begins to keep
+/// The scanner of a file is made for the first report on it, and kept for the reports to come. It begins to keep
 /// rows at the least place that was told of the file, so that reports in any order find the rows that they show.
 #[derive(Drop)]
 pub(crate) struct Readers<'a> {
     files: &'a Files<String>,
+    rows: usize,
     starts: BTreeMap<FileId, u32>,
     scanners: BTreeMap<FileId, SpanScanner<'a>>,
     alloc: Global,
 }
 
 impl<'a> Model for Readers<'a> {
-    ghost use Rattle.std.specs.Prelude.{List};
-    ghost use Rattle.codespan.specs.Texts.{NamedText};
-    ghost use Rattle.render_files.specs.Readers.{AreReadersOf};
+    ghost use Rattle.render_files.specs.Readers.{AreReadersOf, FilesRead};
 
-    ghost Value = { List NamedText };
+    ghost Value = { FilesRead };
 
-    ghost view = { λ it. it.files.now };
+    ghost view = { λ it. record { files = it.files.now; rows = it.rows } };
 
-    ghost invariant = { λ it. AreReadersOf it.files.now it.scanners };
+    ghost invariant = { λ it. AreReadersOf (record { files = it.files.now; rows = it.rows }) it.scanners };
 }
 
 impl<'a> Readers<'a> {
-    /// No scanner is made yet.
-    pub(crate) fn new(alloc: Global, files: &'a Files<String>) -> Self
-        ensures { result ≡ files.now }
+    /// No scanner is made yet; those to come read so many rows of context before a span and after one.
+    pub(crate) fn new(alloc: Global, files: &'a Files<String>, rows: usize) -> Self
+        ensures { result ≡ record { files = files.now; rows = rows } }
     {
         Readers {
             files,
+            rows,
             starts: BTreeMap::new(alloc),
             scanners: BTreeMap::new(alloc),
             alloc,
@@ -62,16 +65,17 @@ impl<'a> Readers<'a> {
         Ok(())
     }
 
-    /// Draws a report on a file.
+    /// Draws a report on a file, by scanners that read one row round a span.
     pub(crate) fn draw(
         &mut self,
         handler: &GraphicalReportHandler,
         file: FileId,
         view: &DiagnosticView<'a>,
     ) -> Result<String, AllocError>
-        requires held { file < length self.old }
-        requires source { IfSome (view_parts view.now).source (λ source. source.bytes ≡ text_of self.old file) }
-        requires within { All (λ label. label_end label ≤ length (text_of self.old file)) (view_parts view.now).labels }
+        requires held { file < length self.old.files }
+        requires round { self.old.rows ≡ 1 }
+        requires source { IfSome (view_parts view.now).source (λ source. source.bytes ≡ text_of self.old.files file) }
+        requires within { All (λ label. label_end label ≤ length (text_of self.old.files file)) (view_parts view.now).labels }
         ensures text { IfOk result (λ text. string_bytes text ≡ drawn handler.now.theme handler.now.width (plan_of handler.now.tab (view_parts view.now))) }
         ensures unchanged { self.new ≡ self.old }
     {
@@ -81,17 +85,39 @@ impl<'a> Readers<'a> {
         Ok(text)
     }
 
+    /// Appends a report on a file as JSON, by scanners that read no rows of context.
+    pub(crate) fn push_json(
+        &mut self,
+        out: &mut String,
+        file: FileId,
+        view: &DiagnosticView<'a>,
+        url: Option<&str>,
+    ) -> Result<(), AllocError>
+        requires held { file < length self.old.files }
+        requires alone { self.old.rows ≡ 0 }
+        requires source { source_bytes (view_parts view.now).source ≡ Some (text_of self.old.files file) }
+        ensures text { OnOk result (string_bytes out.new ≡ string_bytes out.old ++ json_of (with_url view.now (option_copied url.entry))) }
+        ensures unchanged { self.new ≡ self.old }
+    {
+        let mut scanner = Some(self.reader_of(file)?);
+        push_json_with_scanner(out, view, url, &mut scanner)?;
+        if let Some(scanner) = scanner {
+            self.scanners.insert(file, scanner)?;
+        }
+        Ok(())
+    }
+
     /// Takes out the scanner of a file, or makes it.
     fn reader_of(&mut self, file: FileId) -> Result<SpanScanner<'a>, AllocError>
-        requires { file < length self.old }
-        ensures reads { IfOk result (Reads (text_of self.old file)) }
+        requires { file < length self.old.files }
+        ensures reads { IfOk result (Reads (text_of self.old.files file) self.old.rows) }
         ensures unchanged { self.new ≡ self.old }
     {
         if let Some(scanner) = self.scanners.remove(&file) {
             return Ok(scanner);
         }
         let source = self.files.source(file).as_str();
-        let mut scanner = SpanScanner::of_text(self.alloc, source, 1, 1);
+        let mut scanner = SpanScanner::of_text(self.alloc, source, self.rows, self.rows);
         if let Some(start) = self.starts.get(&file) {
             scanner.read_span(Span::new(*start, *start))?;
         }

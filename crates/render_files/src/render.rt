@@ -1,5 +1,5 @@
 // Reports on files, drawn or as JSON, and sent to a sink.
-ghost use Rattle.std.specs.Prelude.{◌≡◌, ◌≢◌, ◌++◌, ◌∷◌, [], ◌<◌, ◌≤◌, All, None, OnOk, IfOk, IfErr, IsErrOf, MatchResult, length, map, string_bytes};
+ghost use Rattle.std.specs.Prelude.{◌≡◌, ◌≢◌, ◌++◌, ◌∷◌, [], ◌<◌, ◌≤◌, All, None, Some, OnOk, IfOk, IfErr, IsErrOf, MatchResult, length, map, string_bytes};
 ghost use Rattle.std.specs.Io.KnownBytes.{Appends};
 ghost use Rattle.codespan.specs.Texts.{text_of};
 ghost use Rattle.oxc_span.specs.Views.{text_bytes};
@@ -9,7 +9,7 @@ ghost use Rattle.render_files.specs.declared.places.ReportError.{ReportError};
 ghost use Rattle.render_files.specs.Given.{given_report};
 ghost use Rattle.render_files.specs.Refusal.{refusal_of};
 ghost use Rattle.render_files.specs.Shown.{placed_labels, view_of as shown_of};
-ghost use Rattle.oxc_handlers.specs.JsonText.{json_of};
+ghost use Rattle.oxc_handlers.specs.JsonText.{json_of, source_bytes};
 ghost use Rattle.render_files.specs.Causes.{IsRefusal, IsSendingCause, Leaves};
 ghost use Rattle.render_files.specs.Rendered.{StandsInFile, code_of, drawn_reports, json_lines};
 
@@ -17,7 +17,7 @@ use crate::judge::place_labels;
 use crate::places::{FileReport, ReportError};
 use crate::readers::Readers;
 use codespan::Files;
-use oxc_handlers::{DiagnosticView, GraphicalReportHandler, push_json};
+use oxc_handlers::{DiagnosticView, GraphicalReportHandler};
 use oxc_protocol::{Diagnostic, LabeledSpan, Sink, SourceRef, write_all};
 use std::alloc::{AllocError, Global};
 
@@ -133,7 +133,7 @@ fn draw_all<'a>(
     requires codes { map text_bytes codes.now ≡ map code_of (map given_report reports.now) }
     ensures { IfOk result (λ text. string_bytes text ≡ drawn_reports handler.now files.now (map given_report reports.now)) }
 {
-    let mut readers = readers_for(alloc, files, reports, spans)?;
+    let mut readers = readers_for(alloc, files, reports, spans, 1)?;
     let mut text = String::new(alloc);
     for (at, report) in reports.iter().enumerate() {
         let view = view_of(files, report, &codes[at], spans[at].as_slice());
@@ -142,16 +142,17 @@ fn draw_all<'a>(
     Ok(text)
 }
 
-/// Readers of the database that were told where the labels of reports start.
+/// Readers of the database, with so many rows of context, that were told where the labels of reports start.
 fn readers_for<'a>(
     alloc: Global,
     files: &'a Files<String>,
     reports: &[FileReport],
     spans: &[Vec<LabeledSpan>],
+    rows: usize,
 ) -> Result<Readers<'a>, AllocError>
-    ensures { IfOk result (λ readers. readers ≡ files.now) }
+    ensures { IfOk result (λ readers. readers ≡ record { files = files.now; rows = rows }) }
 {
-    let mut readers = Readers::new(alloc, files);
+    let mut readers = Readers::new(alloc, files, rows);
     for (report, labels) in reports.iter().zip(spans) {
         if let Some(start) = labels.iter().map(|label| label.offset()).min() {
             readers.tell(report.file, start)?;
@@ -161,37 +162,42 @@ fn readers_for<'a>(
 }
 
 /// The lines of reports of which none is refused, with their labels and their codes.
-fn write_all_json(
+fn write_all_json<'a>(
     alloc: Global,
-    files: &Files<String>,
-    reports: &[FileReport],
-    spans: &[Vec<LabeledSpan>],
-    codes: &[Option<String>],
+    files: &'a Files<String>,
+    reports: &'a [FileReport],
+    spans: &'a [Vec<LabeledSpan>],
+    codes: &'a [Option<String>],
 ) -> Result<String, AllocError>
     requires stand { All (StandsInFile files.now) (map given_report reports.now) }
     requires spans { map (λ labels. labels.items) spans.now ≡ map (placed_labels files.now) (map given_report reports.now) }
     requires codes { map text_bytes codes.now ≡ map code_of (map given_report reports.now) }
     ensures { IfOk result (λ text. string_bytes text ≡ json_lines files.now (map given_report reports.now)) }
 {
+    let mut readers = readers_for(alloc, files, reports, spans, 0)?;
     let mut text = String::new(alloc);
     for (at, report) in reports.iter().enumerate() {
         let view = view_of(files, report, &codes[at], spans[at].as_slice());
-        push_line(&mut text, alloc, report, &view)?;
+        push_line(&mut text, &mut readers, report, &view)?;
     }
     Ok(text)
 }
 
 /// Appends the line of a report that shows as this view.
 #[tactic(auto, unfolding(crate::specs::Rendered::json_line))]
-fn push_line(
+fn push_line<'a>(
     text: &mut String,
-    alloc: Global,
+    readers: &mut Readers<'a>,
     report: &FileReport,
-    view: &DiagnosticView<'_>,
+    view: &DiagnosticView<'a>,
 ) -> Result<(), AllocError>
-    ensures { OnOk result (string_bytes text.new ≡ string_bytes text.old ++ (json_of (record (view_parts view.now) { url = report.now.diagnostic.url }) ++ 10 ∷ [])) }
+    requires held { report.now.file < length readers.old.files }
+    requires alone { readers.old.rows ≡ 0 }
+    requires source { source_bytes (view_parts view.now).source ≡ Some (text_of readers.old.files report.now.file) }
+    ensures line { OnOk result (string_bytes text.new ≡ string_bytes text.old ++ (json_of (record (view_parts view.now) { url = report.now.diagnostic.url }) ++ 10 ∷ [])) }
+    ensures unchanged { readers.new ≡ readers.old }
 {
-    push_json(text, alloc, view, report.diagnostic.url())?;
+    readers.push_json(text, report.file, view, report.diagnostic.url())?;
     text.push('\n')
 }
 

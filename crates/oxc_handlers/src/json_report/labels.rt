@@ -1,30 +1,28 @@
 //! The labels of a report as JSON.
 ghost use Rattle.std.specs.Prelude.{◌≡◌, ◌++◌, ◌<◌, ◌^◌, OnOk, string_bytes, All};
 ghost use Rattle.std.specs.List.{flat_map};
-ghost use Rattle.oxc_protocol.specs.SourceViews.{ref_views};
-ghost use Rattle.oxc_handlers.specs.JsonText.{label_list, label_object, label_place, labels_member, later_label, place_members, source_bytes, span_object};
+ghost use Rattle.oxc_handlers.specs.JsonText.{label_list, label_object, label_place, labels_member, later_label, place_members, span_object};
 ghost use Rattle.oxc_handlers.specs.JsonRange.{IsInRange};
 
 use crate::json_report::members::{push_key, push_number, push_number_member, push_optional};
 use crate::json_report::places::{Place, Places};
-use oxc_protocol::{LabeledSpan, SourceRef};
-use std::alloc::{AllocError, Global};
+use oxc_protocol::LabeledSpan;
+use std::alloc::AllocError;
 
-/// Appends the member of the labels, which point into this source.
+/// Appends the member of the labels, which have these places.
 #[tactic(auto, unfolding(crate::specs::JsonText::labels_member))]
 pub fn push_labels_member(
     out: &mut String,
-    alloc: Global,
-    source: Option<SourceRef<'_>>,
+    places: &mut Places<'_>,
     labels: &[LabeledSpan],
 ) -> Result<(), AllocError>
-    ensures text { OnOk result (string_bytes out.new ≡ string_bytes out.old ++ labels_member (source_bytes (ref_views source.entry)) labels.now) }
-    ensures range { OnOk result (All (IsInRange (source_bytes (ref_views source.entry))) labels.now) }
+    ensures text { OnOk result (string_bytes out.new ≡ string_bytes out.old ++ labels_member places.old labels.now) }
+    ensures range { OnOk result (All (IsInRange places.old) labels.now) }
+    ensures same { places.new ≡ places.old }
 {
     push_key(out, "labels")?;
     out.push_str("[")?;
-    let mut places = Places::new(alloc, source);
-    push_labels(out, &mut places, labels)?;
+    push_labels(out, places, labels)?;
     out.push_str("]")
 }
 
@@ -37,6 +35,7 @@ fn push_labels(
 ) -> Result<(), AllocError>
     ensures text { OnOk result (string_bytes out.new ≡ string_bytes out.old ++ label_list places.old labels.now) }
     ensures range { OnOk result (All (IsInRange places.old) labels.now) }
+    ensures same { places.new ≡ places.old }
 {
     let Some((label, later)) = labels.split_first() else {
         return Ok(());
@@ -52,6 +51,7 @@ fn push_later_labels(
 ) -> Result<(), AllocError>
     ensures text { OnOk result (string_bytes out.new ≡ string_bytes out.old ++ flat_map (later_label places.old) labels.now) }
     ensures range { OnOk result (All (IsInRange places.old) labels.now) }
+    ensures same { places.new ≡ places.old }
 {
     for label in labels {
         push_later_label(out, places, label)?;

@@ -1,11 +1,11 @@
 //! Where labels start in a report's source.
 ghost use Rattle.std.specs.Prelude.{◌≡◌, ◌<◌, ◌+◌, ◌^◌, IfOk, IfSome};
-ghost use Rattle.oxc_protocol.specs.SourceViews.{ref_views};
-ghost use Rattle.oxc_handlers.specs.JsonText.{label_place, source_bytes};
+ghost use Rattle.oxc_handlers.specs.JsonPlaces.{read_bytes, ReadsRowsAlone};
+ghost use Rattle.oxc_handlers.specs.JsonText.{label_place};
 
-use oxc_protocol::{LabeledSpan, SourceRef};
+use oxc_protocol::LabeledSpan;
 use oxc_windows::{SpanContents, SpanScanner};
-use std::alloc::{AllocError, Global};
+use std::alloc::AllocError;
 use std::marker::Model;
 
 /// A line and a byte column, both from 1.
@@ -34,15 +34,20 @@ impl<'a> Model for Places<'a> {
 }
 
 impl<'a> Places<'a> {
-    /// The places in this source. It takes no memory.
-    pub fn new(alloc: Global, source: Option<SourceRef<'a>>) -> Self
-        ensures { result ≡ source_bytes (ref_views source.entry) }
+    /// The places in the source that a scanner reads, where there is one.
+    pub fn new(scanner: Option<SpanScanner<'a>>) -> Self
+        requires { ReadsRowsAlone scanner }
+        ensures { result ≡ read_bytes scanner.entry }
     {
-        let scanner = match source {
-            Some(source) => Some(SpanScanner::new(alloc, source.bytes(), 0, 0)),
-            None => None,
-        };
         Places { scanner }
+    }
+
+    /// The scanner, which can find the places of later labels.
+    pub fn into_scanner(self) -> Option<SpanScanner<'a>>
+        ensures reads { read_bytes result ≡ self.entry }
+        ensures alone { ReadsRowsAlone result }
+    {
+        self.scanner
     }
 
     /// The place of a label's start: none without a source, and none where the label ends past it.

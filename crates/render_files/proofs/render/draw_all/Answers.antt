@@ -1,7 +1,6 @@
 -- What is asked of a report holds of each in the list, and its drawing comes next.
 use Rattle.std.proofs.Common.{◌≡◌, ◌+◌, ◌<◌, ◌++◌, length, map, drop, string_bytes, ap, subst, sym, ◌∙◌, append_assoc}
 use Rattle.oxc_span.specs.Views.{text_bytes}
-use Rattle.oxc_handlers.specs.Report.{drawn}
 use Rattle.render_files.specs.Given.{given_report}
 use Rattle.render_files.specs.Shown.{placed_labels}
 use Rattle.render_files.specs.Rendered.{StandsInFile, code_of, drawn_report, drawn_reports}
@@ -26,12 +25,12 @@ view_of-view-requires-clause-code c =
 
 pub draw-requires-clause-held : goal.draw-requires-clause-held
 draw-requires-clause-held c =
-    subst (λ files. c.index-reports-at.result.file < length files) (sym c.loop-at.invariant.known)
+    subst (λ read. c.index-reports-at.result.file < length read.files) (sym c.loop-at.invariant.known)
     (holds_at (StandsInFile c.args.files.now) given_report c.args.reports.now c.loop-at.at c.index-reports-at.result c.requires.stand c.loop-at-test.true c.index-reports-at.is).held
 
 pub draw-requires-clause-within : goal.draw-requires-clause-within
 draw-requires-clause-within c =
-    view_within c.args.files.now c.loop-at.readers (given_report c.index-reports-at.result) c.view_of-view.result.labels.now c.loop-at.invariant.known
+    view_within c.args.files.now c.loop-at.readers.files (given_report c.index-reports-at.result) c.view_of-view.result.labels.now (ap (λ read. read.files) c.loop-at.invariant.known)
     (ap (λ p. p.labels) c.view_of-view.ensures)
     (holds_at (StandsInFile c.args.files.now) given_report c.args.reports.now c.loop-at.at c.index-reports-at.result c.requires.stand c.loop-at-test.true c.index-reports-at.is)
 

@@ -6,7 +6,7 @@ use Rattle.render_files.proofs.render.draw_all.Given as goal
 
 abbrev pub invariant-loop-at : goal.invariant-loop-at
 invariant-loop-at l = record {
-  known : l.readers ≡ l.files;
+  known : l.readers ≡ record { files = l.files; rows = 1 };
   drawn : string_bytes l.text ++ drawn_reports l.handler l.files (map given_report (drop l.at l.reports))
       ≡ drawn_reports l.handler l.files (map given_report l.reports);
 }
