@@ -1,7 +1,7 @@
 -- Each text of a label hangs once: counts of places, and of the rows in which a byte lies.
 use Rattle.std.proofs.Common.{◌≡◌, ℕ, zero, suc, ◌+◌, ◌-◌, ◌<◌, ◌≤◌, ◌&&◌, not, Bool, true, false, leb, ltb, eqb, cond, List, [], ◌∷◌, ◌++◌, length, map, get_or, max, min, drop, slice_range, zero-le, count_by, inl, inr, refl, sym, ap, subst, ◌∙◌, arith, ⊎_elim, All}
 use Rattle.std.specs.List.Sorted.{IsNonDecreasingBy}
-use Rattle.std.specs.List.{filter, filter_map, flat_map, range_with_len, sum_by}
+use Rattle.std.specs.List.{Contains, filter, filter_map, flat_map, range_with_len, sum_by}
 use Rattle.std.specs.Option.{is_some}
 use Rattle.std.proofs.lemmas.Bool.{and_parts, cases_lt, cases_Bool, eqb-true, false≢true, leb-true, ltb-true, eq-eqb, le-leb, le-ltb, lt-leb, lt-ltb}
 use Rattle.std.proofs.lemmas.Bool.Decides.{nat_tests}
@@ -19,16 +19,16 @@ use Rattle.oxc_windows.proofs.ListLemmas.{count_cons}
 use Rattle.oxc_windows.proofs.WindowLemmas.{row_start_before, row_start_mono, row_start_within, window_reaches}
 use Rattle.oxc_windows.specs.Breaks.{IsBreakList, breaks_of}
 use Rattle.oxc_plan.specs.Groups.{AreApart, AreGroups, HoldsItsSpans, group_window, groups_of, largest_end, span_at}
-use Rattle.oxc_plan.specs.Laws.{HasPairedCrs, HaveRowsOnce, HaveTextsOnce, IsLastMet, drawn_rows, source_row, texts_below}
+use Rattle.oxc_plan.specs.Laws.{AreAllInOrder, HasPairedCrs, HaveRowsOnce, HaveTextsOnce, IsLastMet, drawn_rows, source_row, texts_below}
 use Rattle.oxc_plan.proofs.SourceLemmas.{IsSourceRow, rows_are}
-use Rattle.oxc_plan.specs.Order.{spans_in_order}
+use Rattle.oxc_plan.specs.Order.{label_at, label_order, places, spans_in_order, start_at}
 use Rattle.oxc_plan.proofs.GroupsLemmas.{groups_apart, groups_hold, groups_of_are, largest_end_reaches, largest_end_within}
-use Rattle.oxc_plan.proofs.OrderLemmas.{spans_ascend, spans_valid}
+use Rattle.oxc_plan.proofs.OrderLemmas.{label_order_is, spans_ascend, spans_valid}
 use Rattle.oxc_plan.specs.Meets.{is_multi_row, is_one_row, label_past, multi_row_labels, one_row_labels}
 use Rattle.oxc_plan.specs.Rows.{RowView, numbered, pieces, row_of_piece, rows_in}
 use Rattle.oxc_plan.proofs.PlanLemmas.{groups_within, spans_ordered, total, total_pieces}
 use Rattle.oxc_plan.specs.declared.hangs.Hang.{Hang}
-use Rattle.oxc_plan.specs.Plan.{Ordered, RowPlanView, ends_of, ends_with_text, hang_of, hang_place, hangs_of, in_order, ordered_at, row_plan_of, row_plans_of, snippet_of, snippets_of, spans_of}
+use Rattle.oxc_plan.specs.Plan.{Ordered, RowPlanView, ends_of, ends_with_text, hang_of, hang_place, hangs_of, in_order, ordered_at, ordered_label, row_plan_of, row_plans_of, snippet_of, snippets_of, spans_of}
 
 -- how often a place stands among places that pass a test
 pub count_kept : (p : ℕ → Bool) (at : ℕ) (xs : List ℕ) → p at ≡ true → count_by (λ k. eqb k at) (filter p xs) ≡ count_by (λ k. eqb k at) xs
@@ -74,6 +74,37 @@ count_once at a (suc n) le lt =
     (λ later. count_cons (λ k. eqb k at) a (range_with_len (a + 1) n) ∙ rw (other_number a at later) (omega (arith, count_once at (a + 1) n (omega arith) (omega arith))))
     (λ from. count_cons (λ k. eqb k at) a (range_with_len (a + 1) n) ∙ rw (eq-eqb a at (omega arith)) (omega (arith, count_past at (a + 1) n (omega arith))))
     (cases_lt a at)
+
+-- what a list counts has a place in it
+counted_there : (at : ℕ) (xs : List ℕ) → 0 < count_by (λ k. eqb k at) xs → Contains xs at
+counted_there at [] some = absurd (omega (arith, some))
+counted_there at (x ∷ xs) some =
+    elim (cases_Bool (eqb x at)) [
+      | inl same ↦ (0, omega arith, eqb-true x at same)
+      | inr other ↦
+          let none : ◌≡◌ {A = ℕ} (cond (eqb x at) 1 0) 0 = ap (λ b. cond b 1 0) other in
+          let rest = counted_there at xs (omega (arith, some, none, count_cons (λ k. eqb k at) x xs)) in
+          (suc rest.0, omega (arith, rest.1), rest.2)
+    ]
+
+-- each given label stands once in label order: its start's labels stand there as given
+order_once : (labels : List Label) (at : ℕ) → at < length labels → count_by (λ k. eqb k at) (label_order labels) ≡ 1
+order_once labels at lt =
+    let p : ℕ → Bool = λ k. eqb (start_at labels k) (start_at labels at) in
+    let here : p at ≡ true = eq-eqb (start_at labels at) (start_at labels at) refl in
+    sym (count_kept p at (label_order labels) here) ∙ ap (count_by (λ k. eqb k at)) ((label_order_is labels).as_given at)
+    ∙ count_kept p at (places labels) here ∙ count_once at 0 (length labels) (omega arith) (omega (arith, lt))
+
+pub all_in_order : (labels : List Label) → AreAllInOrder labels
+unfolding in_order
+all_in_order labels at lt =
+    let once = order_once labels at lt in
+    let found = counted_there at (label_order labels) (omega (arith, once)) in
+    let f : ℕ → Ordered = λ k. ordered_label (label_at labels k) in
+    record {
+      once = once;
+      stands = (found.0, rw length-map found.1, get_or-map f (label_order labels) found.0 at (f at) found.1 ∙ ap f found.2);
+    }
 
 -- how often a place stands among the hanging texts
 pub count_hangs : (labels : List Ordered) (places : List ℕ) (at : ℕ) (xs : List ℕ) → is_some (ordered_at labels at).text ≡ true

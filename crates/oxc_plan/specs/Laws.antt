@@ -1,14 +1,24 @@
--- What the plan of a report's snippets promises of the texts of its labels.
+-- What the plan of a report's snippets promises of its labels, their texts and the rows that they meet.
 use Rattle.std.specs.Prelude.{◌≡◌, ℕ, ◌+◌, ◌-◌, ◌<◌, ◌≤◌, ◌==◌, List, length, count_by, slice_index, slice_range, All}
-use Rattle.std.specs.List.{flat_map, sum_by}
+use Rattle.std.specs.List.{Contains, flat_map, sum_by}
 use Rattle.std.specs.Option.{IsSome}
 use Rattle.oxc_span.specs.declared.span.Span.{Span}
 use Rattle.oxc_span.specs.Label.{Label, label_end}
 use Rattle.oxc_plan.specs.Meets.{Meets}
+use Rattle.oxc_plan.specs.Order.{label_at, label_order}
 use Rattle.oxc_plan.specs.Rows.{RowView, row_text}
 use Rattle.oxc_windows.specs.Breaks.{breaks_of}
 use Rattle.oxc_windows.specs.Rows.{row_start}
-use Rattle.oxc_plan.specs.Plan.{RowPlanView, SnippetView, in_order, ordered_at, snippets_of}
+use Rattle.oxc_plan.specs.Plan.{RowPlanView, SnippetView, in_order, ordered_at, ordered_label, snippets_of}
+
+-- a label, by its place as given, stands at exactly one place of the label order, and is among the labels in that order
+pub record IsInOrder (labels : List Label) (at : ℕ) : Type 0 where
+  pub once : count_by (λ given. given == at) (label_order labels) ≡ 1
+  pub stands : Contains (in_order labels) (ordered_label (label_at labels at))
+
+-- the law: each given label is in the label order
+abbrev pub AreAllInOrder : List Label → Type 0
+AreAllInOrder labels = (at : ℕ) → at < length labels → IsInOrder labels at
 
 -- all rows of snippets, from the first to the last
 abbrev pub drawn_rows : List SnippetView → List RowPlanView

@@ -1,7 +1,13 @@
 //! Laws of plans, each as the contract of a function that does nothing.
-ghost use Rattle.oxc_plan.specs.Laws.{HaveRowsOnce, HaveTextsOnce};
+ghost use Rattle.oxc_plan.specs.Laws.{AreAllInOrder, HaveRowsOnce, HaveTextsOnce};
 
 use oxc_span::LabeledSpan;
+
+/// The law that each given label stands at exactly one place of the label order, and is among the labels of the plan. It
+/// does nothing: a caller calls it to know the law.
+pub fn labels_stand_once(_labels: &[LabeledSpan])
+    ensures { AreAllInOrder _labels.now }
+{}
 
 /// The law that each text of a label hangs once below the rows of the snippets, under the last row that its label
 /// meets, and that only the text of an empty label at the source's end hangs nowhere. It does nothing: a caller calls

@@ -27,7 +27,7 @@ pub use crate::bars::{Bar, BarKind};
 pub use crate::columns::{Pen, column_of, columns_as_drawn, moved_over};
 pub use crate::grouping::{groups, one_grouping};
 pub use crate::hangs::Hang;
-pub use crate::laws::{rows_stand_once, texts_hang_once};
+pub use crate::laws::{labels_stand_once, rows_stand_once, texts_hang_once};
 pub use crate::marks::{MarkCells, exact_marks};
 pub use crate::order::{label_order, one_label_order};
 pub use crate::rows::{Row, rows_of};
