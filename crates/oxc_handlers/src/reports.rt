@@ -1,5 +1,5 @@
 //! Diagnostics that are drawn by the trait [`Diagnostic`] alone, and lists of them.
-ghost use Rattle.std.specs.Prelude.{◌≡◌, ◌++◌, ◌≤◌, ℕ, Bool, List, All, IfErr, IfOk, IsErrOf, MatchResult, OnErr, OnOk, map, string_bytes};
+ghost use Rattle.std.specs.Prelude.{◌≡◌, ◌++◌, ◌≤◌, [], ℕ, Bool, List, All, Ok, IfErr, IfOk, IsErrOf, IsOk, MatchResult, OnErr, OnOk, map, string_bytes};
 ghost use Rattle.std.specs.Io.KnownBytes.{Appends};
 ghost use Rattle.oxc_protocol.specs.Faults.{Rose};
 ghost use Rattle.oxc_protocol.specs.Parts.{Parts};
@@ -68,7 +68,11 @@ impl GraphicalReportHandler {
         ensures left { IfErr result (LeavesText (K.received sink.old) (K.received sink.new) (texts_of self.now (map parts diagnostics.now))) }
         ensures fault { IsErrOf result RenderError.SinkFault → Rose (K.faults sink.old) (K.faults sink.new) }
         ensures later { K.faults sink.old ≤ K.faults sink.new }
+        ensures empty { diagnostics.now ≡ [] → IsOk result × (sink.new ≡ sink.old) }
     {
+        if diagnostics.is_empty() {
+            return Ok(());
+        }
         let text = self.texts_of(alloc, diagnostics)?;
         write_all(sink, text.as_bytes())?;
         Ok(())
@@ -91,7 +95,11 @@ impl GraphicalReportHandler {
         ensures handed { IfOk result (λ n. KeepsUntil K.keeps self.now keep.old (map parts diagnostics.now) n keep.new) }
         ensures cause { MatchResult result (λ _. All IsFaultless (map parts diagnostics.now)) (IsListRefusal (map parts diagnostics.now)) }
         ensures left { IfErr result (λ error. KeepsAtError K.keeps self.now keep.old (map parts diagnostics.now) error keep.new) }
+        ensures empty { diagnostics.now ≡ [] → (result ≡ Ok 0) × (keep.new ≡ keep.old) }
     {
+        if diagnostics.is_empty() {
+            return Ok(0);
+        }
         let codes = codes_of(alloc, diagnostics)?;
         if let Err(error) = judge_all(alloc, diagnostics, &codes) {
             return Err(error);

@@ -8,7 +8,8 @@ use Rattle.codespan.specs.Texts.{NamedText, text_of}
 use Rattle.oxc_span.specs.Label.{label_end}
 use Rattle.render_files.specs.declared.places.ReportError.{ReportError}
 use Rattle.render_files.specs.declared.places.ReportError.TheVariants.{UnknownFile, PositionOutside, LabelReversed, SinkFault}
-use Rattle.render_files.specs.Given.{GivenLabel, GivenReport}
+use Rattle.render_files.specs.declared.places.FileReport.{FileReport}
+use Rattle.render_files.specs.Given.{GivenLabel, GivenReport, given_report}
 use Rattle.render_files.specs.Refusal.{boundary_at, start_in, end_in, first_at, outside, reversed, start_offset, end_offset, refusal_in, refusal_of}
 use Rattle.render_files.specs.Shown.{placed, placed_labels}
 use Rattle.render_files.specs.Causes.{IsRefusal}
@@ -80,6 +81,12 @@ none_at f P step at (x ∷ xs) e (suc i) d lt = none_at f P step (at + 1) xs (ne
 pub all_stand : (files : List NamedText) (reports : List GivenReport) → refusal_of files reports ≡ None → All (StandsInFile files) reports
 unfolding refusal_of
 all_stand files reports e = none_at (refusal_in files) (StandsInFile files) (λ k x fine. stands files k x fine) 0 reports e
+
+-- no report, no refusal
+pub none_refused : (files : List NamedText) (reports : List FileReport) → length reports ≡ 0 → refusal_of files (map given_report reports) ≡ None
+unfolding refusal_of
+none_refused files [] empty = refl
+none_refused files (x ∷ xs) empty = absurd (omega (arith, empty))
 
 -- an answer that no member gives isn't the first
 either_not : {B : Type 0} (a b : Option B) (e : B) → ¬ (a ≡ Some e) → ¬ (b ≡ Some e) → ¬ (option_or a b ≡ Some e)

@@ -1,5 +1,5 @@
 // Reports on files, drawn or as JSON, and sent to a sink.
-ghost use Rattle.std.specs.Prelude.{◌≡◌, ◌≢◌, ◌++◌, ◌∷◌, [], ◌<◌, ◌≤◌, All, None, Some, OnOk, IfOk, IfErr, IsErrOf, MatchResult, length, map, string_bytes};
+ghost use Rattle.std.specs.Prelude.{◌≡◌, ◌≢◌, ◌++◌, ◌∷◌, [], ◌<◌, ◌≤◌, All, None, Some, OnOk, IfOk, IfErr, IsErrOf, IsOk, IsOkAnd, MatchResult, length, map, string_bytes};
 ghost use Rattle.std.specs.Io.KnownBytes.{Appends};
 ghost use Rattle.codespan.specs.Texts.{text_of};
 ghost use Rattle.oxc_span.specs.Views.{text_bytes};
@@ -29,6 +29,7 @@ use std::alloc::{AllocError, Global};
 ///
 /// The refusals of [`ReportError`], by the first report that has a fault, and want of memory, which may come before any
 /// other: nothing was written. `SinkFault`: the sink took a first part of the text.
+#[tactic(auto, using(crate::proofs::Standing::none_refused))]
 pub fn render_files<K: Sink>(
     alloc: Global,
     handler: &GraphicalReportHandler,
@@ -41,7 +42,11 @@ pub fn render_files<K: Sink>(
     ensures left { IfErr result (Leaves (K.received sink.old) (K.received sink.new) (drawn_reports handler.now files.now (map given_report reports.now))) }
     ensures fault { IsErrOf result ReportError.SinkFault → Rose (K.faults sink.old) (K.faults sink.new) }
     ensures later { K.faults sink.old ≤ K.faults sink.new }
+    ensures empty { reports.now ≡ [] → IsOk result × (sink.new ≡ sink.old) }
 {
+    if reports.is_empty() {
+        return Ok(());
+    }
     let text = files_text(alloc, handler, files, reports)?;
     write_all(sink, text.as_bytes())?;
     Ok(())
@@ -54,6 +59,7 @@ pub fn render_files<K: Sink>(
 /// # Errors
 ///
 /// As those of [`render_files`].
+#[tactic(auto, using(crate::proofs::Standing::none_refused))]
 pub fn render_files_json<K: Sink>(
     alloc: Global,
     files: &Files<String>,
@@ -65,7 +71,11 @@ pub fn render_files_json<K: Sink>(
     ensures left { IfErr result (Leaves (K.received sink.old) (K.received sink.new) (json_lines files.now (map given_report reports.now))) }
     ensures fault { IsErrOf result ReportError.SinkFault → Rose (K.faults sink.old) (K.faults sink.new) }
     ensures later { K.faults sink.old ≤ K.faults sink.new }
+    ensures empty { reports.now ≡ [] → IsOk result × (sink.new ≡ sink.old) }
 {
+    if reports.is_empty() {
+        return Ok(());
+    }
     let text = json_text(alloc, files, reports)?;
     write_all(sink, text.as_bytes())?;
     Ok(())
@@ -76,7 +86,7 @@ pub fn render_files_json<K: Sink>(
 /// # Errors
 ///
 /// The same refusals, and want of memory; never `SinkFault`.
-#[tactic(auto, using(crate::proofs::Standing::never_fault))]
+#[tactic(auto, using(crate::proofs::Standing::never_fault, crate::proofs::Standing::none_refused))]
 pub fn files_text(
     alloc: Global,
     handler: &GraphicalReportHandler,
@@ -86,7 +96,11 @@ pub fn files_text(
     ensures drawn { IfOk result (λ text. string_bytes text ≡ drawn_reports handler.now files.now (map given_report reports.now)) }
     ensures cause { MatchResult result (λ _. refusal_of files.now (map given_report reports.now) ≡ None) (IsRefusal (refusal_of files.now (map given_report reports.now))) }
     ensures never { IfErr result (λ error. error ≢ ReportError.SinkFault) }
+    ensures empty { reports.now ≡ [] → IsOkAnd result (λ text. string_bytes text ≡ []) }
 {
+    if reports.is_empty() {
+        return Ok(String::new(alloc));
+    }
     let spans = place_labels(alloc, files, reports)?;
     let codes = codes_of(alloc, reports)?;
     Ok(draw_all(alloc, handler, files, reports, &spans, &codes)?)
