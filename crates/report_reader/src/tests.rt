@@ -1,5 +1,5 @@
 //! Reports read back, and shown again.
-ghost use Rattle.std.specs.Prelude.{◌≡◌, IfOk, Some, true, option_map};
+ghost use Rattle.std.specs.Prelude.{◌≡◌, ◌↔◌, IfOk, IfSome, IsTrue, Some, option_map};
 ghost use Rattle.oxc_handlers.specs.Report.{plan_of, view_parts};
 ghost use Rattle.report_reader.specs.Reading.{IsRead};
 ghost use Rattle.report_reader.specs.ReadsBack.{IsReadable};
@@ -87,36 +87,60 @@ fn a_label_is_read_and_shown(rt: HostRuntime) {
     assert!(rt; shown.as_str() == LABELED);
 }
 
+/// The label of [`WITH_A_GUTTER`] without its text.
+const WITH_BARS_ALONE: &str =
+    "\n  x m\n   ,-[b.js:1:3]\n 1 | ,-> a {\n 2 | |     b\n 3 | `-> }\n   `----\n";
+
+/// A title with a help, and one with a note.
+const WITH_HELP: &str = "\n  x m\n  help: h\n";
+
+const WITH_A_NOTE: &str = "\n  x m\n  note: n\n";
+
 #[test]
-fn gutters_and_cut_texts_are_refused(rt: HostRuntime) {
-    let alloc = rt.alloc();
-    assert!(rt;
-        read_report(alloc, WITH_A_GUTTER)
-            .expect(&rt, "memory")
-            .is_none()
-    );
-    assert!(rt; read_report(alloc, CUT_OFF).expect(&rt, "memory").is_none());
+fn gutters_footers_and_cut_texts_are_refused(rt: HostRuntime) {
+    for (text, is_read) in [
+        (WITH_A_GUTTER, false),
+        (CUT_OFF, false),
+        (WITH_HELP, false),
+        (WITH_A_NOTE, false),
+        (WITH_BARS_ALONE, true),
+    ] {
+        let read = read_report(rt.alloc(), text).expect(&rt, "memory");
+        assert!(rt; read.is_some() == is_read, "{text}");
+    }
 }
 
-/// Whether two drawn reports say the same under their titles, wherever each found it. None where one of the texts is no
-/// drawn report.
+/// Whether contracts see the same of two values: `==` looks at every part.
+fn are_same(one: &Seen, other: &Seen) -> bool
+    ensures { IsTrue result ↔ (report_model one.now ≡ report_model other.now) }
+{
+    one == other
+}
+
+/// Whether two drawn reports say the same, in every part. None where one of the texts is no drawn report.
 fn say_the_same(alloc: Global, one: &str, other: &str) -> Result<Option<bool>, AllocError>
-    ensures { IfOk result (λ answer. answer ≡ Some true → (a b : Report) × IsRead one.now a × IsRead other.now b × (a.severity ≡ b.severity) × (a.title ≡ b.title)) }
+    ensures { IfOk result (λ answer. IfSome answer (λ same. (a b : Report) × IsRead one.now a × IsRead other.now b × (IsTrue same ↔ (a ≡ b)))) }
 {
     let (Some(first), Some(second)) = (read_report(alloc, one)?, read_report(alloc, other)?) else {
         return Ok(None);
     };
-    let same = first.severity == second.severity && first.title.as_str() == second.title.as_str();
-    Ok(Some(same))
+    Ok(Some(are_same(&first, &second)))
 }
 
+/// [`LABELED`] with another text at the label.
+const OTHERWISE_LABELED: &str =
+    "\n  x Oops\n   ,-[a.js:2:1]\n 1 | foo\n 2 | bar\n   : ^|^\n   :  `-- there\n 3 | baz\n   `----\n";
+
 #[test]
-fn reports_are_compared_by_meaning(rt: HostRuntime) {
-    let alloc = rt.alloc();
-    let moved =
-        "\n  x Oops\n    ,-[b.js:12:1]\n 11 | foo\n 12 | bar\n    : ^|^\n    :  `-- here\n    `----\n";
-    let same = say_the_same(alloc, LABELED, moved).expect(&rt, "memory");
-    assert!(rt; same == Some(true));
+fn reports_are_compared_in_every_part(rt: HostRuntime) {
+    for (other, same) in [
+        (LABELED, Some(true)),
+        (OTHERWISE_LABELED, Some(false)),
+        (CUT_OFF, None),
+    ] {
+        let told = say_the_same(rt.alloc(), LABELED, other).expect(&rt, "memory");
+        assert!(rt; told == same, "{other}");
+    }
 }
 
 /// Draws a view in the plain theme, and reads the drawing back.
