@@ -77,6 +77,31 @@ fn a_last_byte_in_a_break_moves_the_end(rt: HostRuntime) -> Result<(), Fail> {
     Ok(())
 }
 
+// Whether a span is read as these numbers and bytes, by a second read where the first found no memory.
+fn reads_at_last(
+    scanner: &mut SpanScanner<'_>,
+    start: u32,
+    end: u32,
+    want: Numbers,
+    bytes: &[u8],
+) -> bool
+    requires { start ≤ end }
+{
+    match reads(scanner, start, end, want, bytes) {
+        Ok(is_so) => is_so,
+        Err(_) => reads(scanner, start, end, want, bytes) == Ok(true),
+    }
+}
+
+// `docs/refuse-allocations.sh` runs this with each of its allocations refused in turn.
+#[test]
+fn a_scanner_reads_on_after_want_of_memory(rt: HostRuntime) {
+    let mut scanner = SpanScanner::new(rt.alloc(), FOUR_ROWS, 1, 1);
+    assert!(rt; reads_at_last(&mut scanner, 6, 7, (4, 8, 2, 0, 4), b"c\nd\n"));
+    assert!(rt; reads_at_last(&mut scanner, 0, 1, (0, 4, 0, 0, 2), b"a\nb\n"));
+    assert!(rt; reads_at_last(&mut scanner, 6, 7, (4, 8, 2, 0, 4), b"c\nd\n"));
+}
+
 /// The row and the byte column of a span's start, from 0, where the span ends within the source.
 fn place(scanner: &mut SpanScanner<'_>, span: Span) -> Result<Option<(usize, usize)>, AllocError>
     requires bare { scanner.old.before ≡ 0 }
