@@ -1,6 +1,6 @@
 // The standard streams as a source and sinks. What they give and take isn't told: this is the edge
-// that is trusted to hand the bytes on.
-ghost use Rattle.std.specs.Prelude.{None};
+// that is trusted to hand the bytes on. A reader that tells its bytes, as one over memory, tells them here too.
+ghost use Rattle.std.specs.Prelude.{◌≡◌, None};
 
 use crate::source::Source;
 use oxc_protocol::{Failed, Sink};
@@ -18,13 +18,16 @@ pub type StdinSource = ReaderSource<Stdin>;
 
 impl<R: Read> ReaderSource<R> {
     /// A source over the reader, which has not failed yet.
-    pub fn new(reader: R) -> ReaderSource<R> {
+    pub fn new(reader: R) -> ReaderSource<R>
+        ensures kept { result.reader ≡ reader }
+        ensures faults { result.faults ≡ 0 }
+    {
         ReaderSource { reader, faults: 0 }
     }
 }
 
 impl<R: Read> Source for ReaderSource<R> {
-    ghost left = { λ _. None };
+    ghost left = { λ s. R.remaining s.reader };
 
     ghost faults = { λ s. s.faults };
 
@@ -61,7 +64,10 @@ pub type StderrSink = WriterSink<Stderr>;
 
 impl<W: Write> WriterSink<W> {
     /// A sink over the writer, which has not failed yet.
-    pub fn new(writer: W) -> WriterSink<W> {
+    pub fn new(writer: W) -> WriterSink<W>
+        ensures kept { result.writer ≡ writer }
+        ensures faults { result.faults ≡ 0 }
+    {
         WriterSink { writer, faults: 0 }
     }
 }
@@ -92,3 +98,6 @@ impl<W: Write> Sink for WriterSink<W> {
         Err(Failed)
     }
 }
+
+#[cfg(test)]
+mod tests;
