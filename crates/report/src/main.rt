@@ -27,6 +27,7 @@ mod document_tests;
 #[cfg(test)]
 mod run_tests;
 
+use ending::{Ending, say};
 use std::env;
 use std::io::ErrorKind;
 use std::process::ExitCode;
@@ -39,19 +40,23 @@ const NO_WORDS: u8 = 9;
 
 fn main(rt: HostRuntime) -> ExitCode {
     let alloc = rt.alloc();
+    let mut err = StderrSink::new(rt.stderr());
     let mut args = match env::args(&rt) {
         Ok(args) => args,
-        Err(e) if e.kind() == ErrorKind::OutOfMemory => {
-            return ExitCode::from(Status::OutOfMemory.code());
-        }
+        Err(e) if e.kind() == ErrorKind::OutOfMemory => return no_memory(&mut err),
         Err(_) => return ExitCode::from(NO_WORDS),
     };
     let _program = args.next();
     let Ok(words) = args.collect::<Vec<String>>(alloc) else {
-        return ExitCode::from(Status::OutOfMemory.code());
+        return no_memory(&mut err);
     };
     let mut input = StdinSource::new(rt.stdin());
     let mut out = StdoutSink::new(rt.stdout());
-    let mut err = StderrSink::new(rt.stderr());
     ExitCode::from(run(alloc, &words, &mut input, &mut out, &mut err).code())
+}
+
+/// Tells `err` that memory was wanting for the words, and gives the exit status.
+fn no_memory(err: &mut StderrSink) -> ExitCode {
+    say(err, Ending::OutOfMemory);
+    ExitCode::from(Status::OutOfMemory.code())
 }
