@@ -1,19 +1,12 @@
-//! How fast the counts are. With the word `--measure` it counts in 64 MiB of text, in parts of three sizes, and prints the
-//! best times of some rounds in microseconds, and by how much the plain counts are slower. With no word it counts in a
-//! short text, and prints what each count gives.
-#![tactic(auto)]
-
+//! The counts of `bytecount`: the plain ones, those by words, and those that callers use.
 ghost use Rattle.std.specs.Prelude.{◌≡◌, ◌*◌, ◌/◌, ◌<◌, ◌^◌, max};
-ghost use Rattle.bench_bytecount.specs.Counted.{counted};
+ghost use Rattle.bench.specs.Counted.{counted};
 
+use crate::subject::LINE;
 use bytecount::integer_simd::{chunk_count, chunk_num_chars};
 use bytecount::{count, naive_count, naive_num_chars, num_chars};
-use std::alloc::{AllocError, Global};
-use std::env;
 use std::time::{Clock, Instant};
 
-const LINE: &str =
-    "A line of the text, as long as lines are: größer als nötig, and no longer than that.\n";
 /// How many bytes are counted in a round: 64 MiB.
 const WHOLE: usize = 64 * 1024 * 1024;
 /// As many lines as give so many bytes.
@@ -75,14 +68,6 @@ fn best(
     Ok((best, counted))
 }
 
-fn text_of_lines(alloc: Global, lines: usize) -> Result<Vec<u8>, AllocError> {
-    let mut text = Vec::new(alloc);
-    for _ in 0..lines {
-        text.extend_from_slice(LINE.as_bytes())?;
-    }
-    Ok(text)
-}
-
 /// How long the slow one takes, in hundredths of the fast one, which takes at least 1.
 fn hundredths(slow: u128, fast: u128) -> u128
     ensures { slow < 2 ^ 64 → result ≡ slow * 100 / max fast 1 }
@@ -114,32 +99,24 @@ const OF_LINE_FEEDS: [Count; 3] = [Count::Naive, Count::Words, Count::Whole];
 
 const OF_CHARACTERS: [Count; 3] = [Count::NaiveChars, Count::WordChars, Count::WholeChars];
 
-fn measure(rt: HostRuntime) -> anyhow::Result<()> {
-    let text = text_of_lines(rt.alloc(), LINES)?;
+/// Measures the counts over 64 MiB, in parts of three sizes.
+pub fn measure(rt: HostRuntime) -> anyhow::Result<()> {
+    let text = LINE.repeat(rt.alloc(), LINES)?;
     for size in [4 * 1024, 64 * 1024, WHOLE] {
-        compare(rt, "count", OF_LINE_FEEDS, &text, size)?;
-        compare(rt, "num_chars", OF_CHARACTERS, &text, size)?;
+        compare(rt, "count", OF_LINE_FEEDS, text.as_bytes(), size)?;
+        compare(rt, "num_chars", OF_CHARACTERS, text.as_bytes(), size)?;
     }
     Ok(())
 }
 
 /// What each count gives of a text of 240 lines.
-fn check(rt: HostRuntime) -> anyhow::Result<()> {
-    let text = text_of_lines(rt.alloc(), 240)?;
+pub fn check(rt: HostRuntime) -> anyhow::Result<()> {
+    let text = LINE.repeat(rt.alloc(), 240)?;
     for (name, counts) in [("count", OF_LINE_FEEDS), ("num_chars", OF_CHARACTERS)] {
-        let a = hits(counts[0], &text);
-        let b = hits(counts[1], &text);
-        let c = hits(counts[2], &text);
+        let a = hits(counts[0], text.as_bytes());
+        let b = hits(counts[1], text.as_bytes());
+        let c = hits(counts[2], text.as_bytes());
         println!(rt; "{name}: plain {a}, by words {b}, public {c}")?;
     }
     Ok(())
-}
-
-fn main(rt: HostRuntime) -> anyhow::Result<()> {
-    for word in env::args(&rt)? {
-        if word.as_str() == "--measure" {
-            return measure(rt);
-        }
-    }
-    check(rt)
 }

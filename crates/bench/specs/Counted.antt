@@ -1,8 +1,8 @@
 -- What each of the counts that are measured gives.
 use Rattle.std.specs.Prelude.{ℕ, ◌==◌, List, count_by}
 use Rattle.bytecount.specs.Counts.{char_count}
-use Rattle.bench_bytecount.specs.declared.Count.{Count}
-use Rattle.bench_bytecount.specs.declared.Count.TheVariants.{Naive, Words, Whole, NaiveChars, WordChars, WholeChars}
+use Rattle.bench.specs.declared.counts.Count.{Count}
+use Rattle.bench.specs.declared.counts.Count.TheVariants.{Naive, Words, Whole, NaiveChars, WordChars, WholeChars}
 
 -- how many line feeds a text has
 abbrev pub line_feeds : List ℕ → ℕ
