@@ -4,7 +4,7 @@ mod JsonSpaced
 mod JsonReading
 mod StripsColors
 mod LinesColors
-mod ShownColors
+pub mod ShownBytes
 mod SnippetColors
 pub mod SettingLemmas
 pub mod CellsLemmas

@@ -1,5 +1,5 @@
 -- A colored snippet without its escapes.
-use Rattle.std.proofs.Common.{◌≡◌, ℕ, ◌/◌, ◌%◌, ◌+◌, ◌-◌, Bool, true, false, List, [], ◌∷◌, length, reverse, eqb, Some, None, Option, refl, arith, zero, suc, All, IfSome, cond, if◌then◌else◌}
+use Rattle.std.proofs.Common.{◌≡◌, ℕ, ◌/◌, ◌%◌, ◌+◌, ◌-◌, Bool, true, false, List, [], ◌∷◌, length, reverse, eqb, Some, None, Option, refl, arith, zero, suc, All, IfSome, cond, not, if◌then◌else◌}
 use Rattle.std.specs.Prelude.{decimal, nat_le}
 use Rattle.std.specs.Fmt.{digits, digits_onto, digit_glyph}
 use Rattle.std.specs.List.{onto_first}
@@ -16,7 +16,7 @@ use Rattle.oxc_handlers.specs.Texts.{shown_text}
 use Rattle.oxc_handlers.specs.RowLines.{padded, row_front, row_line, modes_from, first_mode, with_modes, lines_of, label_lines, hang_line, hang_lines, end_line, end_lines, row_lines}
 use Rattle.oxc_handlers.specs.Snippet.{setting_of, location, head_text, head, close, drawn_snippet}
 use Rattle.oxc_handlers.specs.Colors.{has_no_escape, DiffersInColorsOnly}
-use Rattle.oxc_handlers.proofs.ShownColors.{clean_shown}
+use Rattle.oxc_handlers.proofs.ShownBytes.{shown_passes}
 use Rattle.oxc_handlers.proofs.StripsColors.{Strips, strips-append, strips-clean, strips-whole, strips-repeated, strips-flat_map, strips-flat_map_all, strips-styled}
 use Rattle.oxc_handlers.proofs.LinesColors.{colored, bare, strips-if, strips-spaces, strips-gutter, strips-marks_line, strips-hang_line, strips-end_line, clean-20, clean-0A, clean-3A, clean-5B, clean-5D, clean-2502, clean-256D, clean-2500, clean-2570}
 
@@ -114,7 +114,7 @@ CleanRow row = IsUtf8 row.row.text × Clean row.row.text
 strips-row : (s : SettingView) (row : RowPlanView) → All (λ l. IfSome l.text Clean) s.labels → CleanRow row → Strips (row_lines (colored s) row) (row_lines (bare s) row)
 unfolding row_lines
 strips-row s row all (utf8, clean) =
-    strips-append _ _ _ _ (strips-append _ _ _ _ (strips-append _ _ _ _ (strips-row_line s row (clean_shown s.tab row.row.text utf8 clean)) (strips-marks_line s row))
+    strips-append _ _ _ _ (strips-append _ _ _ _ (strips-append _ _ _ _ (strips-row_line s row (shown_passes (λ b. not (eqb b 0x1B)) refl s.tab row.row.text utf8 clean)) (strips-marks_line s row))
     (strips-flat_map (hang_lines (colored s) row) (hang_lines (bare s) row) (reverse row.hangs) (λ hang. strips-hang_lines s row hang all)))
     (strips-flat_map (end_lines (colored s) row) (end_lines (bare s) row) row.ends (λ label. strips-end_lines s row label all))
 

@@ -11,7 +11,7 @@ use Rattle.report_reader.proofs.BytesLemmas.{both}
 use Rattle.report_reader.proofs.RunsLemmas.{least_of}
 use Rattle.report_reader.specs.SeenOf.{seen_mark, seen_row, seen_head}
 use Rattle.report_reader.proofs.RowWords.{IsApart, AreApart, AreReadableRows, IsSized, AreSized, AreRowsFrom, IsSeenWell}
-use Rattle.report_reader.proofs.ShownLines.{line_shown}
+use Rattle.oxc_handlers.proofs.ShownBytes.{shown_passes}
 
 less_test : (a b : ℕ) → a < b → nat_lt a b ≡ true
 less_test a b lt = grind (arith, nat_tests)
@@ -55,7 +55,7 @@ unfolding are_rows is_next_row
 rows_well tab labels least [] readable from = refl
 rows_well tab labels least (row ∷ more) (readable, others) (from, later) =
     both _ _
-    (both _ _ (both _ _ (most_test least row.row.number from.number) (line_shown tab row.row.text from.utf8 from.text)) (marks_well labels None row.marks readable.marks from.marks))
+    (both _ _ (both _ _ (most_test least row.row.number from.number) (shown_passes (λ b. not (b == 0x0A)) refl tab row.row.text from.utf8 from.text)) (marks_well labels None row.marks readable.marks from.marks))
     (rows_well tab labels row.row.number more others later)
 
 head_by_rows : (rows line column : ℕ) (two : Bool) → nat_le 2 rows ≡ two → 1 ≤ line → 1 ≤ column → is_head (if two then bare line column else dashes) rows ≡ true
