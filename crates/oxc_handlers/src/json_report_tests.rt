@@ -3,12 +3,10 @@ ghost use Rattle.std.specs.Prelude.{◌≡◌, ◌++◌, IfOk, codes, string_byt
 ghost use Rattle.oxc_handlers.specs.Report.{view_parts};
 ghost use Rattle.oxc_handlers.specs.JsonText.{json_of};
 
-use crate::{DiagnosticView, JSONReportHandler, push_json, push_json_with_scanner};
+use crate::{DiagnosticView, JSONReportHandler, push_json};
 use oxc_protocol::{
-    Diagnostic, LabeledSpan, MemorySink, NamedSource, OxcDiagnostic, Severity, SourceRef,
-    TextSource,
+    Diagnostic, LabeledSpan, MemorySink, NamedSource, OxcDiagnostic, Severity, TextSource,
 };
-use oxc_windows::SpanScanner;
 use std::alloc::{AllocError, Global};
 use std::test::Fail;
 
@@ -101,30 +99,5 @@ fn all_parts_come_in_their_order(rt: HostRuntime) -> Result<(), Fail> {
     let want =
         r#"{"message": "m","code": "s(n)","severity": "advice","url": "u","help": "h","note": "o","labels": [{"span": {"offset": 7,"length": 0,"line": null,"column": null}},{"span": {"offset": 2,"length": 9,"line": null,"column": null}}]}"#;
     assert!(rt; gives(alloc, &diagnostic, want)?);
-    Ok(())
-}
-
-#[test]
-fn a_kept_scanner_serves_reports_in_any_order(rt: HostRuntime) -> Result<(), Fail> {
-    let alloc = rt.alloc();
-    let source = b"foo\nbar\nbaz";
-    let mut scanner = Some(SpanScanner::new(alloc, source, 0, 0));
-    for offset in [9, 4, 0, 12] {
-        let labels = [LabeledSpan::new(None, offset, 0)];
-        let view = DiagnosticView {
-            message: "m",
-            code: None,
-            severity: None,
-            help: None,
-            note: None,
-            source: Some(SourceRef::new(source, None)),
-            labels: &labels,
-        };
-        let mut alone = String::new(alloc);
-        push_json(&mut alone, alloc, &view, None)?;
-        let mut kept = String::new(alloc);
-        push_json_with_scanner(&mut kept, &view, None, &mut scanner)?;
-        assert!(rt; kept.as_str() == alone.as_str());
-    }
     Ok(())
 }
