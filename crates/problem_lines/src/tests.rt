@@ -144,7 +144,7 @@ const MATCHER: &str =
     r"^([^:]*):([0-9]+):([0-9]+):([0-9]+):([0-9]+): (error|warning|advice)(?:\[([^\]]*)\])?: ([^\n]*)$";
 
 // a line without its LF; the name, the four numbers, the severity, the rule or -, the message
-const MATCHED: [(&str, &str); 4] = [
+const MATCHED: [(&str, &str); 5] = [
     ("a.js:2:1:2:4: error: Oops", "a.js 2 1 2 4 error - Oops"),
     (
         "a.js:2:1:2:4: error[s(1)]: Oops",
@@ -155,6 +155,7 @@ const MATCHED: [(&str, &str); 4] = [
         "a\\cb:1:1:1:2: advice[\\b: ]: x: y",
         "a\\cb 1 1 1 2 advice \\b:  x: y",
     ),
+    ("a:01:1:1:1: error: x", "a 01 1 1 1 error - x"),
 ];
 
 #[test]
