@@ -446,3 +446,37 @@ fn a_tool_asks_the_database(rt: HostRuntime) -> Result<(), Fail> {
     }
     Ok(())
 }
+
+#[test]
+fn errors_say_what_happened(rt: HostRuntime) -> Result<(), Fail> {
+    let alloc = rt.alloc();
+    let refused = [
+        (
+            AddError::SourceTooLong { length: 4294967295 },
+            "the source has 4294967295 bytes, and no place past 4294967294 can be named",
+        ),
+        (AddError::TooManyFiles, "the database is full"),
+        (AddError::OutOfMemory, "out of memory"),
+    ];
+    for (error, text) in refused {
+        assert_eq!(rt; format!(in alloc; "{error}")?.as_str(), text);
+    }
+    let asked = [
+        (
+            Error::IndexTooLarge { given: 9, max: 4 },
+            "place 9 is past the last one, 4",
+        ),
+        (
+            Error::LineTooLarge { given: 3, max: 2 },
+            "line 3 is not among the 2 lines",
+        ),
+        (
+            Error::InvalidCharBoundary { given: 1 },
+            "place 1 is inside a character",
+        ),
+    ];
+    for (error, text) in asked {
+        assert_eq!(rt; format!(in alloc; "{error}")?.as_str(), text);
+    }
+    Ok(())
+}

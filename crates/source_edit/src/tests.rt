@@ -158,3 +158,34 @@ fn labels_move(rt: HostRuntime) -> Result<(), Fail> {
     assert!(rt; empty == Some(Span::new(3, 3)));
     Ok(())
 }
+
+#[test]
+fn errors_say_what_happened(rt: HostRuntime) -> Result<(), Fail> {
+    let alloc = rt.alloc();
+    let texts = [
+        (
+            EditError::Outside {
+                edit: 1,
+                end: 9,
+                length: 4,
+            },
+            "edit 1: the range ends at 9, and the text has 4 bytes",
+        ),
+        (
+            EditError::NotBoundary { edit: 0, at: 2 },
+            "edit 0: byte 2 is inside a character",
+        ),
+        (
+            EditError::TooLong {
+                edit: 0,
+                length: 4294967295,
+            },
+            "edit 0: the text would have 4294967295 bytes, and no place past 4294967294 can be named",
+        ),
+        (EditError::OutOfMemory { edit: 2 }, "edit 2: out of memory"),
+    ];
+    for (error, text) in texts {
+        assert_eq!(rt; format!(in alloc; "{error}")?.as_str(), text);
+    }
+    Ok(())
+}
