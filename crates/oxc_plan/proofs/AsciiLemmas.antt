@@ -106,13 +106,19 @@ width_single c h = str_width-printable false (single c) (rw h refl)
 printable : (c : ℕ) → c < 128 → is_control c ≡ false → is_in_range 0x20 0x7E c ≡ true
 printable c lt no_control = grind (arith, nat_tests)
 
--- where only controls have another width than 1, the pen moves and the text is drawn as if each character had that
-abbrev lone : ℕ → ℕ × ℕ
+-- a character of width 1
+abbrev pub lone : ℕ → ℕ × ℕ
 lone c = (1, c)
 
+-- what is drawn of characters one after another, if each is drawn by where the pen stands
+unfoldable pub walked : ℕ → (Pen → ℕ → List ℕ) → Pen → List (ℕ × ℕ) → List ℕ
+walked tab char pen [] = []
+walked tab char pen (p ∷ ps) = char pen p.1 ++ walked tab char (moved tab pen p) ps
+
+-- where only controls have another width than 1, the pen moves and the text is drawn as if each character had that
 abbrev AreAlike : List (ℕ × ℕ) → List ℕ → Type 0
 AreAlike ps cs =
-    (tab : ℕ) (pen : Pen) → (fold (moved tab) pen ps ≡ fold (moved tab) pen (map lone cs)) × (drawn_from tab pen ps ≡ drawn_from tab pen (map lone cs))
+    (tab : ℕ) (pen : Pen) → (fold (moved tab) pen ps ≡ fold (moved tab) pen (map lone cs)) × ((char : Pen → ℕ → List ℕ) → walked tab char pen ps ≡ walked tab char pen (map lone cs))
 
 same_advance : (tab : ℕ) (escape : Bool) (column lead c : ℕ) → (is_control c ≡ false → lead ≡ 1) → advance_of tab escape column lead c ≡ advance_of tab escape column 1 c
 same_advance tab escape column lead c one = grind (arith, nat_tests, one)
@@ -122,11 +128,12 @@ same_step tab pen lead c one =
     ap {A = ℕ} {B = Pen} (λ n. record { column = pen.column + n; in_escape = stays_in_escape pen.in_escape c }) (same_advance tab pen.in_escape pen.column lead c one)
 
 alike_more : (lead c : ℕ) (ps : List (ℕ × ℕ)) (cs : List ℕ) → (is_control c ≡ false → lead ≡ 1) → AreAlike ps cs → AreAlike ((lead, c) ∷ ps) (c ∷ cs)
+unfolding walked
 alike_more lead c ps cs one alike tab pen =
     let step = same_step tab pen lead c one in
     let rest = alike tab (moved tab pen (lone c)) in (
       ap (λ p. fold (moved tab) p ps) step ∙ rest.0,
-      ap (λ p. drawn_char tab pen c ++ drawn_from tab p ps) step ∙ ap (λ l. drawn_char tab pen c ++ l) rest.1,
+      λ char. ap (λ p. char pen c ++ walked tab char p ps) step ∙ ap (λ l. char pen c ++ l) (rest.1 char),
     )
 
 -- the characters of what is left of a text, by its clusters
@@ -166,11 +173,11 @@ alike_pair before c d cs false joins l r low one two =
 
 alike_clusters : (before cs : List ℕ) → All (λ c. c < 128) cs → AreAlike (clusters before cs) cs
 unfolding cut
-alike_clusters before [] low = λ tab pen. (refl, refl)
+alike_clusters before [] low = λ tab pen. (refl, λ char. refl)
 alike_clusters before (c ∷ []) low =
     let lt = All-head (λ x. x < 128) c [] low in
     subst (λ ps. AreAlike ps (c ∷ [])) (sym (first_alone before c [] lt (breaks_at_end c before)))
-    (alike_more (str_width false (single c)) c [] [] (λ h. width_single c (printable c lt h)) (λ tab pen. (refl, refl)))
+    (alike_more (str_width false (single c)) c [] [] (λ h. width_single c (printable c lt h)) (λ tab pen. (refl, λ char. refl)))
 alike_clusters before (c ∷ d ∷ cs) low =
     let more = All-tail (λ x. x < 128) c (d ∷ cs) low in
     let rest = All-tail (λ x. x < 128) d cs more in
@@ -208,12 +215,26 @@ drawn_lone tab pen (c ∷ cs) =
     let step : next.column ≡ pen.column + length (drawn_char tab pen c) = ap (λ n. pen.column + n) (advance_drawn tab pen.in_escape pen.column 1 c refl) in
     omega (arith, drawn_lone tab next cs, step, joined)
 
+ascii_low : (text : List ℕ) → IsAscii text → All (λ c. c < 128) text
+ascii_low text ascii = All-from_get_or (λ c. c < 128) text 0 (λ i h. ascii i)
+
+-- a text of ASCII is drawn by its clusters as by its bytes
+pub walked_ascii : (tab : ℕ) (char : Pen → ℕ → List ℕ) (pen : Pen) (text : List ℕ) → IsAscii text → walked tab char pen (led_text text) ≡ walked tab char pen (map lone text)
+walked_ascii tab char pen text ascii = (alike_text text (ascii_low text ascii) tab pen).1 char
+
+drawn_walked : (tab : ℕ) (pen : Pen) (ps : List (ℕ × ℕ)) → drawn_from tab pen ps ≡ walked tab (drawn_char tab) pen ps
+unfolding walked
+drawn_walked tab pen [] = refl
+drawn_walked tab pen (p ∷ ps) = ap (λ l. drawn_char tab pen p.1 ++ l) (drawn_walked tab (moved tab pen p) ps)
+
 -- a text of ASCII is as wide as it is drawn
 drawn_ascii : (tab : ℕ) (text : List ℕ) → IsAscii text → text_width tab text ≡ length (drawn_text tab text)
 unfolding text_width drawn_text
 drawn_ascii tab text ascii =
-    let alike = alike_text text (All-from_get_or (λ c. c < 128) text 0 (λ i h. ascii i)) tab at_margin in
-    omega (arith, ap (λ (pen : Pen). pen.column) alike.0, drawn_lone tab at_margin text, ap length alike.1)
+    let alike = alike_text text (ascii_low text ascii) tab at_margin in
+    let drawn : drawn_from tab at_margin (led_text text) ≡ drawn_from tab at_margin (map lone text) =
+    drawn_walked tab at_margin (led_text text) ∙ alike.1 (drawn_char tab) ∙ sym (drawn_walked tab at_margin (map lone text)) in
+    omega (arith, ap (λ (pen : Pen). pen.column) alike.0, drawn_lone tab at_margin text, ap length drawn)
 
 -- each place of a text of ASCII is a boundary
 down_ascii : (text : List ℕ) (place : ℕ) → IsAscii text → place ≤ length text → boundary_down text place ≡ place
@@ -239,9 +260,6 @@ columns_are_drawn tab row ascii offset at_start from within =
     ∙ drawn_ascii tab (take place row.text) (take_ascii row.text place ascii)
 
 -- over a text of ASCII, the clusters lead to the same pen as the bytes
-ascii_low : (text : List ℕ) → IsAscii text → All (λ c. c < 128) text
-ascii_low text ascii = All-from_get_or (λ c. c < 128) text 0 (λ i h. ascii i)
-
 pub width_ascii : (tab : ℕ) (text : List ℕ) → IsAscii text → (pen_after tab at_margin text).column ≡ text_width tab text
 unfolding text_width pen_after
 width_ascii tab text ascii = ap (λ (pen : Pen). pen.column) (sym (alike_text text (ascii_low text ascii) tab at_margin).0)
