@@ -16,6 +16,7 @@ pub mod TextsLemmas
 pub mod DrawableLemmas
 pub mod ReportLemmas
 pub mod PlainTexts
+pub mod TabsLemmas
 pub mod ReportsLemmas
 pub mod KeepsLemmas
 pub mod PlacesLemmas

@@ -1,7 +1,7 @@
 //! The text of a row as it is drawn.
-ghost use Rattle.std.specs.Prelude.{◌≡◌, ◌++◌, ◌+◌, ◌*◌, ◌^◌, ◌<◌, ◌≤◌, IfOk, OnOk, fold, length, string_bytes};
+ghost use Rattle.std.specs.Prelude.{◌≡◌, ◌++◌, ◌+◌, ◌*◌, ◌^◌, ◌<◌, ◌≤◌, ◌↔◌, IfOk, IsTrue, OnOk, fold, length, string_bytes};
 ghost use Rattle.oxc_plan.specs.Width.{led, moved};
-ghost use Rattle.oxc_handlers.specs.Texts.{shown_char, shown_from, shown_text};
+ghost use Rattle.oxc_handlers.specs.Texts.{IsAsciiWithoutEscapes, shown_char, shown_from, shown_text};
 
 use crate::runs::write_repeated_char;
 use memchr::memchr;
@@ -20,9 +20,36 @@ pub(crate) fn render_line_text(
     ensures { OnOk result (string_bytes out.new ≡ string_bytes out.old ++ shown_text tabs text.now) }
 {
     match memchr(b'\t', text.as_bytes()) {
+        Some(_) if is_ascii_without_escapes(text) => write_between_tabs(out, text, tabs),
         Some(_) => write_clusters(out, text, tabs),
         None => out.push_str(text),
     }
+}
+
+/// Whether a text is of ASCII and no escape begins in it.
+fn is_ascii_without_escapes(text: &str) -> bool
+    ensures { IsTrue result ↔ IsAsciiWithoutEscapes text.now }
+{
+    text.is_ascii() && memchr(0x1B, text.as_bytes()).is_none()
+}
+
+/// Appends the text of a row of ASCII without escapes, tab by tab: clusters do not matter there.
+fn write_between_tabs(out: &mut String, text: &str, tabs: TabWidth) -> Result<(), AllocError>
+    requires fits { length text.now < 2 ^ 32 }
+    requires ascii { IsAsciiWithoutEscapes text.now }
+    ensures { OnOk result (string_bytes out.new ≡ string_bytes out.old ++ shown_text tabs text.now) }
+{
+    let mut rest = text;
+    let mut column = 0;
+    while let Some(at) = memchr(b'\t', rest.as_bytes()) {
+        out.push_str(&rest[..at])?;
+        column += at;
+        let spaces = tabs.get() - column % tabs.get();
+        write_repeated_char(out, ' ', spaces)?;
+        column += spaces;
+        rest = &rest[at + 1..];
+    }
+    out.push_str(rest)
 }
 
 /// Appends the text of a row, cluster by cluster.
