@@ -20,3 +20,4 @@ pub mod AnswerLemmas
 pub mod SearchLemmas
 pub mod SliceLemmas
 pub mod TotalLemmas
+pub mod EndingsLemmas

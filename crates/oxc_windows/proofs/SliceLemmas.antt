@@ -1,9 +1,10 @@
 -- Breaks of bytes, found by LF and CR.
 use Rattle.std.proofs.Common.{cond, count_by, eqb, not, ⊎_elim, ap, ◌≡◌, ℕ, ◌+◌, ◌-◌, ◌<◌, ◌≤◌, ◌&&◌, Bool, true, false, List, [], ◌∷◌, length, take, drop, get_or, slice_range, Option, Some, None, refl, sym, subst, ◌∙◌, arith, zero, suc, if◌then◌else◌}
-use Rattle.std.specs.List.{cons_option, filter, filter_map, range_with_len}
+use Rattle.std.specs.List.{cons_option, filter, filter_map, list_any, range_with_len}
 use Rattle.std.proofs.lemmas.Bool.{cases_lt, eqb-true, false≢true, eq-eqb}
 use Rattle.std.proofs.lemmas.Bool.Decides.{nat_tests}
 use Rattle.std.proofs.lemmas.List.{get_or-take, length-take-le, length-drop}
+use Rattle.std.proofs.lemmas.List.Folds.{list_any_at}
 use Rattle.std.proofs.Math.Seq.{drop-cons}
 use Rattle.memchr.specs.Find.{Nowhere, Passes, is_byte, is_byte2, places, places_from}
 use Rattle.oxc_windows.specs.declared.breaks.LineBreak.{LineBreak}
@@ -293,3 +294,17 @@ count_is bytes to within outside =
 pub count_row : (bytes : List ℕ) (to : ℕ) → to ≤ length bytes → is_second_byte (breaks_of bytes) to ≡ false
     → count_by (λ byte. eqb byte 10) (take to bytes) + length (filter (is_before_no_lf bytes) (places (is_byte 13) (take to bytes))) ≡ row_of (breaks_of bytes) to
 count_row bytes to within outside = count_is bytes to within outside ∙ sym (counted_upto bytes to within outside)
+
+no_places : (test : ℕ → Bool) (hay : List ℕ) (i n : ℕ) → ((k : ℕ) → k < i + n → test (get_or hay k 0) ≡ false) → places_from test hay i n ≡ []
+unfolding places_from
+no_places test hay i zero fails = refl
+no_places test hay i (suc n) fails =
+    rw (fails i (omega arith), no_places test hay (i + 1) n (λ k lt. fails k (omega (arith, lt)))) refl
+
+-- where there is no CR, the LFs are all
+pub count_feeds : (bytes : List ℕ) (to : ℕ) → list_any (λ byte. eqb byte 13) (take to bytes) ≡ false → length (filter (is_before_no_lf bytes) (places (is_byte 13) (take to bytes))) ≡ 0
+count_feeds bytes to none =
+    let part = take to bytes in
+    ap (λ l. length (filter (is_before_no_lf bytes) l))
+    (no_places (is_byte 13) part 0 (length part - 0)
+    (λ k lt. false_unless (is_byte 13 (get_or part k 0)) (λ some. false≢true (sym none ∙ list_any_at (λ byte. eqb byte 13) part k 0 (omega (arith, lt)) some))))

@@ -10,6 +10,7 @@
 
 mod breaks;
 mod contents;
+mod endings;
 mod held;
 mod index;
 mod reads;

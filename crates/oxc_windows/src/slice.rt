@@ -7,8 +7,8 @@ ghost use Rattle.oxc_windows.specs.Rows.{row_of, is_second_byte};
 ghost use Rattle.oxc_windows.specs.Source.{first_between, is_before_no_lf, last_before};
 
 use crate::breaks::break_starting;
+use crate::endings::endings;
 use crate::{BreakSource, LineBreak, Steps};
-use bytecount::count;
 use memchr::{memchr_iter, memchr2_iter, memrchr2};
 use std::sync::ledger::Ledger;
 
@@ -59,7 +59,11 @@ fn count_ended(bytes: &[u8], to: usize) -> usize
     requires outside { is_second_byte (breaks_of bytes.now) to ≡ false }
     ensures { result ≡ row_of (breaks_of bytes.now) to }
 {
-    count(&bytes[..to], b'\n') + count_stray(bytes, to)
+    let (line_feeds, has_return) = endings(&bytes[..to]);
+    if has_return {
+        return line_feeds + count_stray(bytes, to);
+    }
+    line_feeds
 }
 
 /// The first break that starts from a place to before another.

@@ -5,6 +5,7 @@ ghost use Rattle.oxc_windows.specs.Breaks.{breaks_of};
 ghost use Rattle.oxc_windows.specs.Rows.{row_of, byte_column};
 ghost use Rattle.oxc_windows.specs.Scan.{IsSameReader};
 
+use crate::endings::endings;
 use crate::plain::plain_window;
 use crate::{
     OwnLedger, Page, SliceSource, SpanContents, SpanScanner, Steps, Window, WindowIndex, read_all,
@@ -269,5 +270,41 @@ fn a_scanner_keeps_the_rows_that_it_found(rt: HostRuntime) -> Result<(), Fail> {
     let _ = scanner.read_span(Span::new(2, 3))?;
     let _ = scanner.read_span(Span::new(6, 7))?;
     assert!(rt; scanner.kept().starts_with(&[0, 2, 4, 6]));
+    Ok(())
+}
+
+// LFs, a byte, and LFs.
+fn feeds_round(
+    alloc: Global,
+    before: usize,
+    byte: u8,
+    after: usize,
+) -> Result<Vec<u8>, AllocError> {
+    let mut bytes = Vec::new(alloc);
+    for _ in 0..before {
+        bytes.push(b'\n')?;
+    }
+    bytes.push(byte)?;
+    for _ in 0..after {
+        bytes.push(b'\n')?;
+    }
+    Ok(bytes)
+}
+
+// Whether one pass tells the LFs round a byte, and whether that byte is a CR.
+fn tells(alloc: Global, before: usize, byte: u8, after: usize) -> Result<bool, AllocError> {
+    let (line_feeds, has_return) = endings(&feeds_round(alloc, before, byte, after)?);
+    Ok(line_feeds == before.wrapping_add(after) && has_return == (byte == b'\r'))
+}
+
+#[test]
+fn one_pass_tells_all_line_feeds_and_any_return(rt: HostRuntime) -> Result<(), Fail> {
+    for at in 0..130 {
+        assert!(rt; tells(rt.alloc(), at, b'\r', 130 - at)?);
+        assert!(rt; tells(rt.alloc(), at, b'\x0c', 130 - at)?);
+    }
+    // counters of one byte would pass 255 here
+    assert!(rt; tells(rt.alloc(), 9_000, b'\x0e', 30_000)?);
+    assert!(rt; tells(rt.alloc(), 30_000, b'\r', 9_000)?);
     Ok(())
 }
