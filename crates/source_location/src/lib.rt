@@ -14,7 +14,7 @@ ghost use Rattle.source_location.specs.Index.{Fits, index_of};
 mod laws;
 mod line_index;
 mod newlines;
-mod scan_back;
+mod scan;
 #[cfg(test)]
 mod tests;
 

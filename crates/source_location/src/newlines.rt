@@ -6,8 +6,7 @@ ghost use Rattle.source_location.specs.Breaks.{breaks_of};
 ghost use Rattle.source_location.specs.Newlines.{ending_bytes, ending_with, IsFirstBreak};
 ghost use Rattle.source_location.specs.Lines.{LineView, lines_of, lines_with_trailing, ending_length, without_ending, texts_of, IsFirstLine, IsLastLine};
 
-use crate::scan_back::last_of_breaks;
-use memchr::memchr2;
+use crate::scan::{first_of_breaks, last_of_breaks};
 use std::marker::Model;
 use text_size::{TextLen, TextRange, TextSize};
 
@@ -71,7 +70,7 @@ pub fn find_newline(text: &str) -> Option<(usize, LineEnding)>
     ensures { MatchOption result (breaks_of text.now ≡ []) (λ found. IsFirstBreak text.now found.0 found.1) }
 {
     let bytes = text.as_bytes();
-    match memchr2(b'\n', b'\r', bytes) {
+    match first_of_breaks(bytes) {
         Some(position) => Some((position, ending_at(bytes, position))),
         None => None,
     }

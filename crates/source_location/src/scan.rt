@@ -1,9 +1,39 @@
-//! The last LF or CR of some bytes, sought from their end a vector at a time.
+//! The first and the last LF or CR of some bytes, sought a vector at a time.
 ghost use Rattle.std.specs.Prelude.{◌≡◌, ◌≢◌, ◌↔◌, ℕ, ◌<◌, ◌≤◌, true, length, slice_index, MatchOption};
 ghost use Rattle.std.specs.Int.{bit_at};
-ghost use Rattle.memchr.specs.Find.{IsLast, IsLastByte, Passes, is_byte2};
+ghost use Rattle.memchr.specs.Find.{IsFirst, IsFirstByte, IsLast, IsLastByte, Passes, is_byte2};
 
 use std::simd::prelude::*;
+
+/// The place of the first LF or CR.
+pub(crate) fn first_of_breaks(bytes: &[u8]) -> Option<usize>
+    ensures { IsFirstByte (is_byte2 10 13) bytes.now result }
+{
+    let mut start = 0;
+    while bytes.len() - start >= 32 {
+        let marked = marks(u8x32::from_slice(&bytes[start..]));
+        if marked != 0 {
+            return Some(start + lowest(marked));
+        }
+        start += 32;
+    }
+    first_from(bytes, start)
+}
+
+/// The place of the first LF or CR from a place on, byte by byte.
+fn first_from(bytes: &[u8], start: usize) -> Option<usize>
+    requires { start ≤ length bytes.now }
+    ensures { IsFirst (Passes (is_byte2 10 13) bytes.now) start (length bytes.now) result }
+{
+    let mut place = start;
+    while place < bytes.len() {
+        if matches!(bytes[place], b'\n' | b'\r') {
+            return Some(place);
+        }
+        place += 1;
+    }
+    None
+}
 
 /// The place of the last LF or CR.
 pub(crate) fn last_of_breaks(bytes: &[u8]) -> Option<usize>
@@ -43,6 +73,16 @@ fn marks(lanes: u8x32) -> u64
     let line_feeds = lanes.simd_eq(u8x32::splat(b'\n'));
     let carriage_returns = lanes.simd_eq(u8x32::splat(b'\r'));
     (line_feeds | carriage_returns).to_bitmask()
+}
+
+/// The place of the lowest bit that is set.
+#[inline]
+fn lowest(marked: u64) -> usize
+    requires { marked ≢ 0 }
+    ensures set { bit_at marked result ≡ 1 }
+    ensures below { (lane : ℕ) → lane < result → bit_at marked lane ≡ 0 }
+{
+    marked.trailing_zeros() as usize
 }
 
 /// The place of the highest bit that is set.

@@ -1,6 +1,6 @@
 use Rattle.std.proofs.Common.{◌≤◌}
 use Rattle.memchr.specs.Find.{Nowhere, Passes, is_byte2}
-use Rattle.source_location.proofs.scan_back.last_before.Given as goal
+use Rattle.source_location.proofs.scan.last_before.Given as goal
 
 abbrev pub invariant-loop-place : goal.invariant-loop-place
 invariant-loop-place l = record {

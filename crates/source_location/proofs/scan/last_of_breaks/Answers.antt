@@ -3,8 +3,8 @@ use Rattle.std.specs.Int.{bit_at}
 use Rattle.std.proofs.lemmas.Bool.{cases_lt}
 use Rattle.std.proofs.lemmas.Nat.Bits.{bit_at-zero}
 use Rattle.source_location.proofs.ScanLemmas.{marked_within, marked_passes, unmarked_fails}
-use Rattle.source_location.proofs.scan_back.last_of_breaks.Goals as goal
-use Rattle.source_location.proofs.scan_back.last_of_breaks.Goals.{After-highest}
+use Rattle.source_location.proofs.scan.last_of_breaks.Goals as goal
+use Rattle.source_location.proofs.scan.last_of_breaks.Goals.{After-highest}
 
 room : (c : After-highest) → c.loop-end.end - 32 + 32 ≤ length c.args.bytes.now
 room c = omega (arith, c.loop-end-test.true, c.loop-end.invariant.within)

@@ -1,6 +1,6 @@
 use Rattle.std.proofs.Common.{◌≤◌, length}
 use Rattle.memchr.specs.Find.{Nowhere, Passes, is_byte2}
-use Rattle.source_location.proofs.scan_back.last_of_breaks.Given as goal
+use Rattle.source_location.proofs.scan.last_of_breaks.Given as goal
 
 abbrev pub invariant-loop-end : goal.invariant-loop-end
 invariant-loop-end l = record {

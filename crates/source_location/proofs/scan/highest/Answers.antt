@@ -1,5 +1,5 @@
 use Rattle.memchr.proofs.lemmas.BitLemmas.{bit_at_top, bit_at_above}
-use Rattle.source_location.proofs.scan_back.highest.Goals as goal
+use Rattle.source_location.proofs.scan.highest.Goals as goal
 
 pub returns-clause-set : goal.returns-clause-set
 returns-clause-set c = bit_at_top _ _ c.ilog2.ensures.power_le c.ilog2.ensures.next_power_gt

@@ -1,0 +1,12 @@
+use Rattle.std.proofs.Common.{◌-◌, ◌≤◌, length}
+use Rattle.memchr.specs.Find.{Nowhere, Passes, is_byte2}
+use Rattle.source_location.proofs.scan.first_of_breaks.Given as goal
+
+abbrev pub invariant-loop-start : goal.invariant-loop-start
+invariant-loop-start l = record {
+  within : l.start ≤ length l.bytes;
+  passed : Nowhere (Passes (is_byte2 10 13) l.bytes) 0 l.start;
+}
+
+abbrev pub decreases-loop-start : goal.decreases-loop-start
+decreases-loop-start l = length l.bytes - l.start
