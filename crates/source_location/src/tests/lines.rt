@@ -50,6 +50,9 @@ fn lines_come_forwards(rt: HostRuntime) {
     assert!(rt; start_forwards("foo\nbar\n\r\nbaz\rbop", &[0, 4, 8, 10, 14]));
     assert!(rt; start_forwards("foo\nbar\n\r\nbaz\rbop\n", &[0, 4, 8, 10, 14]));
     assert!(rt; start_forwards("foo\nbar\n\r\nbaz\rbop\n\n", &[0, 4, 8, 10, 14, 18]));
+    let long =
+        "thirty-one bytes before a break\r\nand more than thirty-two in the next, whose break is last\n";
+    assert!(rt; start_forwards(long, &[0, 33]));
 }
 
 // The last line of a text, by the trait's own call.
