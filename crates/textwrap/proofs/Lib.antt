@@ -7,3 +7,4 @@ pub mod FirstFit
 pub mod LayoutLemmas
 pub mod FilledLemmas
 pub mod FrontsLemmas
+pub mod OneLine

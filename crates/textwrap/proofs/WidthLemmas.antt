@@ -15,7 +15,7 @@ use Rattle.textwrap.specs.declared.pen.Escape.TheVariants.{Outside, Begun, Contr
 use Rattle.textwrap.specs.declared.pen.Pen.{Pen}
 use Rattle.textwrap.specs.Width.{cells, moved, at_start, pen_behind}
 
-narrow : (c : ℕ) → c < 128 → unwrap_or (char_width false c) 0 ≤ 1
+pub narrow : (c : ℕ) → c < 128 → unwrap_or (char_width false c) 0 ≤ 1
 unfolding char_width
 narrow c lt = grind (arith, nat_tests)
 

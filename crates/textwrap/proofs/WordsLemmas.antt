@@ -23,12 +23,12 @@ unfolding fronted
 fronted_push [] b ws = refl
 fronted_push (x ∷ xs) b ws = ap (with_byte x) (fronted_push xs b ws)
 
-fronted_first : (xs text : List ℕ) (gap : ℕ) (ws : List Word) → fronted xs (word text gap ∷ ws) ≡ word (xs ++ text) gap ∷ ws
+pub fronted_first : (xs text : List ℕ) (gap : ℕ) (ws : List Word) → fronted xs (word text gap ∷ ws) ≡ word (xs ++ text) gap ∷ ws
 unfolding fronted
 fronted_first [] text gap ws = refl
 fronted_first (x ∷ xs) text gap ws = ap (with_byte x) (fronted_first xs text gap ws)
 
-fronted_all : (b : ℕ) (bs : List ℕ) → fronted (b ∷ bs) [] ≡ word (b ∷ bs) 0 ∷ []
+pub fronted_all : (b : ℕ) (bs : List ℕ) → fronted (b ∷ bs) [] ≡ word (b ∷ bs) 0 ∷ []
 unfolding fronted
 fronted_all b [] = refl
 fronted_all b (c ∷ bs) = ap (with_byte b) (fronted_all c bs)
@@ -36,7 +36,7 @@ fronted_all b (c ∷ bs) = ap (with_byte b) (fronted_all c bs)
 abbrev space : ℕ → Bool
 space byte = eqb byte 0x20
 
-not_none : (n : ℕ) → eqb (suc n) 0 ≡ false
+pub not_none : (n : ℕ) → eqb (suc n) 0 ≡ false
 not_none n = grind (arith, nat_tests)
 
 begins_some : (b : ℕ) (ws : List Word) → with_space (with_byte b ws) ≡ word [] 1 ∷ with_byte b ws

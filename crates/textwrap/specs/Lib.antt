@@ -5,3 +5,4 @@ pub mod Pieces
 pub mod Lines
 pub mod Filled
 pub mod Layout
+pub mod OneLine

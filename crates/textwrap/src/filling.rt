@@ -1,5 +1,6 @@
 //! Texts filled to a width.
-ghost use Rattle.std.specs.Prelude.{◌≡◌, ◌++◌, ◌-◌, IfOk, OnOk, map, string_bytes};
+ghost use Rattle.std.specs.Prelude.{◌≡◌, ◌==◌, ◌↔◌, ◌++◌, ◌-◌, ◌≤◌, All, IfOk, IsFalse, IsTrue, OnOk, false, length, map, slice_index, string_bytes};
+ghost use Rattle.textwrap.specs.OneLine.{FitsOnLine};
 ghost use Rattle.std.specs.List.{flat_map};
 ghost use Rattle.textwrap.specs.Filled.{IsFilled, filled, filled_part, filled_parts, joined_by_breaks, later_part, parts_of as parts_of_text, room};
 
@@ -7,6 +8,7 @@ use crate::core_::display_width;
 use crate::lines::push_pieces;
 use crate::options::Options;
 use crate::pieces::pieces_of;
+use memchr::memchr;
 use std::alloc::{AllocError, Global};
 
 /// Fills a text to the options' width: each part of it between LFs by itself, by first fit.
@@ -20,10 +22,59 @@ pub fn fill(alloc: Global, text: &str, options: &Options<'_>) -> Result<String, 
     ensures relation { IfOk result (λ out. IsFilled options.now.width options.now.initial_indent.now options.now.subsequent_indent.now text.now (string_bytes out)) }
     ensures value { IfOk result (λ out. string_bytes out ≡ filled options.now.width options.now.initial_indent.now options.now.subsequent_indent.now text.now) }
 {
-    let parts = parts_of(alloc, text)?;
     let mut out = String::new(alloc);
-    push_parts(alloc, &mut out, &parts, options)?;
+    fill_onto(alloc, &mut out, text, options)?;
     Ok(out)
+}
+
+/// Appends a text that is filled to the options' width, as [`fill`] gives it.
+pub fn fill_onto(
+    alloc: Global,
+    out: &mut String,
+    text: &str,
+    options: &Options<'_>,
+) -> Result<(), AllocError>
+    ensures { OnOk result (string_bytes out.new ≡ string_bytes out.old ++ filled options.now.width options.now.initial_indent.now options.now.subsequent_indent.now text.now) }
+{
+    if fits_on_line(text, least_room(options.width, options.initial_indent)) {
+        out.push_str(options.initial_indent)?;
+        out.push_str(text)?;
+        return Ok(());
+    }
+    let parts = parts_of(alloc, text)?;
+    push_parts(alloc, out, &parts, options)
+}
+
+/// Whether it is easily seen that a text fits on a line of so many cells: it has no more bytes than these, no LF, and no
+/// space at its end. Such a text is filled to its indent and itself.
+pub fn fits_on_line(text: &str, room: usize) -> bool
+    ensures { IsTrue result ↔ FitsOnLine room text.now }
+{
+    text.len() <= room && !ends_with_space(text.as_bytes()) && !has_break(text.as_bytes())
+}
+
+/// The cells that an indent leaves to its line at least: it takes no more cells than bytes.
+#[tactic(auto, unfolding(crate::specs::Filled::room), using(crate::proofs::OneLine::width_fits))]
+fn least_room(width: usize, indent: &str) -> usize
+    ensures { result ≤ room width indent.now }
+{
+    width.saturating_sub(indent.len())
+}
+
+/// Whether bytes end with a space.
+fn ends_with_space(bytes: &[u8]) -> bool
+    ensures { result ≡ (slice_index bytes.now (length bytes.now - 1) == 0x20) }
+{
+    let n = bytes.len();
+    n > 0 && bytes[n - 1] == b' '
+}
+
+/// Whether there is an LF.
+fn has_break(bytes: &[u8]) -> bool
+    ensures none { IsFalse result → All (λ byte. (byte == 0x0A) ≡ false) bytes.now }
+    ensures some { IsTrue result → All (λ byte. (byte == 0x0A) ≡ false) bytes.now → ⊥ }
+{
+    memchr(b'\n', bytes).is_some()
 }
 
 /// The parts of a text between LFs.

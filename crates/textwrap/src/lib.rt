@@ -11,8 +11,8 @@ mod pen;
 mod pieces;
 mod words;
 
-pub use filling::fill;
-pub use laws::{one_cut, one_filling};
+pub use filling::{fill, fill_onto, fits_on_line};
+pub use laws::{one_cut, one_filling, one_line};
 pub use options::Options;
 
 #[cfg(test)]
