@@ -1,5 +1,5 @@
 -- A row of ASCII: whatever its clusters, each of its characters but a tab and an escape takes one cell.
-use Rattle.std.proofs.Common.{◌≡◌, ℕ, ◌+◌, ◌-◌, ◌%◌, ◌<◌, ◌≤◌, Bool, true, false, cond, List, [], ◌∷◌, ◌++◌, map, length, fold, take, drop, get_or, ⊎_elim, refl, sym, ap, subst, ◌∙◌, arith, eqb, length-append, replicate, unwrap_or, zero, suc}
+use Rattle.std.proofs.Common.{◌≡◌, ℕ, ◌+◌, ◌-◌, ◌%◌, ◌<◌, ◌≤◌, Bool, true, false, ◌||◌, cond, List, [], ◌∷◌, ◌++◌, map, length, fold, take, drop, get_or, ⊎_elim, refl, sym, ap, subst, ◌∙◌, arith, eqb, length-append, replicate, unwrap_or, zero, suc}
 use Rattle.std.specs.Prelude.{All, encode_utf8_all}
 use Rattle.std.specs.List.{flat_map}
 use Rattle.std.specs.Int.{is_in_range}
@@ -280,3 +280,29 @@ pen_further tab pen text at to le =
     sym (fold-append (moved tab) pen (map lone (take at text)) (map lone (slice_range text at to)))
     ∙ ap (fold (moved tab) pen) (sym (map-append lone (take at text) (slice_range text at to)))
     ∙ ap (λ bytes. fold (moved tab) pen (map lone bytes)) (sym (take_split text at to le))
+
+-- bytes that are no tab and begin no escape move the pen by one each
+abbrev outside : ℕ → Pen
+outside column = record { column = column; in_escape = false }
+
+one_step : (tab column b : ℕ) → (eqb b 0x09 || eqb b 0x1B) ≡ false → moved tab (outside column) (1, b) ≡ outside (column + 1)
+one_step tab column b plain =
+    let one : advance_of tab false column 1 b ≡ 1 = grind (arith, nat_tests) in
+    let no_escape : eqb b 0x1B ≡ false = grind (arith, nat_tests) in
+    ap (λ (a : ℕ). record { column = column + a; in_escape = eqb b 0x1B }) one
+    ∙ ap (λ (e : Bool). record { column = column + 1; in_escape = e }) no_escape
+
+pub pen_plain : (tab column : ℕ) (bytes : List ℕ) → All (λ byte. (eqb byte 0x09 || eqb byte 0x1B) ≡ false) bytes → pen_after tab (outside column) bytes ≡ outside (column + length bytes)
+unfolding pen_after
+pen_plain tab column [] all =
+    let same : column ≡ column + 0 = omega arith in
+    ap outside same
+pen_plain tab column (b ∷ bytes) all =
+    ap (λ pen. pen_after tab pen bytes) (one_step tab column b (All-head (λ byte. (eqb byte 0x09 || eqb byte 0x1B) ≡ false) b bytes all))
+    ∙ pen_plain tab (column + 1) bytes (All-tail (λ byte. (eqb byte 0x09 || eqb byte 0x1B) ≡ false) b bytes all)
+    ∙ ap outside (omega arith)
+
+pub pen_jump : (tab : ℕ) (pen : Pen) (bytes : List ℕ) → pen.in_escape ≡ false → All (λ byte. (eqb byte 0x09 || eqb byte 0x1B) ≡ false) bytes
+    → record { column = pen.column + length bytes; in_escape = false } ≡ pen_after tab pen bytes
+pen_jump tab pen bytes out all =
+    sym (pen_plain tab pen.column bytes all) ∙ ap (λ (e : Bool). pen_after tab (record { column = pen.column; in_escape = e }) bytes) (sym out)

@@ -1,5 +1,5 @@
 //! Columns: how many a text takes when it is drawn, and in which one an offset of a row stands.
-ghost use Rattle.std.specs.Prelude.{◌≡◌, ◌+◌, ◌*◌, ◌^◌, ◌<◌, ◌≤◌, fold, length, if◌then◌else◌};
+ghost use Rattle.std.specs.Prelude.{◌≡◌, ◌==◌, ◌||◌, All, IsTrue, false, ◌+◌, ◌*◌, ◌^◌, ◌<◌, ◌≤◌, fold, length, if◌then◌else◌};
 ghost use Rattle.std.specs.Str.{IsCharBoundary};
 ghost use Rattle.oxc_plan.specs.Rows.{row_view};
 ghost use Rattle.oxc_plan.specs.Width.{advance_of, led, moved, pen_after, text_width};
@@ -7,6 +7,7 @@ ghost use Rattle.oxc_plan.specs.Columns.{HasColumnsAsDrawn, boundary_down, bound
 
 use crate::rows::Row;
 use crate::tabs::TabWidth;
+use memchr::memchr2;
 use unicode_segmentation::UnicodeSegmentation;
 use unicode_width::UnicodeWidthStr;
 
@@ -101,10 +102,23 @@ pub fn pen_over(mut pen: Pen, bytes: &[u8], tabs: TabWidth) -> Pen
     ensures exact { result ≡ pen_after tabs pen bytes.now }
     ensures bound { result.column ≤ pen.column + 17 * length bytes.now }
 {
+    if !pen.in_escape && is_plain(bytes) {
+        return Pen {
+            column: pen.column + bytes.len(),
+            in_escape: false,
+        };
+    }
     for byte in bytes {
         pen = moved_over(pen, 1, char::from(*byte), tabs);
     }
     pen
+}
+
+/// Whether each of the bytes moves the pen by one: none is a tab, and none begins an escape.
+fn is_plain(bytes: &[u8]) -> bool
+    ensures { IsTrue result → All (λ byte. (byte == 0x09 || byte == 0x1B) ≡ false) bytes.now }
+{
+    memchr2(b'\t', 0x1B, bytes).is_none()
 }
 
 /// The pen after a cluster.
