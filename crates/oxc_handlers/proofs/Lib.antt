@@ -21,3 +21,4 @@ pub mod ReportsLemmas
 pub mod KeepsLemmas
 pub mod PlacesLemmas
 pub mod PlainLemmas
+pub mod TitleLemmas

@@ -1,5 +1,5 @@
 //! Drawn reports: a title, the snippets, help and note.
-ghost use Rattle.std.specs.Prelude.{◌≡◌, ◌++◌, ◌-◌, ◌<◌, ◌≤◌, All, IfOk, IfSome, IsOkUnless, IsSome, MatchResult, OnOk, Some, length, map, string_bytes};
+ghost use Rattle.std.specs.Prelude.{◌≡◌, ◌++◌, ◌-◌, ◌<◌, ◌≤◌, ◌↔◌, All, IsFalse, IsTrue, drop, IfOk, IfSome, IsOkUnless, IsSome, MatchResult, OnOk, Some, length, map, string_bytes};
 ghost use Rattle.std.specs.Option.{option_copied};
 ghost use Rattle.oxc_span.specs.Label.{label_end};
 ghost use Rattle.oxc_plan.specs.Keeping.{ReadsOn};
@@ -12,6 +12,8 @@ ghost use Rattle.oxc_handlers.specs.RowLines.{lf};
 ghost use Rattle.oxc_handlers.specs.Snippet.{AreDrawable};
 ghost use Rattle.oxc_handlers.specs.Theme.{styled};
 ghost use Rattle.textwrap.specs.Filled.{filled};
+ghost use Rattle.textwrap.specs.OneLine.{FitsOnLine};
+ghost use Rattle.std.specs.Str.{IsCharBoundary};
 
 use crate::handler::GraphicalReportHandler;
 use crate::setting::Setting;
@@ -22,7 +24,7 @@ use oxc_plan::{SnippetPlan, label_order, plan_snippets};
 use oxc_protocol::{LabeledSpan, Severity};
 use oxc_windows::SpanScanner;
 use std::alloc::{AllocError, Global};
-use textwrap::{Options, fill};
+use textwrap::{Options, fill_onto, fits_on_line};
 
 impl GraphicalReportHandler {
     /// The report of a view: an LF, the title, the snippets, help and note.
@@ -111,15 +113,38 @@ impl GraphicalReportHandler {
         ensures on { ReadsOn scanner.old scanner.new }
         ensures holds { IsSome (view_parts view.now).source → 0 < length view.now.labels.now → OnOk result (HoldsLabels scanner.old.input view.now.labels.now scanner.old scanner.new) }
     {
+        let mut out = String::new(alloc);
+        self.push_view_with_scanner(alloc, &mut out, view, scanner)?;
+        Ok(out)
+    }
+
+    /// Appends the report of a view to a text, as [`render_view_with_scanner`](GraphicalReportHandler::render_view_with_scanner)
+    /// gives it.
+    ///
+    /// # Errors
+    ///
+    /// Want of memory.
+    pub fn push_view_with_scanner<'a>(
+        &self,
+        alloc: Global,
+        out: &mut String,
+        view: &DiagnosticView<'a>,
+        scanner: &mut SpanScanner<'a>,
+    ) -> Result<(), AllocError>
+        requires { CanDraw scanner.old (view_parts view.now) }
+        ensures text { OnOk result (string_bytes out.new ≡ string_bytes out.old ++ drawn self.now.theme self.now.width (plan_of self.now.tab (view_parts view.now))) }
+        // what the scanner holds
+        ensures on { ReadsOn scanner.old scanner.new }
+        ensures holds { IsSome (view_parts view.now).source → 0 < length view.now.labels.now → OnOk result (HoldsLabels scanner.old.input view.now.labels.now scanner.old scanner.new) }
+    {
         let Some(_source) = &view.source else {
-            return self.render_planned(alloc, view, &[]);
+            return self.push_planned(alloc, out, view, &[]);
         };
         let snippets = plan_snippets(alloc, scanner, view.labels, self.tabs)?;
-        self.render_planned(alloc, view, &snippets)
+        self.push_planned(alloc, out, view, &snippets)
     }
 
     /// The report of a view, whose snippets are given.
-    #[tactic(auto, unfolding(crate::specs::Report::drawn))]
     pub(crate) fn render_planned(
         &self,
         alloc: Global,
@@ -131,12 +156,29 @@ impl GraphicalReportHandler {
         ensures { IfOk result (λ text. string_bytes text ≡ drawn self.now.theme self.now.width (plan_of self.now.tab (view_parts view.now))) }
     {
         let mut out = String::new(alloc);
-        out.push('\n')?;
-        self.render_title(alloc, &mut out, view)?;
-        self.render_planned_snippets(alloc, &mut out, view, snippets)?;
-        self.render_help(alloc, &mut out, view)?;
-        self.render_note(alloc, &mut out, view)?;
+        self.push_planned(alloc, &mut out, view, snippets)?;
         Ok(out)
+    }
+
+    /// Appends the report of a view, whose snippets are given.
+    #[tactic(auto, unfolding(crate::specs::Report::drawn))]
+    fn push_planned(
+        &self,
+        alloc: Global,
+        out: &mut String,
+        view: &DiagnosticView<'_>,
+        snippets: &[SnippetPlan<'_>],
+    ) -> Result<(), AllocError>
+        requires planned { map snippet_view snippets.now ≡ snippets_in self.now.tab (view_parts view.now) }
+        requires drawable { AreDrawable (length view.now.labels.now) (map snippet_view snippets.now) }
+        ensures { OnOk result (string_bytes out.new ≡ string_bytes out.old ++ drawn self.now.theme self.now.width (plan_of self.now.tab (view_parts view.now))) }
+    {
+        out.push('\n')?;
+        self.render_title(alloc, out, view)?;
+        self.render_planned_snippets(alloc, out, view, snippets)?;
+        self.render_help(alloc, out, view)?;
+        self.render_note(alloc, out, view)?;
+        Ok(())
     }
 
     /// Appends the title of a report.
@@ -150,10 +192,16 @@ impl GraphicalReportHandler {
         ensures { OnOk result (string_bytes out.new ≡ string_bytes out.old ++ title self.now.theme self.now.width (plan_of self.now.tab (view_parts view.now))) }
     {
         let severity = severity_of(view);
-        let first = title_indent(alloc, &self.theme, severity, icon_of(&self.theme, severity))?;
-        let later = title_indent(alloc, &self.theme, severity, self.theme.characters.vbar)?;
-        let text = title_text(alloc, &self.theme, severity, view)?;
         let width = self.termwidth.saturating_sub(2);
+        if write_short_title(out, &self.theme, severity, width, view)? {
+            return Ok(());
+        }
+        let mut first = String::new(alloc);
+        write_title_indent(&mut first, &self.theme, severity, icon_of(&self.theme, severity))?;
+        let mut later = String::new(alloc);
+        write_title_indent(&mut later, &self.theme, severity, self.theme.characters.vbar)?;
+        let mut text = String::new(alloc);
+        write_title_text(&mut text, &self.theme, severity, view)?;
         write_fill(alloc, out, width, &first, &later, &text)
     }
 
@@ -326,43 +374,74 @@ fn icon_of(theme: &GraphicalTheme, severity: Severity) -> char
     }
 }
 
-/// What stands before a line of the title.
+/// Appends the title of a report and an LF, where it is seen to be one line, and else nothing. Says whether it did.
+fn write_short_title(
+    out: &mut String,
+    theme: &GraphicalTheme,
+    severity: Severity,
+    width: usize,
+    view: &DiagnosticView<'_>,
+) -> Result<bool, AllocError>
+    ensures done { IfOk result (λ done. IsTrue done → string_bytes out.new ≡ string_bytes out.old ++ (filled width (title_indent theme.now severity (icon theme.now severity)) (title_indent theme.now severity theme.now.characters.vbar) (styled (severity_style theme.now severity) (title_of (view_parts view.now))) ++ lf)) }
+    ensures undone { IfOk result (λ done. IsFalse done → string_bytes out.new ≡ string_bytes out.old) }
+{
+    let start = out.as_str().len();
+    write_title_indent(out, theme, severity, icon_of(theme, severity))?;
+    let behind = out.as_str().len();
+    write_title_text(out, theme, severity, view)?;
+    if fits_behind(out, start, behind, width) {
+        out.push('\n')?;
+        return Ok(true);
+    }
+    out.truncate(start);
+    Ok(false)
+}
+
+/// Whether what stands in a text behind a place is seen to fit on a line, whose indent stands before it from another place
+/// on.
+fn fits_behind(text: &str, start: usize, behind: usize, width: usize) -> bool
+    requires order { start ≤ behind }
+    requires boundary { IsCharBoundary text.now behind }
+    ensures { IsTrue result ↔ FitsOnLine (width - (behind - start)) (drop behind text.now) }
+{
+    fits_on_line(&text[behind..], width.saturating_sub(behind - start))
+}
+
+/// Appends what stands before a line of the title.
 #[tactic(auto, unfolding(crate::specs::Report::title_indent, crate::specs::Theme::styled))]
-fn title_indent(
-    alloc: Global,
+fn write_title_indent(
+    out: &mut String,
     theme: &GraphicalTheme,
     severity: Severity,
     c: char,
-) -> Result<String, AllocError>
-    ensures { IfOk result (λ text. string_bytes text ≡ title_indent theme.now severity c) }
+) -> Result<(), AllocError>
+    ensures { OnOk result (string_bytes out.new ≡ string_bytes out.old ++ title_indent theme.now severity c) }
 {
     let style = style_of(theme, severity);
-    let mut text = String::new(alloc);
-    text.push_str("  ")?;
-    text.push_str(style.prefix())?;
-    text.push(c)?;
-    text.push_str(style.reset())?;
-    text.push_str(" ")?;
-    Ok(text)
+    out.push_str("  ")?;
+    out.push_str(style.prefix())?;
+    out.push(c)?;
+    out.push_str(style.reset())?;
+    out.push_str(" ")?;
+    Ok(())
 }
 
-/// The text of the title, in the style of its severity.
+/// Appends the text of the title, in the style of its severity.
 #[tactic(auto, unfolding(crate::specs::Report::title_of, crate::specs::Theme::styled))]
-fn title_text(
-    alloc: Global,
+fn write_title_text(
+    out: &mut String,
     theme: &GraphicalTheme,
     severity: Severity,
     view: &DiagnosticView<'_>,
-) -> Result<String, AllocError>
-    ensures { IfOk result (λ text. string_bytes text ≡ styled (severity_style theme.now severity) (title_of (view_parts view.now))) }
+) -> Result<(), AllocError>
+    ensures { OnOk result (string_bytes out.new ≡ string_bytes out.old ++ styled (severity_style theme.now severity) (title_of (view_parts view.now))) }
 {
     let style = style_of(theme, severity);
-    let mut text = String::new(alloc);
-    text.push_str(style.prefix())?;
-    write_code(&mut text, view.code)?;
-    text.push_str(view.message)?;
-    text.push_str(style.reset())?;
-    Ok(text)
+    out.push_str(style.prefix())?;
+    write_code(out, view.code)?;
+    out.push_str(view.message)?;
+    out.push_str(style.reset())?;
+    Ok(())
 }
 
 /// Appends a code, if there is one, and what parts it from the message.
@@ -390,7 +469,6 @@ fn write_fill(
     let options = Options::new(width)
         .initial_indent(first)
         .subsequent_indent(later);
-    let lines = fill(alloc, text, &options)?;
-    out.push_str(&lines)?;
+    fill_onto(alloc, out, text, &options)?;
     out.push('\n')
 }
