@@ -1,5 +1,6 @@
 -- Texts by columns: cuts, and columns that hold the same.
-use Rattle.std.proofs.Common.{◌≡◌, ℕ, ◌+◌, ◌-◌, ◌*◌, ◌/◌, ◌%◌, ◌<◌, ◌≤◌, List, [], ◌∷◌, ◌++◌, replicate, refl, sym, ap, ◌∙◌, arith, zero, suc}
+use Rattle.std.proofs.Common.{◌≡◌, ℕ, ◌+◌, ◌-◌, ◌*◌, ◌/◌, ◌%◌, ◌<◌, ◌≤◌, List, [], ◌∷◌, ◌++◌, replicate, refl, sym, ap, subst, ◌∙◌, arith, zero, suc, length, length-append, take, take_at, suc-mul, zero-mul, add_comm, IsUtf8, IsCharBoundary}
+use Rattle.std.proofs.lemmas.Str.{IsUtf8-nil, IsUtf8-append, IsCharBoundary-at_seam}
 use Rattle.std.specs.List.{concat}
 use Rattle.std.proofs.lemmas.List.{append_assoc, append-nil, replicate_more}
 use Rattle.std.proofs.lemmas.List.Folds.{concat-append}
@@ -112,15 +113,47 @@ repeated_add (suc m) n text =
     rw (here, repeated_first (m + n) text, repeated_first m text) (ap (λ l. text ++ l) (repeated_add m n text) ∙ sym (append_assoc text (repeated m text) (repeated n text)))
 
 -- the steps of a loop that writes blocks of sixteen
-pub blocks_none : (s text : List ℕ) → s ≡ s ++ repeated (0 * 16) text
+pub blocks_none : (s text : List ℕ) → s ≡ s ++ repeated (0 * 128) text
 blocks_none s text = sym (ap (λ l. s ++ l) (repeated_none text) ∙ append-nil s)
 
-pub block_more : (s block text : List ℕ) (n : ℕ) → block ≡ repeated 16 text → (s ++ repeated (n * 16) text) ++ block ≡ s ++ repeated ((n + 1) * 16) text
+pub block_more : (s block text : List ℕ) (n : ℕ) → block ≡ repeated 128 text → (s ++ repeated (n * 128) text) ++ block ≡ s ++ repeated ((n + 1) * 128) text
 block_more s block text n is =
-    let next : (n + 1) * 16 ≡ n * 16 + 16 = omega arith in
-    rw (is, next) (append_assoc s (repeated (n * 16) text) (repeated 16 text) ∙ ap (λ l. s ++ l) (sym (repeated_add (n * 16) 16 text)))
+    let next : (n + 1) * 128 ≡ n * 128 + 128 = omega arith in
+    rw (is, next) (append_assoc s (repeated (n * 128) text) (repeated 128 text) ∙ ap (λ l. s ++ l) (sym (repeated_add (n * 128) 128 text)))
 
-pub blocks_end : (s text : List ℕ) (n : ℕ) → (s ++ repeated (n / 16 * 16) text) ++ repeated (n % 16) text ≡ s ++ repeated n text
+pub blocks_end : (s text : List ℕ) (n : ℕ) → (s ++ repeated (n / 128 * 128) text) ++ repeated (n % 128) text ≡ s ++ repeated n text
 blocks_end s text n =
-    let whole : n / 16 * 16 + n % 16 ≡ n = omega arith in
-    append_assoc s (repeated (n / 16 * 16) text) (repeated (n % 16) text) ∙ ap (λ l. s ++ l) (sym (repeated_add (n / 16 * 16) (n % 16) text)) ∙ ap (λ k. s ++ repeated k text) whole
+    let whole : n / 128 * 128 + n % 128 ≡ n = omega arith in
+    append_assoc s (repeated (n / 128 * 128) text) (repeated (n % 128) text) ∙ ap (λ l. s ++ l) (sym (repeated_add (n / 128 * 128) (n % 128) text)) ∙ ap (λ k. s ++ repeated k text) whole
+
+repeated_plus : (m n : ℕ) (text : List ℕ) → repeated (m + n) text ≡ repeated m text ++ repeated n text
+repeated_plus zero n text =
+    let here : zero + n ≡ n = omega arith in
+    rw (here, repeated_none text) refl
+repeated_plus (suc m) n text =
+    let here : suc m + n ≡ suc (m + n) = omega arith in
+    rw (here, repeated_first (m + n) text, repeated_first m text)
+    (ap (λ l. text ++ l) (repeated_plus m n text) ∙ sym (append_assoc text (repeated m text) (repeated n text)))
+
+length-repeated : (n : ℕ) (text : List ℕ) → length (repeated n text) ≡ n * length text
+length-repeated zero text = ap length (repeated_none text) ∙ sym (zero-mul (length text))
+length-repeated (suc n) text =
+    ap length (repeated_first n text) ∙ length-append text (repeated n text) ∙ ap (λ k. length text + k) (length-repeated n text) ∙ add_comm (length text) (n * length text) ∙ sym (suc-mul n (length text))
+
+front_and_rest : (n all : ℕ) (text : List ℕ) → n ≤ all → repeated all text ≡ repeated n text ++ repeated (all - n) text
+front_and_rest n all text le =
+    let whole : all ≡ n + (all - n) = omega (arith, le) in
+    ap (λ k. repeated k text) whole ∙ repeated_plus n (all - n) text
+
+pub front_repeated : (n all : ℕ) (block text : List ℕ) → n ≤ all → block ≡ repeated all text → take (n * length text) block ≡ repeated n text
+front_repeated n all block text le is_block =
+    ap (λ l. take (n * length text) l) (is_block ∙ front_and_rest n all text le) ∙ take_at (repeated n text) (repeated (all - n) text) (n * length text) (length-repeated n text)
+
+repeated_utf8 : (n : ℕ) (text : List ℕ) → IsUtf8 text → IsUtf8 (repeated n text)
+repeated_utf8 zero text utf8 = subst IsUtf8 (sym (repeated_none text)) IsUtf8-nil
+repeated_utf8 (suc n) text utf8 = subst IsUtf8 (sym (repeated_first n text)) (IsUtf8-append text (repeated n text) utf8 (repeated_utf8 n text utf8))
+
+pub front_boundary : (n all : ℕ) (block text : List ℕ) → n ≤ all → block ≡ repeated all text → IsUtf8 text → IsCharBoundary block (n * length text)
+front_boundary n all block text le is_block utf8 =
+    subst (IsCharBoundary block) (length-repeated n text)
+    (IsCharBoundary-at_seam block (repeated n text) (repeated (all - n) text) (is_block ∙ front_and_rest n all text le) (repeated_utf8 (all - n) text utf8))

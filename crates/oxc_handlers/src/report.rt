@@ -197,9 +197,19 @@ impl GraphicalReportHandler {
             return Ok(());
         }
         let mut first = String::new(alloc);
-        write_title_indent(&mut first, &self.theme, severity, icon_of(&self.theme, severity))?;
+        write_title_indent(
+            &mut first,
+            &self.theme,
+            severity,
+            icon_of(&self.theme, severity),
+        )?;
         let mut later = String::new(alloc);
-        write_title_indent(&mut later, &self.theme, severity, self.theme.characters.vbar)?;
+        write_title_indent(
+            &mut later,
+            &self.theme,
+            severity,
+            self.theme.characters.vbar,
+        )?;
         let mut text = String::new(alloc);
         write_title_text(&mut text, &self.theme, severity, view)?;
         write_fill(alloc, out, width, &first, &later, &text)

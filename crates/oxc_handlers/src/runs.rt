@@ -1,5 +1,5 @@
 //! Runs of one character, and numbers, behind a text.
-ghost use Rattle.std.specs.Prelude.{◌≡◌, ◌++◌, IfSome, OnOk, string_bytes, encode_utf8, decimal};
+ghost use Rattle.std.specs.Prelude.{◌≡◌, ◌++◌, ◌≤◌, IfSome, OnOk, string_bytes, encode_utf8, decimal};
 ghost use Rattle.oxc_handlers.specs.Cells.{repeated};
 ghost use Rattle.oxc_handlers.specs.Theme.{styled};
 
@@ -8,12 +8,15 @@ use itoa::Buffer;
 use std::alloc::AllocError;
 
 /// How many characters a block has.
-const BLOCK: usize = 16;
+const BLOCK: usize = 128;
 
 /// Appends a character some times over.
 pub(crate) fn write_repeated_char(out: &mut String, c: char, count: usize) -> Result<(), AllocError>
     ensures { OnOk result (string_bytes out.new ≡ string_bytes out.old ++ repeated count (encode_utf8 c)) }
 {
+    if count == 0 {
+        return Ok(());
+    }
     match block_of(c) {
         Some(block) => write_blocks(out, c, block, count),
         None => write_chars(out, c, count),
@@ -25,9 +28,15 @@ fn block_of(c: char) -> Option<&'static str>
     ensures { IfSome result (λ block. block.now ≡ repeated BLOCK (encode_utf8 c)) }
 {
     match c {
-        ' ' => Some("                "),
-        '─' => Some("────────────────"),
-        '^' => Some("^^^^^^^^^^^^^^^^"),
+        ' ' => Some(
+            "                                                                                                                                ",
+        ),
+        '─' => Some(
+            "────────────────────────────────────────────────────────────────────────────────────────────────────────────────────────────────",
+        ),
+        '^' => Some(
+            "^^^^^^^^^^^^^^^^^^^^^^^^^^^^^^^^^^^^^^^^^^^^^^^^^^^^^^^^^^^^^^^^^^^^^^^^^^^^^^^^^^^^^^^^^^^^^^^^^^^^^^^^^^^^^^^^^^^^^^^^^^^^^^^^",
+        ),
         _ => None,
     }
 }
@@ -41,7 +50,17 @@ fn write_blocks(out: &mut String, c: char, block: &str, count: usize) -> Result<
     for _i in 0..count / BLOCK {
         out.push_str(block)?;
     }
-    write_chars(out, c, count % BLOCK)
+    out.push_str(front_of(block, c, count % BLOCK))?;
+    Ok(())
+}
+
+/// The first so many characters of a block.
+fn front_of(block: &str, c: char, count: usize) -> &str
+    requires block { block.now ≡ repeated BLOCK (encode_utf8 c) }
+    requires few { count ≤ BLOCK }
+    ensures { result.now ≡ repeated count (encode_utf8 c) }
+{
+    &block[..count * c.len_utf8()]
 }
 
 /// Appends a character some times over, one by one.

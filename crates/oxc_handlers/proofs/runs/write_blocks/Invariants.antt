@@ -3,4 +3,4 @@ use Rattle.oxc_handlers.specs.Cells.{repeated}
 use Rattle.oxc_handlers.proofs.runs.write_blocks.Given as goal
 
 abbrev pub invariant-loop-i : goal.invariant-loop-i
-invariant-loop-i l = string_bytes l.out ≡ string_bytes l.initial.out ++ repeated (l._i * 16) (encode_utf8 l.c)
+invariant-loop-i l = string_bytes l.out ≡ string_bytes l.initial.out ++ repeated (l._i * 128) (encode_utf8 l.c)
