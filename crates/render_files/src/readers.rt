@@ -65,24 +65,25 @@ impl<'a> Readers<'a> {
         Ok(())
     }
 
-    /// Draws a report on a file, by scanners that read one row round a span.
+    /// Appends the drawing of a report on a file, by scanners that read one row round a span.
     pub(crate) fn draw(
         &mut self,
         handler: &GraphicalReportHandler,
+        out: &mut String,
         file: FileId,
         view: &DiagnosticView<'a>,
-    ) -> Result<String, AllocError>
+    ) -> Result<(), AllocError>
         requires held { file < length self.old.files }
         requires round { self.old.rows ≡ 1 }
         requires source { IfSome (view_parts view.now).source (λ source. source.bytes ≡ text_of self.old.files file) }
         requires within { All (λ label. label_end label ≤ length (text_of self.old.files file)) (view_parts view.now).labels }
-        ensures text { IfOk result (λ text. string_bytes text ≡ drawn handler.now.theme handler.now.width (plan_of handler.now.tab (view_parts view.now))) }
+        ensures text { OnOk result (string_bytes out.new ≡ string_bytes out.old ++ drawn handler.now.theme handler.now.width (plan_of handler.now.tab (view_parts view.now))) }
         ensures unchanged { self.new ≡ self.old }
     {
         let mut scanner = self.reader_of(file)?;
-        let text = handler.render_view_with_scanner(self.alloc, view, &mut scanner)?;
+        handler.push_view_with_scanner(self.alloc, out, view, &mut scanner)?;
         self.scanners.insert(file, scanner)?;
-        Ok(text)
+        Ok(())
     }
 
     /// Appends a report on a file as JSON, by scanners that read no rows of context.

@@ -151,7 +151,7 @@ fn draw_all<'a>(
     let mut text = String::new(alloc);
     for (at, report) in reports.iter().enumerate() {
         let view = view_of(files, report, &codes[at], spans[at].as_slice());
-        text.push_str(readers.draw(handler, report.file, &view)?.as_str())?;
+        readers.draw(handler, &mut text, report.file, &view)?;
     }
     Ok(text)
 }

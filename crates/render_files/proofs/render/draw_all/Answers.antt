@@ -38,9 +38,8 @@ pub loop-at-preserved : goal.loop-at-preserved
 loop-at-preserved c =
     let report = given_report c.index-reports-at.result in
     let rest = drawn_reports c.args.handler.now c.args.files.now (map given_report (drop (c.loop-at.at + 1) c.args.reports.now)) in
-    let text : string_bytes c.push_str.new.self ≡ string_bytes c.loop-at.text ++ drawn_report c.args.handler.now c.args.files.now report =
-    c.in_ok-push_str.ensures.bytes
-    ∙ ap (λ l. string_bytes c.loop-at.text ++ l) (c.as_str.ensures.value ∙ c.in_ok-draw.ensures.text ∙ drawn_without_url c.args.handler.now c.args.files.now report _ c.view_of-view.ensures) in
+    let text : string_bytes c.draw.new.out ≡ string_bytes c.loop-at.text ++ drawn_report c.args.handler.now c.args.files.now report =
+    c.in_ok-draw.ensures.text ∙ ap (λ l. string_bytes c.loop-at.text ++ l) (drawn_without_url c.args.handler.now c.args.files.now report _ c.view_of-view.ensures) in
     record {
       known = c.in_ok-draw.ensures.unchanged ∙ c.loop-at.invariant.known;
       drawn = ap (λ l. l ++ rest) text ∙ append_assoc (string_bytes c.loop-at.text) (drawn_report c.args.handler.now c.args.files.now report) rest
