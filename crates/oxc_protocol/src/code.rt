@@ -1,5 +1,5 @@
 //! Codes of diagnostics.
-ghost use Rattle.std.specs.Prelude.{◌≡◌, ◌↔◌, ◌⊎◌, IsTrue, IsSome, Some, IfOk};
+ghost use Rattle.std.specs.Prelude.{◌≡◌, ◌↔◌, ◌⊎◌, IsTrue, IsSome, Some, IfOk, string_bytes};
 ghost use Rattle.oxc_protocol.specs.Code.{code_text, shown_code};
 ghost use Rattle.oxc_span.specs.Views.{text_bytes};
 
@@ -30,12 +30,28 @@ impl OxcCode {
     pub(crate) fn shown(&self, alloc: Global) -> Result<Option<String>, AllocError>
         ensures { IfOk result (λ text. text_bytes text ≡ shown_code (text_bytes self.now.scope) (text_bytes self.now.number)) }
     {
-        if self.is_some() {
-            Ok(Some(format!(in alloc; "{self}")?))
-        } else {
-            Ok(None)
+        match (&self.scope, &self.number) {
+            (None, None) => Ok(None),
+            (Some(part), None) | (None, Some(part)) => {
+                Ok(Some(String::from_str(alloc, part.as_str())?))
+            }
+            (Some(scope), Some(number)) => {
+                Ok(Some(in_scope(alloc, scope.as_str(), number.as_str())?))
+            }
         }
     }
+}
+
+/// A number behind its scope, in brackets.
+fn in_scope(alloc: Global, scope: &str, number: &str) -> Result<String, AllocError>
+    ensures { IfOk result (λ text. string_bytes text ≡ code_text (Some scope.now) (Some number.now)) }
+{
+    let mut text = String::with_capacity(alloc, scope.len().saturating_add(number.len()).saturating_add(2))?;
+    text.push_str(scope)?;
+    text.push('(')?;
+    text.push_str(number)?;
+    text.push(')')?;
+    Ok(text)
 }
 
 impl Display for OxcCode {
