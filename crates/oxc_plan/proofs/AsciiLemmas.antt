@@ -306,3 +306,18 @@ pub pen_jump : (tab : ℕ) (pen : Pen) (bytes : List ℕ) → pen.in_escape ≡ 
     → record { column = pen.column + length bytes; in_escape = false } ≡ pen_after tab pen bytes
 pen_jump tab pen bytes out all =
     sym (pen_plain tab pen.column bytes all) ∙ ap (λ (e : Bool). pen_after tab (record { column = pen.column; in_escape = e }) bytes) (sym out)
+
+-- a cluster of one byte
+one_item : (xs : List ℕ) → length xs ≡ 1 → xs ≡ get_or xs 0 0 ∷ []
+one_item [] e = absurd (omega arith)
+one_item (x ∷ []) e = refl
+one_item (x ∷ y ∷ xs) e = absurd (omega arith)
+
+one_byte : (tab : ℕ) (pen : Pen) (b : ℕ) → b < 128 → fold (moved tab) pen (led (b ∷ [])) ≡ moved tab pen (1, b)
+one_byte tab pen b lt =
+    ap (λ (cs : List ℕ). fold (moved tab) pen (with_lead (str_width false cs) cs)) (chars-IsAscii (b ∷ []) (single_ascii b lt))
+    ∙ same_step tab pen (str_width false (b ∷ [])) b (λ plain. width_single b (printable b lt plain))
+
+pub over_byte : (tab : ℕ) (pen : Pen) (cluster : List ℕ) → length cluster ≡ 1 → get_or cluster 0 0 < 128 → moved tab pen (1, get_or cluster 0 0) ≡ fold (moved tab) pen (led cluster)
+over_byte tab pen cluster e lt =
+    sym (one_byte tab pen (get_or cluster 0 0) lt) ∙ ap (λ (cs : List ℕ). fold (moved tab) pen (led cs)) (sym (one_item cluster e))

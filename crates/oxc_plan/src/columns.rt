@@ -127,6 +127,9 @@ pub fn over_cluster(mut pen: Pen, cluster: &str, tabs: TabWidth) -> Pen
     ensures exact { result ≡ fold (moved tabs) pen (led cluster.now) }
     ensures bound { result.column ≤ pen.column + 18 * length cluster.now }
 {
+    if cluster.len() == 1 && cluster.as_bytes()[0] < 0x80 {
+        return moved_over(pen, 1, char::from(cluster.as_bytes()[0]), tabs);
+    }
     let mut lead = cluster.width();
     for c in cluster.chars() {
         pen = moved_over(pen, lead, c, tabs);

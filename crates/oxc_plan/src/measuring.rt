@@ -141,6 +141,9 @@ fn columns_by_clusters(
     let mut offset = 0;
     for cluster in text.graphemes(true) {
         push_within(&mut columns, text, places, offset, pen, cluster, tabs)?;
+        if columns.len() == places.len() {
+            return Ok(columns);
+        }
         pen = over_cluster(pen, cluster, tabs);
         offset += cluster.len();
     }
