@@ -157,3 +157,6 @@ pub front_boundary : (n all : ℕ) (block text : List ℕ) → n ≤ all → blo
 front_boundary n all block text le is_block utf8 =
     subst (IsCharBoundary block) (length-repeated n text)
     (IsCharBoundary-at_seam block (repeated n text) (repeated (all - n) text) (is_block ∙ front_and_rest n all text le) (repeated_utf8 (all - n) text utf8))
+
+pub written_once : (s text : List ℕ) → s ++ text ≡ s ++ repeated 1 text
+written_once s text = ap (λ l. l ++ text) (written_none s text) ∙ written_more s text 0

@@ -36,10 +36,10 @@ fn write_padded(out: &mut String, setting: &Setting<'_>, linum: usize) -> Result
     let style = setting.theme.styles.linum;
     let mut buffer = Buffer::new();
     let text = buffer.format(linum);
-    out.push_str(style.prefix())?;
+    style.begin(out)?;
     write_repeated_char(out, ' ', setting.digits.saturating_sub(text.len()))?;
     out.push_str(text)?;
-    out.push_str(style.reset())?;
+    style.end(out)?;
     Ok(())
 }
 

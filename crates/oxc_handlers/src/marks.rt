@@ -42,12 +42,12 @@ fn write_mark(
 {
     let line = setting.theme.characters.underline;
     let style = setting.highlight(m.label);
-    out.push_str(style.prefix())?;
+    style.begin(out)?;
     write_repeated_char(out, ' ', m.start - before)?;
     write_repeated_char(out, line, m.bar - m.start)?;
     out.push(marker_of(setting, m.label))?;
     write_repeated_char(out, line, m.end - m.bar - 1)?;
-    out.push_str(style.reset())?;
+    style.end(out)?;
     Ok(())
 }
 
@@ -135,11 +135,11 @@ fn write_hung(
     ensures { OnOk result (string_bytes out.new ≡ string_bytes out.old ++ hung (setting_view setting.now) label mode line.now) }
 {
     let style = setting.highlight(label);
-    out.push_str(style.prefix())?;
+    style.begin(out)?;
     write_connector(out, setting, mode)?;
     out.push(' ')?;
     style.write(out, line)?;
-    out.push_str(style.reset())?;
+    style.end(out)?;
     Ok(())
 }
 

@@ -429,9 +429,9 @@ fn write_title_indent(
 {
     let style = style_of(theme, severity);
     out.push_str("  ")?;
-    out.push_str(style.prefix())?;
+    style.begin(out)?;
     out.push(c)?;
-    out.push_str(style.reset())?;
+    style.end(out)?;
     out.push_str(" ")?;
     Ok(())
 }
@@ -447,10 +447,10 @@ fn write_title_text(
     ensures { OnOk result (string_bytes out.new ≡ string_bytes out.old ++ styled (severity_style theme.now severity) (title_of (view_parts view.now))) }
 {
     let style = style_of(theme, severity);
-    out.push_str(style.prefix())?;
+    style.begin(out)?;
     write_code(out, view.code)?;
     out.push_str(view.message)?;
-    out.push_str(style.reset())?;
+    style.end(out)?;
     Ok(())
 }
 

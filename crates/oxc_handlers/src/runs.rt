@@ -17,6 +17,17 @@ pub(crate) fn write_repeated_char(out: &mut String, c: char, count: usize) -> Re
     if count == 0 {
         return Ok(());
     }
+    if count == 1 {
+        out.push(c)?;
+        return Ok(());
+    }
+    write_run(out, c, count)
+}
+
+/// Appends a character some times over, in blocks where there is one of it.
+fn write_run(out: &mut String, c: char, count: usize) -> Result<(), AllocError>
+    ensures { OnOk result (string_bytes out.new ≡ string_bytes out.old ++ repeated count (encode_utf8 c)) }
+{
     match block_of(c) {
         Some(block) => write_blocks(out, c, block, count),
         None => write_chars(out, c, count),
@@ -84,9 +95,9 @@ pub(crate) fn write_styled_run(
 ) -> Result<(), AllocError>
     ensures { OnOk result (string_bytes out.new ≡ string_bytes out.old ++ styled style (repeated count (encode_utf8 c))) }
 {
-    out.push_str(style.prefix())?;
+    style.begin(out)?;
     write_repeated_char(out, c, count)?;
-    out.push_str(style.reset())?;
+    style.end(out)?;
     Ok(())
 }
 

@@ -106,14 +106,34 @@ impl Style {
         }
     }
 
+    /// Appends what begins this style.
+    pub(crate) fn begin(self, out: &mut String) -> Result<(), AllocError>
+        ensures { OnOk result (string_bytes out.new ≡ string_bytes out.old ++ prefix_of self) }
+    {
+        match self {
+            Style::Plain => Ok(()),
+            _ => out.push_str(self.prefix()),
+        }
+    }
+
+    /// Appends what ends this style.
+    pub(crate) fn end(self, out: &mut String) -> Result<(), AllocError>
+        ensures { OnOk result (string_bytes out.new ≡ string_bytes out.old ++ reset_of self) }
+    {
+        match self {
+            Style::Plain => Ok(()),
+            _ => out.push_str(self.reset()),
+        }
+    }
+
     /// Appends a text in this style.
     #[tactic(auto, unfolding(crate::specs::Theme::styled))]
     pub(crate) fn write(self, out: &mut String, value: &str) -> Result<(), AllocError>
         ensures { OnOk result (string_bytes out.new ≡ string_bytes out.old ++ styled self value.now) }
     {
-        out.push_str(self.prefix())?;
+        self.begin(out)?;
         out.push_str(value)?;
-        out.push_str(self.reset())?;
+        self.end(out)?;
         Ok(())
     }
 }
