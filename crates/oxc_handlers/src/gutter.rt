@@ -4,7 +4,7 @@ ghost use Rattle.oxc_handlers.specs.Gutters.{bar_piece, below_from, corner, endi
 ghost use Rattle.oxc_handlers.specs.RowLines.{other_front, padded, row_front};
 ghost use Rattle.oxc_handlers.specs.Setting.{setting_view};
 
-use crate::runs::{write_repeated_char, write_styled_run};
+use crate::runs::{write_spaces, write_styled_run};
 use crate::setting::Setting;
 use crate::span::LabelRenderMode;
 use itoa::Buffer;
@@ -37,7 +37,7 @@ fn write_padded(out: &mut String, setting: &Setting<'_>, linum: usize) -> Result
     let mut buffer = Buffer::new();
     let text = buffer.format(linum);
     style.begin(out)?;
-    write_repeated_char(out, ' ', setting.digits.saturating_sub(text.len()))?;
+    write_spaces(out, setting.digits.saturating_sub(text.len()))?;
     out.push_str(text)?;
     style.end(out)?;
     Ok(())
@@ -49,7 +49,7 @@ pub(crate) fn write_no_linum(out: &mut String, setting: &Setting<'_>) -> Result<
     requires { setting.now.digits < 2 ^ 62 }
     ensures { OnOk result (string_bytes out.new ≡ string_bytes out.old ++ other_front (setting_view setting.now)) }
 {
-    write_repeated_char(out, ' ', setting.digits + 2)?;
+    write_spaces(out, setting.digits + 2)?;
     out.push(setting.theme.characters.vbar_break)?;
     out.push(' ')?;
     Ok(())
@@ -77,7 +77,7 @@ pub(crate) fn render_line_gutter(
         write_bar(out, setting, bar.label)?;
         place += 1;
     }
-    write_repeated_char(out, ' ', setting.gutter + 3 - place)
+    write_spaces(out, setting.gutter + 3 - place)
 }
 
 /// Appends the gutter of a line under a row: the bars that go on, up to the first label that ends in the row.
@@ -103,7 +103,7 @@ pub(crate) fn render_highlight_gutter(
         write_bar(out, setting, bar.label)?;
         place += 1;
     }
-    write_repeated_char(out, ' ', setting.gutter + 3 - place)
+    write_spaces(out, setting.gutter + 3 - place)
 }
 
 /// Appends a bar in the style of a label.
@@ -166,7 +166,7 @@ fn write_turn(
     write_styled_run(out, style, corner_of(setting, bar), 1)?;
     write_styled_run(out, style, chars.hbar, setting.gutter - place)?;
     write_styled_run(out, style, chars.rarrow, 1)?;
-    write_repeated_char(out, ' ', 1)
+    write_spaces(out, 1)
 }
 
 /// Appends what is drawn under a row where a label ends.
@@ -193,6 +193,6 @@ fn write_ending(
             write_styled_run(out, style, chars.lbot, 1)?;
             write_styled_run(out, style, chars.hbar, setting.gutter - place + 1)
         }
-        LabelRenderMode::BlockRest => write_repeated_char(out, ' ', setting.gutter - place + 2),
+        LabelRenderMode::BlockRest => write_spaces(out, setting.gutter - place + 2),
     }
 }

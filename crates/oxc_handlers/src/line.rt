@@ -3,7 +3,7 @@ ghost use Rattle.std.specs.Prelude.{◌≡◌, ◌++◌, ◌+◌, ◌*◌, ◌^�
 ghost use Rattle.oxc_plan.specs.Width.{led, moved};
 ghost use Rattle.oxc_handlers.specs.Texts.{IsAsciiWithoutEscapes, shown_char, shown_from, shown_text};
 
-use crate::runs::write_repeated_char;
+use crate::runs::write_spaces;
 use memchr::memchr;
 use oxc_plan::{Pen, TabWidth, moved_over};
 use std::alloc::AllocError;
@@ -45,7 +45,7 @@ fn write_between_tabs(out: &mut String, text: &str, tabs: TabWidth) -> Result<()
         out.push_str(&rest[..at])?;
         column += at;
         let spaces = tabs.get() - column % tabs.get();
-        write_repeated_char(out, ' ', spaces)?;
+        write_spaces(out, spaces)?;
         column += spaces;
         rest = &rest[at + 1..];
     }
@@ -101,5 +101,5 @@ fn write_char(out: &mut String, pen: Pen, c: char, tabs: TabWidth) -> Result<(),
     if pen.in_escape {
         return Ok(());
     }
-    write_repeated_char(out, ' ', tabs.get() - pen.column % tabs.get())
+    write_spaces(out, tabs.get() - pen.column % tabs.get())
 }

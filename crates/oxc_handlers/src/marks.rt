@@ -5,7 +5,7 @@ ghost use Rattle.oxc_handlers.specs.Marks.{AreOrdered, IsMark, drawn_mark, mark_
 ghost use Rattle.oxc_handlers.specs.Setting.{setting_view};
 
 use crate::gutter::write_bar;
-use crate::runs::write_repeated_char;
+use crate::runs::{write_repeated_char, write_spaces};
 use crate::setting::Setting;
 use crate::span::LabelRenderMode;
 use oxc_plan::{Hang, MarkCells};
@@ -43,7 +43,7 @@ fn write_mark(
     let line = setting.theme.characters.underline;
     let style = setting.highlight(m.label);
     style.begin(out)?;
-    write_repeated_char(out, ' ', m.start - before)?;
+    write_spaces(out, m.start - before)?;
     write_repeated_char(out, line, m.bar - m.start)?;
     out.push(marker_of(setting, m.label))?;
     write_repeated_char(out, line, m.end - m.bar - 1)?;
@@ -100,7 +100,7 @@ fn write_bars(
     for mark in marks {
         let m = *mark;
         if m.label == at {
-            return write_repeated_char(out, ' ', m.bar - from);
+            return write_spaces(out, m.bar - from);
         }
         write_hung_bar(out, setting, from, m)?;
         from = m.bar + 1;
@@ -119,7 +119,7 @@ fn write_hung_bar(
     requires { from ≤ m.bar }
     ensures { OnOk result (string_bytes out.new ≡ string_bytes out.old ++ hung_bar (setting_view setting.now) from m) }
 {
-    write_repeated_char(out, ' ', m.bar - from)?;
+    write_spaces(out, m.bar - from)?;
     write_bar(out, setting, m.label)
 }
 
@@ -165,7 +165,7 @@ fn write_connector(
             Ok(())
         }
         LabelRenderMode::BlockRest => {
-            write_repeated_char(out, ' ', 2)?;
+            write_spaces(out, 2)?;
             out.push(chars.vbar)?;
             Ok(())
         }

@@ -24,6 +24,21 @@ pub(crate) fn write_repeated_char(out: &mut String, c: char, count: usize) -> Re
     write_run(out, c, count)
 }
 
+/// A block of spaces.
+const SPACES: &str =
+    "                                                                                                                                ";
+
+/// Appends so many spaces.
+pub(crate) fn write_spaces(out: &mut String, count: usize) -> Result<(), AllocError>
+    ensures { OnOk result (string_bytes out.new ≡ string_bytes out.old ++ repeated count (encode_utf8 0x20)) }
+{
+    if count < BLOCK {
+        out.push_str(front_of(SPACES, ' ', count))?;
+        return Ok(());
+    }
+    write_blocks(out, ' ', SPACES, count)
+}
+
 /// Appends a character some times over, in blocks where there is one of it.
 fn write_run(out: &mut String, c: char, count: usize) -> Result<(), AllocError>
     ensures { OnOk result (string_bytes out.new ≡ string_bytes out.old ++ repeated count (encode_utf8 c)) }

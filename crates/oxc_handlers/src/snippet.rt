@@ -10,7 +10,7 @@ ghost use Rattle.oxc_handlers.specs.Snippet.{IsSnippet, close, drawn_snippet, he
 use crate::gutter::{render_line_gutter, write_linum};
 use crate::label::{render_multi_line_ends, render_single_line_highlights};
 use crate::line::render_line_text;
-use crate::runs::{write_number, write_repeated_char};
+use crate::runs::{write_number, write_repeated_char, write_spaces};
 use crate::setting::Setting;
 use itoa::Buffer;
 use oxc_plan::{RowPlan, SnippetPlan};
@@ -84,7 +84,7 @@ fn write_head(
     requires { setting.now.digits < 2 ^ 62 }
     ensures { OnOk result (string_bytes out.new ≡ string_bytes out.old ++ head (setting_view setting.now) (snippet_view snippet.now) (option_copied name.entry)) }
 {
-    write_repeated_char(out, ' ', setting.digits + 2)?;
+    write_spaces(out, setting.digits + 2)?;
     out.push(setting.theme.characters.ltop)?;
     out.push(setting.theme.characters.hbar)?;
     write_head_text(out, setting, name, snippet)?;
@@ -174,7 +174,7 @@ fn write_close(out: &mut String, setting: &Setting<'_>) -> Result<(), AllocError
     requires { setting.now.digits < 2 ^ 62 }
     ensures { OnOk result (string_bytes out.new ≡ string_bytes out.old ++ close (setting_view setting.now)) }
 {
-    write_repeated_char(out, ' ', setting.digits + 2)?;
+    write_spaces(out, setting.digits + 2)?;
     out.push(setting.theme.characters.lbot)?;
     write_repeated_char(out, setting.theme.characters.hbar, 4)?;
     out.push('\n')

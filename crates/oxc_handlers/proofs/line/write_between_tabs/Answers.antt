@@ -19,7 +19,7 @@ loop-at-preserved c =
     record {
       text = search rules;
       ascii = subst IsAsciiWithoutEscapes (sym left) (IsAscii-drop rest (at + 1) kept.ascii.0, All-drop (λ byte. byte ≢ 0x1B) (at + 1) rest kept.ascii.1);
-      drawn = rw (c.in_ok-write_repeated_char.ensures, c.in_ok-push_str.ensures.bytes, before, left, c.get.ensures.width, c.get-in-Some.ensures.width)
+      drawn = rw (c.in_ok-write_spaces.ensures, c.in_ok-push_str.ensures.bytes, before, left, c.get.ensures.width, c.get-in-Some.ensures.width)
           (tab_more (string_bytes c.loop-at.out) c.args.tabs c.loop-at.column at rest kept.ascii.0 kept.ascii.1 found.0 found.1 ∙ kept.drawn);
       room = omega (arith, kept.room, c.range_from-rest.ensures.len, c.get.ensures.most);
     }
