@@ -128,7 +128,7 @@ impl GraphicalReportHandler {
         &self,
         alloc: Global,
         out: &mut String,
-        view: &DiagnosticView<'a>,
+        view: &DiagnosticView<'_>,
         scanner: &mut SpanScanner<'a>,
     ) -> Result<(), AllocError>
         requires { CanDraw scanner.old (view_parts view.now) }

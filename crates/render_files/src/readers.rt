@@ -71,7 +71,7 @@ impl<'a> Readers<'a> {
         handler: &GraphicalReportHandler,
         out: &mut String,
         file: FileId,
-        view: &DiagnosticView<'a>,
+        view: &DiagnosticView<'_>,
     ) -> Result<(), AllocError>
         requires held { file < length self.old.files }
         requires round { self.old.rows ≡ 1 }

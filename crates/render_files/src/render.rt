@@ -102,8 +102,7 @@ pub fn files_text(
         return Ok(String::new(alloc));
     }
     let spans = place_labels(alloc, files, reports)?;
-    let codes = codes_of(alloc, reports)?;
-    Ok(draw_all(alloc, handler, files, reports, &spans, &codes)?)
+    Ok(draw_all(alloc, handler, files, reports, &spans)?)
 }
 
 /// The text that [`render_files_json`] sends.
@@ -133,24 +132,26 @@ fn codes_of(alloc: Global, reports: &[FileReport]) -> Result<Vec<Option<String>>
     Ok(codes)
 }
 
-/// The drawings of reports of which none is refused, with their labels and their codes.
+/// How many bytes of room are taken at first for each drawing.
+const GUESS: usize = 256;
+
+/// The drawings of reports of which none is refused, with their labels.
 fn draw_all<'a>(
     alloc: Global,
     handler: &GraphicalReportHandler,
     files: &'a Files<String>,
     reports: &'a [FileReport],
     spans: &'a [Vec<LabeledSpan>],
-    codes: &'a [Option<String>],
 ) -> Result<String, AllocError>
     requires stand { All (StandsInFile files.now) (map given_report reports.now) }
     requires spans { map (λ labels. labels.items) spans.now ≡ map (placed_labels files.now) (map given_report reports.now) }
-    requires codes { map text_bytes codes.now ≡ map code_of (map given_report reports.now) }
     ensures { IfOk result (λ text. string_bytes text ≡ drawn_reports handler.now files.now (map given_report reports.now)) }
 {
     let mut readers = readers_for(alloc, files, reports, spans, 1)?;
-    let mut text = String::new(alloc);
+    let mut text = String::with_capacity(alloc, reports.len().saturating_mul(GUESS))?;
     for (at, report) in reports.iter().enumerate() {
-        let view = view_of(files, report, &codes[at], spans[at].as_slice());
+        let code = report.diagnostic.code(alloc)?;
+        let view = view_of(files, report, &code, spans[at].as_slice());
         readers.draw(handler, &mut text, report.file, &view)?;
     }
     Ok(text)
@@ -216,12 +217,12 @@ fn push_line<'a>(
 }
 
 /// What a report shows, with its code and its labels, of a database that has its file.
-fn view_of<'a>(
-    files: &'a Files<String>,
-    report: &'a FileReport,
-    code: &'a Option<String>,
-    labels: &'a [LabeledSpan],
-) -> DiagnosticView<'a>
+fn view_of<'b>(
+    files: &'b Files<String>,
+    report: &'b FileReport,
+    code: &'b Option<String>,
+    labels: &'b [LabeledSpan],
+) -> DiagnosticView<'b>
     requires held { report.now.file < length files.now }
     requires labels { labels.now ≡ placed_labels files.now (given_report report.now) }
     requires code { text_bytes code.now ≡ code_of (given_report report.now) }

@@ -18,11 +18,6 @@ view_of-view-requires-clause-labels c =
     ∙ same_at (λ labels. labels.items) (placed_labels c.args.files.now) given_report c.args.spans.now c.args.reports.now c.loop-at.at c.index-spans-at.result c.index-reports-at.result
     c.requires.spans c.loop-at-test.true c.index-spans-at.is c.index-reports-at.is
 
-pub view_of-view-requires-clause-code : goal.view_of-view-requires-clause-code
-view_of-view-requires-clause-code c =
-    same_at text_bytes code_of given_report c.args.codes.now c.args.reports.now c.loop-at.at c.index-codes-at.result c.index-reports-at.result
-    c.requires.codes c.loop-at-test.true c.index-codes-at.is c.index-reports-at.is
-
 pub draw-requires-clause-held : goal.draw-requires-clause-held
 draw-requires-clause-held c =
     subst (λ read. c.index-reports-at.result.file < length read.files) (sym c.loop-at.invariant.known)
