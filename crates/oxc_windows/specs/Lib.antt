@@ -9,4 +9,6 @@ pub mod Seen
 pub mod Index
 pub mod Total
 pub mod Scan
+pub mod WindowRead
+pub mod SpanRead
 pub mod Views

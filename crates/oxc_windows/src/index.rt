@@ -1,9 +1,10 @@
 //! The lazy index: windows of rows, from breaks that are looked for once.
-ghost use Rattle.std.specs.Prelude.{◌≡◌, ℕ, ◌*◌, true, Some, None, ◌↔◌, IsNone, IsSome, IfSome, ◌+◌, ◌<◌, ◌≤◌, List, [], IfOk, OnOk, OnErr, Ok};
+ghost use Rattle.std.specs.Prelude.{◌≡◌, ℕ, ◌*◌, true, Some, None, IsSome, ◌+◌, ◌≤◌, List, [], IfOk, OnOk, OnErr};
 ghost use Rattle.oxc_windows.specs.declared.breaks.LineBreak.{LineBreak};
-ghost use Rattle.oxc_windows.specs.Window.{first_row, window_of};
-ghost use Rattle.oxc_windows.specs.Kept.{AllStay, AreKept, AreKeptUpTo, first_after};
+ghost use Rattle.oxc_windows.specs.Window.{window_of};
+ghost use Rattle.oxc_windows.specs.Kept.{AllStay};
 ghost use Rattle.oxc_windows.specs.Index.{IsIndexOf, index_view, is_served};
+ghost use Rattle.oxc_windows.specs.WindowRead.{KeepsRows, ReadsWindow, TicksForWindow};
 
 use crate::held::Rows;
 use crate::seed::seeded;
@@ -158,26 +159,11 @@ impl WindowIndex {
         requires index { IsIndexOf (S.size source.now) (S.breaks source.now) self.old }
         requires ordered { span.start ≤ span.end }
         ensures index { IsIndexOf (S.size source.now) (S.breaks source.now) self.new }
-        ensures before { (index_view self.new).before ≡ (index_view self.old).before }
-        ensures after { (index_view self.new).after ≡ (index_view self.old).after }
-        // the window by its definition, over the source's length and breaks alone
-        ensures value { IfOk result (λ w. w ≡ window_of (S.size source.now) (S.breaks source.now) (index_view self.old).before (index_view self.old).after span.start span.end) }
-        ensures none { IfOk result (λ w. IsNone w ↔ (S.size source.now < span.end)) }
-        // a refused span
-        ensures refused { S.size source.now < span.end → result ≡ Ok None }
-        ensures unchanged { S.size source.now < span.end → self.new ≡ self.old }
-        ensures free { S.size source.now < span.end → steps.new ≡ steps.old }
-        // what is kept
-        ensures first { OnOk result ((index_view self.new).first ≡ first_after (S.size source.now) (index_view self.old).first span.start span.end) }
-        ensures first_stays { OnErr result ((index_view self.new).first ≡ (index_view self.old).first) }
-        ensures kept { AreKept (S.size source.now) (S.breaks source.now) (index_view self.old).before (index_view self.new).first (index_view self.new).kept }
-        ensures stay { AllStay (index_view self.old).kept (index_view self.new).kept }
-        ensures held { (first : ℕ) → (index_view self.new).first ≡ Some first → first ≤ span.start → IfOk result (λ found. IfSome found (λ w. AreKeptUpTo (S.size source.now) (S.breaks source.now) (first_row (S.breaks source.now) (index_view self.old).before first) (index_view self.new).kept w.end)) }
-        // what it costs
-        ensures ticks_first { span.end ≤ S.size source.now → (index_view self.old).first ≡ None → OnOk result (steps.new + (index_view self.new).left ≤ steps.old + S.size source.now + span.start + 2) }
-        ensures ticks_later { (first : ℕ) → (index_view self.old).first ≡ Some first → first ≤ span.start → OnOk result (steps.new + (index_view self.new).left ≤ steps.old + (index_view self.old).left) }
-        ensures ticks_before { (first : ℕ) → (index_view self.old).first ≡ Some first → span.start < first → IfOk result (λ found. IfSome found (λ w. steps.new ≤ steps.old + 2 * w.end + 2)) }
-        ensures left { IsSome (index_view self.old).first → (index_view self.new).left ≤ (index_view self.old).left }
+        ensures window { ReadsWindow (S.size source.now) (S.breaks source.now)
+            self.old self.new span result }
+        ensures rows { KeepsRows (S.size source.now) (S.breaks source.now)
+            self.old self.new span result }
+        ensures ticks { TicksForWindow (S.size source.now) self.old self.new span result steps.old steps.new }
     {
         let start = span.start as usize;
         let end = span.end as usize;

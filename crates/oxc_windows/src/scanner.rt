@@ -1,9 +1,7 @@
 //! The scanner, which reads windows of one source.
 ghost use Rattle.std.specs.Prelude.{◌≡◌, ℕ, Some, None, Ok, [], ◌+◌, ◌*◌, ◌<◌, ◌≤◌, ◌↔◌, length, IfOk, OnOk, OnErr, IfSome, IsNone, IsSome, IsTrue, MatchResult};
 ghost use Rattle.std.specs.Str.{IsUtf8, IsValidUpTo};
-ghost use Rattle.oxc_windows.specs.Breaks.{breaks_of};
-ghost use Rattle.oxc_windows.specs.Kept.{AllStay, AreKept, first_after};
-ghost use Rattle.oxc_windows.specs.Scan.{IsMeasured, IsNumbered, IsReadInRows, IsSameReader, KeepsUpTo, contents_read};
+ghost use Rattle.oxc_windows.specs.SpanRead.{ReadsSpan, TicksForSpan};
 
 use crate::contents::contents_in;
 use crate::{OwnLedger, Page, SliceSource, SpanContents, Steps, WindowIndex};
@@ -105,23 +103,7 @@ impl<'a> SpanScanner<'a> {
     /// Want of memory, which changes no later answer.
     pub fn read_span(&mut self, span: Span) -> Result<Option<SpanContents<'a>>, AllocError>
         requires { span.start ≤ span.end }
-        ensures value { IfOk result (λ found. found ≡ contents_read self.old span) }
-        ensures none { IfOk result (λ found. IsNone found ↔ (length self.old.input < span.end)) }
-        // a text is cut where rows begin
-        ensures text { IsReadInRows self.old → IfOk result (λ found. IfSome found (λ contents. IsUtf8 contents.bytes)) }
-        ensures measured { IfOk result (λ found. IfSome found IsMeasured) }
-        ensures numbered { IfOk result (λ found. IfSome found IsNumbered) }
-        ensures unchanged { IsSameReader self.old self.new }
-        // a refused span
-        ensures refused { length self.old.input < span.end → result ≡ Ok None }
-        ensures still { length self.old.input < span.end → self.new ≡ self.old }
-        // what is kept
-        ensures first { OnOk result (self.new.first ≡ first_after (length self.old.input) self.old.first span.start span.end) }
-        ensures first_stays { OnErr result (self.new.first ≡ self.old.first) }
-        ensures kept { AreKept (length self.old.input) (breaks_of self.old.input) self.old.before self.new.first self.new.kept }
-        ensures stay { AllStay self.old.kept self.new.kept }
-        ensures held { (first : ℕ) → self.new.first ≡ Some first → first ≤ span.start → IfOk result (λ found. IfSome found (λ contents. KeepsUpTo self.new contents.span.end)) }
-        ensures left { IsSome self.old.first → self.new.left ≤ self.old.left }
+        ensures read { ReadsSpan self.old self.new span result }
     {
         read_on_own::<Brand>(self, span, Blank::new(1))
     }
@@ -137,27 +119,8 @@ impl<'a> SpanScanner<'a> {
         steps: &mut Steps<L>,
     ) -> Result<Option<SpanContents<'a>>, AllocError>
         requires { span.start ≤ span.end }
-        ensures value { IfOk result (λ found. found ≡ contents_read self.old span) }
-        ensures none { IfOk result (λ found. IsNone found ↔ (length self.old.input < span.end)) }
-        ensures text { IsReadInRows self.old → IfOk result (λ found. IfSome found (λ contents. IsUtf8 contents.bytes)) }
-        ensures measured { IfOk result (λ found. IfSome found IsMeasured) }
-        ensures numbered { IfOk result (λ found. IfSome found IsNumbered) }
-        ensures unchanged { IsSameReader self.old self.new }
-        // a refused span
-        ensures refused { length self.old.input < span.end → result ≡ Ok None }
-        ensures still { length self.old.input < span.end → self.new ≡ self.old }
-        ensures free { length self.old.input < span.end → steps.new ≡ steps.old }
-        // what is kept
-        ensures first { OnOk result (self.new.first ≡ first_after (length self.old.input) self.old.first span.start span.end) }
-        ensures first_stays { OnErr result (self.new.first ≡ self.old.first) }
-        ensures kept { AreKept (length self.old.input) (breaks_of self.old.input) self.old.before self.new.first self.new.kept }
-        ensures stay { AllStay self.old.kept self.new.kept }
-        ensures held { (first : ℕ) → self.new.first ≡ Some first → first ≤ span.start → IfOk result (λ found. IfSome found (λ contents. KeepsUpTo self.new contents.span.end)) }
-        // what it costs
-        ensures ticks_first { span.end ≤ length self.old.input → self.old.first ≡ None → OnOk result (steps.new + self.new.left ≤ steps.old + length self.old.input + span.start + 2) }
-        ensures ticks_later { (first : ℕ) → self.old.first ≡ Some first → first ≤ span.start → OnOk result (steps.new + self.new.left ≤ steps.old + self.old.left) }
-        ensures ticks_before { (first : ℕ) → self.old.first ≡ Some first → span.start < first → IfOk result (λ found. IfSome found (λ contents. steps.new ≤ steps.old + 2 * contents.span.end + 2)) }
-        ensures left { IsSome self.old.first → self.new.left ≤ self.old.left }
+        ensures read { ReadsSpan self.old self.new span result }
+        ensures ticks { TicksForSpan self.old self.new span result steps.old steps.new }
     {
         let Some(window) = self.index.read(&self.source, span, steps)? else {
             return Ok(None);
@@ -176,20 +139,7 @@ fn read_on_own<'a, P: Page>(
     requires cut { blank.parts ≡ P.pieces }
     requires some { 0 < blank.parts }
     requires ordered { span.start ≤ span.end }
-    ensures value { IfOk result (λ found. found ≡ contents_read scanner.old span) }
-    ensures none { IfOk result (λ found. IsNone found ↔ (length scanner.old.input < span.end)) }
-    ensures text { IsReadInRows scanner.old → IfOk result (λ found. IfSome found (λ contents. IsUtf8 contents.bytes)) }
-    ensures measured { IfOk result (λ found. IfSome found IsMeasured) }
-    ensures numbered { IfOk result (λ found. IfSome found IsNumbered) }
-    ensures unchanged { IsSameReader scanner.old scanner.new }
-    ensures refused { length scanner.old.input < span.end → result ≡ Ok None }
-    ensures still { length scanner.old.input < span.end → scanner.new ≡ scanner.old }
-    ensures first { OnOk result (scanner.new.first ≡ first_after (length scanner.old.input) scanner.old.first span.start span.end) }
-    ensures first_stays { OnErr result (scanner.new.first ≡ scanner.old.first) }
-    ensures kept { AreKept (length scanner.old.input) (breaks_of scanner.old.input) scanner.old.before scanner.new.first scanner.new.kept }
-    ensures stay { AllStay scanner.old.kept scanner.new.kept }
-    ensures held { (first : ℕ) → scanner.new.first ≡ Some first → first ≤ span.start → IfOk result (λ found. IfSome found (λ contents. KeepsUpTo scanner.new contents.span.end)) }
-    ensures left { IsSome scanner.old.first → scanner.new.left ≤ scanner.old.left }
+    ensures read { ReadsSpan scanner.old scanner.new span result }
 {
     let mut steps = Steps::new(OwnLedger::<P>::new(blank));
     scanner.read_span_counted(span, &mut steps)

@@ -7,25 +7,25 @@ use Rattle.oxc_plan.proofs.reading.read.Goals as goal
 
 pub returns-clause-exact : goal.returns-clause-exact
 returns-clause-exact c =
-    rw (c.requires.round.before, c.requires.round.after) at (read_known c.args.scanner.now c.args.span c.in-Some.contents (sym c.in_ok-contents.ensures.value ∙ c.in-Some.is))
+    rw (c.requires.round.before, c.requires.round.after) at (read_known c.args.scanner.now c.args.span c.in-Some.contents (sym c.in_ok-contents.ensures.read.value ∙ c.in-Some.is))
 
 pub returns-clause-text : goal.returns-clause-text
 returns-clause-text c text =
     subst (λ found. IfSome found (λ contents. IsUtf8 contents.bytes)) c.in-Some.is
-    (c.in_ok-contents.ensures.text (record { text = text; before = omega (arith, c.requires.round.before); after = omega (arith, c.requires.round.after) }))
+    (c.in_ok-contents.ensures.read.text (record { text = text; before = omega (arith, c.requires.round.before); after = omega (arith, c.requires.round.after) }))
 
 pub returns-clause-stays : goal.returns-clause-stays
 returns-clause-stays c =
-    on_read c.args.scanner.now c.read_span.new.self c.in_ok-contents.ensures.unchanged
-    (λ f e. c.in_ok-contents.ensures.first ∙ first_kept (length c.args.scanner.now.input) c.args.scanner.now.first c.args.span.start c.args.span.end f e)
-    c.in_ok-contents.ensures.stay c.in_ok-contents.ensures.kept
+    on_read c.args.scanner.now c.read_span.new.self c.in_ok-contents.ensures.read.unchanged
+    (λ f e. c.in_ok-contents.ensures.read.first ∙ first_kept (length c.args.scanner.now.input) c.args.scanner.now.first c.args.span.start c.args.span.end f e)
+    c.in_ok-contents.ensures.read.stay c.in_ok-contents.ensures.read.kept
 
 pub returns-clause-first : goal.returns-clause-first
 returns-clause-first c =
-    c.in_ok-contents.ensures.first ∙ first_is (length c.args.scanner.now.input) c.args.scanner.now.first c.args.span.start c.args.span.end c.requires.within
+    c.in_ok-contents.ensures.read.first ∙ first_is (length c.args.scanner.now.input) c.args.scanner.now.first c.args.span.start c.args.span.end c.requires.within
 
 pub returns-clause-keeps : goal.returns-clause-keeps
 returns-clause-keeps c =
-    keeps_read c.args.scanner.now c.read_span.new.self c.args.span.start _ c.requires.round c.in_ok-contents.ensures.unchanged (returns-clause-first c)
+    keeps_read c.args.scanner.now c.read_span.new.self c.args.span.start _ c.requires.round c.in_ok-contents.ensures.read.unchanged (returns-clause-first c)
     (λ f e le. subst (KeepsUpTo c.read_span.new.self) (ap (λ v. v.span.end) (returns-clause-exact c))
-    (subst (λ found. IfSome found (λ contents. KeepsUpTo c.read_span.new.self contents.span.end)) c.in-Some.is (c.in_ok-contents.ensures.held f e le)))
+    (subst (λ found. IfSome found (λ contents. KeepsUpTo c.read_span.new.self contents.span.end)) c.in-Some.is (c.in_ok-contents.ensures.read.held f e le)))
