@@ -3,3 +3,4 @@ pub mod WordLemmas
 pub mod FlagLemmas
 pub mod SumLemmas
 pub mod LaneLemmas
+pub mod Counting
