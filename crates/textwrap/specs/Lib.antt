@@ -1,3 +1,4 @@
+pub mod Appends
 pub mod Width
 pub mod Cuts
 pub mod Words

@@ -2,6 +2,7 @@
 ghost use Rattle.std.specs.Prelude.{◌≡◌, ◌==◌, ◌↔◌, ◌++◌, ◌-◌, ◌≤◌, All, IfOk, IsFalse, IsTrue, OnOk, false, length, map, slice_index, string_bytes};
 ghost use Rattle.textwrap.specs.OneLine.{FitsOnLine};
 ghost use Rattle.std.specs.List.{flat_map};
+ghost use Rattle.textwrap.specs.Appends.{Appends};
 ghost use Rattle.textwrap.specs.Filled.{IsFilled, filled, filled_part, filled_parts, joined_by_breaks, later_part, parts_of as parts_of_text, room};
 
 use crate::core_::display_width;
@@ -91,7 +92,7 @@ fn push_parts(
     parts: &[&str],
     options: &Options<'_>,
 ) -> Result<(), AllocError>
-    ensures { OnOk result (string_bytes out.new ≡ string_bytes out.old ++ joined_by_breaks (filled_parts options.now.width options.now.initial_indent.now options.now.subsequent_indent.now (map (λ part. part.now) parts.now))) }
+    ensures { OnOk result (Appends out.old out.new (joined_by_breaks (filled_parts options.now.width options.now.initial_indent.now options.now.subsequent_indent.now (map (λ part. part.now) parts.now)))) }
 {
     let Some((first, later)) = parts.split_first() else {
         return Ok(());
@@ -107,7 +108,7 @@ fn push_later_parts(
     parts: &[&str],
     options: &Options<'_>,
 ) -> Result<(), AllocError>
-    ensures { OnOk result (string_bytes out.new ≡ string_bytes out.old ++ flat_map (later_part options.now.width options.now.subsequent_indent.now) (map (λ part. part.now) parts.now)) }
+    ensures { OnOk result (Appends out.old out.new (flat_map (later_part options.now.width options.now.subsequent_indent.now) (map (λ part. part.now) parts.now))) }
 {
     for part in parts {
         out.push('\n')?;
@@ -125,7 +126,7 @@ fn push_part(
     options: &Options<'_>,
     indent: &str,
 ) -> Result<(), AllocError>
-    ensures { OnOk result (string_bytes out.new ≡ string_bytes out.old ++ joined_by_breaks (filled_part options.now.width indent.now options.now.subsequent_indent.now part.now)) }
+    ensures { OnOk result (Appends out.old out.new (joined_by_breaks (filled_part options.now.width indent.now options.now.subsequent_indent.now part.now))) }
 {
     let first = room_behind(options.width, indent);
     let later = room_behind(options.width, options.subsequent_indent);

@@ -1,5 +1,6 @@
 //! Pieces laid out in lines.
-ghost use Rattle.std.specs.Prelude.{◌≡◌, ◌++◌, ◌+◌, ◌^◌, ◌<◌, IfOk, OnOk, map, string_bytes};
+ghost use Rattle.std.specs.Prelude.{◌≡◌, ◌+◌, ◌^◌, ◌<◌, IfOk, OnOk, map};
+ghost use Rattle.textwrap.specs.Appends.{Appends};
 ghost use Rattle.textwrap.specs.Pieces.{extent, piece_view};
 ghost use Rattle.textwrap.specs.Filled.{spaces};
 ghost use Rattle.textwrap.specs.Layout.{continued, laid_out, line_behind, appended};
@@ -28,7 +29,7 @@ pub fn push_pieces(
     indent: &str,
 ) -> Result<(), AllocError>
     requires { extent (map piece_view pieces.now) < 2 ^ 64 }
-    ensures { OnOk result (string_bytes out.new ≡ string_bytes out.old ++ laid_out indent.now first later (map piece_view pieces.now)) }
+    ensures { OnOk result (Appends out.old out.new (laid_out indent.now first later (map piece_view pieces.now))) }
 {
     let Some((piece, more)) = pieces.split_first() else {
         return Ok(());
@@ -51,7 +52,7 @@ fn push_more(
     indent: &str,
 ) -> Result<(), AllocError>
     requires { first.used + first.gap + extent (map piece_view pieces.now) < 2 ^ 64 }
-    ensures { OnOk result (string_bytes out.new ≡ string_bytes out.old ++ continued indent.now later first (map piece_view pieces.now)) }
+    ensures { OnOk result (Appends out.old out.new (continued indent.now later first (map piece_view pieces.now))) }
 {
     let mut line = first;
     for piece in pieces {
@@ -71,7 +72,7 @@ fn push_piece(
 ) -> Result<Line, AllocError>
     requires { line.used + line.gap + piece.now.width < 2 ^ 64 }
     ensures line { IfOk result (λ next. next ≡ line_behind later line (piece_view piece.now)) }
-    ensures text { OnOk result (string_bytes out.new ≡ string_bytes out.old ++ appended indent.now line (piece_view piece.now)) }
+    ensures text { OnOk result (Appends out.old out.new (appended indent.now line (piece_view piece.now))) }
 {
     let used = line.used + line.gap + piece.width;
     if used <= line.room {
@@ -94,7 +95,7 @@ fn push_piece(
 }
 
 fn push_spaces(out: &mut String, count: usize) -> Result<(), AllocError>
-    ensures { OnOk result (string_bytes out.new ≡ string_bytes out.old ++ spaces count) }
+    ensures { OnOk result (Appends out.old out.new (spaces count)) }
 {
     for _i in 0..count {
         out.push(' ')?;
