@@ -9,6 +9,7 @@ pub mod Colors
 pub mod Theme
 pub mod Cells
 pub mod Setting
+pub mod SettingView
 pub mod Marks
 pub mod Gutters
 pub mod Hangs

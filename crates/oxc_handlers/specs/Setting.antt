@@ -1,8 +1,6 @@
 -- What the lines of a snippet are drawn by.
-use Rattle.std.specs.Prelude.{ℕ, Bool, List, Option, map, ◌==◌, ◌%◌, slice_index_or}
-use Rattle.oxc_plan.specs.Order.{label_at}
-use Rattle.oxc_plan.specs.Plan.{Ordered, ordered_at, ordered_label}
-use Rattle.oxc_handlers.specs.declared.setting.Setting.{Setting}
+use Rattle.std.specs.Prelude.{ℕ, Bool, List, Option, ◌==◌, ◌%◌, slice_index_or}
+use Rattle.oxc_plan.specs.Plan.{Ordered, ordered_at}
 use Rattle.oxc_handlers.specs.declared.theme.GraphicalTheme.{GraphicalTheme}
 use Rattle.oxc_handlers.specs.declared.theme.Style.{Style}
 use Rattle.oxc_handlers.specs.declared.theme.Style.TheVariants.{Plain}
@@ -15,16 +13,6 @@ pub record SettingView : Type 0 where
   pub tab : ℕ
   pub gutter : ℕ
   pub digits : ℕ
-
-abbrev pub setting_view : Setting → SettingView
-setting_view s =
-    record {
-      theme = s.theme;
-      labels = map (λ at. ordered_label (label_at s.labels.now at)) s.order.now;
-      tab = s.tabs;
-      gutter = s.gutter;
-      digits = s.digits;
-    }
 
 -- the setting of a report, before what depends on a snippet is set
 abbrev pub setting_for : GraphicalTheme → ℕ → List Ordered → SettingView

@@ -1,8 +1,8 @@
 //! What stands to the left of a source text: row numbers, and the bars of labels over several rows.
-ghost use Rattle.std.specs.Prelude.{◌≡◌, ◌++◌, ◌+◌, ◌-◌, ◌≤◌, ◌<◌, ◌^◌, OnOk, string_bytes, length};
+ghost use Rattle.std.specs.Prelude.{◌≡◌, ◌+◌, ◌-◌, ◌≤◌, ◌<◌, ◌^◌, OnOk, length};
+ghost use Rattle.textwrap.specs.Appends.{Appends};
 ghost use Rattle.oxc_handlers.specs.Gutters.{bar_piece, below_from, corner, ending, ends, gutter, gutter_below, gutter_from, passes, turn};
 ghost use Rattle.oxc_handlers.specs.RowLines.{other_front, padded, row_front};
-ghost use Rattle.oxc_handlers.specs.Setting.{setting_view};
 
 use crate::runs::{write_spaces, write_styled_run};
 use crate::setting::Setting;
@@ -18,7 +18,7 @@ pub(crate) fn write_linum(
     setting: &Setting<'_>,
     linum: usize,
 ) -> Result<(), AllocError>
-    ensures { OnOk result (string_bytes out.new ≡ string_bytes out.old ++ row_front (setting_view setting.now) linum) }
+    ensures { OnOk result (Appends out.old out.new (row_front setting.now linum)) }
 {
     out.push(' ')?;
     write_padded(out, setting, linum)?;
@@ -31,7 +31,7 @@ pub(crate) fn write_linum(
 /// Appends the number of a row, to the right.
 #[tactic(auto, unfolding(crate::specs::RowLines::padded, crate::specs::Theme::styled))]
 fn write_padded(out: &mut String, setting: &Setting<'_>, linum: usize) -> Result<(), AllocError>
-    ensures { OnOk result (string_bytes out.new ≡ string_bytes out.old ++ padded (setting_view setting.now) linum) }
+    ensures { OnOk result (Appends out.old out.new (padded setting.now linum)) }
 {
     let style = setting.theme.styles.linum;
     let mut buffer = Buffer::new();
@@ -47,7 +47,7 @@ fn write_padded(out: &mut String, setting: &Setting<'_>, linum: usize) -> Result
 #[tactic(auto, unfolding(crate::specs::RowLines::other_front))]
 pub(crate) fn write_no_linum(out: &mut String, setting: &Setting<'_>) -> Result<(), AllocError>
     requires { setting.now.digits < 2 ^ 62 }
-    ensures { OnOk result (string_bytes out.new ≡ string_bytes out.old ++ other_front (setting_view setting.now)) }
+    ensures { OnOk result (Appends out.old out.new (other_front setting.now)) }
 {
     write_spaces(out, setting.digits + 2)?;
     out.push(setting.theme.characters.vbar_break)?;
@@ -64,7 +64,7 @@ pub(crate) fn render_line_gutter(
 ) -> Result<(), AllocError>
     requires bars { length bars.now ≤ setting.now.gutter }
     requires few { setting.now.gutter < 2 ^ 63 }
-    ensures { OnOk result (string_bytes out.new ≡ string_bytes out.old ++ gutter (setting_view setting.now) bars.now) }
+    ensures { OnOk result (Appends out.old out.new (gutter setting.now bars.now)) }
 {
     if setting.gutter == 0 {
         return Ok(());
@@ -90,7 +90,7 @@ pub(crate) fn render_highlight_gutter(
 ) -> Result<(), AllocError>
     requires bars { length bars.now ≤ setting.now.gutter }
     requires few { setting.now.gutter < 2 ^ 63 }
-    ensures { OnOk result (string_bytes out.new ≡ string_bytes out.old ++ gutter_below (setting_view setting.now) mode bars.now) }
+    ensures { OnOk result (Appends out.old out.new (gutter_below setting.now mode bars.now)) }
 {
     if setting.gutter == 0 {
         return Ok(());
@@ -113,7 +113,7 @@ pub(crate) fn write_bar(
     setting: &Setting<'_>,
     label: usize,
 ) -> Result<(), AllocError>
-    ensures { OnOk result (string_bytes out.new ≡ string_bytes out.old ++ bar_piece (setting_view setting.now) label) }
+    ensures { OnOk result (Appends out.old out.new (bar_piece setting.now label)) }
 {
     write_styled_run(
         out,
@@ -138,7 +138,7 @@ fn ends_there(kind: BarKind) -> bool
 /// The corner of a label that starts or ends.
 #[tactic(auto, unfolding(crate::specs::Gutters::corner))]
 fn corner_of(setting: &Setting<'_>, bar: Bar) -> char
-    ensures { result ≡ corner (setting_view setting.now) bar }
+    ensures { result ≡ corner setting.now bar }
 {
     let chars = setting.theme.characters;
     match bar.kind {
@@ -159,7 +159,7 @@ fn write_turn(
     bar: Bar,
 ) -> Result<(), AllocError>
     requires { place ≤ setting.now.gutter }
-    ensures { OnOk result (string_bytes out.new ≡ string_bytes out.old ++ turn (setting_view setting.now) place bar) }
+    ensures { OnOk result (Appends out.old out.new (turn setting.now place bar)) }
 {
     let chars = setting.theme.characters;
     let style = setting.highlight(bar.label);
@@ -180,7 +180,7 @@ fn write_ending(
 ) -> Result<(), AllocError>
     requires place { place ≤ setting.now.gutter }
     requires few { setting.now.gutter < 2 ^ 63 }
-    ensures { OnOk result (string_bytes out.new ≡ string_bytes out.old ++ ending (setting_view setting.now) mode place label) }
+    ensures { OnOk result (Appends out.old out.new (ending setting.now mode place label)) }
 {
     let style = setting.highlight(label);
     let chars = setting.theme.characters;

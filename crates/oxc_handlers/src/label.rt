@@ -4,7 +4,6 @@ ghost use Rattle.std.specs.List.{flat_map};
 ghost use Rattle.oxc_plan.specs.Plan.{row_plan_view};
 ghost use Rattle.oxc_handlers.specs.Hangs.{has_mark};
 ghost use Rattle.oxc_handlers.specs.RowLines.{IsRow, end_connector, end_line, end_lines, hang_line, hang_lines, lines_of, marks_line, with_modes};
-ghost use Rattle.oxc_handlers.specs.Setting.{setting_view};
 
 use crate::gutter::{render_highlight_gutter, write_no_linum};
 use crate::marks::{write_hanging_line, write_marks};
@@ -20,8 +19,8 @@ pub(crate) fn render_single_line_highlights(
     setting: &Setting<'_>,
     row: &RowPlan<'_>,
 ) -> Result<(), AllocError>
-    requires { IsRow (setting_view setting.now) (row_plan_view row.now) }
-    ensures { OnOk result (string_bytes out.new ≡ string_bytes out.old ++ marks_line (setting_view setting.now) (row_plan_view row.now) ++ flat_map (hang_lines (setting_view setting.now) (row_plan_view row.now)) (reverse (row_plan_view row.now).hangs)) }
+    requires { IsRow setting.now (row_plan_view row.now) }
+    ensures { OnOk result (string_bytes out.new ≡ string_bytes out.old ++ marks_line setting.now (row_plan_view row.now) ++ flat_map (hang_lines setting.now (row_plan_view row.now)) (reverse (row_plan_view row.now).hangs)) }
 {
     write_mark_line(out, setting, row)?;
     write_hangs(out, setting, row)
@@ -34,8 +33,8 @@ fn write_mark_line(
     setting: &Setting<'_>,
     row: &RowPlan<'_>,
 ) -> Result<(), AllocError>
-    requires { IsRow (setting_view setting.now) (row_plan_view row.now) }
-    ensures { OnOk result (string_bytes out.new ≡ string_bytes out.old ++ marks_line (setting_view setting.now) (row_plan_view row.now)) }
+    requires { IsRow setting.now (row_plan_view row.now) }
+    ensures { OnOk result (string_bytes out.new ≡ string_bytes out.old ++ marks_line setting.now (row_plan_view row.now)) }
 {
     if row.marks.len() == 0 {
         return Ok(());
@@ -49,8 +48,8 @@ fn write_mark_line(
 /// Appends the texts that hang at the marks of a row, the last label's first.
 #[tactic(auto, using(crate::proofs::LinesLemmas::back_all))]
 fn write_hangs(out: &mut String, setting: &Setting<'_>, row: &RowPlan<'_>) -> Result<(), AllocError>
-    requires { IsRow (setting_view setting.now) (row_plan_view row.now) }
-    ensures { OnOk result (string_bytes out.new ≡ string_bytes out.old ++ flat_map (hang_lines (setting_view setting.now) (row_plan_view row.now)) (reverse (row_plan_view row.now).hangs)) }
+    requires { IsRow setting.now (row_plan_view row.now) }
+    ensures { OnOk result (string_bytes out.new ≡ string_bytes out.old ++ flat_map (hang_lines setting.now (row_plan_view row.now)) (reverse (row_plan_view row.now).hangs)) }
 {
     let hangs = row.hangs.as_slice();
     let mut left = hangs.len();
@@ -69,9 +68,9 @@ fn write_hang(
     row: &RowPlan<'_>,
     hang: Hang,
 ) -> Result<(), AllocError>
-    requires row { IsRow (setting_view setting.now) (row_plan_view row.now) }
+    requires row { IsRow setting.now (row_plan_view row.now) }
     requires there { has_mark hang.at (row_plan_view row.now).marks ≡ true }
-    ensures { OnOk result (string_bytes out.new ≡ string_bytes out.old ++ hang_lines (setting_view setting.now) (row_plan_view row.now) hang) }
+    ensures { OnOk result (string_bytes out.new ≡ string_bytes out.old ++ hang_lines setting.now (row_plan_view row.now) hang) }
 {
     match setting.text_at(hang.label) {
         Some(text) => write_label_text(out, setting, row, hang, text),
@@ -87,9 +86,9 @@ fn write_label_text(
     hang: Hang,
     text: &str,
 ) -> Result<(), AllocError>
-    requires row { IsRow (setting_view setting.now) (row_plan_view row.now) }
+    requires row { IsRow setting.now (row_plan_view row.now) }
     requires there { has_mark hang.at (row_plan_view row.now).marks ≡ true }
-    ensures { OnOk result (string_bytes out.new ≡ string_bytes out.old ++ flat_map (hang_line (setting_view setting.now) (row_plan_view row.now) hang) (with_modes (lines_of text.now))) }
+    ensures { OnOk result (string_bytes out.new ≡ string_bytes out.old ++ flat_map (hang_line setting.now (row_plan_view row.now) hang) (with_modes (lines_of text.now))) }
 {
     let mut mode = first_mode(text);
     let mut rest = Some(text);
@@ -112,9 +111,9 @@ fn write_label_line(
     mode: LabelRenderMode,
     line: &str,
 ) -> Result<(), AllocError>
-    requires row { IsRow (setting_view setting.now) (row_plan_view row.now) }
+    requires row { IsRow setting.now (row_plan_view row.now) }
     requires there { has_mark hang.at (row_plan_view row.now).marks ≡ true }
-    ensures { OnOk result (string_bytes out.new ≡ string_bytes out.old ++ hang_line (setting_view setting.now) (row_plan_view row.now) hang (mode, line.now)) }
+    ensures { OnOk result (string_bytes out.new ≡ string_bytes out.old ++ hang_line setting.now (row_plan_view row.now) hang (mode, line.now)) }
 {
     write_no_linum(out, setting)?;
     render_highlight_gutter(out, setting, LabelRenderMode::SingleLine, &row.bars)?;
@@ -128,8 +127,8 @@ pub(crate) fn render_multi_line_ends(
     setting: &Setting<'_>,
     row: &RowPlan<'_>,
 ) -> Result<(), AllocError>
-    requires { IsRow (setting_view setting.now) (row_plan_view row.now) }
-    ensures { OnOk result (string_bytes out.new ≡ string_bytes out.old ++ flat_map (end_lines (setting_view setting.now) (row_plan_view row.now)) (row_plan_view row.now).ends) }
+    requires { IsRow setting.now (row_plan_view row.now) }
+    ensures { OnOk result (string_bytes out.new ≡ string_bytes out.old ++ flat_map (end_lines setting.now (row_plan_view row.now)) (row_plan_view row.now).ends) }
 {
     for label in &row.ends {
         render_multi_line_end(out, setting, row, *label)?;
@@ -145,8 +144,8 @@ fn render_multi_line_end(
     row: &RowPlan<'_>,
     label: usize,
 ) -> Result<(), AllocError>
-    requires { IsRow (setting_view setting.now) (row_plan_view row.now) }
-    ensures { OnOk result (string_bytes out.new ≡ string_bytes out.old ++ end_lines (setting_view setting.now) (row_plan_view row.now) label) }
+    requires { IsRow setting.now (row_plan_view row.now) }
+    ensures { OnOk result (string_bytes out.new ≡ string_bytes out.old ++ end_lines setting.now (row_plan_view row.now) label) }
 {
     match setting.text_at(label) {
         Some(text) => write_end_text(out, setting, row, label, text),
@@ -162,8 +161,8 @@ fn write_end_text(
     label: usize,
     text: &str,
 ) -> Result<(), AllocError>
-    requires { IsRow (setting_view setting.now) (row_plan_view row.now) }
-    ensures { OnOk result (string_bytes out.new ≡ string_bytes out.old ++ flat_map (end_line (setting_view setting.now) (row_plan_view row.now) label) (with_modes (lines_of text.now))) }
+    requires { IsRow setting.now (row_plan_view row.now) }
+    ensures { OnOk result (string_bytes out.new ≡ string_bytes out.old ++ flat_map (end_line setting.now (row_plan_view row.now) label) (with_modes (lines_of text.now))) }
 {
     let mut mode = first_mode(text);
     let mut rest = Some(text);
@@ -186,8 +185,8 @@ fn render_multi_line_end_single(
     mode: LabelRenderMode,
     line: &str,
 ) -> Result<(), AllocError>
-    requires { IsRow (setting_view setting.now) (row_plan_view row.now) }
-    ensures { OnOk result (string_bytes out.new ≡ string_bytes out.old ++ end_line (setting_view setting.now) (row_plan_view row.now) label (mode, line.now)) }
+    requires { IsRow setting.now (row_plan_view row.now) }
+    ensures { OnOk result (string_bytes out.new ≡ string_bytes out.old ++ end_line setting.now (row_plan_view row.now) label (mode, line.now)) }
 {
     let style = setting.highlight(label);
     write_no_linum(out, setting)?;
@@ -201,7 +200,7 @@ fn render_multi_line_end_single(
 /// What ties the text of a label to the gutter in which it ends.
 #[tactic(auto, unfolding(crate::specs::RowLines::end_connector))]
 fn connector_of(setting: &Setting<'_>, mode: LabelRenderMode) -> char
-    ensures { result ≡ end_connector (setting_view setting.now) mode }
+    ensures { result ≡ end_connector setting.now mode }
 {
     let chars = setting.theme.characters;
     match mode {

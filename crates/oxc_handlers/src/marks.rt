@@ -1,8 +1,8 @@
 //! The marks under a row, and the bars from which texts hang.
-ghost use Rattle.std.specs.Prelude.{◌≡◌, ◌++◌, ◌≤◌, OnOk, string_bytes, true};
+ghost use Rattle.std.specs.Prelude.{◌≡◌, ◌≤◌, OnOk, true};
+ghost use Rattle.textwrap.specs.Appends.{Appends};
 ghost use Rattle.oxc_handlers.specs.Hangs.{bars_before, connector, hanging_line, has_mark, hung, hung_bar};
 ghost use Rattle.oxc_handlers.specs.Marks.{AreOrdered, IsMark, drawn_mark, mark_line, marker};
-ghost use Rattle.oxc_handlers.specs.Setting.{setting_view};
 
 use crate::gutter::write_bar;
 use crate::runs::{write_repeated_char, write_spaces};
@@ -19,7 +19,7 @@ pub(crate) fn write_marks(
     marks: &[MarkCells],
 ) -> Result<(), AllocError>
     requires { AreOrdered 0 marks.now }
-    ensures { OnOk result (string_bytes out.new ≡ string_bytes out.old ++ mark_line (setting_view setting.now) marks.now) }
+    ensures { OnOk result (Appends out.old out.new (mark_line setting.now marks.now)) }
 {
     let mut before = 0;
     for m in marks {
@@ -38,7 +38,7 @@ fn write_mark(
     m: MarkCells,
 ) -> Result<(), AllocError>
     requires { IsMark before m }
-    ensures { OnOk result (string_bytes out.new ≡ string_bytes out.old ++ drawn_mark (setting_view setting.now) before m) }
+    ensures { OnOk result (Appends out.old out.new (drawn_mark setting.now before m)) }
 {
     let line = setting.theme.characters.underline;
     let style = setting.highlight(m.label);
@@ -54,7 +54,7 @@ fn write_mark(
 /// What stands at the bar of a label.
 #[tactic(auto, unfolding(crate::specs::Marks::marker))]
 fn marker_of(setting: &Setting<'_>, label: usize) -> char
-    ensures { result ≡ marker (setting_view setting.now) label }
+    ensures { result ≡ marker setting.now label }
 {
     let chars = setting.theme.characters;
     if setting.is_empty_at(label) {
@@ -78,7 +78,7 @@ pub(crate) fn write_hanging_line(
 ) -> Result<(), AllocError>
     requires ordered { AreOrdered 0 marks.now }
     requires there { has_mark hang.at marks.now ≡ true }
-    ensures { OnOk result (string_bytes out.new ≡ string_bytes out.old ++ hanging_line (setting_view setting.now) marks.now hang mode line.now) }
+    ensures { OnOk result (Appends out.old out.new (hanging_line setting.now marks.now hang mode line.now)) }
 {
     write_bars(out, setting, marks, hang.at)?;
     write_hung(out, setting, hang.label, mode, line)
@@ -94,7 +94,7 @@ fn write_bars(
 ) -> Result<(), AllocError>
     requires ordered { AreOrdered 0 marks.now }
     requires there { has_mark at marks.now ≡ true }
-    ensures { OnOk result (string_bytes out.new ≡ string_bytes out.old ++ bars_before (setting_view setting.now) at marks.now) }
+    ensures { OnOk result (Appends out.old out.new (bars_before setting.now at marks.now)) }
 {
     let mut from = 0;
     for mark in marks {
@@ -117,7 +117,7 @@ fn write_hung_bar(
     m: MarkCells,
 ) -> Result<(), AllocError>
     requires { from ≤ m.bar }
-    ensures { OnOk result (string_bytes out.new ≡ string_bytes out.old ++ hung_bar (setting_view setting.now) from m) }
+    ensures { OnOk result (Appends out.old out.new (hung_bar setting.now from m)) }
 {
     write_spaces(out, m.bar - from)?;
     write_bar(out, setting, m.label)
@@ -132,7 +132,7 @@ fn write_hung(
     mode: LabelRenderMode,
     line: &str,
 ) -> Result<(), AllocError>
-    ensures { OnOk result (string_bytes out.new ≡ string_bytes out.old ++ hung (setting_view setting.now) label mode line.now) }
+    ensures { OnOk result (Appends out.old out.new (hung setting.now label mode line.now)) }
 {
     let style = setting.highlight(label);
     style.begin(out)?;
@@ -150,7 +150,7 @@ fn write_connector(
     setting: &Setting<'_>,
     mode: LabelRenderMode,
 ) -> Result<(), AllocError>
-    ensures { OnOk result (string_bytes out.new ≡ string_bytes out.old ++ connector (setting_view setting.now) mode) }
+    ensures { OnOk result (Appends out.old out.new (connector setting.now mode)) }
 {
     let chars = setting.theme.characters;
     match mode {

@@ -3,14 +3,15 @@ ghost use Rattle.std.specs.Prelude.{◌≡◌};
 ghost use Rattle.std.specs.Option.{option_copied};
 ghost use Rattle.oxc_plan.specs.Order.{label_order};
 ghost use Rattle.oxc_plan.specs.Plan.{in_order};
-ghost use Rattle.oxc_handlers.specs.Setting.{highlight, is_empty_at, setting_for, setting_view, text_at};
+ghost use Rattle.oxc_handlers.specs.Setting.{highlight, is_empty_at, setting_for, text_at};
 
 use crate::theme::{GraphicalTheme, Style};
 use oxc_plan::TabWidth;
 use oxc_protocol::LabeledSpan;
+use std::marker::Model;
 
 /// What the lines of a snippet are drawn by. Labels are named by their places in label order.
-#[derive(Clone, Copy)]
+#[derive(Drop)]
 pub(crate) struct Setting<'a> {
     pub(crate) theme: GraphicalTheme,
     /// The report's labels, as given.
@@ -25,6 +26,16 @@ pub(crate) struct Setting<'a> {
     pub(crate) digits: usize,
 }
 
+impl<'a> Model for Setting<'a> {
+    ghost use Rattle.oxc_handlers.specs.Setting.{SettingView};
+
+    ghost Value = { SettingView };
+
+    ghost use Rattle.oxc_handlers.specs.SettingView.{setting_view};
+
+    ghost view = { setting_view };
+}
+
 impl<'a> Setting<'a> {
     /// The setting of a report, of whose labels the places in label order are given. What depends on a snippet is still to be
     /// set: there are no bars, and numbers of one digit.
@@ -35,7 +46,7 @@ impl<'a> Setting<'a> {
         tabs: TabWidth,
     ) -> Self
         requires { order.now ≡ label_order labels.now }
-        ensures { setting_view result ≡ setting_for theme tabs (in_order labels.now) }
+        ensures { result ≡ setting_for theme tabs (in_order labels.now) }
     {
         Setting {
             theme,
@@ -50,7 +61,7 @@ impl<'a> Setting<'a> {
     /// The text of a label.
     #[tactic(auto, unfolding(crate::specs::Setting::text_at), using(crate::proofs::SettingLemmas::get_or_map, crate::proofs::SettingLemmas::get_past_map))]
     pub(crate) fn text_at(&self, label: usize) -> Option<&'a str>
-        ensures { option_copied result ≡ text_at (setting_view self.now).labels label }
+        ensures { option_copied result ≡ text_at self.now.labels label }
     {
         match self.order.get(label) {
             Some(at) => match self.labels.get(*at) {
@@ -64,7 +75,7 @@ impl<'a> Setting<'a> {
     /// Whether a label is empty.
     #[tactic(auto, unfolding(crate::specs::Setting::is_empty_at), using(crate::proofs::SettingLemmas::get_or_map, crate::proofs::SettingLemmas::get_past_map))]
     pub(crate) fn is_empty_at(&self, label: usize) -> bool
-        ensures { result ≡ is_empty_at (setting_view self.now).labels label }
+        ensures { result ≡ is_empty_at self.now.labels label }
     {
         match self.order.get(label) {
             Some(at) => match self.labels.get(*at) {
@@ -78,7 +89,7 @@ impl<'a> Setting<'a> {
     /// The style of a label.
     #[tactic(auto, unfolding(crate::specs::Setting::highlight))]
     pub(crate) fn highlight(&self, label: usize) -> Style
-        ensures { result ≡ highlight (setting_view self.now).theme label }
+        ensures { result ≡ highlight self.now.theme label }
     {
         self.theme.styles.highlights[label % 3]
     }

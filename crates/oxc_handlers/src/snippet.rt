@@ -4,7 +4,6 @@ ghost use Rattle.std.specs.List.{flat_map};
 ghost use Rattle.std.specs.Option.{option_copied};
 ghost use Rattle.oxc_plan.specs.Plan.{row_plan_view, snippet_view};
 ghost use Rattle.oxc_handlers.specs.RowLines.{IsRow, row_line, row_lines};
-ghost use Rattle.oxc_handlers.specs.Setting.{setting_view};
 ghost use Rattle.oxc_handlers.specs.Snippet.{IsSnippet, close, drawn_snippet, head, head_text, location, number_width};
 
 use crate::gutter::{render_line_gutter, write_linum};
@@ -23,8 +22,8 @@ pub(crate) fn render_snippets(
     name: Option<&str>,
     snippets: &[SnippetPlan<'_>],
 ) -> Result<(), AllocError>
-    requires { All (IsSnippet (setting_view setting.now).theme (setting_view setting.now).tab (setting_view setting.now).labels) (map snippet_view snippets.now) }
-    ensures { OnOk result (string_bytes out.new ≡ string_bytes out.old ++ flat_map (drawn_snippet (setting_view setting.now).theme (setting_view setting.now).tab (setting_view setting.now).labels (option_copied name.entry)) (map snippet_view snippets.now)) }
+    requires { All (IsSnippet setting.now.theme setting.now.tab setting.now.labels) (map snippet_view snippets.now) }
+    ensures { OnOk result (string_bytes out.new ≡ string_bytes out.old ++ flat_map (drawn_snippet setting.now.theme setting.now.tab setting.now.labels (option_copied name.entry)) (map snippet_view snippets.now)) }
 {
     for snippet in snippets {
         render_context(out, setting, name, snippet)?;
@@ -40,8 +39,8 @@ fn render_context(
     name: Option<&str>,
     snippet: &SnippetPlan<'_>,
 ) -> Result<(), AllocError>
-    requires { IsSnippet (setting_view setting.now).theme (setting_view setting.now).tab (setting_view setting.now).labels (snippet_view snippet.now) }
-    ensures { OnOk result (string_bytes out.new ≡ string_bytes out.old ++ drawn_snippet (setting_view setting.now).theme (setting_view setting.now).tab (setting_view setting.now).labels (option_copied name.entry) (snippet_view snippet.now)) }
+    requires { IsSnippet setting.now.theme setting.now.tab setting.now.labels (snippet_view snippet.now) }
+    ensures { OnOk result (string_bytes out.new ≡ string_bytes out.old ++ drawn_snippet setting.now.theme setting.now.tab setting.now.labels (option_copied name.entry) (snippet_view snippet.now)) }
 {
     let setting = Setting {
         gutter: snippet.gutter,
@@ -82,7 +81,7 @@ fn write_head(
     snippet: &SnippetPlan<'_>,
 ) -> Result<(), AllocError>
     requires { setting.now.digits < 2 ^ 62 }
-    ensures { OnOk result (string_bytes out.new ≡ string_bytes out.old ++ head (setting_view setting.now) (snippet_view snippet.now) (option_copied name.entry)) }
+    ensures { OnOk result (string_bytes out.new ≡ string_bytes out.old ++ head setting.now (snippet_view snippet.now) (option_copied name.entry)) }
 {
     write_spaces(out, setting.digits + 2)?;
     out.push(setting.theme.characters.ltop)?;
@@ -99,7 +98,7 @@ fn write_head_text(
     name: Option<&str>,
     snippet: &SnippetPlan<'_>,
 ) -> Result<(), AllocError>
-    ensures { OnOk result (string_bytes out.new ≡ string_bytes out.old ++ head_text (setting_view setting.now) (snippet_view snippet.now) (option_copied name.entry)) }
+    ensures { OnOk result (string_bytes out.new ≡ string_bytes out.old ++ head_text setting.now (snippet_view snippet.now) (option_copied name.entry)) }
 {
     match name {
         Some(name) => {
@@ -136,8 +135,8 @@ fn render_rows(
     setting: &Setting<'_>,
     rows: &[RowPlan<'_>],
 ) -> Result<(), AllocError>
-    requires { All (IsRow (setting_view setting.now)) (map row_plan_view rows.now) }
-    ensures { OnOk result (string_bytes out.new ≡ string_bytes out.old ++ flat_map (row_lines (setting_view setting.now)) (map row_plan_view rows.now)) }
+    requires { All (IsRow setting.now) (map row_plan_view rows.now) }
+    ensures { OnOk result (string_bytes out.new ≡ string_bytes out.old ++ flat_map (row_lines setting.now) (map row_plan_view rows.now)) }
 {
     for row in rows {
         render_row(out, setting, row)?;
@@ -148,8 +147,8 @@ fn render_rows(
 /// Appends the lines of a row.
 #[tactic(auto, unfolding(crate::specs::RowLines::row_lines))]
 fn render_row(out: &mut String, setting: &Setting<'_>, row: &RowPlan<'_>) -> Result<(), AllocError>
-    requires { IsRow (setting_view setting.now) (row_plan_view row.now) }
-    ensures { OnOk result (string_bytes out.new ≡ string_bytes out.old ++ row_lines (setting_view setting.now) (row_plan_view row.now)) }
+    requires { IsRow setting.now (row_plan_view row.now) }
+    ensures { OnOk result (string_bytes out.new ≡ string_bytes out.old ++ row_lines setting.now (row_plan_view row.now)) }
 {
     render_line(out, setting, row)?;
     render_single_line_highlights(out, setting, row)?;
@@ -159,8 +158,8 @@ fn render_row(out: &mut String, setting: &Setting<'_>, row: &RowPlan<'_>) -> Res
 /// Appends the row itself.
 #[tactic(auto, unfolding(crate::specs::RowLines::row_line))]
 fn render_line(out: &mut String, setting: &Setting<'_>, row: &RowPlan<'_>) -> Result<(), AllocError>
-    requires { IsRow (setting_view setting.now) (row_plan_view row.now) }
-    ensures { OnOk result (string_bytes out.new ≡ string_bytes out.old ++ row_line (setting_view setting.now) (row_plan_view row.now)) }
+    requires { IsRow setting.now (row_plan_view row.now) }
+    ensures { OnOk result (string_bytes out.new ≡ string_bytes out.old ++ row_line setting.now (row_plan_view row.now)) }
 {
     write_linum(out, setting, row.row.number)?;
     render_line_gutter(out, setting, &row.bars)?;
@@ -172,7 +171,7 @@ fn render_line(out: &mut String, setting: &Setting<'_>, row: &RowPlan<'_>) -> Re
 #[tactic(auto, unfolding(crate::specs::Snippet::close))]
 fn write_close(out: &mut String, setting: &Setting<'_>) -> Result<(), AllocError>
     requires { setting.now.digits < 2 ^ 62 }
-    ensures { OnOk result (string_bytes out.new ≡ string_bytes out.old ++ close (setting_view setting.now)) }
+    ensures { OnOk result (string_bytes out.new ≡ string_bytes out.old ++ close setting.now) }
 {
     write_spaces(out, setting.digits + 2)?;
     out.push(setting.theme.characters.lbot)?;

@@ -1,5 +1,5 @@
 //! Texts filled to a width.
-ghost use Rattle.std.specs.Prelude.{◌≡◌, ◌==◌, ◌↔◌, ◌++◌, ◌-◌, ◌≤◌, All, IfOk, IsFalse, IsTrue, OnOk, false, length, map, slice_index, string_bytes};
+ghost use Rattle.std.specs.Prelude.{◌≡◌, ◌==◌, ◌↔◌, ◌-◌, ◌≤◌, All, IfOk, IsFalse, IsTrue, OnOk, false, length, map, slice_index, string_bytes};
 ghost use Rattle.textwrap.specs.OneLine.{FitsOnLine};
 ghost use Rattle.std.specs.List.{flat_map};
 ghost use Rattle.textwrap.specs.Appends.{Appends};
@@ -35,7 +35,8 @@ pub fn fill_onto(
     text: &str,
     options: &Options<'_>,
 ) -> Result<(), AllocError>
-    ensures { OnOk result (string_bytes out.new ≡ string_bytes out.old ++ filled options.now.width options.now.initial_indent.now options.now.subsequent_indent.now text.now) }
+    ensures { OnOk result (Appends out.old out.new
+        (filled options.now.width options.now.initial_indent.now options.now.subsequent_indent.now text.now)) }
 {
     if fits_on_line(text, least_room(options.width, options.initial_indent)) {
         out.push_str(options.initial_indent)?;

@@ -1,7 +1,6 @@
 use Rattle.std.proofs.Common.{◌≡◌, ◌∙◌, get_or, string_bytes, arith, eqb, false}
 use Rattle.std.proofs.lemmas.Bool.Decides.{nat_tests}
 use Rattle.oxc_plan.specs.declared.marks.MarkCells.{MarkCells}
-use Rattle.oxc_handlers.specs.Setting.{setting_view}
 use Rattle.oxc_handlers.proofs.MarksLemmas.{ordered_more}
 use Rattle.oxc_handlers.proofs.HangsLemmas.{bars_more, ordered_from}
 use Rattle.oxc_handlers.proofs.marks.write_bars.Goals as goal
@@ -19,5 +18,5 @@ loop-mark-preserved c =
     let other : eqb (get_or c.args.marks.now c.loop-mark.mark-index none).label c.args.at ≡ false = grind (arith, nat_tests) in
     record {
       ordered = ordered_from _ _ _ (omega (arith, next.0.end)) next.1;
-      ahead = rw c.in_ok-write_hung_bar.ensures (bars_more (setting_view c.args.setting.now) c.args.at c.loop-mark.from c.args.marks.now c.loop-mark.mark-index none (string_bytes c.loop-mark.out) c.loop-mark-test.true other ∙ c.loop-mark.invariant.ahead);
+      ahead = rw c.in_ok-write_hung_bar.ensures (bars_more c.args.setting.now c.args.at c.loop-mark.from c.args.marks.now c.loop-mark.mark-index none (string_bytes c.loop-mark.out) c.loop-mark-test.true other ∙ c.loop-mark.invariant.ahead);
     }
