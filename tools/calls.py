@@ -1,5 +1,5 @@
 #!/usr/bin/env python3
-"""The public calls of all crates, read off the sources: usage: python3 docs/calls.py [--check]
+"""The public calls of all crates, read off the sources: usage: python3 tools/calls.py [--check]
 
 With no word it writes docs/CALLS.md anew; with --check it says whether that file has every public call, each with its
 conditions and its answers as the sources state them, and ends with 1 where it hasn't."""
@@ -100,8 +100,8 @@ def escape(text):
 
 def table():
     out = ["# Every public call", "",
-           "Read off the sources by `docs/calls.py`, which also checks that none is missing. A condition is stated in the words of the contract; a",
-           "caller can test it, or knows it from what it made. Where a call may answer otherwise than it is asked to, the clauses beside it say when. A call",
+           "Read off the sources by `tools/calls.py`, which also checks that none is missing. A condition stands here as the contract has it; each can be",
+           "tested, or follows from how the value was made. Where a call may answer otherwise than it is asked to, the clauses beside it say when. A call",
            "that may take memory can answer want of memory, whenever it is.", ""]
     for crate in crates():
         rows = []
