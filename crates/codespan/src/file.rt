@@ -78,6 +78,14 @@ impl FileId {
         Some(FileId { index })
     }
 
+    /// The number of the file, from 0: that of the files that were there before it.
+    #[must_use]
+    pub fn to_u32(self) -> u32
+        ensures { result ≡ self }
+    {
+        self.index
+    }
+
     fn get(self) -> usize
         ensures { result ≡ self }
     {
@@ -140,6 +148,14 @@ impl<Source: SourceText> Files<Source> {
             files: Vec::new(alloc),
             alloc,
         }
+    }
+
+    /// How many files there are.
+    pub fn len(&self) -> usize
+        ensures len { result ≡ length self.now }
+        ensures few { length self.now ≤ 4294967295 }
+    {
+        self.files.len()
     }
 
     /// Whether the database holds the file, which every other call that takes a handle asks for.
