@@ -1,11 +1,11 @@
 -- What lets the labels of a group alone be tried against its rows, and each against the rows that it meets.
-use Rattle.std.specs.Prelude.{ℕ, ◌⊎◌, ◌<◌, ◌≤◌, nat_lt, Bool, List, length, All}
+use Rattle.std.specs.Prelude.{◌≡◌, ℕ, ◌⊎◌, ◌<◌, ◌≤◌, nat_lt, Bool, List, length, filter, All}
 use Rattle.std.specs.List.Sorted.{IsNonDecreasingBy}
 use Rattle.std.specs.declared.ops.Range.{Range}
 use Rattle.oxc_span.specs.declared.span.Span.{Span}
 use Rattle.oxc_windows.specs.Breaks.{breaks_of}
 use Rattle.oxc_plan.specs.Groups.{HoldsItsSpans, group_window, span_at}
-use Rattle.oxc_plan.specs.Meets.{Meets, label_past}
+use Rattle.oxc_plan.specs.Meets.{Meets, label_past, meeting_labels, meets}
 use Rattle.oxc_plan.specs.Rows.{RowView, rows_in}
 
 -- the span at a place goes on past an offset
@@ -15,6 +15,11 @@ is_open spans offset at = nat_lt offset (label_past (span_at spans at))
 -- rows go from the first to the last
 abbrev pub AscendIn : List RowView → Type 0
 AscendIn rows = IsNonDecreasingBy (λ row. row.offset) rows
+
+-- of the spans at these places, those that meet a row are all that meet it, in order
+abbrev pub HoldAllMet : RowView → List Span → List ℕ → Type 0
+HoldAllMet row spans places =
+    filter (λ at. meets row.offset row.length (span_at spans at)) places ≡ meeting_labels row.offset row.length spans
 
 -- no span outside a group meets one of these rows
 abbrev pub MeetNoOthers : List Span → Range ℕ → List RowView → Type 0
