@@ -15,3 +15,5 @@ pub mod ScannedLemmas
 pub mod ClustersLemmas
 pub mod MeasuringLemmas
 pub mod HangsLemmas
+pub mod GroupReadLemmas
+pub mod PlacedLemmas

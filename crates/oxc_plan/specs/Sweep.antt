@@ -1,6 +1,5 @@
 -- What lets the labels of a group alone be tried against its rows, and each against the rows that it meets.
 use Rattle.std.specs.Prelude.{ℕ, ◌⊎◌, ◌<◌, ◌≤◌, nat_lt, Bool, List, length, All}
-use Rattle.std.specs.List.Sorted.{IsNonDecreasingBy}
 use Rattle.std.specs.declared.ops.Range.{Range}
 use Rattle.oxc_span.specs.declared.span.Span.{Span}
 use Rattle.oxc_windows.specs.Breaks.{breaks_of}
@@ -11,10 +10,6 @@ use Rattle.oxc_plan.specs.Rows.{RowView, rows_in}
 -- the span at a place goes on past an offset
 abbrev pub is_open : List Span → ℕ → ℕ → Bool
 is_open spans offset at = nat_lt offset (label_past (span_at spans at))
-
--- rows go from the first to the last
-abbrev pub AscendIn : List RowView → Type 0
-AscendIn rows = IsNonDecreasingBy (λ row. row.offset) rows
 
 -- no span outside a group meets one of these rows
 abbrev pub MeetNoOthers : List Span → Range ℕ → List RowView → Type 0

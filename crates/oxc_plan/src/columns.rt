@@ -1,9 +1,11 @@
 //! Columns: how many a text takes when it is drawn, and in which one an offset of a row stands.
-ghost use Rattle.std.specs.Prelude.{◌≡◌, ◌==◌, ◌||◌, All, IsTrue, false, ◌+◌, ◌*◌, ◌^◌, ◌<◌, ◌≤◌, fold, length, if◌then◌else◌};
+ghost use Rattle.std.specs.Prelude.{◌≡◌, ◌==◌, ◌||◌, All, IsTrue, false, ◌+◌, ◌*◌, ◌^◌, ◌<◌, ◌≤◌};
+ghost use Rattle.std.specs.Prelude.{fold, length, if◌then◌else◌};
 ghost use Rattle.std.specs.Str.{IsCharBoundary};
 ghost use Rattle.oxc_plan.specs.Rows.{row_view};
 ghost use Rattle.oxc_plan.specs.Width.{advance_of, led, moved, pen_after, text_width};
-ghost use Rattle.oxc_plan.specs.Columns.{HasColumnsAsDrawn, boundary_down, boundary_up, column_at, column_in};
+ghost use Rattle.oxc_plan.specs.Columns.{HasColumnsAsDrawn, boundary_down, boundary_up, column_at};
+ghost use Rattle.oxc_plan.specs.Columns.{column_in};
 
 use crate::rows::Row;
 use crate::tabs::TabWidth;
@@ -13,9 +15,9 @@ use unicode_width::UnicodeWidthStr;
 
 /// The column of an offset of the source in a row, from 0, as the start of a mark or as its end.
 ///
-/// It is the number of columns of the row's text before the offset, measured alone. Inside a character a start goes
-/// down to the character's first byte and an end goes up past its last. Past the row's text it is one more than the
-/// columns of the whole text.
+/// It is the number of columns of the row's text before the offset, measured alone. Inside a
+/// character a start goes down to the character's first byte and an end goes up past its last. Past
+/// the row's text it is one more than the columns of the whole text.
 pub fn column_of(row: &Row<'_>, offset: usize, at_start: bool, tabs: TabWidth) -> usize
     requires from { row.now.offset ≤ offset }
     requires fits { length row.now.text.now < 4294967295 }
@@ -24,8 +26,9 @@ pub fn column_of(row: &Row<'_>, offset: usize, at_start: bool, tabs: TabWidth) -
     column_in(row.text, offset - row.offset, at_start, tabs)
 }
 
-/// The law that in a row of ASCII the drawn text before an offset, escapes aside, has as many characters as the
-/// offset's column, for any distance of the tab stops. It does nothing: a caller calls it to know the law.
+/// The law that in a row of ASCII the drawn text before an offset, escapes aside, has as many
+/// characters as the offset's column, for any distance of the tab stops. It does nothing: a caller
+/// calls it to know the law.
 pub fn columns_as_drawn(_row: &Row<'_>, _tab: usize)
     ensures { HasColumnsAsDrawn _tab (row_view _row.now) }
 {}
@@ -45,7 +48,8 @@ fn column_in(text: &str, place: usize, at_start: bool, tabs: TabWidth) -> usize
 /// The boundary of a text next to a place: below it for a start, and above it for an end.
 pub fn boundary_near(text: &str, place: usize, at_start: bool) -> usize
     requires { place ≤ length text.now }
-    ensures exact { result ≡ (if at_start then boundary_down text.now place else boundary_up text.now place) }
+    ensures exact { result
+        ≡ (if at_start then boundary_down text.now place else boundary_up text.now place) }
     ensures boundary { IsCharBoundary text.now result }
     ensures within { result ≤ length text.now }
 {
