@@ -63,8 +63,8 @@ fn groups_of_spans<'a>(
 ) -> Result<Vec<Range<usize>>, AllocError>
     requires round { ReadsRound scanner.old }
     requires within { LieWithin (length scanner.old.input) spans.now }
-    ensures groups { IfOk result (λ found.
-        AreGroups (length scanner.old.input) (breaks_of scanner.old.input) spans.now 0 found.items) }
+    ensures groups { IfOk result (λ found. AreGroups (length scanner.old.input)
+        (breaks_of scanner.old.input) spans.now 0 found.items) }
     ensures stays { ReadsOn scanner.old scanner.new }
     ensures first { OnOk result (0 < length spans.now
         → scanner.new.first ≡ Some (unwrap_or scanner.old.first (span_at spans.now 0).start)) }

@@ -22,12 +22,23 @@ place_in-place-requires-clause-upto c =
     let head = head_in c.args.scanner.now.input (map ordered_view c.args.labels.now) c.args.spans.now group.places group.span group.contents c.requires.spans is.start is.end is.contents alone.some alone.within alone.held c.requires.ordered.within in
     omega (arith, head.1, ap (λ l. l.span.start) c.head_label-head.ensures)
 
-pub plan_rows-requires-clause-alone : goal.plan_rows-requires-clause-alone
-plan_rows-requires-clause-alone c =
+pub plan_rows-requires : goal.plan_rows-requires
+plan_rows-requires c =
     let group = c.args.group.now in
     let is = c.requires.read in
+    let alone = c.requires.alone in
     let views = rows_read c.args.scanner.now.input c.args.spans.now group.places group.span group.contents (rows_of group.contents) is.start is.end is.contents refl in
-    subst (MeetNoOthers c.args.spans.now group.places) (sym views) c.requires.alone.alone
+    record {
+      text = is.text c.requires.text;
+      measured = is.measured;
+      numbered = is.numbered;
+      spans_are = c.requires.spans;
+      rising = c.requires.ordered.ascend;
+      ordered = λ k d lt. (c.requires.ordered.within k d lt).0;
+      some = alone.some;
+      within = alone.within;
+      alone = subst (MeetNoOthers c.args.spans.now group.places) (sym views) alone.alone;
+    }
 
 pub returns : goal.returns
 returns c =

@@ -6,7 +6,7 @@ use Rattle.oxc_plan.specs.Plan.{ordered_view, row_plan_of, row_plan_view}
 use Rattle.oxc_plan.specs.Rows.{row_view, rows_from}
 use Rattle.oxc_plan.proofs.RowsLemmas.{rows_none}
 use Rattle.oxc_plan.proofs.SweepLemmas.{all_open, alone_head, alone_tail, open_later, open_more}
-use Rattle.oxc_plan.proofs.snippets.plan_rows.Goals as goal
+use Rattle.oxc_plan.proofs.snippets.plan_rows_of_many.Goals as goal
 
 pub loop-row-init : goal.loop-row-init
 loop-row-init c =
@@ -16,7 +16,7 @@ loop-row-init c =
       alone = rw (c.rows_ahead-ahead.ensures.text, c.rows_ahead-ahead.ensures.offset, c.rows_ahead-ahead.ensures.above) c.requires.alone;
       active = λ offset le. rw (c.new-active.ensures.items, none) refl;
       from = omega arith;
-      upto = c.requires.some;
+      upto = omega (arith, c.requires.some);
     }
 
 pub open_before-requires-clause-from : goal.open_before-requires-clause-from
