@@ -16,4 +16,6 @@ pub mod ScannedLemmas
 pub mod ClustersLemmas
 pub mod MeasuringLemmas
 pub mod HangsLemmas
+pub mod GroupReadLemmas
+pub mod PlacedLemmas
 pub mod AloneLemmas
