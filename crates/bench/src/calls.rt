@@ -156,7 +156,8 @@ fn lines_backwards(subject: &Subject<'_>) -> usize
 
 /// The last line of a text, by a new database.
 fn last_line(alloc: Global, subject: &Subject<'_>) -> anyhow::Result<usize>
-    ensures { IfOk result (λ line. line ≡ line_of subject.now.text.now (length subject.now.text.now)) }
+    ensures { IfOk result (λ line. line ≡ line_of subject.now.text.now
+        (length subject.now.text.now)) }
 {
     let mut files = Files::new(alloc);
     let file_id = files.add(String::new(alloc), subject.text)?;
@@ -178,7 +179,8 @@ fn file_columns(subject: &Subject<'_>) -> anyhow::Result<usize> {
 
 /// The last line of a text as an editor counts, by a new index.
 fn last_line_of_editor(alloc: Global, subject: &Subject<'_>) -> Result<usize, AllocError>
-    ensures { IfOk result (λ line. line ≡ (utf16_place subject.now.text.now (length subject.now.text.now)).line) }
+    ensures { IfOk result
+        (λ line. line ≡ (utf16_place subject.now.text.now (length subject.now.text.now)).line) }
 {
     let places = Utf16Index::new(alloc, subject.text)?;
     let end = places.place_of(TextSize::new(subject.text.len() as u32));
@@ -203,7 +205,8 @@ fn filled_length(alloc: Global, subject: &Subject<'_>) -> Result<usize, AllocErr
     Ok(text.len())
 }
 
-/// The sum of the bytes of the labels' windows, with a row before each and one after, by a new scanner.
+/// The sum of the bytes of the labels' windows, with a row before each and one after, by a new
+/// scanner.
 fn windows(alloc: Global, subject: &Subject<'_>) -> Result<usize, AllocError> {
     let mut scanner = SpanScanner::of_text(alloc, subject.text, 1, 1);
     let mut sum: usize = 0;
@@ -215,7 +218,8 @@ fn windows(alloc: Global, subject: &Subject<'_>) -> Result<usize, AllocError> {
     Ok(sum)
 }
 
-/// The first row of the window at the text's end, from 0, by a new scanner that reads nothing before it.
+/// The first row of the window at the text's end, from 0, by a new scanner that reads nothing
+/// before it.
 fn window_at_end(alloc: Global, subject: &Subject<'_>) -> Result<usize, AllocError> {
     let mut scanner = SpanScanner::of_text(alloc, subject.text, 1, 1);
     let end = subject.text.len() as u32;
@@ -227,7 +231,8 @@ fn window_at_end(alloc: Global, subject: &Subject<'_>) -> Result<usize, AllocErr
 
 /// How many snippets the labels have, by a new scanner.
 fn snippets(alloc: Global, subject: &Subject<'_>) -> Result<usize, AllocError>
-    ensures { IfOk result (λ count. count ≡ length (snippets_of 4 subject.now.text.now subject.now.labels.items)) }
+    ensures { IfOk result
+        (λ count. count ≡ length (snippets_of 4 subject.now.text.now subject.now.labels.items)) }
 {
     let mut scanner = SpanScanner::of_text(alloc, subject.text, 1, 1);
     let plans = plan_snippets(alloc, &mut scanner, &subject.labels, TabWidth::default())?;
@@ -251,7 +256,11 @@ fn view<'a>(subject: &'a Subject<'_>) -> DiagnosticView<'a>
 
 /// How many bytes the drawing of the labels has.
 fn drawing_length(alloc: Global, subject: &Subject<'_>) -> anyhow::Result<usize>
-    ensures { IfOk result (λ bytes. bytes ≡ length (drawn none_theme 80 (plan_of 4 (parts_shown subject.now.text.now subject.now.labels.items)))) }
+    ensures { IfOk result
+        (λ bytes. bytes
+        ≡ length
+        (drawn none_theme 80
+        (plan_of 4 (parts_shown subject.now.text.now subject.now.labels.items)))) }
 {
     let handler = GraphicalReportHandler::new_themed(GraphicalTheme::none()).with_width(80);
     let mut scanner = None;
@@ -261,7 +270,9 @@ fn drawing_length(alloc: Global, subject: &Subject<'_>) -> anyhow::Result<usize>
 
 /// How many bytes the labels have as JSON.
 fn json_length(alloc: Global, subject: &Subject<'_>) -> Result<usize, AllocError>
-    ensures { IfOk result (λ bytes. bytes ≡ length (json_of (parts_shown subject.now.text.now subject.now.labels.items))) }
+    ensures { IfOk result
+        (λ bytes. bytes
+        ≡ length (json_of (parts_shown subject.now.text.now subject.now.labels.items))) }
 {
     let mut text = String::new(alloc);
     push_json(&mut text, alloc, &view(subject), None)?;

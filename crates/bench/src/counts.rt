@@ -39,7 +39,8 @@ fn hits(which: Count, text: &[u8]) -> usize
     }
 }
 
-/// Counts in parts of a text of that many bytes, each a byte further on than the one before, and sums up.
+/// Counts in parts of a text of that many bytes, each a byte further on than the one before, and
+/// sums up.
 fn count_in_parts(which: Count, text: &[u8], size: usize, parts: usize) -> usize {
     let mut sum: usize = 0;
     for part in 0..parts {
@@ -51,7 +52,8 @@ fn count_in_parts(which: Count, text: &[u8], size: usize, parts: usize) -> usize
     sum
 }
 
-/// The best time in microseconds of counting in parts of that many bytes, and the sum of what was counted.
+/// The best time in microseconds of counting in parts of that many bytes, and the sum of what was
+/// counted.
 fn best(
     clock: &impl Clock,
     which: Count,

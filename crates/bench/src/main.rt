@@ -1,5 +1,6 @@
-//! How fast the calls of the libraries are. With the word `--measure` it makes each on a large text, and prints its answer and the
-//! best time of some rounds in microseconds. With no word it makes each on a small text, and prints its answer.
+//! How fast the calls of the libraries are. With the word `--measure` it makes each on a large
+//! text, and prints its answer and the best time of some rounds in microseconds. With no word it
+//! makes each on a small text, and prints its answer.
 #![tactic(auto)]
 
 mod calls;

@@ -32,7 +32,8 @@ pub struct Subject<'a> {
 }
 
 impl<'a> Subject<'a> {
-    /// A text, and what is made of it. It fails for want of memory, and where the text is too long for a database.
+    /// A text, and what is made of it. It fails for want of memory, and where the text is too long
+    /// for a database.
     pub fn new(alloc: Global, text: &'a str) -> anyhow::Result<Subject<'a>>
         ensures { IfOk result (λ subject. subject.text.now ≡ text.now) }
     {
@@ -49,7 +50,8 @@ impl<'a> Subject<'a> {
     }
 }
 
-/// Labels of a text of lines of so many bytes: every fifth goes over three rows, the others over a word.
+/// Labels of a text of lines of so many bytes: every fifth goes over three rows, the others over a
+/// word.
 fn labels_in(alloc: Global, length: usize) -> Result<Vec<LabeledSpan>, AllocError>
     requires { length < 4294967295 }
     ensures { IfOk result (λ labels. All (λ label. label_end label ≤ length) labels.items) }

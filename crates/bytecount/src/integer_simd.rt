@@ -1,5 +1,6 @@
 //! Counts by words: eight bytes at a time, each with a small counter of its own.
-ghost use Rattle.std.specs.Prelude.{◌≡◌, ◌≤◌, ◌<◌, ◌-◌, ◌^◌, ◌==◌, count_by, drop, length, sum, sum_by, replicate, if◌then◌else◌};
+ghost use Rattle.std.specs.Prelude.{◌≡◌, ◌≤◌, ◌<◌, ◌-◌, ◌^◌, ◌==◌, count_by, drop, length, sum};
+ghost use Rattle.std.specs.Prelude.{sum_by, replicate, if◌then◌else◌};
 ghost use Rattle.std.specs.Simd.Lanes.{zip2};
 ghost use Rattle.std.specs.Str.{IsUtf8, chars};
 ghost use Rattle.bytecount.specs.Counts.{begins_char, char_count};
@@ -23,7 +24,8 @@ fn splat(byte: u8) -> u64
 
 /// 1 at each byte at which the two words are equal, and 0 at the others.
 fn bytewise_equal(lhs: u64, rhs: u64) -> u64
-    ensures { bytes_of result ≡ zip2 (λ x y. if x == y then 1 else 0) (bytes_of lhs) (bytes_of rhs) }
+    ensures { bytes_of result ≡ zip2 (λ x y. if x == y then 1 else 0) (bytes_of lhs)
+        (bytes_of rhs) }
 {
     let differing = lhs ^ rhs;
     // No carry leaves a byte; its highest bit is set where one of the lower ones was.

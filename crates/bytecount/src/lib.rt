@@ -13,7 +13,8 @@ pub use crate::naive::{naive_count, naive_count_32, naive_num_chars};
 
 /// How many bytes of `haystack` equal `needle`.
 ///
-/// From eight bytes on they are counted a word at a time, and from thirty-two on a vector at a time.
+/// From eight bytes on they are counted a word at a time, and from thirty-two on a vector at a
+/// time.
 pub fn count(haystack: &[u8], needle: u8) -> usize
     ensures { result ≡ count_by (λ byte. byte == needle) haystack.now }
 {

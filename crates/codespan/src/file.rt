@@ -1,10 +1,14 @@
 //! The database of source files.
-ghost use Rattle.std.specs.Prelude.{◌≡◌, ◌≢◌, ℕ, List, [], ◌∷◌, ◌++◌, ◌<◌, ◌≤◌, ◌↔◌, IsTrue, IfOk, OnOk, OnErr, SomeIff, MatchResult, All, length, map, chars, slice_range, string_bytes};
+ghost use Rattle.std.specs.Prelude.{◌≡◌, ◌≢◌, ℕ, List, [], ◌∷◌, ◌++◌, ◌<◌, ◌≤◌, ◌↔◌, IsTrue, IfOk};
+ghost use Rattle.std.specs.Prelude.{OnOk, OnErr, SomeIff, MatchResult, All, length, map, chars};
+ghost use Rattle.std.specs.Prelude.{slice_range, string_bytes};
 ghost use Rattle.std.specs.List.Sorted.{IsStrictlyIncreasing};
 ghost use Rattle.std.specs.Str.{IsCharBoundary};
-ghost use Rattle.codespan_reporting.specs.Causes.{IsLineRefusal, IsPlaceRefusal, IsSpanRefusal, last_index};
+ghost use Rattle.codespan_reporting.specs.Causes.{IsLineRefusal, IsPlaceRefusal, IsSpanRefusal};
+ghost use Rattle.codespan_reporting.specs.Causes.{last_index};
 ghost use Rattle.codespan_reporting.specs.Lines.{line_at};
-ghost use Rattle.codespan.specs.Lines.{LinesJoin, line_count, line_extent, line_of, line_starts_lf, start_of_line};
+ghost use Rattle.codespan.specs.Lines.{LinesJoin, line_count, line_extent, line_of, line_starts_lf};
+ghost use Rattle.codespan.specs.Lines.{start_of_line};
 ghost use Rattle.codespan.specs.Places.{IsLocation, IsSlice};
 ghost use Rattle.codespan.specs.Texts.{Fits, NamedText, name_of, text_of, with_text};
 ghost use Rattle.codespan.specs.Causes.{HasRoom, IsCauseToKeep, IsCauseToRefuse};
@@ -20,7 +24,8 @@ use std::ops::Range;
 
 /// A text that the database holds: what a source file's contents are kept in.
 ///
-/// Its one parent is `Drop`, so that the database can let go of a source that it replaces or refuses.
+/// Its one parent is `Drop`, so that the database can let go of a source that it replaces or
+/// refuses.
 pub trait SourceText: Drop {
     ghost text: { Self → List ℕ };
 
@@ -62,8 +67,8 @@ impl Model for FileId {
 }
 
 impl FileId {
-    /// The handle of the file with this number, from 0. `None` exactly for `u32::MAX`, which no file
-    /// can have.
+    /// The handle of the file with this number, from 0. `None` exactly for `u32::MAX`, which no
+    /// file can have.
     pub fn from_index(index: u32) -> Option<FileId>
         ensures { SomeIff result (index ≢ u32.MAX) index }
     {
@@ -71,6 +76,14 @@ impl FileId {
             return None;
         }
         Some(FileId { index })
+    }
+
+    /// The number of the file, from 0: that of the files that were there before it.
+    #[must_use]
+    pub fn to_u32(self) -> u32
+        ensures { result ≡ self }
+    {
+        self.index
     }
 
     fn get(self) -> usize
@@ -108,8 +121,8 @@ impl From<AllocError> for AddError {
     }
 }
 
-/// Source files in the order in which they were added, each a name and a text of fewer than `u32::MAX`
-/// bytes. Contracts see the list of these named texts.
+/// Source files in the order in which they were added, each a name and a text of fewer than
+/// `u32::MAX` bytes. Contracts see the list of these named texts.
 #[derive(Debug, Drop)]
 pub struct Files<Source: SourceText> {
     files: Vec<File<Source>>,
@@ -119,7 +132,9 @@ pub struct Files<Source: SourceText> {
 impl<Source: SourceText> Model for Files<Source> {
     ghost Value = { List NamedText };
 
-    ghost view = { λ f. map (λ file. record { name = string_bytes file.name; text = Source.text file.source }) f.files.items };
+    ghost view = { λ f. map
+        (λ file. record { name = string_bytes file.name; text = Source.text file.source })
+        f.files.items };
 
     ghost invariant = { λ f. length f.files.items ≤ 4294967295 };
 }
@@ -135,6 +150,14 @@ impl<Source: SourceText> Files<Source> {
         }
     }
 
+    /// How many files there are.
+    pub fn len(&self) -> usize
+        ensures len { result ≡ length self.now }
+        ensures few { length self.now ≤ 4294967295 }
+    {
+        self.files.len()
+    }
+
     /// Whether the database holds the file, which every other call that takes a handle asks for.
     pub fn contains(&self, file_id: FileId) -> bool
         ensures contained { IsTrue result ↔ (file_id < length self.now) }
@@ -145,11 +168,13 @@ impl<Source: SourceText> Files<Source> {
 
     /// Adds a file at the end. Its handle is the number of files that were there before it.
     ///
-    /// Where the source has `u32::MAX` bytes or more it answers `SourceTooLong`; else where `u32::MAX`
-    /// files are held, `TooManyFiles`; else it may answer `OutOfMemory`. A refusal leaves the database
-    /// as it was.
+    /// Where the source has `u32::MAX` bytes or more it answers `SourceTooLong`; else where
+    /// `u32::MAX` files are held, `TooManyFiles`; else it may answer `OutOfMemory`. A refusal
+    /// leaves the database as it was.
     pub fn add(&mut self, name: String, source: Source) -> Result<FileId, AddError>
-        ensures added { IfOk result (λ id. (id ≡ length self.old) × (self.new ≡ self.old ++ record { name = string_bytes name; text = Source.text source } ∷ [])) }
+        ensures added { IfOk result (λ id. (id ≡ length self.old)
+            × (self.new ≡ self.old ++ record
+            { name = string_bytes name; text = Source.text source } ∷ [])) }
         ensures cause { MatchResult result (λ _. Fits (Source.text source) × HasRoom self.old)
             (λ error. IsCauseToRefuse self.old (Source.text source) error) }
         ensures unchanged { OnErr result (self.new ≡ self.old) }
@@ -173,8 +198,8 @@ impl<Source: SourceText> Files<Source> {
     /// Puts another source in the place of the file's. Its name stays, and so do all other files.
     ///
     /// Places and spans of the old source may not be places of the new one. Where the source has
-    /// `u32::MAX` bytes or more it answers `SourceTooLong`; else it may answer `OutOfMemory`. A refusal
-    /// leaves the database as it was.
+    /// `u32::MAX` bytes or more it answers `SourceTooLong`; else it may answer `OutOfMemory`. A
+    /// refusal leaves the database as it was.
     pub fn update(&mut self, file_id: FileId, source: Source) -> Result<(), AddError>
         requires { file_id < length self.old }
         ensures updated { OnOk result (self.new ≡ with_text self.old file_id (Source.text source)) }
@@ -211,12 +236,13 @@ impl<Source: SourceText> Files<Source> {
 
     /// The span of a line, with its line feed. Lines end at line feeds alone.
     ///
-    /// It refuses exactly the lines that the source doesn't have: with `LineTooLarge`, where the first
-    /// of them is named by the number after it.
+    /// It refuses exactly the lines that the source doesn't have: with `LineTooLarge`, where the
+    /// first of them is named by the number after it.
     pub fn line_span(&self, file_id: FileId, line_index: LineIndex) -> Result<Span, Error>
         requires { file_id < length self.now }
         ensures line { MatchResult result
-            (λ span. (line_index.0 < line_count (text_of self.now file_id)) × (span ≡ line_extent (text_of self.now file_id) line_index.0))
+            (λ span. (line_index.0 < line_count (text_of self.now file_id))
+            × (span ≡ line_extent (text_of self.now file_id) line_index.0))
             (λ error. IsLineRefusal (line_count (text_of self.now file_id)) line_index.0 error) }
         ensures joined { LinesJoin (text_of self.now file_id) }
     {
@@ -233,8 +259,8 @@ impl<Source: SourceText> Files<Source> {
 
     /// The line of a place and its column in characters, both from 0.
     ///
-    /// It refuses exactly the places past the end, with `IndexTooLarge`, and those inside a character,
-    /// with `InvalidCharBoundary`.
+    /// It refuses exactly the places past the end, with `IndexTooLarge`, and those inside a
+    /// character, with `InvalidCharBoundary`.
     pub fn location(&self, file_id: FileId, byte_index: ByteIndex) -> Result<Location, Error>
         requires { file_id < length self.now }
         ensures { MatchResult result
@@ -264,8 +290,9 @@ impl<Source: SourceText> Files<Source> {
 
     /// The text of a span.
     ///
-    /// It refuses exactly the spans that go past the end, with `IndexTooLarge`, and of the others those
-    /// of which an end is inside a character, with `InvalidCharBoundary`. The start is named before the end.
+    /// It refuses exactly the spans that go past the end, with `IndexTooLarge`, and of the others
+    /// those of which an end is inside a character, with `InvalidCharBoundary`. The start is named
+    /// before the end.
     pub fn source_slice(&self, file_id: FileId, span: Span) -> Result<&str, Error>
         requires { file_id < length self.now }
         ensures { MatchResult result
@@ -330,7 +357,8 @@ struct File<Source: SourceText> {
     /// Where each line of the source starts.
     line_starts: Vec<ByteIndex>,
     ghost fits: { length (Source.text source) < 4294967295 },
-    ghost indexed: { map (λ start. start.0) line_starts.items ≡ line_starts_lf (Source.text source) },
+    ghost indexed: { map (λ start. start.0) line_starts.items
+        ≡ line_starts_lf (Source.text source) },
 }
 
 impl<Source: SourceText> File<Source> {
@@ -378,7 +406,8 @@ impl<Source: SourceText> File<Source> {
 
     fn line_span(&self, line_index: LineIndex) -> Result<Span, Error>
         ensures { MatchResult result
-            (λ span. (line_index.0 < line_count (Source.text self.now.source)) × (span ≡ line_extent (Source.text self.now.source) line_index.0))
+            (λ span. (line_index.0 < line_count (Source.text self.now.source))
+            × (span ≡ line_extent (Source.text self.now.source) line_index.0))
             (λ error. IsLineRefusal (line_count (Source.text self.now.source)) line_index.0 error) }
     {
         let line = line_index.to_usize();
@@ -425,7 +454,8 @@ impl<Source: SourceText> File<Source> {
 /// Whether the source is short enough.
 fn check_length<Source: SourceText>(source: &Source) -> Result<(), AddError>
     ensures { MatchResult result (λ _. Fits (Source.text source.now))
-        (λ error. (error ≡ AddError.SourceTooLong (length (Source.text source.now))) × ¬ Fits (Source.text source.now)) }
+        (λ error. (error ≡ AddError.SourceTooLong (length (Source.text source.now)))
+        × ¬ Fits (Source.text source.now)) }
 {
     let length = source.text().len();
     if length >= u32::MAX as usize {
@@ -437,7 +467,8 @@ fn check_length<Source: SourceText>(source: &Source) -> Result<(), AddError>
 /// Where each line of the text starts.
 fn line_starts(alloc: Global, source: &str) -> Result<Vec<ByteIndex>, AllocError>
     requires { Fits source.now }
-    ensures { IfOk result (λ starts. map (λ start. start.0) starts.items ≡ line_starts_lf source.now) }
+    ensures { IfOk result (λ starts. map (λ start. start.0) starts.items
+        ≡ line_starts_lf source.now) }
 {
     let mut starts = Vec::new(alloc);
     starts.push(ByteIndex(0))?;

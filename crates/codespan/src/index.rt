@@ -1,7 +1,8 @@
 //! Types for places in a source: lines, columns and bytes, which can't be mixed up.
 //!
-//! An index is a place, counted from 0. An offset is the way from one place to another, and may lead back.
-//! What an operator gives has to be in the range of its type: that is the condition of each.
+//! An index is a place, counted from 0. An offset is the way from one place to another, and may
+//! lead back. What an operator gives has to be in the range of its type: that is the condition of
+//! each.
 ghost use Rattle.std.specs.Prelude.{◌≡◌, ℕ, ◌+◌, ◌++◌, ◌<◌, ◌≤ℤ◌, pos, length, Some, codes};
 ghost use Rattle.std.specs.Fmt.{decimal, signed_decimal};
 ghost use Rattle.std.specs.Char.{len_utf8};
@@ -15,8 +16,8 @@ use std::fmt::{Formatter, Write};
 use std::marker::Model;
 use std::ops::{Add, AddAssign, Neg, Sub, SubAssign};
 
-/// A place as a plain number, with no word on what it counts. 32 bits are enough, since a source has
-/// fewer than `u32::MAX` bytes.
+/// A place as a plain number, with no word on what it counts. 32 bits are enough, since a source
+/// has fewer than `u32::MAX` bytes.
 pub type RawIndex = u32;
 
 /// A way between two places as a plain number.
@@ -113,7 +114,8 @@ impl LineOffset {
 }
 
 impl fmt::Debug for LineOffset {
-    ghost debug_output = { λ place. Some (codes "LineOffset(" ++ signed_decimal place.0 ++ codes ")") };
+    ghost debug_output = { λ place. Some
+        (codes "LineOffset(" ++ signed_decimal place.0 ++ codes ")") };
 
     fn fmt<W: Write>(&self, f: &mut Formatter<W>) -> fmt::Result {
         write!(f, "LineOffset({})", self.0)
@@ -210,7 +212,8 @@ impl ColumnOffset {
 }
 
 impl fmt::Debug for ColumnOffset {
-    ghost debug_output = { λ place. Some (codes "ColumnOffset(" ++ signed_decimal place.0 ++ codes ")") };
+    ghost debug_output = { λ place. Some
+        (codes "ColumnOffset(" ++ signed_decimal place.0 ++ codes ")") };
 
     fn fmt<W: Write>(&self, f: &mut Formatter<W>) -> fmt::Result {
         write!(f, "ColumnOffset({})", self.0)
@@ -283,7 +286,8 @@ impl ByteOffset {
 }
 
 impl fmt::Debug for ByteOffset {
-    ghost debug_output = { λ place. Some (codes "ByteOffset(" ++ signed_decimal place.0 ++ codes ")") };
+    ghost debug_output = { λ place. Some
+        (codes "ByteOffset(" ++ signed_decimal place.0 ++ codes ")") };
 
     fn fmt<W: Write>(&self, f: &mut Formatter<W>) -> fmt::Result {
         write!(f, "ByteOffset({})", self.0)
@@ -301,8 +305,8 @@ impl fmt::Display for ByteOffset {
 /// A way between two places of one kind. Offsets add up like numbers.
 ///
 /// Each offset keeps these laws, where the sums are in range: `ZERO` added on either side changes
-/// nothing; an offset and its opposite add up to `ZERO`; `(a + b) - b` is `a`; `a + (b - a)` is `b`; and
-/// `+=` and `-=` do what `+` and `-` do.
+/// nothing; an offset and its opposite add up to `ZERO`; `(a + b) - b` is `a`; `a + (b - a)` is
+/// `b`; and `+=` and `-=` do what `+` and `-` do.
 pub trait Offset: Copy
     + Ord
     + Neg<Output = Self>
@@ -327,13 +331,15 @@ pub trait Offset: Copy
 
     ghost adds_in_place: { (a b r : Self) → Self.add_assign_gives a b r → Self.add_gives a b r };
 
-    ghost subtracts_in_place: { (a b r : Self) → Self.sub_assign_gives a b r → Self.sub_gives a b r };
+    ghost subtracts_in_place: { (a b r : Self) → Self.sub_assign_gives a b r
+        → Self.sub_gives a b r };
 }
 
-/// A place of one kind. A place and an offset give a place, and two places give the offset between them.
+/// A place of one kind. A place and an offset give a place, and two places give the offset between
+/// them.
 ///
-/// Each index keeps these laws, where the steps are in range: `i + ZERO` is `i`; `(i + a) - a` is `i`;
-/// `i + (j - i)` is `j`; and `+=` and `-=` do what `+` and `-` do.
+/// Each index keeps these laws, where the steps are in range: `i + ZERO` is `i`; `(i + a) - a` is
+/// `i`; `i + (j - i)` is `j`; and `+=` and `-=` do what `+` and `-` do.
 pub trait Index: Copy
     + Ord
     + Add<<Self as Index>::Offset, Output = Self>
@@ -346,11 +352,15 @@ pub trait Index: Copy
 
     ghost stays: { (i r : Self) → Self.add_gives i Self.Offset.ZERO r → r ≡ i };
 
-    ghost back: { (i r s : Self) (a : Self.Offset) → Self.add_gives i a r → Self.Sub-1.sub_gives r a s → s ≡ i };
+    ghost back: { (i r s : Self) (a : Self.Offset) → Self.add_gives i a r
+        → Self.Sub-1.sub_gives r a s → s ≡ i };
 
-    ghost forth: { (i j s : Self) (a : Self.Offset) → Self.Sub-2.sub_gives j i a → Self.add_gives i a s → s ≡ j };
+    ghost forth: { (i j s : Self) (a : Self.Offset) → Self.Sub-2.sub_gives j i a
+        → Self.add_gives i a s → s ≡ j };
 
-    ghost adds_in_place: { (i r : Self) (a : Self.Offset) → Self.add_assign_gives i a r → Self.add_gives i a r };
+    ghost adds_in_place: { (i r : Self) (a : Self.Offset) → Self.add_assign_gives i a r
+        → Self.add_gives i a r };
 
-    ghost subtracts_in_place: { (i r : Self) (a : Self.Offset) → Self.sub_assign_gives i a r → Self.Sub-1.sub_gives i a r };
+    ghost subtracts_in_place: { (i r : Self) (a : Self.Offset) → Self.sub_assign_gives i a r
+        → Self.Sub-1.sub_gives i a r };
 }

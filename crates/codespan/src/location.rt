@@ -3,7 +3,8 @@ ghost use Rattle.std.specs.Prelude.{◌≡◌};
 
 use crate::{ColumnIndex, LineIndex};
 
-/// A place in a source, by its line and its column in characters, both from 0. Earlier places are less.
+/// A place in a source, by its line and its column in characters, both from 0. Earlier places are
+/// less.
 #[derive(Copy, Clone, Debug, PartialEq, Eq, PartialOrd, Ord, Hash)]
 pub struct Location {
     /// The line.

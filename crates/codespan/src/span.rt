@@ -24,7 +24,11 @@ impl Model for Span {
 
     ghost invariant = { λ span. span.start.0 ≤ span.end.0 };
 
-    ghost inverse = { λ extent. record { start = record { 0 = extent.start }; end = record { 0 = extent.end } } };
+    ghost inverse = { λ extent. record {
+      start = record { 0 = extent.start };
+      end = record
+          { 0 = extent.end };
+    } };
 }
 
 impl Span {
@@ -76,14 +80,16 @@ impl Span {
         ensures merged { result ≡ merged self other }
         ensures covers { Covers result self × Covers result other }
         ensures commutative { merged self other ≡ merged other self }
-        ensures associative { (third : Extent) → merged (merged self other) third ≡ merged self (merged other third) }
+        ensures associative { (third : Extent) → merged (merged self other) third
+            ≡ merged self (merged other third) }
         ensures idempotent { merged self self ≡ self }
     {
         Span::new(self.start.min(other.start), self.end.max(other.end))
     }
 
-    /// Whether the spans have no byte in common: one ends no later than the other starts, either way
-    /// round. An empty span is disjoint from one at whose end it stands.
+    /// Whether one of the spans ends before the other starts, or just there. So an empty span is
+    /// disjoint from one at whose end it stands, but not from one within which it stands, though
+    /// it shares no byte with either.
     #[must_use]
     pub fn disjoint(self, other: Span) -> bool
         ensures exact { IsTrue result ↔ AreDisjoint self other }
@@ -118,7 +124,8 @@ impl Default for Span {
 }
 
 impl fmt::Display for Span {
-    ghost output = { λ span. Some (codes "[" ++ decimal span.start ++ codes ", " ++ decimal span.end ++ codes ")") };
+    ghost output = { λ span. Some
+        (codes "[" ++ decimal span.start ++ codes ", " ++ decimal span.end ++ codes ")") };
 
     fn fmt<W: Write>(&self, f: &mut Formatter<W>) -> fmt::Result {
         write!(f, "[{}, {})", self.start, self.end)
@@ -126,7 +133,8 @@ impl fmt::Display for Span {
 }
 
 impl From<Span> for Range<usize> {
-    ghost from_gives = { λ span range. (range ≡ record { start = span.start; end = span.end }) × (span.start ≤ span.end) };
+    ghost from_gives = { λ span range. (range ≡ record { start = span.start; end = span.end })
+        × (span.start ≤ span.end) };
 
     fn from(span: Span) -> Range<usize> {
         span.start.to_usize()..span.end.to_usize()
@@ -134,7 +142,8 @@ impl From<Span> for Range<usize> {
 }
 
 impl From<Span> for Range<RawIndex> {
-    ghost from_gives = { λ span range. (range ≡ record { start = span.start; end = span.end }) × (span.start ≤ span.end) };
+    ghost from_gives = { λ span range. (range ≡ record { start = span.start; end = span.end })
+        × (span.start ≤ span.end) };
 
     fn from(span: Span) -> Range<RawIndex> {
         span.start.0..span.end.0

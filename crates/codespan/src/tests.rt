@@ -1,5 +1,6 @@
 //! Values from outside, and callers that are proved from the contracts alone.
-ghost use Rattle.std.specs.Prelude.{◌≡◌, ◌++◌, ◌↔◌, ◌+ℤ◌, pos, IfOk, IsTrue, codes, length, string_bytes};
+ghost use Rattle.std.specs.Prelude.{◌≡◌, ◌++◌, ◌↔◌, ◌+ℤ◌, pos, IfOk, IsTrue, codes, length};
+ghost use Rattle.std.specs.Prelude.{string_bytes};
 ghost use Rattle.std.specs.Int.{w32, FitsUnsigned};
 ghost use Rattle.std.specs.Fmt.{decimal, signed_decimal};
 ghost use Rattle.std.specs.Ordering.{int_cmp, nat_cmp, ordering_then};
@@ -8,8 +9,8 @@ ghost use Rattle.std.specs.List.{fold};
 ghost use Rattle.codespan.specs.Texts.{name_of, text_of};
 
 use crate::{
-    AddError, ByteIndex, ByteOffset, ColumnIndex, ColumnOffset, FileId, Files, Index, LineIndex,
-    LineNumber, LineOffset, Location, RawIndex, RawOffset, SourceText, Span,
+    AddError, ByteIndex, ByteOffset, ColumnIndex, ColumnNumber, ColumnOffset, FileId, Files, Index,
+    LineIndex, LineNumber, LineOffset, Location, RawIndex, RawOffset, SourceText, Span,
 };
 use codespan_reporting::files;
 use codespan_reporting::files::{Error, line_text};
@@ -52,7 +53,8 @@ fn two_files(alloc: Global) -> Result<Files<&'static str>, AddError>
 }
 
 fn span_text(alloc: Global, span: Span) -> Result<String, AllocError>
-    ensures { IfOk result (λ text. string_bytes text ≡ codes "[" ++ decimal span.start ++ codes ", " ++ decimal span.end ++ codes ")") }
+    ensures { IfOk result (λ text. string_bytes text
+        ≡ codes "[" ++ decimal span.start ++ codes ", " ++ decimal span.end ++ codes ")") }
 {
     format!(in alloc; "{span}")
 }
@@ -124,7 +126,8 @@ fn is_same_location(a: Location, b: Location) -> bool
 }
 
 fn hash_location<H: Hasher>(location: Location, state: &mut H)
-    ensures { state.new ≡ fold H.write state.old (hash_of_u32 location.line.0 ++ hash_of_u32 location.column.0) }
+    ensures { state.new ≡ fold H.write state.old
+        (hash_of_u32 location.line.0 ++ hash_of_u32 location.column.0) }
 {
     location.hash(state);
 }
@@ -187,6 +190,34 @@ fn first_byte() -> ByteIndex
     ensures { result.0 ≡ 0 }
 {
     ByteIndex::default()
+}
+
+/// How two are ordered, and whether they are equal.
+fn compare_line_numbers(a: LineNumber, b: LineNumber) -> (Ordering, bool)
+    ensures order { result.0 ≡ nat_cmp a b }
+    ensures equal { IsTrue result.1 ↔ (a ≡ b) }
+{
+    (a.cmp(&b), a == b)
+}
+
+/// How two are ordered, and whether they are equal.
+fn compare_column_numbers(a: ColumnNumber, b: ColumnNumber) -> (Ordering, bool)
+    ensures order { result.0 ≡ nat_cmp a b }
+    ensures equal { IsTrue result.1 ↔ (a ≡ b) }
+{
+    (a.cmp(&b), a == b)
+}
+
+fn hash_line_number<H: Hasher>(number: LineNumber, state: &mut H)
+    ensures { state.new ≡ fold H.write state.old (hash_of_u32 number) }
+{
+    number.hash(state);
+}
+
+fn hash_column_number<H: Hasher>(number: ColumnNumber, state: &mut H)
+    ensures { state.new ≡ fold H.write state.old (hash_of_u32 number) }
+{
+    number.hash(state);
 }
 
 fn compare_lines(a: LineOffset, b: LineOffset) -> (Ordering, bool)
@@ -464,7 +495,7 @@ fn errors_say_what_happened(rt: HostRuntime) -> Result<(), Fail> {
     let asked = [
         (
             Error::IndexTooLarge { given: 9, max: 4 },
-            "place 9 is past the last one, 4",
+            "place 9 is past the end, 4",
         ),
         (
             Error::LineTooLarge { given: 3, max: 2 },

@@ -1,5 +1,6 @@
 //! The database of source files as the tools see it, and why it refuses a question.
-ghost use Rattle.std.specs.Prelude.{◌≡◌, ℕ, ◌<◌, ◌≤◌, Bool, List, length, ◌⊎◌, IsTrue, IfErr, IfOk, OnOk, MatchResult};
+ghost use Rattle.std.specs.Prelude.{◌≡◌, ℕ, ◌<◌, ◌≤◌, Bool, List, length, ◌⊎◌, IsTrue, IfErr, IfOk};
+ghost use Rattle.std.specs.Prelude.{OnOk, MatchResult};
 ghost use Rattle.codespan_reporting.specs.Lines.{AreLineStarts, IsLineRange, line_at, line_bytes};
 ghost use Rattle.codespan_reporting.specs.Causes.{IsLineRefusal};
 ghost use Rattle.codespan_reporting.specs.declared.files.Error.{Error};
@@ -11,7 +12,7 @@ use std::ops::Range;
 #[derive(Clone, Copy, Debug, thiserror::Error, PartialEq, Eq)]
 pub enum Error {
     /// A place past the end of the source.
-    #[error("place {given} is past the last one, {max}")]
+    #[error("place {given} is past the end, {max}")]
     IndexTooLarge {
         /// The place that was given, in bytes.
         given: usize,
@@ -21,7 +22,8 @@ pub enum Error {
     /// A line past the last one.
     #[error("line {given} is not among the {max} lines")]
     LineTooLarge {
-        /// The line that was given, from 0, or the one after it where it is the first that isn't there.
+        /// The line that was given, from 0, or the one after it where it is the first that isn't
+        /// there.
         given: usize,
         /// How many lines the source has.
         max: usize,
@@ -36,8 +38,8 @@ pub enum Error {
 
 /// What holds source files for a tool.
 ///
-/// Contracts see, for each handle, whether the database holds it, the file's name, its text, where the
-/// text's lines start, and with which errors, if any, it may refuse a file that it holds.
+/// Contracts see, for each handle, whether the database holds it, the file's name, its text, where
+/// the text's lines start, and with which errors, if any, it may refuse a file that it holds.
 pub trait Files {
     /// What names a file in the database.
     type FileId: Copy;
@@ -59,18 +61,22 @@ pub trait Files {
     /// What to call the file in a message.
     fn name(&self, id: Self::FileId) -> Result<&str, Error>
         requires { IsTrue (holds self.now id) }
-        ensures { MatchResult result (λ name. name.now ≡ name_in self.now id) (λ error. refuses self.now id error) };
+        ensures { MatchResult result (λ name. name.now ≡ name_in self.now id)
+            (λ error. refuses self.now id error) };
 
     /// The text of the file.
     fn source(&self, id: Self::FileId) -> Result<&str, Error>
         requires { IsTrue (holds self.now id) }
-        ensures { MatchResult result (λ text. text.now ≡ text_in self.now id) (λ error. refuses self.now id error) };
+        ensures { MatchResult result (λ text. text.now ≡ text_in self.now id)
+            (λ error. refuses self.now id error) };
 
-    /// The line of a place, both from 0; past the end the last line. The place is at most `u32::MAX`.
+    /// The line of a place, both from 0; past the end the last line. The place is at most
+    /// `u32::MAX`.
     fn line_index(&self, id: Self::FileId, byte_index: usize) -> Result<usize, Error>
         requires held { IsTrue (holds self.now id) }
         requires small { byte_index ≤ u32.MAX }
-        ensures { MatchResult result (λ line. line ≡ line_at (starts_in self.now id) byte_index) (λ error. refuses self.now id error) };
+        ensures { MatchResult result (λ line. line ≡ line_at (starts_in self.now id) byte_index)
+            (λ error. refuses self.now id error) };
 
     /// The bytes of a line, its break included. The line counts from 0 and is at most `u32::MAX`.
     ///
@@ -79,7 +85,8 @@ pub trait Files {
         requires held { IsTrue (holds self.now id) }
         requires small { line_index ≤ u32.MAX }
         ensures { MatchResult result
-            (λ range. IsLineRange (text_in self.now id) (starts_in self.now id) line_index range.start range.end)
+            (λ range. IsLineRange (text_in self.now id)
+            (starts_in self.now id) line_index range.start range.end)
             (λ error. IsLineRefusal (length (starts_in self.now id)) line_index error) };
 
     // The starts are those of the lines of a text.
@@ -94,9 +101,12 @@ pub trait Files {
 pub fn line_text<F: Files>(files: &F, id: F::FileId, line_index: usize) -> Result<&str, Error>
     requires held { IsTrue (F.holds files.now id) }
     requires small { line_index ≤ u32.MAX }
-    ensures text { IfOk result (λ text. text.now ≡ line_bytes (F.text_in files.now id) (F.starts_in files.now id) line_index) }
+    ensures text { IfOk result (λ text. text.now ≡ line_bytes (F.text_in files.now id)
+        (F.starts_in files.now id) line_index) }
     ensures exists { OnOk result (line_index < length (F.starts_in files.now id)) }
-    ensures cause { IfErr result (λ error. IsLineRefusal (length (F.starts_in files.now id)) line_index error ⊎ F.refuses files.now id error) }
+    ensures cause { IfErr result
+        (λ error. IsLineRefusal (length (F.starts_in files.now id)) line_index error
+        ⊎ F.refuses files.now id error) }
 {
     let range = files.line_range(id, line_index)?;
     match files.source(id) {

@@ -4,7 +4,8 @@ use Rattle.std.specs.List.{position_or_len, range_with_len}
 use Rattle.std.specs.declared.ops.Range.{Range}
 use Rattle.std.proofs.lemmas.Bool.{cases_lt, cases_Bool, ltb-true, ltb-false}
 use Rattle.std.proofs.lemmas.List.FromFn.{length-range_with_len, get_or-range_with_len}
-use Rattle.std.proofs.lemmas.List.{length-drop, take_more, get_or-drop}
+use Rattle.std.proofs.Math.Seq.{drop-cons}
+use Rattle.std.proofs.lemmas.List.{drop_all, length-drop, take_more, get_or-drop}
 use Rattle.std.proofs.lemmas.List.Elements.{All-nil, All-cons}
 use Rattle.std.proofs.lemmas.List.Kept.{AllPairs-cons}
 use Rattle.std.proofs.lemmas.List.Sums.{fold-append, prefix_len-le-length, fails_before_first, passes_at_first}
@@ -26,7 +27,7 @@ group_le len breaks spans first a b one other =
 same_end : (len : ℕ) (breaks : List LineBreak) (spans : List Span) (first a b : ℕ) → IsGroup len breaks spans first a → IsGroup len breaks spans first b → a ≡ b
 same_end len breaks spans first a b one other = omega (arith, group_le len breaks spans first a b one other, group_le len breaks spans first b a other one)
 
-same_range : (a b : Range ℕ) → a.start ≡ b.start → a.end ≡ b.end → a ≡ b
+pub same_range : (a b : Range ℕ) → a.start ≡ b.start → a.end ≡ b.end → a ≡ b
 same_range a b start end = λ i. record { start = start i; end = end i }
 
 -- there is one division into groups
@@ -213,3 +214,32 @@ pub group_added : (len : ℕ) (breaks : List LineBreak) (spans : List Span) (fir
     → AreGroups len breaks spans past rest → AreGroups len breaks spans 0 ((found ++ record { start = first; end = past } ∷ []) ++ rest)
 group_added len breaks spans first past found rest is ahead are =
     subst (AreGroups len breaks spans 0) (sym (append_assoc found (record { start = first; end = past } ∷ []) rest)) (ahead (record { start = first; end = past } ∷ rest) (refl, is, are))
+
+-- the next group of a division of the spans from a place on
+pub group_at : (len : ℕ) (breaks : List LineBreak) (spans : List Span) (groups : List (Range ℕ)) (k first past : ℕ) (none : Range ℕ)
+    → AreGroups len breaks spans first (drop k groups) → first < length spans → IsGroup len breaks spans first past
+    → (k < length groups) × (get_or groups k none ≡ record { start = first; end = past }) × AreGroups len breaks spans past (drop (k + 1) groups)
+group_at len breaks spans groups k first past none are more is =
+    let there : k < length groups =
+    ⊎_elim (λ lt. lt)
+    (λ ge. let done : first ≡ length spans = subst (AreGroups len breaks spans first) (drop_all k groups ge) are in absurd (omega (arith, done, more)))
+    (cases_lt k (length groups)) in
+    let g = get_or groups k none in
+    let here = subst (AreGroups len breaks spans first) (drop-cons groups k none there) are in
+    let end : g.end ≡ past = same_end len breaks spans first g.end past (subst (λ s. IsGroup len breaks spans s g.end) here.0 here.1) is in
+    let next : suc k ≡ k + 1 = omega arith in (
+      there,
+      same_range g (record { start = first; end = past }) here.0 end,
+      subst (λ n. AreGroups len breaks spans past (drop n groups)) next (subst (λ e. AreGroups len breaks spans e (drop (suc k) groups)) end here.2),
+    )
+
+-- where no span is left, no group is
+pub groups_at_end : (len : ℕ) (breaks : List LineBreak) (spans : List Span) (groups : List (Range ℕ)) (k first : ℕ)
+    → AreGroups len breaks spans first (drop k groups) → length spans ≤ first → length groups ≤ k
+groups_at_end len breaks spans groups k first are past =
+    let none : Range ℕ = record { start = 0; end = 0 } in
+    ⊎_elim
+    (λ lt.
+    let here = subst (AreGroups len breaks spans first) (drop-cons groups k none lt) are in
+    absurd (omega (arith, here.0, here.1.some, here.1.within, past)))
+    (λ ge. ge) (cases_lt k (length groups))

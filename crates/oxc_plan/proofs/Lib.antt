@@ -4,6 +4,7 @@ pub mod RowsLemmas
 pub mod BoundaryLemmas
 pub mod WidthLemmas
 pub mod AsciiLemmas
+pub mod FrontLemmas
 pub mod MarksLemmas
 pub mod PlaceLemmas
 pub mod PlanLemmas
@@ -15,3 +16,6 @@ pub mod ScannedLemmas
 pub mod ClustersLemmas
 pub mod MeasuringLemmas
 pub mod HangsLemmas
+pub mod GroupReadLemmas
+pub mod PlacedLemmas
+pub mod AloneLemmas

@@ -7,7 +7,7 @@ use Rattle.std.proofs.lemmas.Bool.Decides.{nat_tests}
 use Rattle.std.specs.List.Sorted.{ties, IsNonDecreasingBy, IsStableByKey}
 use Rattle.oxc_span.specs.declared.span.Span.{Span}
 use Rattle.oxc_span.specs.Label.{Label, label_end}
-use Rattle.oxc_plan.specs.Order.{no_label, label_at, start_at, starting_at, places, IsLabelOrder, inserted, ordered, label_order, span_of, spans_in_order}
+use Rattle.oxc_plan.specs.Order.{AreOrderedSpans, no_label, label_at, start_at, starting_at, places, IsLabelOrder, inserted, ordered, label_order, span_of, spans_in_order}
 
 kept : (p : ℕ → Bool) (y : ℕ) (ys : List ℕ) → p y ≡ true → filter p (y ∷ ys) ≡ y ∷ filter p ys
 kept p y ys h = cond-true _ _ _ h
@@ -190,3 +190,13 @@ spans_ascend labels i j d le lt =
     let f : ℕ → Span = λ at. span_of (label_at labels at) in
     let short : j < length order = rw length-map at lt in
     omega (arith, ap (λ s. s.start) (get_or-map f order i 0 d (omega arith)), ap (λ s. s.start) (get_or-map f order j 0 d short), (label_order_is labels).ascending i j 0 le short)
+
+pub ordered_spans : (len : ℕ) (labels : List Label) → All (λ l. label_end l ≤ len) labels → AreOrderedSpans len (spans_in_order labels)
+ordered_spans len labels all = record { ascend = spans_ascend labels; within = spans_valid len labels (spans_in_order labels) refl all }
+
+-- one label is in order
+pub one_in_order : (labels : List Label) (order : List ℕ) → length labels ≡ 1 → order ≡ 0 ∷ [] → order ≡ label_order labels
+unfolding label_order ordered inserted
+one_in_order [] order one is = absurd (omega (arith, one))
+one_in_order (label ∷ []) order one is = is
+one_in_order (label ∷ next ∷ more) order one is = absurd (omega (arith, one))

@@ -1,7 +1,9 @@
 -- Rows and columns counted in bytes that were read for a span.
-use Rattle.std.proofs.Common.{◌≡◌, ℕ, ◌+◌, ◌-◌, ◌<◌, ◌≤◌, ◌⊎◌, ◌&&◌, ◌||◌, not, true, false, List, length, get_or, take, drop, slice_range, min, sym, ap, ◌∙◌, arith, eqb, ⊎_elim, inl, inr}
-use Rattle.std.proofs.lemmas.Bool.{cases_lt}
+use Rattle.std.proofs.Common.{◌≡◌, ℕ, ◌+◌, ◌-◌, ◌<◌, ◌≤◌, ◌⊎◌, ◌&&◌, ◌||◌, not, true, false, List, length, get_or, take, drop, slice_range, min, sym, ap, ◌∙◌, arith, eqb, ⊎_elim, inl, inr, zero, suc}
+use Rattle.std.proofs.lemmas.Bool.{cases_Bool, cases_lt}
+use Rattle.std.proofs.lemmas.Bool.Decides.{nat_tests}
 use Rattle.std.proofs.lemmas.List.{get_or_past, length-take, length-drop}
+use Rattle.memchr.specs.Find.{Nowhere, Passes, is_byte2}
 use Rattle.oxc_windows.specs.Breaks.{breaks_of, ends_break}
 use Rattle.oxc_windows.specs.Rows.{row_of, row_start, settled}
 use Rattle.oxc_windows.specs.Window.{window_end}
@@ -87,6 +89,27 @@ pub read_after_other : (source : List ℕ) (span : Span) (bytes : List ℕ) (beg
     → row_of (breaks_of source) (at + 1) ≡ row_of (breaks_of source) at
 read_after_other source span bytes begin line at is from lt said =
     row_after_other source at (sym (read_ends source span bytes begin line at is from lt) ∙ said)
+
+-- a byte that is neither LF nor CR ends no break
+no_end : (a b : ℕ) → ¬ ((eqb a 10 || eqb a 13) ≡ true) → (eqb a 10 || eqb a 13 && not (eqb b 10)) ≡ false
+no_end a b other = elim (cases_Bool (eqb a 10 || eqb a 13)) [ inl said ↦ absurd (other said) | inr not_said ↦ grind (arith, nat_tests) ]
+
+-- no break ends before the next LF or CR
+pub read_to_next : (source : List ℕ) (span : Span) (bytes : List ℕ) (begin line at to stop : ℕ) → IsReadFor source span bytes begin line → at + stop ≤ to → begin + at + stop ≤ span.end
+    → Nowhere (Passes (is_byte2 10 13) (slice_range bytes at to)) 0 stop → row_of (breaks_of source) (begin + at + stop) ≡ row_of (breaks_of source) (begin + at)
+read_to_next source span bytes begin line at to zero is part within none = ap (row_of (breaks_of source)) (omega arith)
+read_to_next source span bytes begin line at to (suc n) is part within none =
+    let list = breaks_of source in
+    let next : begin + at + suc n ≡ begin + at + n + 1 = omega arith in
+    let place : begin + at + n - begin ≡ at + n = omega arith in
+    let byte : get_or (slice_range bytes at to) n 0 ≡ get_or bytes (at + n) 0 =
+    ap (λ k. get_or (slice_range bytes at to) k 0) (let back : n ≡ at + n - at = omega arith in back) ∙ part_at bytes at to (at + n) (omega arith) (omega (arith, part)) in
+    let other : ¬ ((eqb (get_or bytes (at + n) 0) 10 || eqb (get_or bytes (at + n) 0) 13) ≡ true) =
+    λ said. none n (omega arith) (omega arith) (ap (λ b. eqb b 10 || eqb b 13) byte ∙ said) in
+    let no : ends_break bytes (begin + at + n - begin) ≡ false = ap (ends_break bytes) place ∙ no_end (get_or bytes (at + n) 0) (get_or bytes (at + n + 1) 0) other in
+    ap (row_of list) next
+    ∙ read_after_other source span bytes begin line (begin + at + n) is (omega arith) (omega (arith, within)) no
+    ∙ read_to_next source span bytes begin line at to n is (omega (arith, part)) (omega (arith, within)) (λ k low high. none k low (omega (arith, high)))
 
 pub read_settled : (source : List ℕ) (span : Span) (bytes : List ℕ) (begin line at counted : ℕ) → IsReadFor source span bytes begin line → begin ≤ at → at ≤ span.end
     → (0 < at - begin → get_or bytes (at - begin - 1) 0 ≡ 13 → get_or bytes (at - begin) 0 ≡ 10 → counted ≡ at - 1)

@@ -14,8 +14,9 @@ use Rattle.std.specs.declared.ops.Range.{Range}
 use Rattle.oxc_span.specs.declared.span.Span.{Span}
 use Rattle.oxc_windows.specs.declared.breaks.LineBreak.{LineBreak}
 use Rattle.oxc_span.specs.Label.{Label}
-use Rattle.oxc_plan.specs.Groups.{AreGroups, HoldsItsSpans, group_window, largest_end, span_at, window_round}
+use Rattle.oxc_plan.specs.Groups.{AreGroups, HoldsItsSpans, group_window, groups_of, largest_end, span_at, window_round}
 use Rattle.oxc_plan.proofs.GroupsLemmas.{largest_end_reaches}
+use Rattle.oxc_plan.proofs.OrderLemmas.{one_in_order}
 use Rattle.oxc_plan.specs.Meets.{is_one_row, meets, multi_row_labels, one_row_labels}
 use Rattle.oxc_plan.specs.Marks.{cells_at, placed_marks}
 use Rattle.oxc_plan.specs.declared.marks.MarkCells.{MarkCells}
@@ -24,7 +25,7 @@ use Rattle.oxc_plan.specs.declared.hangs.Hang.{Hang}
 use Rattle.oxc_plan.specs.declared.labels.OrderedLabel.{OrderedLabel}
 use Rattle.oxc_plan.specs.declared.snippets.RowPlan.{RowPlan}
 use Rattle.oxc_plan.specs.Order.{label_at, label_order, spans_in_order}
-use Rattle.oxc_plan.specs.Plan.{Ordered, RowPlanView, SnippetView, bar_of, bars_of, ends_of, ends_with_text, gutter_of, hang_of, hangs_of, head_label, in_order, ordered_at, ordered_label, ordered_view, row_plan_of, row_plan_view, row_plans_of, snippet_of, spans_of}
+use Rattle.oxc_plan.specs.Plan.{snippets_of, Ordered, RowPlanView, SnippetView, bar_of, bars_of, ends_of, ends_with_text, gutter_of, hang_of, hangs_of, head_label, in_order, ordered_at, ordered_label, ordered_view, row_plan_of, row_plan_view, row_plans_of, snippet_of, spans_of}
 use Rattle.oxc_windows.specs.Breaks.{breaks_of}
 use Rattle.oxc_windows.specs.Rows.{place_of, row_of}
 use Rattle.oxc_windows.specs.Scan.{Contents, IsMeasured, contents_of}
@@ -74,7 +75,7 @@ total_pieces (b ∷ bytes) =
       | inr other ↦ rw other (omega (arith, total_with b (pieces bytes), total_pieces bytes))
     ]
 
-text_short : (piece : List ℕ) → length (row_text piece) ≤ length piece
+pub text_short : (piece : List ℕ) → length (row_text piece) ≤ length piece
 unfolding row_text
 text_short piece =
     elim (cases_Bool (ends_at piece (length piece) 10)) [
@@ -266,3 +267,24 @@ spans_count labels spans is = ap length is ∙ length-map (map ordered_view labe
 -- labels in label order, by their views
 pub spans_same : (labels : List Label) (ordered : List OrderedLabel) → map ordered_view ordered ≡ in_order labels → spans_of (map ordered_view ordered) ≡ spans_in_order labels
 spans_same labels ordered is = ap spans_of is ∙ spans_ordered labels
+
+-- labels at the places of label order stand in it
+pub ordered_are : (labels : List Label) (order : List ℕ) (found : List Ordered) → order ≡ label_order labels → found ≡ map (λ at. ordered_label (label_at labels at)) order → found ≡ in_order labels
+unfolding in_order
+ordered_are labels order found is made = made ∙ ap (map (λ at. ordered_label (label_at labels at))) is
+
+pub one_ordered : (labels : List Label) (label : Ordered) → length labels ≡ 1 → label ≡ ordered_label (label_at labels 0) → label ∷ [] ≡ in_order labels
+one_ordered labels label one is = ordered_are labels (0 ∷ []) (label ∷ []) (one_in_order labels (0 ∷ []) one refl) (ap (λ l. l ∷ []) is)
+
+-- the snippets of groups are those of the labels
+pub planned : (tab : ℕ) (source : List ℕ) (labels : List Label) (ordered : List Ordered) (spans : List Span) (plans : List SnippetView) → ordered ≡ in_order labels → spans ≡ spans_in_order labels
+    → plans ≡ map (snippet_of tab source ordered) (groups_of (length source) (breaks_of source) spans) → plans ≡ snippets_of tab source labels
+unfolding snippets_of
+planned tab source labels ordered spans plans is same made =
+    made ∙ ap (λ l. map (snippet_of tab source l) (groups_of (length source) (breaks_of source) spans)) is
+    ∙ ap (λ s. map (snippet_of tab source (in_order labels)) (groups_of (length source) (breaks_of source) s)) same
+
+-- the spans of labels are those of their views
+pub spans_taken : (labels one two : List OrderedLabel) (spans three : List Span) → one ≡ labels → two ≡ labels → three ≡ spans → spans ≡ map (λ l. l.span) one → three ≡ spans_of (map ordered_view two)
+spans_taken labels one two spans three e f g is =
+    g ∙ is ∙ ap (map (λ (l : OrderedLabel). l.span)) (e ∙ sym f) ∙ sym (map-map (λ (l : Ordered). l.span) ordered_view two)

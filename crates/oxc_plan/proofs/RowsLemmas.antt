@@ -6,7 +6,7 @@ use Rattle.std.proofs.lemmas.List.{take_all, drop_all, length-drop, length-take-
 use Rattle.std.proofs.lemmas.List.Sums.{fails_before_first, passes_at_first, position_or_len_is}
 use Rattle.memchr.specs.Find.{NoneBefore, Nowhere, Passes, is_byte}
 use Rattle.oxc_windows.proofs.Counting.{false_unless}
-use Rattle.oxc_plan.specs.Rows.{pieces, with_byte, first_len, row_of_piece, RowView, numbered}
+use Rattle.oxc_plan.specs.Rows.{pieces, with_byte, first_len, row_of_piece, RowView, numbered, rows_from}
 
 pub pieces-nil : pieces [] ≡ []
 unfolding pieces
@@ -67,22 +67,17 @@ rows_step : (above offset : ℕ) (bytes : List ℕ) → 0 < length bytes
 unfolding numbered
 rows_step above offset bytes some = rw (pieces_first bytes some) refl
 
--- one row more
-pub rows_more : (found : List RowView) (row : RowView) (above begin at : ℕ) (text rest piece : List ℕ) → at < length text → rest ≡ drop at text → piece ≡ take (first_len rest) rest
-    → row ≡ row_of_piece above (begin + at) piece
-    → (found ++ row ∷ []) ++ numbered (above + 1) (begin + (at + length piece)) (pieces (drop (at + length piece) text)) ≡ found ++ numbered above (begin + at) (pieces (drop at text))
-rows_more found row above begin at text rest piece lt is_rest is_piece is_row =
-    let some : 0 < length (drop at text) = rw length-drop (omega arith) in
-    let known : piece ≡ take (first_len (drop at text)) (drop at text) = is_piece ∙ ap (λ r. take (first_len r) r) is_rest in
-    let size : length piece ≡ first_len (drop at text) = ap length known ∙ length-take-le (first_len (drop at text)) (drop at text) (first_len_bounds (drop at text) some).1 in
-    let far : drop (at + length piece) text ≡ drop (first_len (drop at text)) (drop at text) = sym (drop-drop (length piece) at text) ∙ ap (λ n. drop n (drop at text)) size in
-    let place : begin + (at + length piece) ≡ begin + at + length piece = omega arith in
-    append_assoc found (row ∷ []) _
-    ∙ ap (λ r. found ++ (r ∷ numbered (above + 1) (begin + (at + length piece)) (pieces (drop (at + length piece) text)))) is_row
-    ∙ ap (λ n. found ++ (row_of_piece above (begin + at) piece ∷ numbered (above + 1) n (pieces (drop (at + length piece) text)))) place
-    ∙ ap (λ l. found ++ (row_of_piece above (begin + at) piece ∷ numbered (above + 1) (begin + at + length piece) (pieces l))) far
-    ∙ ap (λ q. found ++ (row_of_piece above (begin + at) q ∷ numbered (above + 1) (begin + at + length q) (pieces (drop (first_len (drop at text)) (drop at text))))) known
-    ∙ ap (λ l. found ++ l) (sym (rows_step above (begin + at) (drop at text) some))
+-- the rows of bytes are that of their first piece, and those of the others
+pub rows_cut : (row : RowView) (above offset : ℕ) (bytes piece rest : List ℕ) → 0 < length bytes → piece ≡ take (first_len bytes) bytes → row ≡ row_of_piece above offset piece
+    → rest ≡ drop (length piece) bytes → rows_from above offset bytes ≡ row ∷ rows_from (above + 1) (offset + length piece) rest
+rows_cut row above offset bytes piece rest some is_piece is_row is_rest =
+    let n = first_len bytes in
+    let size : length piece ≡ n = ap length is_piece ∙ length-take-le n bytes (first_len_bounds bytes some).1 in
+    rows_step above offset bytes some
+    ∙ ap (λ q. row_of_piece above offset q ∷ numbered (above + 1) (offset + length q) (pieces (drop n bytes))) (sym is_piece)
+    ∙ ap (λ r. r ∷ numbered (above + 1) (offset + length piece) (pieces (drop n bytes))) (sym is_row)
+    ∙ ap (λ k. row ∷ numbered (above + 1) (offset + length piece) (pieces (drop k bytes))) (sym size)
+    ∙ ap (λ l. row ∷ numbered (above + 1) (offset + length piece) (pieces l)) (sym is_rest)
 
 pub rows_none : (above offset : ℕ) (bytes : List ℕ) → length bytes ≡ 0 → numbered above offset (pieces bytes) ≡ []
 unfolding numbered

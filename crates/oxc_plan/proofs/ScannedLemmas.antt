@@ -9,11 +9,9 @@ use Rattle.oxc_windows.specs.Kept.{AllStay, AreKept, AreKeptUpTo, first_after}
 use Rattle.oxc_windows.specs.Scan.{IsSameReader, KeepsUpTo, Scan}
 use Rattle.oxc_windows.specs.Window.{first_row}
 use Rattle.oxc_windows.proofs.KeptLemmas.{all_stay_on}
+use Rattle.oxc_windows.proofs.TotalLemmas.{same_then}
 use Rattle.oxc_plan.specs.Keeping.{KeepsRows, ReadsOn}
 use Rattle.oxc_plan.specs.Scanned.{ReadsRound, ReadsTextRound}
-
-same_then : (a b c : Scan) → IsSameReader a b → IsSameReader b c → IsSameReader a c
-same_then a b c first then = record { input = then.input ∙ first.input; before = then.before ∙ first.before; after = then.after ∙ first.after }
 
 pub round_after : (a b : Scan) → ReadsOn a b → ReadsRound a → ReadsRound b
 round_after a b on round = record { before = on.same.before ∙ round.before; after = on.same.after ∙ round.after }

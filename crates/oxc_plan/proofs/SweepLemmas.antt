@@ -20,7 +20,7 @@ use Rattle.oxc_plan.specs.Meets.{Meets, is_one_row, is_multi_row, is_within, lab
 use Rattle.oxc_plan.specs.Order.{AreOrderedSpans}
 use Rattle.oxc_plan.specs.declared.rows.Row.{Row}
 use Rattle.oxc_plan.specs.Rows.{RowView, numbered, pieces, row_of_piece, row_view, rows_in}
-use Rattle.oxc_plan.specs.Sweep.{AscendIn, IsGroupAlone, MeetNoOthers, is_open}
+use Rattle.oxc_plan.specs.Sweep.{IsGroupAlone, MeetNoOthers, is_open}
 use Rattle.oxc_plan.proofs.GroupsLemmas.{begin_before, group_before, groups_apart, groups_hold, largest_end_reaches, largest_end_within}
 use Rattle.oxc_plan.proofs.PlanLemmas.{groups_within, rows_below}
 
@@ -110,33 +110,26 @@ multi_row_from row spans active same =
     let q : ℕ → Bool = λ at. not (is_within row.offset row.length (span_at spans at)) in
     filter_both p q active ∙ ap (filter q) same ∙ sym (filter_both p q (range_with_len 0 (length spans)))
 
--- where the row before begins, and 0 for the first
-unfoldable pub passed : List RowView → ℕ → ℕ
-passed rows i = get_or (0 ∷ map (λ row. row.offset) rows) i 0
-
-pub passed_le : (rows : List RowView) (i : ℕ) (d : RowView) → AscendIn rows → i < length rows → passed rows i ≤ (get_or rows i d).offset
-unfolding passed
-passed_le rows zero d ascend lt = omega arith
-passed_le rows (suc i) d ascend lt =
-    omega (arith, get_or-map (λ row. row.offset) rows i d 0 (omega arith), ascend i (suc i) d (omega arith) lt)
-
-pub passed_next : (rows : List RowView) (i : ℕ) (d : RowView) → i < length rows → passed rows (i + 1) ≡ (get_or rows i d).offset
-unfolding passed
-passed_next rows i d lt = let next : i + 1 ≡ suc i = omega arith in rw next (get_or-map (λ row. row.offset) rows i d 0 lt)
-
 -- the labels that are still open after more were opened, and those that end before the row were closed
-pub open_more : (spans : List Span) (first next to before offset : ℕ) (active opened closed : List ℕ) → first ≤ next → next ≤ to → before ≤ offset
-    → active ≡ filter (is_open spans before) (range_with_len first (next - first)) → opened ≡ active ++ range_with_len next (to - next) → closed ≡ filter (is_open spans offset) opened
+pub open_more : (spans : List Span) (first next to offset : ℕ) (active opened closed : List ℕ) → first ≤ next → next ≤ to
+    → filter (is_open spans offset) active ≡ filter (is_open spans offset) (range_with_len first (next - first))
+    → opened ≡ active ++ range_with_len next (to - next) → closed ≡ filter (is_open spans offset) opened
     → closed ≡ filter (is_open spans offset) (range_with_len first (to - first))
-open_more spans first next to before offset active opened closed low high later is_active is_opened is_closed =
+open_more spans first next to offset active opened closed low high is_active is_opened is_closed =
     let p = is_open spans offset in
-    let q = is_open spans before in
-    let so : (at : ℕ) → p at ≡ true → q at ≡ true = λ at h. lt-ltb before (label_past (span_at spans at)) (omega (arith, later, ltb-true offset (label_past (span_at spans at)) h)) in
     is_closed ∙ ap (filter p) is_opened ∙ filter-append p active (range_with_len next (to - next))
-    ∙ ap (λ l. filter p l ++ filter p (range_with_len next (to - next))) is_active
-    ∙ ap (λ l. l ++ filter p (range_with_len next (to - next))) (filter_within p q so (range_with_len first (next - first)))
+    ∙ ap (λ l. l ++ filter p (range_with_len next (to - next))) is_active
     ∙ sym (filter-append p (range_with_len first (next - first)) (range_with_len next (to - next)))
     ∙ ap (filter p) (sym (range_parts first next to low high))
+
+-- those that are open at a later place are among those that are open at an earlier one
+pub open_later : (spans : List Span) (offset later : ℕ) (all now_open : List ℕ) → offset ≤ later → now_open ≡ filter (is_open spans offset) all
+    → filter (is_open spans later) now_open ≡ filter (is_open spans later) all
+open_later spans offset later all now_open le is =
+    let p = is_open spans later in
+    let q = is_open spans offset in
+    let so : (at : ℕ) → p at ≡ true → q at ≡ true = λ at h. lt-ltb offset (label_past (span_at spans at)) (omega (arith, le, ltb-true later (label_past (span_at spans at)) h)) in
+    ap (filter p) is ∙ filter_within p q so all
 
 -- they are all that meet the row
 pub all_open : (spans : List Span) (group : Range ℕ) (row : RowView) (to : ℕ) (active : List ℕ) → IsNonDecreasingBy (λ span. span.start) spans
@@ -175,32 +168,23 @@ all_open spans group row to active ascend low high within stops alone is =
     ∙ sym (filter-append p (range_with_len 0 first) (range_with_len first (n - first)))
     ∙ ap (filter p) (sym front)
 
+-- no label outside a group meets the next row of it, nor those behind
+pub alone_head : (spans : List Span) (group : Range ℕ) (rows more : List RowView) (row : RowView) → MeetNoOthers spans group rows → rows ≡ row ∷ more
+    → (at : ℕ) → at < length spans → (at < group.start) ⊎ (group.end ≤ at) → ¬ Meets row.offset row.length (span_at spans at)
+alone_head spans group rows more row alone is at lt outside =
+    All-head (λ (r : RowView). ¬ Meets r.offset r.length (span_at spans at)) row more
+    (subst (All (λ (r : RowView). ¬ Meets r.offset r.length (span_at spans at))) is (alone at lt outside))
+
+pub alone_tail : (spans : List Span) (group : Range ℕ) (rows more : List RowView) (row : RowView) → MeetNoOthers spans group rows → rows ≡ row ∷ more → MeetNoOthers spans group more
+alone_tail spans group rows more row alone is = λ at lt outside.
+    All-tail (λ (r : RowView). ¬ Meets r.offset r.length (span_at spans at)) row more
+    (subst (All (λ (r : RowView). ¬ Meets r.offset r.length (span_at spans at))) is (alone at lt outside))
+
 -- one label more was opened
 pub range_more : (a b : ℕ) → a ≤ b → range_with_len a (b + 1 - a) ≡ range_with_len a (b - a) ++ b ∷ []
 range_more a b le =
     let one : b + 1 - b ≡ 1 = omega arith in
     range_parts a b (b + 1) le (omega arith) ∙ ap (λ n. range_with_len a (b - a) ++ range_with_len b n) one
-
--- what is open at a row of a group
-pub active_at : (spans : List Span) (group : Range ℕ) (rows : List Row) (i : ℕ) (d : Row) (next to : ℕ) (before opened closed : List ℕ) → i < length rows
-    → AscendIn (map row_view rows) → IsNonDecreasingBy (λ span. span.start) spans → MeetNoOthers spans group (map row_view rows)
-    → group.start ≤ next → next ≤ to → to ≤ group.end → group.end ≤ length spans
-    → (to < group.end → (get_or rows i d).offset + (get_or rows i d).length ≤ (span_at spans to).start)
-    → before ≡ filter (is_open spans (passed (map row_view rows) i)) (range_with_len group.start (next - group.start))
-    → opened ≡ before ++ range_with_len next (to - next) → closed ≡ filter (is_open spans (get_or rows i d).offset) opened
-    → (closed ≡ filter (is_open spans (passed (map row_view rows) (i + 1))) (range_with_len group.start (to - group.start)))
-    × (filter (λ at. meets (get_or rows i d).offset (get_or rows i d).length (span_at spans at)) closed ≡ meeting_labels (get_or rows i d).offset (get_or rows i d).length spans)
-active_at spans group rows i d next to before opened closed lt ascend rising alone low further high within stops is_before is_opened is_closed =
-    let views = map row_view rows in
-    let row = row_view (get_or rows i d) in
-    let there : i < length views = omega (arith, lt, length-map rows row_view) in
-    let same : get_or views i (row_view d) ≡ row = get_or-map row_view rows i d (row_view d) lt in
-    let offset : (get_or views i (row_view d)).offset ≡ row.offset = ap (λ (r : RowView). r.offset) same in
-    let is = open_more spans group.start next to (passed views i) row.offset before opened closed low further (omega (arith, passed_le views i (row_view d) ascend there, offset)) is_before is_opened is_closed in (
-      is ∙ ap (λ o. filter (is_open spans o) (range_with_len group.start (to - group.start))) (sym (passed_next views i (row_view d) there ∙ offset)),
-      all_open spans group row to closed rising (omega (arith, low, further)) high within stops
-          (λ at short outside. subst (λ (r : RowView). ¬ Meets r.offset r.length (span_at spans at)) same (alone at short outside i (row_view d) there)) is,
-    )
 
 -- the rows of bytes ascend from where the bytes begin
 rows_from_begin : (above offset : ℕ) (ps : List (List ℕ)) → All (λ row. offset ≤ row.offset) (numbered above offset ps)
@@ -209,14 +193,6 @@ rows_from_begin above offset [] = All-nil (λ row. offset ≤ row.offset)
 rows_from_begin above offset (p ∷ ps) =
     All-cons (λ row. offset ≤ row.offset) (row_of_piece above offset p) (numbered (above + 1) (offset + length p) ps) (omega arith)
     (λ k d lt. omega (arith, rows_from_begin (above + 1) (offset + length p) ps k d lt))
-
-pub rows_ascend : (above offset : ℕ) (ps : List (List ℕ)) → AscendIn (numbered above offset ps)
-unfolding numbered
-rows_ascend above offset [] i j d le lt = absurd (omega (arith, lt))
-rows_ascend above offset (p ∷ ps) zero zero d le lt = omega arith
-rows_ascend above offset (p ∷ ps) zero (suc j) d le lt = omega (arith, rows_from_begin (above + 1) (offset + length p) ps j d (omega (arith, lt)))
-rows_ascend above offset (p ∷ ps) (suc i) zero d le lt = absurd (omega arith)
-rows_ascend above offset (p ∷ ps) (suc i) (suc j) d le lt = rows_ascend (above + 1) (offset + length p) ps i j d (omega arith) (omega (arith, lt))
 
 -- a label of an earlier group ends before the window, or is an empty one at the source's end
 earlier_ends : (len : ℕ) (breaks : List LineBreak) (spans : List Span) (from : ℕ) (groups : List (Range ℕ)) (at : ℕ) → IsBreakList len breaks → AreOrderedSpans len spans

@@ -1,5 +1,7 @@
 -- What a scanner holds after the spans of labels were read.
 use Rattle.std.specs.Prelude.{◌≡◌, ℕ, ◌≤◌, List, length, Some, All}
+use Rattle.std.specs.declared.ops.Range.{Range}
+use Rattle.oxc_span.specs.declared.span.Span.{Span}
 use Rattle.oxc_span.specs.Label.{Label}
 use Rattle.oxc_windows.specs.Breaks.{breaks_of}
 use Rattle.oxc_windows.specs.Kept.{AllStay, AreKept, AreKeptUpTo}
@@ -27,6 +29,11 @@ pub record KeepsRows (source : List ℕ) (scan : Scan) (start stop : ℕ) : Type
   pub set : scan.first ≡ Some first
   pub rows : first ≤ start → AreKeptUpTo (length source) (breaks_of source) (first_row (breaks_of source) 1 first) scan.kept stop
 
+-- a scanner keeps every row start up to the end of the window of a group of spans, if the first span read starts no later
+abbrev pub KeepsGroup : List ℕ → List Span → Scan → Range ℕ → Type 0
+KeepsGroup source spans scan group =
+    KeepsRows source scan (span_at spans group.start).start (group_window (length source) (breaks_of source) spans group).end
+
 -- the least start of a label: that of the first one in label order
 abbrev pub least_start : List Label → ℕ
 least_start labels = (span_at (spans_in_order labels) 0).start
@@ -34,5 +41,4 @@ least_start labels = (span_at (spans_in_order labels) 0).start
 -- a scanner keeps every row start up to the end of the window of each group of labels that starts no earlier than the first span read
 abbrev pub KeepsGroups : List ℕ → List Label → Scan → Type 0
 KeepsGroups source labels scan =
-    All (λ group. KeepsRows source scan (span_at (spans_in_order labels) group.start).start (group_window (length source) (breaks_of source) (spans_in_order labels) group).end)
-    (groups_in source labels)
+    All (KeepsGroup source (spans_in_order labels) scan) (groups_in source labels)

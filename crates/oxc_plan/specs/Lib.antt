@@ -5,10 +5,12 @@ pub mod Meets
 pub mod Width
 pub mod Columns
 pub mod Marks
+pub mod Placed
 pub mod Plan
 pub mod Laws
 pub mod Scanned
 pub mod Sweep
 pub mod Drawable
 pub mod Keeping
+pub mod GroupRead
 pub mod Measuring

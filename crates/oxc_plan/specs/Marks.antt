@@ -40,6 +40,10 @@ unfoldable pub placed_marks : ℕ → List LabelCells → List MarkCells
 placed_marks before [] = []
 placed_marks before (cells ∷ more) = mark_of before cells ∷ placed_marks (mark_end before cells) more
 
+-- the placed marks of the labels at these places of spans in label order
+abbrev pub marks_at : ℕ → RowView → List Span → List ℕ → List MarkCells
+marks_at tab row spans places = placed_marks 0 (cells_at tab row spans places)
+
 -- the cells of a row's one-row labels, and their marks
 abbrev pub row_cells : ℕ → RowView → List Span → List LabelCells
 row_cells tab row spans = cells_at tab row spans (one_row_labels row.offset row.length spans)

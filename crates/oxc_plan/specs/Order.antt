@@ -53,7 +53,11 @@ spans_in_order labels = map (λ at. span_of (label_at labels at)) (label_order l
 abbrev pub HasOneOrder : List Label → Type 0
 HasOneOrder labels = (xs ys : List ℕ) → IsLabelOrder labels xs → IsLabelOrder labels ys → xs ≡ ys
 
+-- spans that don't end before they start, nor past a length
+abbrev pub LieWithin : ℕ → List Span → Type 0
+LieWithin len spans = All (λ span. (span.start ≤ span.end) × (span.end ≤ len)) spans
+
 -- spans whose starts ascend, none of which ends before it starts or past a length
 pub record AreOrderedSpans (len : ℕ) (spans : List Span) : Type 0 where
   pub ascend : IsNonDecreasingBy (λ span. span.start) spans
-  pub within : All (λ span. (span.start ≤ span.end) × (span.end ≤ len)) spans
+  pub within : LieWithin len spans

@@ -1,6 +1,6 @@
 -- The plan of a report's snippets: which rows, which bars and marks on them, which texts hang where. Labels stand in
 -- label order, and each is named by its place in it.
-use Rattle.std.specs.Prelude.{ℕ, ◌+◌, ◌==◌, ◌&&◌, not, nat_le, Bool, false, List, length, map, filter, fold, max, Option, Some, None, slice_index_or, slice_range, if◌then◌else◌}
+use Rattle.std.specs.Prelude.{ℕ, ◌+◌, ◌==◌, ◌&&◌, not, nat_le, Bool, false, List, [], length, map, filter, fold, max, Option, Some, None, slice_index_or, slice_range, if◌then◌else◌}
 use Rattle.std.specs.List.{filter_map, find}
 use Rattle.std.specs.Option.{is_some, option_copied, unwrap_or}
 use Rattle.std.specs.declared.ops.Range.{Range}
@@ -124,6 +124,10 @@ row_plan_of tab labels row =
       hangs = hangs_of row labels;
       ends = ends_of row labels;
     }
+
+-- the plan of a row that no label meets
+abbrev pub bare_plan : RowView → RowPlanView
+bare_plan row = record { row = row; bars = []; marks = []; hangs = []; ends = [] }
 
 -- the label at whose start a group's head points: the first primary one, else the first
 unfoldable pub head_label : List Ordered → Range ℕ → Ordered

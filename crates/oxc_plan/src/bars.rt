@@ -61,7 +61,8 @@ pub fn bars_at(
     places: &[usize],
 ) -> Result<Vec<Bar>, AllocError>
     requires { row.now.offset + row.now.length < 2 ^ 32 }
-    ensures { IfOk result (λ bars. bars.items ≡ map (bar_of (row_view row.now) (map ordered_view labels.now)) places.now) }
+    ensures { IfOk result (λ bars. bars.items
+        ≡ map (bar_of (row_view row.now) (map ordered_view labels.now)) places.now) }
 {
     let bars = places
         .iter()
@@ -88,7 +89,10 @@ pub fn ends_at(
     places: &[usize],
 ) -> Result<Vec<usize>, AllocError>
     requires { row.now.offset + row.now.length < 2 ^ 32 }
-    ensures { IfOk result (λ ends. ends.items ≡ filter (λ at. ends_with_text (row_view row.now) (ordered_at (map ordered_view labels.now) at)) places.now) }
+    ensures { IfOk result (λ ends. ends.items
+        ≡ filter
+        (λ at. ends_with_text (row_view row.now) (ordered_at (map ordered_view labels.now) at))
+        places.now) }
 {
     let ends = places
         .iter()

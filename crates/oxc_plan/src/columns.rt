@@ -1,9 +1,11 @@
 //! Columns: how many a text takes when it is drawn, and in which one an offset of a row stands.
-ghost use Rattle.std.specs.Prelude.{◌≡◌, ◌==◌, ◌||◌, All, IsTrue, false, ◌+◌, ◌*◌, ◌^◌, ◌<◌, ◌≤◌, fold, length, if◌then◌else◌};
-ghost use Rattle.std.specs.Str.{IsCharBoundary};
+ghost use Rattle.std.specs.Prelude.{◌≡◌, ◌↔◌, ◌==◌, ◌||◌, ◌+◌, ◌*◌, ◌^◌, ◌<◌, ◌≤◌, if◌then◌else◌};
+ghost use Rattle.std.specs.Prelude.{All, IfSome, IsSome, IsTrue, false, true, fold, length, take};
+ghost use Rattle.std.specs.Str.{IsAscii, IsCharBoundary};
 ghost use Rattle.oxc_plan.specs.Rows.{row_view};
 ghost use Rattle.oxc_plan.specs.Width.{advance_of, led, moved, pen_after, text_width};
-ghost use Rattle.oxc_plan.specs.Columns.{HasColumnsAsDrawn, boundary_down, boundary_up, column_at, column_in};
+ghost use Rattle.oxc_plan.specs.Columns.{HasColumnsAsDrawn, boundary_down, boundary_up};
+ghost use Rattle.oxc_plan.specs.Columns.{column_at, column_in};
 
 use crate::rows::Row;
 use crate::tabs::TabWidth;
@@ -13,9 +15,9 @@ use unicode_width::UnicodeWidthStr;
 
 /// The column of an offset of the source in a row, from 0, as the start of a mark or as its end.
 ///
-/// It is the number of columns of the row's text before the offset, measured alone. Inside a character a start goes
-/// down to the character's first byte and an end goes up past its last. Past the row's text it is one more than the
-/// columns of the whole text.
+/// It is the number of columns of the row's text before the offset, measured alone. Inside a
+/// character a start goes down to the character's first byte and an end goes up past its last. Past
+/// the row's text it is one more than the columns of the whole text.
 pub fn column_of(row: &Row<'_>, offset: usize, at_start: bool, tabs: TabWidth) -> usize
     requires from { row.now.offset ≤ offset }
     requires fits { length row.now.text.now < 4294967295 }
@@ -24,35 +26,75 @@ pub fn column_of(row: &Row<'_>, offset: usize, at_start: bool, tabs: TabWidth) -
     column_in(row.text, offset - row.offset, at_start, tabs)
 }
 
-/// The law that in a row of ASCII the drawn text before an offset, escapes aside, has as many characters as the
-/// offset's column, for any distance of the tab stops. It does nothing: a caller calls it to know the law.
+/// The law that in a row of ASCII the drawn text before an offset, escapes aside, has as many
+/// characters as the offset's column, for any distance of the tab stops. It does nothing: a caller
+/// calls it to know the law.
 pub fn columns_as_drawn(_row: &Row<'_>, _tab: usize)
     ensures { HasColumnsAsDrawn _tab (row_view _row.now) }
 {}
 
-/// The column of a place in a text.
+/// The column of an offset in a text.
 #[tactic(auto, unfolding(crate::specs::Columns::column_in))]
-fn column_in(text: &str, place: usize, at_start: bool, tabs: TabWidth) -> usize
+fn column_in(text: &str, offset: usize, at_start: bool, tabs: TabWidth) -> usize
     requires fits { length text.now < 2 ^ 32 }
-    ensures { result ≡ column_in tabs text.now place at_start }
+    ensures { result ≡ column_in tabs text.now offset at_start }
 {
-    if place > text.len() {
+    if offset > text.len() {
         return text_width(text, tabs) + 1;
     }
-    text_width(&text[..boundary_near(text, place, at_start)], tabs)
+    text_width(&text[..boundary_near(text, offset, at_start)], tabs)
 }
 
-/// The boundary of a text next to a place: below it for a start, and above it for an end.
-pub fn boundary_near(text: &str, place: usize, at_start: bool) -> usize
-    requires { place ≤ length text.now }
-    ensures exact { result ≡ (if at_start then boundary_down text.now place else boundary_up text.now place) }
+/// The columns of two offsets in a text, that of a start and that of an end, where all before the
+/// end is of ASCII.
+pub fn ascii_columns(text: &str, start: usize, end: usize, tabs: TabWidth) -> Option<(usize, usize)>
+    requires ordered { start ≤ end }
+    requires fits { length text.now < 2 ^ 32 }
+    ensures given { IsAscii (take end text.now) → IsSome result }
+    ensures first { IfSome result (λ columns. columns.0 ≡ column_in tabs text.now start true) }
+    ensures past { IfSome result (λ columns. columns.1 ≡ column_in tabs text.now end false) }
+    ensures few { IfSome result (λ columns. (columns.0 < 2 ^ 38) × (columns.1 < 2 ^ 38)) }
+{
+    let front = &text.as_bytes()[..end.min(text.len())];
+    if end == front.len() && is_printable(front) {
+        return Some((start, end));
+    }
+    if !front.is_ascii() {
+        return None;
+    }
+    let before = start.min(front.len());
+    let at_start = pen_over(AT_MARGIN, &front[..before], tabs);
+    let at_end = pen_over(at_start, &front[before..], tabs);
+    Some((
+        at_start.column + usize::from(start > before),
+        at_end.column + usize::from(end > front.len()),
+    ))
+}
+
+/// Whether all bytes are characters of ASCII that take a column each.
+fn is_printable(bytes: &[u8]) -> bool
+    ensures { IsTrue result ↔ All (λ byte. (0x20 ≤ byte) × (byte ≤ 0x7E)) bytes.now }
+{
+    for byte in bytes {
+        if *byte < b' ' || *byte > b'~' {
+            return false;
+        }
+    }
+    true
+}
+
+/// The boundary of a text next to an offset: below it for a start, and above it for an end.
+pub fn boundary_near(text: &str, offset: usize, at_start: bool) -> usize
+    requires { offset ≤ length text.now }
+    ensures exact { result
+        ≡ (if at_start then boundary_down text.now offset else boundary_up text.now offset) }
     ensures boundary { IsCharBoundary text.now result }
     ensures within { result ≤ length text.now }
 {
     if at_start {
-        text.floor_char_boundary(place)
+        text.floor_char_boundary(offset)
     } else {
-        text.ceil_char_boundary(place)
+        text.ceil_char_boundary(offset)
     }
 }
 

@@ -3,23 +3,26 @@ ghost use Rattle.std.specs.Prelude.{◌≡◌, ◌+◌, ◌<◌, ◌≤◌, IfOk
 ghost use Rattle.std.specs.Option.{unwrap_or};
 ghost use Rattle.oxc_windows.specs.Breaks.{breaks_of};
 ghost use Rattle.oxc_windows.specs.Scan.{IsSameReader};
-ghost use Rattle.oxc_plan.specs.Groups.{AreApartIn, AreGroups, AreGroupsIn, HasOneGrouping, HoldTheirLabels, IsGroup, group_window, groups_in, joint_window, span_at, window_round};
-ghost use Rattle.oxc_plan.specs.Keeping.{KeepsGroups, KeepsRows, ReadsOn, least_start};
-ghost use Rattle.oxc_plan.specs.Order.{AreOrderedSpans};
+ghost use Rattle.oxc_plan.specs.GroupRead.{IsGroupFrom, IsReadTogether};
+ghost use Rattle.oxc_plan.specs.Groups.{AreApartIn, AreGroups, AreGroupsIn, HasOneGrouping};
+ghost use Rattle.oxc_plan.specs.Groups.{HoldTheirLabels, groups_in, span_at, window_round};
+ghost use Rattle.oxc_plan.specs.Keeping.{KeepsGroup, KeepsGroups, ReadsOn, least_start};
+ghost use Rattle.oxc_plan.specs.Order.{LieWithin};
 ghost use Rattle.oxc_plan.specs.Scanned.{CanGroup, ReadsRound};
 
 use crate::order::spans_in_order;
 use crate::reading::read;
 use oxc_span::{LabeledSpan, Span};
-use oxc_windows::{LineBreak, SpanScanner};
+use oxc_windows::{LineBreak, SpanContents, SpanScanner};
 use std::alloc::{AllocError, Global};
 use std::ops::Range;
 
 /// The labels that share a snippet, as ranges of places in label order.
 ///
-/// A group begins with one label. The next label in order joins while its window begins no later than the row that
-/// the first row and the line count of the group's window together give. A group's window goes from its first start to
-/// its largest end. The scanner reads one row of context before and one after, and every label ends within its input.
+/// A group begins with one label. The next label in order joins while its window begins no later
+/// than the row that the first row and the line count of the group's window together give. A
+/// group's window goes from its first start to its largest end. The scanner reads one row of
+/// context before and one after, and every label ends within its input.
 ///
 /// # Errors
 ///
@@ -37,7 +40,8 @@ pub fn groups<'a>(
     ensures unchanged { IsSameReader scanner.old scanner.new }
     // what the scanner holds
     ensures stays { ReadsOn scanner.old scanner.new }
-    ensures first { OnOk result (0 < length labels.now → scanner.new.first ≡ Some (unwrap_or scanner.old.first (least_start labels.now))) }
+    ensures first { OnOk result (0 < length labels.now
+        → scanner.new.first ≡ Some (unwrap_or scanner.old.first (least_start labels.now))) }
     ensures keeps { OnOk result (KeepsGroups scanner.old.input labels.now scanner.new) }
 {
     let spans = spans_in_order(alloc, labels)?;
@@ -45,8 +49,8 @@ pub fn groups<'a>(
     Ok(found)
 }
 
-/// The law that spans in label order have one division into groups, over a source of that length with these breaks.
-/// It does nothing: a caller calls it to know the law.
+/// The law that spans in label order have one division into groups, over a source of that length
+/// with these breaks. It does nothing: a caller calls it to know the law.
 pub fn one_grouping(_len: usize, _breaks: &[LineBreak], _spans: &[Span])
     ensures { HasOneGrouping _len _breaks.now _spans.now }
 {}
@@ -58,63 +62,94 @@ fn groups_of_spans<'a>(
     spans: &[Span],
 ) -> Result<Vec<Range<usize>>, AllocError>
     requires round { ReadsRound scanner.old }
-    requires within { All (λ span. (span.start ≤ span.end) × (span.end ≤ length scanner.old.input)) spans.now }
-    ensures groups { IfOk result (λ found. AreGroups (length scanner.old.input) (breaks_of scanner.old.input) spans.now 0 found.items) }
+    requires within { LieWithin (length scanner.old.input) spans.now }
+    ensures groups { IfOk result (λ found. AreGroups (length scanner.old.input)
+        (breaks_of scanner.old.input) spans.now 0 found.items) }
     ensures stays { ReadsOn scanner.old scanner.new }
-    ensures first { OnOk result (0 < length spans.now → scanner.new.first ≡ Some (unwrap_or scanner.old.first (span_at spans.now 0).start)) }
-    ensures keeps { IfOk result (λ found. All (λ group. KeepsRows scanner.old.input scanner.new (span_at spans.now group.start).start (group_window (length scanner.old.input) (breaks_of scanner.old.input) spans.now group).end) found.items) }
+    ensures first { OnOk result (0 < length spans.now
+        → scanner.new.first ≡ Some (unwrap_or scanner.old.first (span_at spans.now 0).start)) }
+    ensures keeps { IfOk result (λ found.
+        All (KeepsGroup scanner.old.input spans.now scanner.new) found.items) }
 {
     let mut found = Vec::new(alloc);
     let mut first = 0;
     while first < spans.len() {
-        let past = group_end(scanner, spans, first)?;
-        found.push(first..past)?;
-        first = past;
+        let group = group_read(scanner, spans, first)?;
+        found.push(first..group.places.end)?;
+        first = group.places.end;
     }
     Ok(found)
 }
 
-/// One past the last span of the group that begins with the span at `first`.
-fn group_end<'a>(
+/// A group of spans in label order, and what the scanner read for it.
+#[derive(Drop)]
+pub struct GroupRead<'a> {
+    /// The places of its spans.
+    pub places: Range<usize>,
+    /// What they span together: from the first start to the largest end.
+    pub span: Span,
+    /// The window round that.
+    pub contents: SpanContents<'a>,
+}
+
+impl<'a> GroupRead<'a> {
+    /// Joins the next span to the group. It is read anew only where it grows.
+    fn join_next(&mut self, scanner: &mut SpanScanner<'a>, spans: &[Span]) -> Result<(), AllocError>
+        requires round { ReadsRound scanner.old }
+        requires within { LieWithin (length scanner.old.input) spans.now }
+        requires some { self.old.places.start < self.old.places.end }
+        requires more { self.old.places.end < length spans.now }
+        requires read { IsReadTogether scanner.old.input spans.now self.old }
+        requires keeps { KeepsGroup scanner.old.input spans.now scanner.old self.old.places }
+        ensures start { self.new.places.start ≡ self.old.places.start }
+        ensures end { self.new.places.end ≡ self.old.places.end + 1 }
+        ensures read { OnOk result (IsReadTogether scanner.old.input spans.now self.new) }
+        ensures keeps { OnOk result
+            (KeepsGroup scanner.old.input spans.now scanner.new self.new.places) }
+        ensures stays { ReadsOn scanner.old scanner.new }
+    {
+        let end = spans[self.places.end].end;
+        self.places.end += 1;
+        if end <= self.span.end {
+            return Ok(());
+        }
+        self.span.end = end;
+        self.contents = read(scanner, self.span)?;
+        Ok(())
+    }
+}
+
+/// The group that begins with the span at `first`.
+pub fn group_read<'a>(
     scanner: &mut SpanScanner<'a>,
     spans: &[Span],
     first: usize,
-) -> Result<usize, AllocError>
+) -> Result<GroupRead<'a>, AllocError>
     requires round { ReadsRound scanner.old }
-    requires within { All (λ span. (span.start ≤ span.end) × (span.end ≤ length scanner.old.input)) spans.now }
+    requires within { LieWithin (length scanner.old.input) spans.now }
     requires some { first < length spans.now }
-    ensures group { IfOk result (λ past. IsGroup (length scanner.old.input) (breaks_of scanner.old.input) spans.now first past) }
+    ensures group { IfOk result (IsGroupFrom scanner.old.input spans.now first) }
     ensures stays { ReadsOn scanner.old scanner.new }
-    ensures first { OnOk result (scanner.new.first ≡ Some (unwrap_or scanner.old.first (span_at spans.now first).start)) }
-    ensures keeps { IfOk result (λ past. KeepsRows scanner.old.input scanner.new (span_at spans.now first).start (joint_window (length scanner.old.input) (breaks_of scanner.old.input) spans.now first past).end) }
+    ensures first { OnOk result (scanner.new.first
+        ≡ Some (unwrap_or scanner.old.first (span_at spans.now first).start)) }
+    ensures keeps { IfOk result (λ group.
+        KeepsGroup scanner.old.input spans.now scanner.new group.places) }
 {
-    let mut joint = spans[first];
-    let mut reach = reach_of(scanner, joint)?;
-    let mut past = first + 1;
-    while past < spans.len() {
-        if reach < line_of(scanner, spans[past])? {
-            return Ok(past);
-        }
-        joint.end = joint.end.max(spans[past].end);
-        reach = reach_of(scanner, joint)?;
-        past += 1;
-    }
-    Ok(past)
-}
-
-/// The first row of a span's window and its line count together.
-fn reach_of<'a>(scanner: &mut SpanScanner<'a>, span: Span) -> Result<usize, AllocError>
-    requires round { ReadsRound scanner.old }
-    requires ordered { span.start ≤ span.end }
-    requires within { span.end ≤ length scanner.old.input }
-    ensures reach { let window = window_round scanner.old.input span in
-        IfOk result (λ reach. reach ≡ window.line + window.line_count) }
-    ensures stays { ReadsOn scanner.old scanner.new }
-    ensures first { OnOk result (scanner.new.first ≡ Some (unwrap_or scanner.old.first span.start)) }
-    ensures keeps { OnOk result (KeepsRows scanner.old.input scanner.new span.start (window_round scanner.old.input span).end) }
-{
+    let span = spans[first];
     let contents = read(scanner, span)?;
-    Ok(contents.line() + contents.line_count())
+    let mut group = GroupRead {
+        places: first..first + 1,
+        span,
+        contents,
+    };
+    while group.places.end < spans.len() {
+        let reach = group.contents.line() + group.contents.line_count();
+        if reach < line_of(scanner, spans[group.places.end])? {
+            return Ok(group);
+        }
+        group.join_next(scanner, spans)?;
+    }
+    Ok(group)
 }
 
 /// The first row of a span's window.

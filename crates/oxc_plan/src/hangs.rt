@@ -1,5 +1,6 @@
 //! The texts that hang below a row.
-ghost use Rattle.std.specs.Prelude.{◌≡◌, ◌<◌, ◌≤◌, ◌==◌, IfOk, length, map, slice_index, if◌then◌else◌};
+ghost use Rattle.std.specs.Prelude.{[], ◌∷◌, ◌≡◌, ℕ, ◌<◌, ◌≤◌, ◌==◌, if◌then◌else◌};
+ghost use Rattle.std.specs.Prelude.{IfOk, length, map, slice_index};
 ghost use Rattle.std.specs.List.{filter_map, find};
 ghost use Rattle.std.specs.List.Sorted.{IsNonDecreasingBy};
 ghost use Rattle.std.specs.Option.{option_copied};
@@ -38,7 +39,8 @@ fn is_like(a: OrderedLabel<'_>, b: OrderedLabel<'_>) -> bool
 
 /// The first of these places whose label is equal in text and span to that at a place.
 fn first_like(labels: &[OrderedLabel<'_>], places: &[usize], at: usize) -> Option<usize>
-    ensures { result ≡ find (λ other. is_like (ordered_at (map ordered_view labels.now) other) (ordered_at (map ordered_view labels.now) at)) places.now }
+    ensures { let ordered = map ordered_view labels.now in
+        result ≡ find (λ k. is_like (ordered_at ordered k) (ordered_at ordered at)) places.now }
 {
     let label = ordered_at(labels, at);
     places
@@ -68,7 +70,8 @@ pub fn hangs_at(
     places: &[usize],
 ) -> Result<Vec<Hang>, AllocError>
     requires { IsNonDecreasingBy (start_in (map ordered_view labels.now)) places.now }
-    ensures { IfOk result (λ hangs. hangs.items ≡ filter_map (hang_of (map ordered_view labels.now) places.now) places.now) }
+    ensures { let ordered = map ordered_view labels.now in
+        IfOk result (λ hangs. hangs.items ≡ filter_map (hang_of ordered places.now) places.now) }
 {
     let mut hangs = Vec::new(alloc);
     let mut run = 0;
@@ -82,12 +85,29 @@ pub fn hangs_at(
     Ok(hangs)
 }
 
-/// Where the places begin whose labels start with that of place `i`, given where those of the place before begin. Only
-/// such labels can be equal.
+/// The text of the label at a place of label order, where no other label lies within the row.
+pub fn hang_alone(
+    alloc: Global,
+    labels: &[OrderedLabel<'_>],
+    at: usize,
+) -> Result<Vec<Hang>, AllocError>
+    ensures { let ordered = map ordered_view labels.now in
+        IfOk result (λ hangs. hangs.items ≡ filter_map (hang_of ordered (at ∷ [])) (at ∷ [])) }
+{
+    if ordered_at(labels, at).text.is_none() {
+        return Ok(Vec::new(alloc));
+    }
+    Vec::from_slice(alloc, &[Hang { label: at, at }])
+}
+
+/// Where the places begin whose labels start with that of place `i`, given where those of the place
+/// before begin. Only such labels can be equal.
 fn run_at(labels: &[OrderedLabel<'_>], places: &[usize], run: usize, i: usize) -> usize
     requires from { run ≤ i }
     requires within { i < length places.now }
-    ensures { result ≡ (if start_in (map ordered_view labels.now) (slice_index places.now run) == start_in (map ordered_view labels.now) (slice_index places.now i) then run else i) }
+    ensures { let ordered = map ordered_view labels.now in
+        let start = λ (k : ℕ). start_in ordered (slice_index places.now k) in
+        result ≡ (if start run == start i then run else i) }
 {
     if ordered_at(labels, places[run]).span.start == ordered_at(labels, places[i]).span.start {
         run

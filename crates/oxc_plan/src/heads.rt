@@ -8,6 +8,7 @@ ghost use Rattle.oxc_plan.specs.Groups.{window_round};
 ghost use Rattle.oxc_plan.specs.Plan.{head_label, ordered_view};
 
 use crate::labels::{OrderedLabel, ordered_at};
+use memchr::memchr2;
 use oxc_span::Span;
 use oxc_windows::{SpanContents, SpanScanner};
 use std::ops::Range;
@@ -19,6 +20,9 @@ pub fn head_label<'a>(labels: &[OrderedLabel<'a>], group: &Range<usize>) -> Orde
     requires within { group.now.end ≤ length labels.now }
     ensures { ordered_view result ≡ head_label (map ordered_view labels.now) group.now }
 {
+    if let [label] = &labels[group.start..group.end] {
+        return *label;
+    }
     match first_primary(&labels[group.start..group.end]) {
         Some(label) => label,
         None => ordered_at(labels, group.start),
@@ -39,11 +43,13 @@ pub fn place_in<'a>(
     span: Span,
     offset: usize,
 ) -> (usize, usize)
-    requires known { contents.now ≡ contents_of scanner.now.input (window_round scanner.now.input span) }
+    requires known { contents.now
+        ≡ contents_of scanner.now.input (window_round scanner.now.input span) }
     requires from { contents.now.span.start ≤ offset }
     requires upto { offset ≤ span.end }
     requires within { span.end ≤ length scanner.now.input }
-    ensures place { let place = place_of (length scanner.now.input) (breaks_of scanner.now.input) offset in
+    ensures place { let source = scanner.now.input in
+        let place = place_of (length source) (breaks_of source) offset in
         result ≡ (place.row, place.column) }
     ensures few { (result.0 ≤ offset) × (result.1 ≤ offset) }
 {
@@ -51,11 +57,14 @@ pub fn place_in<'a>(
     let begin = contents.span().start as usize;
     let mut row = contents.line();
     let mut start = begin;
-    for at in begin..offset {
-        if ends_break(bytes, at - begin) {
+    let mut at = 0;
+    while let Some(found) = memchr2(b'\n', b'\r', &bytes[at..offset - begin]) {
+        at += found;
+        if ends_break(bytes, at) {
             row += 1;
-            start = at + 1;
+            start = begin + at + 1;
         }
+        at += 1;
     }
     (row, settled(bytes, begin, offset).saturating_sub(start))
 }
@@ -72,8 +81,15 @@ fn ends_break(bytes: &[u8], at: usize) -> bool
 fn settled(bytes: &[u8], begin: usize, offset: usize) -> usize
     requires from { begin ≤ offset }
     requires upto { offset ≤ begin + length bytes.now }
-    ensures pair { 0 < offset - begin → slice_index bytes.now (offset - begin - 1) ≡ 13 → slice_index bytes.now (offset - begin) ≡ 10 → result ≡ offset - 1 }
-    ensures other { (0 < offset - begin → slice_index bytes.now (offset - begin - 1) ≡ 13 → slice_index bytes.now (offset - begin) ≡ 10 → ⊥) → result ≡ offset }
+    ensures pair { 0 < offset - begin
+        → slice_index bytes.now (offset - begin - 1) ≡ 13
+        → slice_index bytes.now (offset - begin) ≡ 10
+        → result ≡ offset - 1 }
+    ensures other { (0 < offset - begin
+        → slice_index bytes.now (offset - begin - 1) ≡ 13
+        → slice_index bytes.now (offset - begin) ≡ 10
+        → ⊥)
+        → result ≡ offset }
     ensures bound { result ≤ offset }
 {
     let at = offset - begin;

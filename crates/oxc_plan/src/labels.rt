@@ -2,9 +2,8 @@
 ghost use Rattle.std.specs.Prelude.{◌≡◌, ◌≤◌, IfOk, map, All};
 ghost use Rattle.oxc_plan.specs.Groups.{span_at};
 ghost use Rattle.oxc_plan.specs.Order.{label_at};
-ghost use Rattle.oxc_plan.specs.Plan.{in_order, ordered_at, ordered_label, ordered_view};
+ghost use Rattle.oxc_plan.specs.Plan.{ordered_at, ordered_label, ordered_view};
 
-use crate::order::label_order;
 use oxc_span::{LabeledSpan, Span};
 use std::alloc::{AllocError, Global};
 
@@ -26,23 +25,24 @@ const NO_LABEL: OrderedLabel<'static> = OrderedLabel {
     is_primary: false,
 };
 
-/// Labels in label order.
-pub fn labels_in_order<'a>(
+/// The labels at places, as they are handed on.
+pub fn labels_at<'a>(
     alloc: Global,
     labels: &'a [LabeledSpan],
+    places: &[usize],
 ) -> Result<Vec<OrderedLabel<'a>>, AllocError>
-    ensures { IfOk result (λ found. map ordered_view found.items ≡ in_order labels.now) }
+    ensures { IfOk result (λ found. map ordered_view found.items
+        ≡ map (λ at. ordered_label (label_at labels.now at)) places.now) }
 {
-    let order = label_order(alloc, labels)?;
-    let mut found = Vec::new(alloc);
-    for at in &order {
+    let mut found = Vec::with_capacity(alloc, places.len())?;
+    for at in places {
         found.push(ordered_label(labels, *at))?;
     }
     Ok(found)
 }
 
 /// The label at a place, as it is handed on.
-fn ordered_label<'a>(labels: &'a [LabeledSpan], at: usize) -> OrderedLabel<'a>
+pub fn ordered_label<'a>(labels: &'a [LabeledSpan], at: usize) -> OrderedLabel<'a>
     ensures { ordered_view result ≡ ordered_label (label_at labels.now at) }
 {
     match labels.get(at) {

@@ -20,7 +20,8 @@ fn row_of(text: &str) -> Row<'_>
     }
 }
 
-/// The text of a row, an offset, whether it is a start, how many columns the tab stops are apart, and its column.
+/// The text of a row, an offset, whether it is a start, how many columns the tab stops are apart,
+/// and its column.
 type Example = (&'static str, usize, bool, usize, usize);
 
 const COLUMNS: [Example; 15] = [

@@ -1,13 +1,16 @@
 //! The marks under a row: which labels meet it, and the cells in which they are marked.
-ghost use Rattle.std.specs.Prelude.{◌≡◌, ◌+◌, ◌^◌, ◌<◌, ◌≤◌, ◌↔◌, IfOk, IsTrue, true, length, All};
-ghost use Rattle.oxc_plan.specs.Groups.{span_at};
-ghost use Rattle.oxc_plan.specs.Meets.{IsMultiRow, IsOneRow, Meets, is_multi_row, is_one_row, is_within, label_past, meets};
+ghost use Rattle.std.specs.Prelude.{[], ◌∷◌, ◌≡◌, ◌+◌, ◌^◌, ◌<◌, ◌≤◌, ◌↔◌};
+ghost use Rattle.std.specs.Prelude.{IfOk, IfSome, IsTrue, true, length, All};
 ghost use Rattle.std.specs.Str.{IsCharBoundary};
+ghost use Rattle.oxc_plan.specs.Groups.{span_at};
+ghost use Rattle.oxc_plan.specs.Marks.{AreInOrder, HasEndsByColumns, HasExactMarks};
+ghost use Rattle.oxc_plan.specs.Marks.{cells_between, cells_of, mark_of, marks_at};
 ghost use Rattle.oxc_plan.specs.Measuring.{HoldsColumns};
+ghost use Rattle.oxc_plan.specs.Meets.{IsMultiRow, IsOneRow, Meets};
+ghost use Rattle.oxc_plan.specs.Meets.{is_multi_row, is_one_row, is_within, label_past, meets};
 ghost use Rattle.oxc_plan.specs.Rows.{row_view};
-ghost use Rattle.oxc_plan.specs.Marks.{AreInOrder, HasEndsByColumns, HasExactMarks, cells_at, cells_between, cells_of, mark_of, placed_marks};
 
-use crate::columns::boundary_near;
+use crate::columns::{ascii_columns, boundary_near};
 use crate::measuring::{MeasuredText, column_known, measure};
 use crate::rows::Row;
 use crate::tabs::TabWidth;
@@ -38,8 +41,9 @@ pub struct LabelCells {
     pub end: usize,
 }
 
-/// The law that one-row labels whose cells do not overlap are marked in exactly their cells, and that each mark ends by
-/// the column of its label's end. It does nothing: a caller calls it to know the law.
+/// The law that one-row labels whose cells do not overlap are marked in exactly their cells, and
+/// that each mark ends by the column of its label's end. It does nothing: a caller calls it to know
+/// the law.
 pub fn exact_marks(_row: &Row<'_>, _spans: &[Span], _tab: usize)
     ensures exact { HasExactMarks _tab (row_view _row.now) _spans.now }
     ensures ends { HasEndsByColumns _tab (row_view _row.now) }
@@ -54,15 +58,61 @@ pub fn placed(
     tabs: TabWidth,
 ) -> Result<Vec<MarkCells>, AllocError>
     requires starts { All (λ at. row.now.offset ≤ (span_at spans.now at).start) places.now }
-    requires ordered { All (λ at. (span_at spans.now at).start ≤ (span_at spans.now at).end) places.now }
+    requires ordered { All
+        (λ at. (span_at spans.now at).start ≤ (span_at spans.now at).end) places.now }
     requires within { All (λ at. at < length spans.now) places.now }
     requires fits { length row.now.text.now < 2 ^ 32 }
-    ensures exact { IfOk result (λ marks. marks.items ≡ placed_marks 0 (cells_at tabs (row_view row.now) spans.now places.now)) }
+    ensures exact { IfOk result
+        (λ marks. marks.items ≡ marks_at tabs (row_view row.now) spans.now places.now) }
     ensures order { IfOk result (λ marks. AreInOrder 0 marks.items) }
 {
-    if places.is_empty() {
-        return Ok(Vec::new(alloc));
+    match places {
+        [] => Ok(Vec::new(alloc)),
+        [at] => placed_alone(alloc, row, spans, *at, tabs),
+        _ => placed_by_measure(alloc, row, spans, places, tabs),
     }
+}
+
+/// The placed mark of a row's only label, which stands at this place of spans in label order.
+fn placed_alone(
+    alloc: Global,
+    row: &Row<'_>,
+    spans: &[Span],
+    at: usize,
+    tabs: TabWidth,
+) -> Result<Vec<MarkCells>, AllocError>
+    requires starts { row.now.offset ≤ (span_at spans.now at).start }
+    requires ordered { (span_at spans.now at).start ≤ (span_at spans.now at).end }
+    requires within { at < length spans.now }
+    requires fits { length row.now.text.now < 2 ^ 32 }
+    ensures exact { IfOk result
+        (λ marks. marks.items ≡ marks_at tabs (row_view row.now) spans.now (at ∷ [])) }
+    ensures order { IfOk result (λ marks. AreInOrder 0 marks.items) }
+{
+    match ascii_cells(row, at, spans[at], tabs) {
+        Some(cells) => Vec::from_slice(alloc, &[mark_after(0, cells)]),
+        None => placed_by_measure(alloc, row, spans, &[at], tabs),
+    }
+}
+
+/// The placed marks of a row's labels at these places of spans, by measuring the row's text once
+/// for all of them.
+fn placed_by_measure(
+    alloc: Global,
+    row: &Row<'_>,
+    spans: &[Span],
+    places: &[usize],
+    tabs: TabWidth,
+) -> Result<Vec<MarkCells>, AllocError>
+    requires starts { All (λ at. row.now.offset ≤ (span_at spans.now at).start) places.now }
+    requires ordered { All
+        (λ at. (span_at spans.now at).start ≤ (span_at spans.now at).end) places.now }
+    requires within { All (λ at. at < length spans.now) places.now }
+    requires fits { length row.now.text.now < 2 ^ 32 }
+    ensures exact { IfOk result
+        (λ marks. marks.items ≡ marks_at tabs (row_view row.now) spans.now places.now) }
+    ensures order { IfOk result (λ marks. AreInOrder 0 marks.items) }
+{
     let ends = ends_of(alloc, row, spans, places)?;
     let text = measure(alloc, row.text, ends, tabs)?;
     placed_in_turn(alloc, row, &text, spans, places, tabs)
@@ -78,12 +128,14 @@ fn placed_in_turn(
     tabs: TabWidth,
 ) -> Result<Vec<MarkCells>, AllocError>
     requires starts { All (λ at. row.now.offset ≤ (span_at spans.now at).start) places.now }
-    requires ordered { All (λ at. (span_at spans.now at).start ≤ (span_at spans.now at).end) places.now }
+    requires ordered { All
+        (λ at. (span_at spans.now at).start ≤ (span_at spans.now at).end) places.now }
     requires within { All (λ at. at < length spans.now) places.now }
     requires fits { length row.now.text.now < 2 ^ 32 }
     requires text { text.now.text.now ≡ row.now.text.now }
     requires known { HoldsColumns tabs text.now }
-    ensures exact { IfOk result (λ marks. marks.items ≡ placed_marks 0 (cells_at tabs (row_view row.now) spans.now places.now)) }
+    ensures exact { IfOk result
+        (λ marks. marks.items ≡ marks_at tabs (row_view row.now) spans.now places.now) }
     ensures order { IfOk result (λ marks. AreInOrder 0 marks.items) }
 {
     let mut before = 0;
@@ -96,7 +148,8 @@ fn placed_in_turn(
     Ok(marks)
 }
 
-/// Where the labels of a row at these places start and end in its text, each moved between two characters.
+/// Where the labels of a row at these places start and end in its text, each moved between two
+/// characters.
 fn ends_of(
     alloc: Global,
     row: &Row<'_>,
@@ -104,7 +157,8 @@ fn ends_of(
     places: &[usize],
 ) -> Result<Vec<usize>, AllocError>
     requires starts { All (λ at. row.now.offset ≤ (span_at spans.now at).start) places.now }
-    requires ordered { All (λ at. (span_at spans.now at).start ≤ (span_at spans.now at).end) places.now }
+    requires ordered { All
+        (λ at. (span_at spans.now at).start ≤ (span_at spans.now at).end) places.now }
     requires within { All (λ at. at < length spans.now) places.now }
     ensures { IfOk result (λ ends. All (IsCharBoundary row.now.text.now) ends.items) }
 {
@@ -117,13 +171,14 @@ fn ends_of(
     Ok(ends)
 }
 
-/// An offset as a place in a row's text, at most its end, moved between two characters.
+/// An offset of the source as one in a row's text, at most the text's end, moved between two
+/// characters.
 fn end_in(row: &Row<'_>, offset: usize, at_start: bool) -> usize
     requires { row.now.offset ≤ offset }
     ensures { IsCharBoundary row.now.text.now result }
 {
-    let place = (offset - row.offset).min(row.text.len());
-    boundary_near(row.text, place, at_start)
+    let within = (offset - row.offset).min(row.text.len());
+    boundary_near(row.text, within, at_start)
 }
 
 /// The mark of a label, after the marks that end before this cell.
@@ -165,7 +220,23 @@ fn cells_of(
     cells_between(label, span, first, past)
 }
 
-/// The cells of a label from the column of its start to before that of its end: one at least, and one for an empty one.
+/// The cells of a one-row label, where the row's text is of ASCII up to the label's end.
+fn ascii_cells(row: &Row<'_>, label: usize, span: Span, tabs: TabWidth) -> Option<LabelCells>
+    requires from { row.now.offset ≤ span.start }
+    requires ordered { span.start ≤ span.end }
+    requires fits { length row.now.text.now < 2 ^ 32 }
+    ensures exact { IfSome result (λ cells. cells ≡ cells_of tabs (row_view row.now) label span) }
+    ensures first { IfSome result (λ cells. cells.start < 2 ^ 38) }
+    ensures last { IfSome result (λ cells. cells.end ≤ 2 ^ 38) }
+{
+    let start = span.start as usize - row.offset;
+    let end = span.end as usize - row.offset;
+    let (first, past) = ascii_columns(row.text, start, end, tabs)?;
+    Some(cells_between(label, span, first, past))
+}
+
+/// The cells of a label from the column of its start to before that of its end: one at least, and
+/// one for an empty one.
 fn cells_between(label: usize, span: Span, first: usize, past: usize) -> LabelCells
     requires { first < 2 ^ 62 }
     ensures { result ≡ cells_between label span first past }
@@ -190,7 +261,8 @@ pub fn label_past(span: Span) -> usize
     (span.end as usize).max(span.start as usize + 1)
 }
 
-/// Whether a label meets a row: they have a byte in common, where an empty label counts as the byte at its place.
+/// Whether a label meets a row: they have a byte in common, where an empty label counts as the byte
+/// at its place.
 pub fn meets(row: &Row<'_>, span: Span) -> bool
     requires ordered { span.start ≤ span.end }
     requires range { row.now.offset + row.now.length < 2 ^ 64 }

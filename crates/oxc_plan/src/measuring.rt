@@ -1,9 +1,11 @@
 //! The columns of many places of a text, in one pass over it.
-ghost use Rattle.std.specs.Prelude.{◌≡◌, ℕ, List, [], ◌∷◌, ◌+◌, ◌*◌, ◌^◌, ◌<◌, ◌≤◌, IfOk, OnOk, All, length, take};
+ghost use Rattle.std.specs.Prelude.{◌≡◌, ℕ, List, [], ◌∷◌, ◌+◌, ◌*◌, ◌^◌, ◌<◌, ◌≤◌, IfOk, OnOk};
+ghost use Rattle.std.specs.Prelude.{All, length, take};
 ghost use Rattle.std.specs.List.Sorted.{IsNonDecreasingBy};
 ghost use Rattle.std.specs.Str.{IsAscii, IsCharBoundary};
 ghost use Rattle.oxc_plan.specs.Columns.{column_in};
-ghost use Rattle.oxc_plan.specs.Measuring.{HaveColumns, HaveColumnsUpTo, HoldsColumns, IsGoneThrough};
+ghost use Rattle.oxc_plan.specs.Measuring.{HaveColumns, HaveColumnsUpTo, HoldsColumns};
+ghost use Rattle.oxc_plan.specs.Measuring.{IsGoneThrough};
 ghost use Rattle.oxc_plan.specs.Width.{text_width};
 
 use crate::columns::{AT_MARGIN, Pen, boundary_near, over_cluster, pen_over, text_width};
@@ -43,7 +45,8 @@ pub fn measure<'a>(
     })
 }
 
-/// The column of a place in a text that was measured. Before a place that was not asked for it is measured here.
+/// The column of a place in a text that was measured. Before a place that was not asked for it is
+/// measured here.
 #[tactic(auto, unfolding(crate::specs::Columns::column_in))]
 pub fn column_known(
     measured: &MeasuredText<'_>,
@@ -163,11 +166,13 @@ fn push_within(
 ) -> Result<(), AllocError>
     requires ascend { IsNonDecreasingBy (λ at. at) places.now }
     requires boundaries { All (IsCharBoundary text.now) places.now }
-    requires through { (more : List (List ℕ)) × IsGoneThrough tabs text.now offset pen (cluster.now ∷ more) }
+    requires through { (more : List (List ℕ))
+        × IsGoneThrough tabs text.now offset pen (cluster.now ∷ more) }
     requires known { HaveColumnsUpTo tabs text.now places.now columns.old.items offset }
     requires small { pen.column ≤ 18 * offset }
     requires fits { length text.now < 2 ^ 32 }
-    ensures { OnOk result (HaveColumnsUpTo tabs text.now places.now columns.new.items (offset + length cluster.now)) }
+    ensures { OnOk result (HaveColumnsUpTo tabs text.now places.now columns.new.items
+        (offset + length cluster.now)) }
 {
     while columns.len() < places.len() && places[columns.len()] < offset + cluster.len() {
         let part = &cluster[..places[columns.len()] - offset];

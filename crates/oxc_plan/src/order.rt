@@ -1,7 +1,8 @@
 //! The label order.
 ghost use Rattle.std.specs.Prelude.{◌≡◌, ◌<◌, IfOk, length, map, All};
 ghost use Rattle.std.specs.List.{range_with_len};
-ghost use Rattle.oxc_plan.specs.Order.{HasOneOrder, IsLabelOrder, label_at, label_order, span_of, spans_in_order, start_at};
+ghost use Rattle.oxc_plan.specs.Order.{HasOneOrder, IsLabelOrder, label_at, label_order, span_of};
+ghost use Rattle.oxc_plan.specs.Order.{spans_in_order, start_at};
 
 use oxc_span::{LabeledSpan, Span};
 use std::alloc::{AllocError, Global};
@@ -39,7 +40,8 @@ pub fn spans_in_order(alloc: Global, labels: &[LabeledSpan]) -> Result<Vec<Span>
 
 /// The spans of the labels at these places.
 fn spans_at(alloc: Global, labels: &[LabeledSpan], order: &[usize]) -> Result<Vec<Span>, AllocError>
-    ensures { IfOk result (λ spans. spans.items ≡ map (λ at. span_of (label_at labels.now at)) order.now) }
+    ensures { IfOk result (λ spans. spans.items
+        ≡ map (λ at. span_of (label_at labels.now at)) order.now) }
 {
     let spans = order.iter().map(|at| span_at(labels, *at)).collect(alloc)?;
     Ok(spans)

@@ -1,5 +1,6 @@
 // The plans of snippets by example, and that memory suffices for them.
-ghost use Rattle.std.specs.Prelude.{◌≡◌, ◌+◌, ◌<◌, ◌≤◌, ◌↔◌, ◌^◌, All, IfOk, IfSome, IsTrue, length, map};
+ghost use Rattle.std.specs.Prelude.{◌≡◌, ◌+◌, ◌<◌, ◌≤◌, ◌↔◌, ◌^◌, All, IfOk, IfSome, IsTrue};
+ghost use Rattle.std.specs.Prelude.{length, map};
 ghost use Rattle.oxc_span.specs.Label.{label_end};
 ghost use Rattle.oxc_plan.specs.Plan.{snippet_view, snippets_of};
 
@@ -23,7 +24,8 @@ fn plans_of<'a>(
     labels: &[LabeledSpan],
 ) -> Result<Option<Vec<SnippetPlan<'a>>>, AllocError>
     requires { length text.now < 4294967295 }
-    ensures { IfOk result (λ found. IfSome found (λ plans. map snippet_view plans.items ≡ snippets_of 4 text.now labels.now)) }
+    ensures { IfOk result (λ found. IfSome found (λ plans. map snippet_view plans.items
+        ≡ snippets_of 4 text.now labels.now)) }
 {
     if !all_within(labels, text.len()) {
         return Ok(None);

@@ -16,13 +16,16 @@ pub fn read<'a>(scanner: &mut SpanScanner<'a>, span: Span) -> Result<SpanContent
     requires round { ReadsRound scanner.old }
     requires ordered { span.start ≤ span.end }
     requires within { span.end ≤ length scanner.old.input }
-    ensures exact { IfOk result (λ contents. contents ≡ contents_of scanner.old.input (window_round scanner.old.input span)) }
+    ensures exact { IfOk result (λ contents. contents
+        ≡ contents_of scanner.old.input (window_round scanner.old.input span)) }
     ensures text { IsUtf8 scanner.old.input → IfOk result (λ contents. IsUtf8 contents.bytes) }
     ensures measured { IfOk result IsMeasured }
     ensures numbered { IfOk result IsNumbered }
     ensures stays { ReadsOn scanner.old scanner.new }
-    ensures first { OnOk result (scanner.new.first ≡ Some (unwrap_or scanner.old.first span.start)) }
-    ensures keeps { OnOk result (KeepsRows scanner.old.input scanner.new span.start (window_round scanner.old.input span).end) }
+    ensures first { OnOk result (scanner.new.first
+        ≡ Some (unwrap_or scanner.old.first span.start)) }
+    ensures keeps { OnOk result (KeepsRows scanner.old.input scanner.new span.start
+        (window_round scanner.old.input span).end) }
 {
     match scanner.read_span(span)? {
         Some(contents) => Ok(contents),

@@ -1,8 +1,10 @@
 //! The rows of what a scanner read.
-ghost use Rattle.std.specs.Prelude.{◌≡◌, ◌+◌, ◌^◌, ◌<◌, ◌≤◌, IfOk, length, map, take};
+ghost use Rattle.std.specs.Prelude.{◌≡◌, ◌+◌, ◌^◌, ◌<◌, ◌≤◌, [], ◌∷◌, IfOk, IfSome, MatchOption};
+ghost use Rattle.std.specs.Prelude.{OnSome, length, map, take};
 ghost use Rattle.std.specs.Str.{IsCharBoundary, IsUtf8};
 ghost use Rattle.oxc_windows.specs.Scan.{IsMeasured};
-ghost use Rattle.oxc_plan.specs.Rows.{first_len, row_of_piece, row_text, row_view, rows_from, rows_of};
+ghost use Rattle.oxc_plan.specs.Rows.{first_len, row_of_piece, row_text, row_view};
+ghost use Rattle.oxc_plan.specs.Rows.{rows_from, rows_of};
 
 use memchr::memchr;
 use oxc_windows::SpanContents;
@@ -22,10 +24,11 @@ pub struct Row<'a> {
     pub text: &'a str,
 }
 
-/// The rows of contents that are UTF-8: the pieces after each LF, with their true offsets, lengths and texts.
+/// The rows of contents that are UTF-8: the pieces after each LF, with their true offsets, lengths
+/// and texts.
 ///
-/// Rows are numbered from the row in which the contents begin, one after another. A last piece that ends in a CR,
-/// with no LF, keeps the CR in its text, and its number is one less.
+/// Rows are numbered from the row in which the contents begin, one after another. A last piece that
+/// ends in a CR, with no LF, keeps the CR in its text, and its number is one less.
 ///
 /// # Errors
 ///
@@ -36,33 +39,70 @@ pub fn rows_of<'a>(alloc: Global, contents: &SpanContents<'a>) -> Result<Vec<Row
     requires numbered { contents.now.line < 4294967295 }
     ensures { IfOk result (λ rows. map row_view rows.items ≡ rows_of contents.now) }
 {
+    let mut ahead = rows_ahead(contents);
+    let mut rows = Vec::new(alloc);
+    while let Some(row) = ahead.cut() {
+        rows.push(row)?;
+    }
+    Ok(rows)
+}
+
+/// The rows of a text that are not cut off yet.
+#[derive(Drop)]
+pub struct RowsAhead<'a> {
+    /// The text from the next row on.
+    pub text: &'a str,
+    /// The offset at which it begins.
+    pub offset: usize,
+    /// How many rows stand above it.
+    pub above: usize,
+    ghost short: { offset + length text.now < 2 ^ 32 },
+    ghost few: { above + length text.now < 2 ^ 33 },
+}
+
+/// The rows of contents that are UTF-8, none cut off.
+pub fn rows_ahead<'a>(contents: &SpanContents<'a>) -> RowsAhead<'a>
+    requires text { IsUtf8 contents.now.bytes }
+    requires measured { IsMeasured contents.now }
+    requires numbered { contents.now.line < 4294967295 }
+    ensures text { result.text.now ≡ contents.now.bytes }
+    ensures offset { result.offset ≡ contents.now.span.start }
+    ensures above { result.above ≡ contents.now.line }
+{
     let span = *contents.span();
     // contents are asked to be UTF-8, so they are not checked again
     let text = unsafe { from_utf8_unchecked(contents.bytes()) };
-    rows_of_text(alloc, text, span.start as usize, contents.line())
+    RowsAhead {
+        text,
+        offset: span.start as usize,
+        above: contents.line(),
+    }
 }
 
-/// The rows of a text that begins at an offset, below so many rows.
-fn rows_of_text<'a>(
-    alloc: Global,
-    text: &'a str,
-    begin: usize,
-    line: usize,
-) -> Result<Vec<Row<'a>>, AllocError>
-    requires line { line < 2 ^ 32 }
-    requires end { begin + length text.now < 2 ^ 32 }
-    ensures { IfOk result (λ rows. map row_view rows.items ≡ rows_from line begin text.now) }
-{
-    let mut rows = Vec::new(alloc);
-    let mut at = 0;
-    let mut above = line;
-    while at < text.len() {
-        let piece = first_piece(&text[at..]);
-        rows.push(row_of_piece(piece, begin + at, above))?;
-        at += piece.len();
-        above += 1;
+impl<'a> RowsAhead<'a> {
+    /// Cuts the next row off, if there is one.
+    pub fn cut(&mut self) -> Option<Row<'a>>
+        ensures next { MatchOption result (self.old.text.now ≡ [])
+            (λ row. rows_from self.old.above self.old.offset self.old.text.now
+            ≡ row_view row ∷ rows_from self.new.above self.new.offset self.new.text.now) }
+        ensures from { IfSome result (λ row. row.offset ≡ self.old.offset) }
+        ensures upto { IfSome result (λ row. row.offset + row.length ≡ self.new.offset) }
+        ensures text { IfSome result (λ row. length row.text.now ≤ row.length) }
+        ensures further { OnSome result (length self.new.text.now < length self.old.text.now) }
+    {
+        if self.text.is_empty() {
+            return None;
+        }
+        let text = self.text;
+        let piece = first_piece(text);
+        let row = row_of_piece(piece, self.offset, self.above);
+        *self = RowsAhead {
+            text: &text[piece.len()..],
+            offset: self.offset + piece.len(),
+            above: self.above + 1,
+        };
+        Some(row)
     }
-    Ok(rows)
 }
 
 /// The row of a piece, below so many rows.

@@ -1,28 +1,33 @@
 //! The snippets of a report: what they mean before a character is drawn.
-ghost use Rattle.std.specs.Prelude.{◌≡◌, ◌+◌, ◌^◌, ◌<◌, ◌≤◌, IfOk, OnOk, Some, length, map, filter, fold, max, All};
+ghost use Rattle.std.specs.Prelude.{[], ◌∷◌, ◌≡◌, ℕ, ◌+◌, ◌^◌, ◌<◌, ◌≤◌, IfOk, OnOk, Some};
+ghost use Rattle.std.specs.Prelude.{length, map, filter, All};
 ghost use Rattle.std.specs.List.Sorted.{IsNonDecreasingBy};
 ghost use Rattle.std.specs.Option.{unwrap_or};
 ghost use Rattle.std.specs.Str.{IsUtf8};
 ghost use Rattle.oxc_windows.specs.Breaks.{breaks_of};
-ghost use Rattle.oxc_windows.specs.Scan.{IsMeasured, IsNumbered, IsSameReader};
+ghost use Rattle.oxc_windows.specs.Scan.{IsSameReader};
 ghost use Rattle.oxc_plan.specs.Drawable.{IsDrawable};
-ghost use Rattle.oxc_plan.specs.Groups.{AreGroups, largest_end, span_at};
-ghost use Rattle.oxc_plan.specs.Keeping.{KeepsGroups, ReadsOn, least_start};
-ghost use Rattle.oxc_plan.specs.Meets.{is_multi_row, is_one_row, meeting_labels, meets, multi_row_labels, one_row_labels};
-ghost use Rattle.oxc_plan.specs.Order.{AreOrderedSpans};
-ghost use Rattle.oxc_plan.specs.Plan.{gutter_of, ordered_view, row_plan_of, row_plan_view, snippet_of, snippet_view, snippets_of, spans_of};
+ghost use Rattle.oxc_plan.specs.GroupRead.{IsReadTogether};
+ghost use Rattle.oxc_plan.specs.Groups.{groups_of, span_at};
+ghost use Rattle.oxc_plan.specs.Keeping.{KeepsGroup, KeepsGroups, ReadsOn, least_start};
+ghost use Rattle.oxc_plan.specs.Meets.{is_multi_row, is_one_row, multi_row_labels};
+ghost use Rattle.oxc_plan.specs.Meets.{one_row_labels};
+ghost use Rattle.oxc_plan.specs.Order.{AreOrderedSpans, label_order};
+ghost use Rattle.oxc_plan.specs.Plan.{across_row, bare_plan, within_row};
+ghost use Rattle.oxc_plan.specs.Plan.{gutter_of, ordered_view, row_plan_of, row_plan_view};
+ghost use Rattle.oxc_plan.specs.Plan.{snippet_of, snippet_view, snippets_of, spans_of};
 ghost use Rattle.oxc_plan.specs.Rows.{row_view, rows_of};
 ghost use Rattle.oxc_plan.specs.Scanned.{CanPlan, ReadsTextRound};
-ghost use Rattle.oxc_plan.specs.Sweep.{AscendIn, IsGroupAlone, MeetNoOthers};
+ghost use Rattle.oxc_plan.specs.Sweep.{CanSweep, HoldAllMet, IsGroupAlone};
 
 use crate::bars::{Bar, bars_at, ends_at};
-use crate::grouping::groups;
-use crate::hangs::{Hang, hangs_at};
+use crate::grouping::{GroupRead, group_read};
+use crate::hangs::{Hang, hang_alone, hangs_at};
 use crate::heads::{head_label, place_in};
-use crate::labels::{OrderedLabel, labels_in_order, span_at, spans_of};
+use crate::labels::{OrderedLabel, labels_at, ordered_label, span_at, spans_of};
 use crate::marks::{MarkCells, is_multi_row, is_one_row, placed};
-use crate::reading::read;
-use crate::rows::{Row, rows_of};
+use crate::order::label_order;
+use crate::rows::{Row, rows_ahead};
 use crate::sweep::{close_before, open_before};
 use crate::tabs::TabWidth;
 use oxc_span::{LabeledSpan, Span};
@@ -58,12 +63,16 @@ pub struct SnippetPlan<'a> {
     pub rows: Vec<RowPlan<'a>>,
 }
 
+/// How many rows a snippet mostly has: a row or two with labels, and one of context on each side.
+const USUAL_ROWS: usize = 4;
+
 /// The snippets of labels of a source, as they are drawn.
 ///
-/// Labels that share a snippet are those of [`groups`]. A snippet's head is the place of its first primary label in
-/// label order, else of its first label. Its rows are those of the group's window. Beside each stand the bars of all
-/// labels that meet it and other rows, and below it the marks and texts of those that lie within it. The scanner reads
-/// one row of context before and one after, every label ends within its input, and the input is UTF-8.
+/// Labels that share a snippet are those of [`groups`]. A snippet's head is the place of its first
+/// primary label in label order, else of its first label. Its rows are those of the group's window.
+/// Beside each stand the bars of all labels that meet it and other rows, and below it the marks and
+/// texts of those that lie within it. The scanner reads one row of context before and one after,
+/// every label ends within its input, and the input is UTF-8.
 ///
 /// # Errors
 ///
@@ -75,38 +84,88 @@ pub fn plan_snippets<'a>(
     tabs: TabWidth,
 ) -> Result<Vec<SnippetPlan<'a>>, AllocError>
     requires { CanPlan scanner.old labels.now }
-    ensures plan { IfOk result (λ plans. map snippet_view plans.items ≡ snippets_of tabs scanner.old.input labels.now) }
-    ensures drawable { IfOk result (λ plans. All (IsDrawable (length scanner.old.input) (length labels.now)) (map snippet_view plans.items)) }
+    ensures plan { IfOk result (λ plans. map snippet_view plans.items
+        ≡ snippets_of tabs scanner.old.input labels.now) }
+    ensures drawable { IfOk result (λ plans. All
+        (IsDrawable (length scanner.old.input) (length labels.now))
+        (map snippet_view plans.items)) }
     ensures unchanged { IsSameReader scanner.old scanner.new }
     // what the scanner holds
     ensures stays { ReadsOn scanner.old scanner.new }
-    ensures first { OnOk result (0 < length labels.now → scanner.new.first ≡ Some (unwrap_or scanner.old.first (least_start labels.now))) }
+    ensures first { OnOk result (0 < length labels.now
+        → scanner.new.first ≡ Some (unwrap_or scanner.old.first (least_start labels.now))) }
     ensures keeps { OnOk result (KeepsGroups scanner.old.input labels.now scanner.new) }
 {
-    let ordered = labels_in_order(alloc, labels)?;
-    let groups = groups(alloc, scanner, labels)?;
-    let plans = plan_groups(alloc, scanner, &ordered, &groups, tabs)?;
+    if let [_] = labels {
+        return plan_snippets_in_order(alloc, scanner, labels, &[0], tabs);
+    }
+    let order = label_order(alloc, labels)?;
+    plan_snippets_in_order(alloc, scanner, labels, &order, tabs)
+}
+
+/// The same, where the places of the labels in label order are at hand.
+///
+/// # Errors
+///
+/// Want of memory.
+pub fn plan_snippets_in_order<'a>(
+    alloc: Global,
+    scanner: &mut SpanScanner<'a>,
+    labels: &[LabeledSpan],
+    order: &[usize],
+    tabs: TabWidth,
+) -> Result<Vec<SnippetPlan<'a>>, AllocError>
+    requires plan { CanPlan scanner.old labels.now }
+    requires order { order.now ≡ label_order labels.now }
+    ensures plan { IfOk result (λ plans. map snippet_view plans.items
+        ≡ snippets_of tabs scanner.old.input labels.now) }
+    ensures drawable { IfOk result (λ plans. All
+        (IsDrawable (length scanner.old.input) (length labels.now))
+        (map snippet_view plans.items)) }
+    ensures unchanged { IsSameReader scanner.old scanner.new }
+    // what the scanner holds
+    ensures stays { ReadsOn scanner.old scanner.new }
+    ensures first { OnOk result (0 < length labels.now
+        → scanner.new.first ≡ Some (unwrap_or scanner.old.first (least_start labels.now))) }
+    ensures keeps { OnOk result (KeepsGroups scanner.old.input labels.now scanner.new) }
+{
+    if let [_] = labels {
+        let label = ordered_label(labels, 0);
+        let plans = plan_groups(alloc, scanner, &[label], &[label.span], tabs)?;
+        return Ok(plans);
+    }
+    let ordered = labels_at(alloc, labels, order)?;
+    let spans = spans_of(alloc, &ordered)?;
+    let plans = plan_groups(alloc, scanner, &ordered, &spans, tabs)?;
     Ok(plans)
 }
 
-/// The snippets of the groups of labels, which stand in label order.
+/// The snippets of labels, which stand in label order, and whose spans are at hand.
 fn plan_groups<'a>(
     alloc: Global,
     scanner: &mut SpanScanner<'a>,
     labels: &[OrderedLabel<'_>],
-    groups: &[Range<usize>],
+    spans: &[Span],
     tabs: TabWidth,
 ) -> Result<Vec<SnippetPlan<'a>>, AllocError>
     requires reads { ReadsTextRound scanner.old }
-    requires ordered { AreOrderedSpans (length scanner.old.input) (spans_of (map ordered_view labels.now)) }
-    requires groups { AreGroups (length scanner.old.input) (breaks_of scanner.old.input) (spans_of (map ordered_view labels.now)) 0 groups.now }
-    ensures plan { IfOk result (λ plans. map snippet_view plans.items ≡ map (snippet_of tabs scanner.old.input (map ordered_view labels.now)) groups.now) }
+    requires spans { spans.now ≡ spans_of (map ordered_view labels.now) }
+    requires ordered { AreOrderedSpans (length scanner.old.input) spans.now }
+    ensures plan { IfOk result (λ plans. map snippet_view plans.items
+        ≡ map (snippet_of tabs scanner.old.input (map ordered_view labels.now))
+        (groups_of (length scanner.old.input) (breaks_of scanner.old.input) spans.now)) }
     ensures stays { ReadsOn scanner.old scanner.new }
+    ensures first { OnOk result (0 < length spans.now
+        → scanner.new.first ≡ Some (unwrap_or scanner.old.first (span_at spans.now 0).start)) }
+    ensures keeps { OnOk result (All (KeepsGroup scanner.old.input spans.now scanner.new)
+        (groups_of (length scanner.old.input) (breaks_of scanner.old.input) spans.now)) }
 {
-    let spans = spans_of(alloc, labels)?;
     let mut plans = Vec::new(alloc);
-    for group in groups {
-        plans.push(plan_snippet(alloc, scanner, labels, &spans, group, tabs)?)?;
+    let mut first = 0;
+    while first < spans.len() {
+        let group = group_read(scanner, spans, first)?;
+        plans.push(plan_snippet(alloc, scanner, labels, spans, &group, tabs)?)?;
+        first = group.places.end;
     }
     Ok(plans)
 }
@@ -114,25 +173,24 @@ fn plan_groups<'a>(
 /// The snippet of a group of labels, which stand in label order.
 fn plan_snippet<'a>(
     alloc: Global,
-    scanner: &mut SpanScanner<'a>,
+    scanner: &SpanScanner<'a>,
     labels: &[OrderedLabel<'_>],
     spans: &[Span],
-    group: &Range<usize>,
+    group: &GroupRead<'a>,
     tabs: TabWidth,
 ) -> Result<SnippetPlan<'a>, AllocError>
-    requires reads { ReadsTextRound scanner.old }
+    requires text { IsUtf8 scanner.now.input }
     requires spans { spans.now ≡ spans_of (map ordered_view labels.now) }
-    requires ordered { AreOrderedSpans (length scanner.old.input) spans.now }
-    requires alone { IsGroupAlone scanner.old.input spans.now group.now }
-    ensures plan { IfOk result (λ plan. snippet_view plan ≡ snippet_of tabs scanner.old.input (map ordered_view labels.now) group.now) }
-    ensures stays { ReadsOn scanner.old scanner.new }
+    requires ordered { AreOrderedSpans (length scanner.now.input) spans.now }
+    requires alone { IsGroupAlone scanner.now.input spans.now group.now.places }
+    requires read { IsReadTogether scanner.now.input spans.now group.now }
+    ensures { IfOk result (λ plan. snippet_view plan
+        ≡ snippet_of tabs scanner.now.input (map ordered_view labels.now) group.now.places) }
 {
-    let span = joint_span(spans, group);
-    let contents = read(scanner, span)?;
-    let head = head_label(labels, group);
-    let place = place_in(scanner, &contents, span, head.span.start as usize);
-    let views = views_of(alloc, &contents)?;
-    let rows = plan_rows(alloc, &views, labels, spans, group, tabs)?;
+    let contents = &group.contents;
+    let head = head_label(labels, &group.places);
+    let place = place_in(scanner, contents, group.span, head.span.start as usize);
+    let rows = plan_rows(alloc, contents, labels, spans, &group.places, tabs)?;
     let gutter = gutter_of(&rows);
     Ok(SnippetPlan {
         head_line: place.0 + 1,
@@ -142,69 +200,69 @@ fn plan_snippet<'a>(
     })
 }
 
-/// The span of a group: from its first start to its largest end.
-fn joint_span(spans: &[Span], group: &Range<usize>) -> Span
-    requires nonempty { group.now.start < group.now.end }
-    requires within { group.now.end ≤ length spans.now }
-    requires ordered { All (λ span. span.start ≤ span.end) spans.now }
-    ensures start { result.start ≡ (span_at spans.now group.now.start).start }
-    ensures end { result.end ≡ largest_end spans.now group.now.start group.now.end }
-    ensures ordered { result.start ≤ result.end }
-{
-    Span::new(
-        spans[group.start].start,
-        largest_end(&spans[group.start..group.end]),
-    )
-}
-
-/// The largest end of spans, and 0 where there is none.
-fn largest_end(spans: &[Span]) -> u32
-    ensures { result ≡ fold (λ most s. max most s.end) 0 spans.now }
-{
-    spans.iter().fold(0, |most, span| most.max(span.end))
-}
-
-/// The rows of what was read. They ascend, and their offsets and lengths are small.
-fn views_of<'a>(alloc: Global, contents: &SpanContents<'a>) -> Result<Vec<Row<'a>>, AllocError>
-    requires text { IsUtf8 contents.now.bytes }
-    requires measured { IsMeasured contents.now }
-    requires numbered { IsNumbered contents.now }
-    ensures exact { IfOk result (λ rows. map row_view rows.items ≡ rows_of contents.now) }
-    ensures small { IfOk result (λ rows. All (λ row. (row.offset + row.length < 2 ^ 32) × (length row.text.now < 2 ^ 32)) rows.items) }
-{
-    let span = *contents.span();
-    let _end = span.end as usize;
-    let rows = rows_of(alloc, contents)?;
-    Ok(rows)
-}
-
-/// The plans of the rows of a group. A label stays open from the row in which it starts to the last one that it meets,
-/// and only open labels are tried.
+/// The plans of the rows of a group.
 fn plan_rows<'a>(
     alloc: Global,
-    rows: &[Row<'a>],
+    contents: &SpanContents<'a>,
     labels: &[OrderedLabel<'_>],
     spans: &[Span],
     group: &Range<usize>,
     tabs: TabWidth,
 ) -> Result<Vec<RowPlan<'a>>, AllocError>
-    requires small { All (λ row. (row.offset + row.length < 2 ^ 32) × (length row.text.now < 2 ^ 32)) rows.now }
-    requires ascend { AscendIn (map row_view rows.now) }
-    requires spans { spans.now ≡ spans_of (map ordered_view labels.now) }
-    requires rising { IsNonDecreasingBy (λ span. span.start) spans.now }
-    requires ordered { All (λ span. span.start ≤ span.end) spans.now }
-    requires some { group.now.start ≤ group.now.end }
-    requires within { group.now.end ≤ length spans.now }
-    requires alone { MeetNoOthers spans.now group.now (map row_view rows.now) }
-    ensures { IfOk result (λ plans. map row_plan_view plans.items ≡ map (row_plan_of tabs (map ordered_view labels.now)) (map row_view rows.now)) }
+    requires { CanSweep contents.now (map ordered_view labels.now) spans.now group.now }
+    ensures { IfOk result (λ plans. map row_plan_view plans.items
+        ≡ map (row_plan_of tabs (map ordered_view labels.now)) (rows_of contents.now)) }
 {
-    let mut plans = Vec::new(alloc);
+    if group.start + 1 == group.end {
+        return plan_rows_of_one(alloc, contents, labels, spans, group, tabs);
+    }
+    plan_rows_of_many(alloc, contents, labels, spans, group, tabs)
+}
+
+/// The plans of the rows of a group of one label, which is tried against each of them.
+fn plan_rows_of_one<'a>(
+    alloc: Global,
+    contents: &SpanContents<'a>,
+    labels: &[OrderedLabel<'_>],
+    spans: &[Span],
+    group: &Range<usize>,
+    tabs: TabWidth,
+) -> Result<Vec<RowPlan<'a>>, AllocError>
+    requires sweep { CanSweep contents.now (map ordered_view labels.now) spans.now group.now }
+    requires one { group.now.start + 1 ≡ group.now.end }
+    ensures { IfOk result (λ plans. map row_plan_view plans.items
+        ≡ map (row_plan_of tabs (map ordered_view labels.now)) (rows_of contents.now)) }
+{
+    let mut ahead = rows_ahead(contents);
+    let mut plans = Vec::with_capacity(alloc, USUAL_ROWS)?;
+    while let Some(row) = ahead.cut() {
+        plans.push(plan_alone(alloc, &row, labels, spans, group.start, tabs)?)?;
+    }
+    Ok(plans)
+}
+
+/// The plans of the rows of a group of labels. A label stays open from the row in which it starts
+/// to the last one that it meets, and only open labels are tried.
+fn plan_rows_of_many<'a>(
+    alloc: Global,
+    contents: &SpanContents<'a>,
+    labels: &[OrderedLabel<'_>],
+    spans: &[Span],
+    group: &Range<usize>,
+    tabs: TabWidth,
+) -> Result<Vec<RowPlan<'a>>, AllocError>
+    requires { CanSweep contents.now (map ordered_view labels.now) spans.now group.now }
+    ensures { IfOk result (λ plans. map row_plan_view plans.items
+        ≡ map (row_plan_of tabs (map ordered_view labels.now)) (rows_of contents.now)) }
+{
+    let mut ahead = rows_ahead(contents);
+    let mut plans = Vec::with_capacity(alloc, USUAL_ROWS)?;
     let mut active = Vec::new(alloc);
     let mut next = group.start;
-    for row in rows {
+    while let Some(row) = ahead.cut() {
         next = open_before(&mut active, spans, next, group.end, row.offset + row.length)?;
         close_before(&mut active, spans, row.offset);
-        plans.push(plan_row(alloc, row, labels, spans, &active, tabs)?)?;
+        plans.push(plan_row(alloc, &row, labels, spans, &active, tabs)?)?;
     }
     Ok(plans)
 }
@@ -223,15 +281,132 @@ fn plan_row<'a>(
     requires spans { spans.now ≡ spans_of (map ordered_view labels.now) }
     requires rising { IsNonDecreasingBy (λ span. span.start) spans.now }
     requires ordered { All (λ span. span.start ≤ span.end) spans.now }
-    requires among { filter (λ at. meets row.now.offset row.now.length (span_at spans.now at)) active.now ≡ meeting_labels row.now.offset row.now.length spans.now }
-    ensures { IfOk result (λ plan. row_plan_view plan ≡ row_plan_of tabs (map ordered_view labels.now) (row_view row.now)) }
+    requires among { HoldAllMet (row_view row.now) spans.now active.now }
+    ensures { IfOk result (λ plan. row_plan_view plan
+        ≡ row_plan_of tabs (map ordered_view labels.now) (row_view row.now)) }
+{
+    match active {
+        [] => Ok(bare_row(alloc, row)),
+        [at] => plan_alone(alloc, row, labels, spans, *at, tabs),
+        _ => plan_active(alloc, row, labels, spans, active, tabs),
+    }
+}
+
+/// The plan of a row that no label meets.
+fn bare_row<'a>(alloc: Global, row: &Row<'a>) -> RowPlan<'a>
+    ensures { row_plan_view result ≡ bare_plan (row_view row.now) }
+{
+    RowPlan {
+        row: *row,
+        bars: Vec::new(alloc),
+        marks: Vec::new(alloc),
+        hangs: Vec::new(alloc),
+        ends: Vec::new(alloc),
+    }
+}
+
+/// The plan of a row that no label meets but the one at this place of label order, if that does.
+fn plan_alone<'a>(
+    alloc: Global,
+    row: &Row<'a>,
+    labels: &[OrderedLabel<'_>],
+    spans: &[Span],
+    at: usize,
+    tabs: TabWidth,
+) -> Result<RowPlan<'a>, AllocError>
+    requires small { row.now.offset + row.now.length < 2 ^ 32 }
+    requires fits { length row.now.text.now < 2 ^ 32 }
+    requires spans { spans.now ≡ spans_of (map ordered_view labels.now) }
+    requires ordered { All (λ span. span.start ≤ span.end) spans.now }
+    requires among { HoldAllMet (row_view row.now) spans.now (at ∷ []) }
+    ensures { IfOk result (λ plan. row_plan_view plan
+        ≡ row_plan_of tabs (map ordered_view labels.now) (row_view row.now)) }
+{
+    let span = span_at(spans, at);
+    if is_one_row(row, span) {
+        plan_within(alloc, row, labels, spans, at, tabs)
+    } else if is_multi_row(row, span) {
+        plan_across(alloc, row, labels, at)
+    } else {
+        Ok(bare_row(alloc, row))
+    }
+}
+
+/// The plan of a row that only the label at this place of label order meets, which lies within it.
+fn plan_within<'a>(
+    alloc: Global,
+    row: &Row<'a>,
+    labels: &[OrderedLabel<'_>],
+    spans: &[Span],
+    at: usize,
+    tabs: TabWidth,
+) -> Result<RowPlan<'a>, AllocError>
+    requires fits { length row.now.text.now < 2 ^ 32 }
+    requires spans { spans.now ≡ spans_of (map ordered_view labels.now) }
+    requires ordered { All (λ span. span.start ≤ span.end) spans.now }
+    requires within { one_row_labels row.now.offset row.now.length spans.now ≡ at ∷ [] }
+    requires across { multi_row_labels row.now.offset row.now.length spans.now ≡ [] }
+    ensures { IfOk result (λ plan. row_plan_view plan
+        ≡ row_plan_of tabs (map ordered_view labels.now) (row_view row.now)) }
+{
+    Ok(RowPlan {
+        row: *row,
+        bars: Vec::new(alloc),
+        marks: placed(alloc, row, spans, &[at], tabs)?,
+        hangs: hang_alone(alloc, labels, at)?,
+        ends: Vec::new(alloc),
+    })
+}
+
+/// The plan of a row that only the label at this place of label order meets, which goes on above or
+/// below it.
+fn plan_across<'a>(
+    alloc: Global,
+    row: &Row<'a>,
+    labels: &[OrderedLabel<'_>],
+    at: usize,
+) -> Result<RowPlan<'a>, AllocError>
+    requires small { row.now.offset + row.now.length < 2 ^ 32 }
+    requires within { within_row (row_view row.now) (map ordered_view labels.now) ≡ [] }
+    requires across { across_row (row_view row.now) (map ordered_view labels.now) ≡ at ∷ [] }
+    ensures { IfOk result (λ plan. (tab : ℕ) → row_plan_view plan
+        ≡ row_plan_of tab (map ordered_view labels.now) (row_view row.now)) }
+{
+    Ok(RowPlan {
+        row: *row,
+        bars: bars_at(alloc, row, labels, &[at])?,
+        marks: Vec::new(alloc),
+        hangs: Vec::new(alloc),
+        ends: ends_at(alloc, row, labels, &[at])?,
+    })
+}
+
+/// The plan of a row, given places of labels in order among which are all that meet it, by testing
+/// each of them.
+fn plan_active<'a>(
+    alloc: Global,
+    row: &Row<'a>,
+    labels: &[OrderedLabel<'_>],
+    spans: &[Span],
+    active: &[usize],
+    tabs: TabWidth,
+) -> Result<RowPlan<'a>, AllocError>
+    requires small { row.now.offset + row.now.length < 2 ^ 32 }
+    requires fits { length row.now.text.now < 2 ^ 32 }
+    requires spans { spans.now ≡ spans_of (map ordered_view labels.now) }
+    requires rising { IsNonDecreasingBy (λ span. span.start) spans.now }
+    requires ordered { All (λ span. span.start ≤ span.end) spans.now }
+    requires among { HoldAllMet (row_view row.now) spans.now active.now }
+    ensures { IfOk result (λ plan. row_plan_view plan
+        ≡ row_plan_of tabs (map ordered_view labels.now) (row_view row.now)) }
 {
     let within = one_row_of(alloc, row, spans, active)?;
     let across = multi_row_of(alloc, row, spans, active)?;
     plan_at(alloc, row, labels, spans, &within, &across, tabs)
 }
 
-/// The plan of a row, given the places of the labels within it and of those that meet it and others.
+/// The plan of a row, given the places of the labels within it and of those that meet it and
+/// others.
 fn plan_at<'a>(
     alloc: Global,
     row: &Row<'a>,
@@ -248,7 +423,8 @@ fn plan_at<'a>(
     requires ordered { All (λ span. span.start ≤ span.end) spans.now }
     requires within { within.now ≡ one_row_labels row.now.offset row.now.length spans.now }
     requires across { across.now ≡ multi_row_labels row.now.offset row.now.length spans.now }
-    ensures { IfOk result (λ plan. row_plan_view plan ≡ row_plan_of tabs (map ordered_view labels.now) (row_view row.now)) }
+    ensures { IfOk result (λ plan. row_plan_view plan
+        ≡ row_plan_of tabs (map ordered_view labels.now) (row_view row.now)) }
 {
     let marks = placed(alloc, row, spans, within, tabs)?;
     let bars = bars_at(alloc, row, labels, across)?;
@@ -272,7 +448,10 @@ fn one_row_of(
 ) -> Result<Vec<usize>, AllocError>
     requires range { row.now.offset + row.now.length < 2 ^ 32 }
     requires ordered { All (λ span. span.start ≤ span.end) spans.now }
-    ensures { IfOk result (λ places. places.items ≡ filter (λ at. is_one_row row.now.offset row.now.length (span_at spans.now at)) active.now) }
+    ensures { let offset = row.now.offset in
+        let len = row.now.length in
+        IfOk result (λ places. places.items
+        ≡ filter (λ at. is_one_row offset len (span_at spans.now at)) active.now) }
 {
     let places = active
         .iter()
@@ -291,7 +470,10 @@ fn multi_row_of(
 ) -> Result<Vec<usize>, AllocError>
     requires range { row.now.offset + row.now.length < 2 ^ 32 }
     requires ordered { All (λ span. span.start ≤ span.end) spans.now }
-    ensures { IfOk result (λ places. places.items ≡ filter (λ at. is_multi_row row.now.offset row.now.length (span_at spans.now at)) active.now) }
+    ensures { let offset = row.now.offset in
+        let len = row.now.length in
+        IfOk result (λ places. places.items
+        ≡ filter (λ at. is_multi_row offset len (span_at spans.now at)) active.now) }
 {
     let places = active
         .iter()

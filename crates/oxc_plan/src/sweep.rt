@@ -17,8 +17,8 @@ pub fn close_before(active: &mut Vec<usize>, spans: &[Span], offset: usize)
     active.retain(|at| offset < label_past(span_at(spans, *at)));
 }
 
-/// Puts in the labels from one place on, up to before another, that start before an offset. Gives the place of the first
-/// that does not.
+/// Puts in the labels from one place on, up to before another, that start before an offset. Gives
+/// the place of the first that does not.
 pub fn open_before(
     active: &mut Vec<usize>,
     spans: &[Span],
@@ -28,7 +28,8 @@ pub fn open_before(
 ) -> Result<usize, AllocError>
     requires from { next ≤ past }
     requires within { past ≤ length spans.now }
-    ensures opened { IfOk result (λ to. active.new.items ≡ active.old.items ++ range_with_len next (to - next)) }
+    ensures opened { IfOk result (λ to. active.new.items
+        ≡ active.old.items ++ range_with_len next (to - next)) }
     ensures from { IfOk result (λ to. next ≤ to) }
     ensures upto { IfOk result (λ to. to ≤ past) }
     ensures starts { IfOk result (λ to. to < past → offset ≤ (span_at spans.now to).start) }

@@ -3,7 +3,8 @@ ghost use Rattle.std.specs.Prelude.{◌≡◌, ℕ, ◌≤◌, SomeIff};
 
 use std::marker::Model;
 
-/// How many columns the tab stops are apart: from 1 to 16, and 4 by default. Contracts see it as that number.
+/// How many columns the tab stops are apart: from 1 to 16, and 4 by default. Contracts see it as
+/// that number.
 #[derive(Clone, Copy, Debug, PartialEq, Eq)]
 pub struct TabWidth {
     width: usize,

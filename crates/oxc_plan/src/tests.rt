@@ -60,7 +60,8 @@ fn labels_within_reach_share_a_snippet(rt: HostRuntime) -> Result<(), Fail> {
         groups_of_two(alloc, TEN_ROWS, 0, 8)?.as_slice(),
         [0..1, 1..2].as_slice()
     );
-    // the line count goes from the source's first row, so late windows reach far: rows 10 and 20 are joined
+    // the line count goes from the source's first row, so late windows reach far: rows 10 and 20
+    // are joined
     assert_eq!(rt;
         groups_of_two(alloc, THIRTY_ROWS, 18, 38)?.as_slice(),
         [0..2].as_slice()
@@ -77,7 +78,8 @@ fn rows_round<'a>(
     requires short { length text.now < 4294967295 }
     requires ordered { span.start ≤ span.end }
     ensures none { IfOk result (λ found. IsNone found ↔ (length text.now < span.end)) }
-    ensures rows { IfOk result (λ found. IfSome found (λ rows. map row_view rows.items ≡ rows_in text.now (window_round text.now span))) }
+    ensures rows { IfOk result (λ found. IfSome found (λ rows. map row_view rows.items
+        ≡ rows_in text.now (window_round text.now span))) }
 {
     let mut scanner = SpanScanner::new(alloc, text.as_bytes(), 1, 1);
     match scanner.read_span(span)? {

@@ -22,10 +22,21 @@ shown_code None None = None
 shown_code (Some scope) number = Some (code_text (Some scope) number)
 shown_code None (Some number) = Some number
 
+-- the same of the two parts of a code
+abbrev pub shown_of : CodeParts → Option (List ℕ)
+shown_of code = shown_code code.scope code.number
+
 -- a part that is there stays, one that is missing becomes the given text
 abbrev pub part_or : Option (List ℕ) → List ℕ → Option (List ℕ)
 part_or (Some part) text = Some part
 part_or None text = Some text
+
+-- a code whose scope, or whose number, becomes the given text if it is missing
+abbrev pub code_with_scope : CodeParts → List ℕ → CodeParts
+code_with_scope code scope = record code { scope = part_or code.scope scope }
+
+abbrev pub code_with_number : CodeParts → List ℕ → CodeParts
+code_with_number code number = record code { number = part_or code.number number }
 
 -- the order of two texts that may be missing: none comes first, texts go by their bytes
 abbrev pub text_cmp : Option (List ℕ) → Option (List ℕ) → Ordering

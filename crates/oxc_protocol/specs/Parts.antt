@@ -1,7 +1,7 @@
 use Rattle.std.specs.Prelude.{ℕ, List, Option, Some, None, []}
 use Rattle.oxc_span.specs.Label.{Label}
 use Rattle.oxc_protocol.specs.Source.{SourceParts}
-use Rattle.oxc_protocol.specs.Code.{CodeParts, shown_code}
+use Rattle.oxc_protocol.specs.Code.{CodeParts, shown_of}
 use Rattle.oxc_protocol.specs.declared.protocol.Severity.{Severity}
 
 -- the meaning of a diagnostic: the parts that a report draws
@@ -31,4 +31,4 @@ bare_diagnostic severity message = record { message = message; labels = []; help
 
 -- the meaning of an `OxcDiagnostic` with this source, or with none
 abbrev pub parts_with : OxcParts → Option SourceParts → Parts
-parts_with d source = record { message = d.message; code = shown_code d.code.scope d.code.number; severity = Some d.severity; help = d.help; note = d.note; url = d.url; source = source; labels = d.labels }
+parts_with d source = record { message = d.message; code = shown_of d.code; severity = Some d.severity; help = d.help; note = d.note; url = d.url; source = source; labels = d.labels }

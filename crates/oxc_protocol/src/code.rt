@@ -1,17 +1,19 @@
 //! Codes of diagnostics.
-ghost use Rattle.std.specs.Prelude.{◌≡◌, ◌↔◌, ◌⊎◌, IsTrue, IsSome, Some, IfOk, string_bytes};
-ghost use Rattle.oxc_protocol.specs.Code.{code_text, shown_code};
+ghost use Rattle.std.specs.Prelude.{◌≡◌, ◌↔◌, ◌⊎◌, ◌++◌, [], IsTrue, IsSome, Some, IfOk, OnOk};
+ghost use Rattle.std.specs.Prelude.{string_bytes, unwrap_or};
+ghost use Rattle.oxc_protocol.specs.Code.{code_text, shown_of};
 ghost use Rattle.oxc_span.specs.Views.{text_bytes};
 
 use std::alloc::{AllocError, Global};
 use std::fmt;
 use std::fmt::{Display, Formatter, Write};
 
-/// A code in two parts: a scope, as the name of a linter's plugin, and a number, as the name of a rule in it.
+/// A code in two parts: a scope, as the name of a linter's plugin, and a number, as the name of a
+/// rule in it.
 ///
-/// Codes are ordered by scope, then by number; a missing part comes before every text, and texts go by their
-/// bytes. The default has neither part. A code prints as `scope(number)`, as the one part that it has, or as
-/// nothing.
+/// Codes are ordered by scope, then by number; a missing part comes before every text, and texts go
+/// by their bytes. The default has neither part. A code prints as `scope(number)`, as the one part
+/// that it has, or as nothing.
 #[derive(Default, PartialEq, Eq, PartialOrd, Ord, Debug, Drop)]
 pub struct OxcCode {
     pub scope: Option<String>,
@@ -19,6 +21,8 @@ pub struct OxcCode {
 }
 
 impl OxcCode {
+    ghost use Rattle.oxc_protocol.specs.Views.{code_parts};
+
     /// Whether either part is there.
     pub fn is_some(&self) -> bool
         ensures { IsTrue result ↔ (IsSome self.now.scope ⊎ IsSome self.now.number) }
@@ -28,30 +32,48 @@ impl OxcCode {
 
     /// The code's text, none where neither part is there.
     pub(crate) fn shown(&self, alloc: Global) -> Result<Option<String>, AllocError>
-        ensures { IfOk result (λ text. text_bytes text ≡ shown_code (text_bytes self.now.scope) (text_bytes self.now.number)) }
+        ensures { IfOk result (λ text. text_bytes text ≡ shown_of (code_parts self.now)) }
+    {
+        if !self.is_some() {
+            return Ok(None);
+        }
+        let room = len_of(&self.scope).saturating_add(len_of(&self.number));
+        let mut text = String::with_capacity(alloc, room.saturating_add(2))?;
+        self.push_onto(&mut text)?;
+        Ok(Some(text))
+    }
+
+    /// Appends the code's text, and says whether there is one: either part is there.
+    ///
+    /// # Errors
+    ///
+    /// Want of memory.
+    pub fn push_onto(&self, out: &mut String) -> Result<bool, AllocError>
+        ensures told { IfOk result (λ there. IsTrue there
+            ↔ IsSome (shown_of (code_parts self.now))) }
+        ensures text { OnOk result (string_bytes out.new
+            ≡ string_bytes out.old ++ unwrap_or (shown_of (code_parts self.now)) []) }
     {
         match (&self.scope, &self.number) {
-            (None, None) => Ok(None),
-            (Some(part), None) | (None, Some(part)) => {
-                Ok(Some(String::from_str(alloc, part.as_str())?))
-            }
+            (None, None) => return Ok(false),
+            (Some(part), None) | (None, Some(part)) => out.push_str(part.as_str())?,
             (Some(scope), Some(number)) => {
-                Ok(Some(in_scope(alloc, scope.as_str(), number.as_str())?))
+                out.push_str(scope.as_str())?;
+                out.push('(')?;
+                out.push_str(number.as_str())?;
+                out.push(')')?;
             }
         }
+        Ok(true)
     }
 }
 
-/// A number behind its scope, in brackets.
-fn in_scope(alloc: Global, scope: &str, number: &str) -> Result<String, AllocError>
-    ensures { IfOk result (λ text. string_bytes text ≡ code_text (Some scope.now) (Some number.now)) }
-{
-    let mut text = String::with_capacity(alloc, scope.len().saturating_add(number.len()).saturating_add(2))?;
-    text.push_str(scope)?;
-    text.push('(')?;
-    text.push_str(number)?;
-    text.push(')')?;
-    Ok(text)
+/// The bytes of a part, none where it is missing.
+fn len_of(part: &Option<String>) -> usize {
+    match part {
+        Some(text) => text.len(),
+        None => 0,
+    }
 }
 
 impl Display for OxcCode {

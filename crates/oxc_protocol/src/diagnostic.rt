@@ -1,8 +1,9 @@
 //! The diagnostic that a linter builds, and the same with a source.
-ghost use Rattle.std.specs.Prelude.{◌≡◌, ◌↔◌, ◌<◌, ◌++◌, ◌∷◌, [], Some, None, IfOk, IsTrue, length, string_bytes};
+ghost use Rattle.std.specs.Prelude.{◌≡◌, ◌↔◌, ◌<◌, ◌++◌, ◌∷◌, [], Some, None, IsSome, unwrap_or};
+ghost use Rattle.std.specs.Prelude.{IfOk, OnOk, IsTrue, length, string_bytes};
 ghost use Rattle.std.specs.Option.{option_copied};
 ghost use Rattle.oxc_span.specs.Views.{text_bytes};
-ghost use Rattle.oxc_protocol.specs.Code.{part_or};
+ghost use Rattle.oxc_protocol.specs.Code.{code_with_number, code_with_scope, shown_of};
 ghost use Rattle.oxc_protocol.specs.Parts.{bare_diagnostic, parts_with};
 
 use crate::{Diagnostic, LabeledSpan, Labels, OxcCode, Severity, SourceCode, SourceRef};
@@ -14,8 +15,8 @@ use std::marker::Model;
 
 /// A diagnostic as it is built up: a message and a severity, and then whatever parts are known.
 ///
-/// A builder takes the diagnostic and gives it back with the named part changed and all others as they were.
-/// Where it finds no memory, the diagnostic is let go.
+/// A builder takes the diagnostic and gives it back with the named part changed and all others as
+/// they were. Where it finds no memory, the diagnostic is let go.
 #[derive(Debug, Drop)]
 pub struct OxcDiagnostic {
     inner: OxcDiagnosticInner,
@@ -115,7 +116,8 @@ impl OxcDiagnostic {
         })
     }
 
-    /// Gives the code's scope and its number, neither of them empty. A part that is there already stays.
+    /// Gives the code's scope and its number, neither of them empty. A part that is there already
+    /// stays.
     pub fn with_error_code(
         self,
         alloc: Global,
@@ -124,7 +126,9 @@ impl OxcDiagnostic {
     ) -> Result<Self, AllocError>
         requires scope { 0 < length scope.now }
         requires number { 0 < length number.now }
-        ensures { IfOk result (λ it. it ≡ record self { code = record { scope = part_or self.code.scope scope.now; number = part_or self.code.number number.now } }) }
+        ensures { IfOk result (λ it. it ≡ record self {
+          code = code_with_number (code_with_scope self.code scope.now) number.now;
+        }) }
     {
         self.with_error_code_scope(alloc, scope)?
             .with_error_code_num(alloc, number)
@@ -137,7 +141,9 @@ impl OxcDiagnostic {
         code_scope: &str,
     ) -> Result<Self, AllocError>
         requires { 0 < length code_scope.now }
-        ensures { IfOk result (λ it. it ≡ record self { code = record self.code { scope = part_or self.code.scope code_scope.now } }) }
+        ensures { IfOk result (λ it. it ≡ record self {
+          code = code_with_scope self.code code_scope.now;
+        }) }
     {
         if self.inner.code.scope.is_none() {
             self.inner.code.scope = Some(String::from_str(alloc, code_scope)?);
@@ -148,12 +154,30 @@ impl OxcDiagnostic {
     /// Gives the code's number, which is not empty. A number that is there already stays.
     pub fn with_error_code_num(mut self, alloc: Global, code_num: &str) -> Result<Self, AllocError>
         requires { 0 < length code_num.now }
-        ensures { IfOk result (λ it. it ≡ record self { code = record self.code { number = part_or self.code.number code_num.now } }) }
+        ensures { IfOk result (λ it. it ≡ record self {
+          code = code_with_number self.code code_num.now;
+        }) }
     {
         if self.inner.code.number.is_none() {
             self.inner.code.number = Some(String::from_str(alloc, code_num)?);
         }
         Ok(self)
+    }
+
+    /// Appends the text of the code, and says whether there is one: either part is there.
+    ///
+    /// A caller that shows many diagnostics needs one text for all their codes, in place of a new
+    /// one for each as by [`code`](Diagnostic::code).
+    ///
+    /// # Errors
+    ///
+    /// Want of memory.
+    pub fn push_code(&self, out: &mut String) -> Result<bool, AllocError>
+        ensures told { IfOk result (λ there. IsTrue there ↔ IsSome (shown_of self.now.code)) }
+        ensures text { OnOk result (string_bytes out.new
+            ≡ string_bytes out.old ++ unwrap_or (shown_of self.now.code) []) }
+    {
+        self.inner.code.push_onto(out)
     }
 
     /// Sets the severity.
@@ -190,7 +214,8 @@ impl OxcDiagnostic {
         Ok(self)
     }
 
-    /// Sets these labels in place of all that are there. [`OxcDiagnostic::and_labels`] appends them.
+    /// Sets these labels in place of all that are there. [`OxcDiagnostic::and_labels`] appends
+    /// them.
     pub fn with_labels(
         mut self,
         _alloc: Global,

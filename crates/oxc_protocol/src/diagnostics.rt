@@ -1,5 +1,6 @@
 //! Lists of diagnostics.
-ghost use Rattle.std.specs.Prelude.{◌≡◌, ◌↔◌, ◌++◌, ◌∷◌, [], OnOk, OnErr, IfOk, IsTrue, Any, filter};
+ghost use Rattle.std.specs.Prelude.{◌≡◌, ◌↔◌, ◌++◌, ◌∷◌, [], OnOk, OnErr, IfOk, IsTrue, Any};
+ghost use Rattle.std.specs.Prelude.{filter};
 ghost use Rattle.std.specs.Iterator.{YieldsFirstRef, item_count};
 
 use crate::{OxcDiagnostic, Severity};
@@ -116,7 +117,8 @@ impl Diagnostics {
         Ok(())
     }
 
-    /// Appends all these diagnostics, in their order. Where there is no memory, the list stays as it was.
+    /// Appends all these diagnostics, in their order. Where there is no memory, the list stays as
+    /// it was.
     pub fn extend(&mut self, diagnostics: Vec<OxcDiagnostic>) -> Result<(), AllocError>
         ensures ok { OnOk result (self.new ≡ self.old ++ diagnostics.items) }
         ensures err { OnErr result (self.new ≡ self.old) }

@@ -1,11 +1,11 @@
 //! What a linter reports, the sources that it points into, and where drawn reports go.
 //!
-//! A linter builds an [`OxcDiagnostic`] and hands it on, as a value, in a list of [`Diagnostics`], or in a box
-//! as an [`Error`]. Whoever shows it asks for its parts by the trait [`Diagnostic`] alone, and for the source
-//! that its labels point into by [`SourceCode`].
+//! A linter builds an [`OxcDiagnostic`] and hands it on, as a value, in a list of [`Diagnostics`],
+//! or in a box as an [`Error`]. Whoever shows it asks for its parts by the trait [`Diagnostic`]
+//! alone, and for the source that its labels point into by [`SourceCode`].
 //!
-//! A [`Sink`] is any device that takes bytes and counts its own faults. [`MemorySink`] keeps what it
-//! took, and can be told to fail, for tests and for callers that want the text.
+//! A [`Sink`] is any device that takes bytes and counts its own faults. [`MemorySink`] keeps what
+//! it took, and can be told to fail, for tests and for callers that want the text.
 #![tactic(auto)]
 
 mod code;

@@ -1,9 +1,11 @@
 // A sink in memory, which fails at the calls that it was told.
-ghost use Rattle.std.specs.Prelude.{◌≡◌, [], ◌<◌, ◌≤◌, ◌↔◌, ◌++◌, length, take, Some, IfOk, IsErr, OnErr, OnOk, vec_capacity};
+ghost use Rattle.std.specs.Prelude.{◌≡◌, [], ◌<◌, ◌≤◌, ◌↔◌, length, Some, vec_capacity, IfOk};
+ghost use Rattle.std.specs.Prelude.{IsErr, OnErr, OnOk};
 ghost use Rattle.std.specs.Io.{WritesAtMost};
 ghost use Rattle.std.specs.Io.KnownBytes.{WriteAppends};
-ghost use Rattle.oxc_protocol.specs.Faults.{HasCause, next_count};
-ghost use Rattle.oxc_protocol.specs.MemorySink.{SinkState, Refuses, taken};
+ghost use Rattle.oxc_protocol.specs.Faults.{HasCause};
+ghost use Rattle.oxc_protocol.specs.MemorySink.{Refuses, SinkState, after_fault, after_write};
+ghost use Rattle.oxc_protocol.specs.MemorySink.{taken};
 
 use crate::{Failed, Sink};
 use std::alloc::{AllocError, Global};
@@ -12,8 +14,8 @@ use std::marker::Model;
 /// A sink that keeps what it took, in memory taken beforehand.
 ///
 /// Contracts see its [`SinkState`](../specs/MemorySink.antt): the bytes taken, the room for all of
-/// them, the most that one call takes, the numbers of the calls that fail (the first call is 0), and
-/// how many calls and faults there were.
+/// them, the most that one call takes, the numbers of the calls that fail (the first call is 0),
+/// and how many calls and faults there were.
 #[derive(Drop)]
 pub struct MemorySink {
     bytes: Vec<u8>,
@@ -27,9 +29,17 @@ pub struct MemorySink {
 impl Model for MemorySink {
     ghost Value = { SinkState };
 
-    ghost view = { λ s. record { received = s.bytes.items; room = s.room; most = s.most; failing = s.failing.items; calls = s.calls; faults = s.faults } };
+    ghost view = { λ s. record {
+      received = s.bytes.items;
+      room = s.room;
+      most = s.most;
+      failing = s.failing.items;
+      calls = s.calls;
+      faults = s.faults;
+    } };
 
-    ghost invariant = { λ s. (0 < s.most) × (s.room ≤ vec_capacity s.bytes) × (length s.bytes.items ≤ s.room) };
+    ghost invariant = { λ s. (0 < s.most)
+        × (s.room ≤ vec_capacity s.bytes) × (length s.bytes.items ≤ s.room) };
 }
 
 impl MemorySink {
@@ -41,7 +51,14 @@ impl MemorySink {
         failing: Vec<u64>,
     ) -> Result<MemorySink, AllocError>
         requires { 0 < most }
-        ensures { IfOk result (λ s. s ≡ record { received = []; room = room; most = most; failing = failing.items; calls = 0; faults = 0 }) }
+        ensures { IfOk result (λ s. s ≡ record {
+          received = [];
+          room = room;
+          most = most;
+          failing = failing.items;
+          calls = 0;
+          faults = 0;
+        }) }
     {
         Ok(MemorySink {
             bytes: Vec::with_capacity(alloc, room)?,
@@ -76,13 +93,14 @@ impl Sink for MemorySink {
     fn write(&mut self, bytes: &[u8]) -> Result<usize, Failed>
         ensures refused { IsErr result ↔ Refuses self.old bytes.now }
         ensures taken { IfOk result (λ n. n ≡ taken self.old bytes.now) }
-        ensures failed { OnErr result (self.new ≡ record self.old { calls = next_count self.old.calls; faults = next_count self.old.faults }) }
-        ensures done { OnOk result (self.new ≡ record self.old { received = self.old.received ++ take (taken self.old bytes.now) bytes.now; calls = next_count self.old.calls }) }
+        ensures failed { OnErr result (self.new ≡ after_fault self.old) }
+        ensures done { OnOk result (self.new ≡ after_write self.old bytes.now) }
 
         // The clauses of `Sink`.
         ensures bound { WritesAtMost result bytes.now }
         ensures takes { IfOk result (λ n. 0 < length bytes.now → 0 < n) }
-        ensures bytes { WriteAppends (Some self.old.received) (Some self.new.received) result bytes.now }
+        ensures bytes { WriteAppends
+            (Some self.old.received) (Some self.new.received) result bytes.now }
         ensures cause { HasCause self.old.faults self.new.faults result }
     {
         let fails = self.failing.contains(&self.calls);

@@ -26,7 +26,8 @@ impl<S: SourceCode> NamedSource<S> {
 
     /// The source under this name.
     pub fn new(name: String, source: S) -> Self
-        ensures { named_view S.source result ≡ record { bytes = (S.source source).bytes; name = Some (string_bytes name) } }
+        ensures { named_view S.source result
+            ≡ record { bytes = (S.source source).bytes; name = Some (string_bytes name) } }
     {
         NamedSource { name, source }
     }

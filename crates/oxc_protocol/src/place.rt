@@ -11,8 +11,8 @@ use crate::{InfoPosition, LabeledSpan, SourceRef};
 use bytecount::count;
 use memchr::{memchr_iter, memrchr2};
 
-/// Where the first label starts and where it ends, if there is a source within which it ends. Breaks are counted once
-/// up to the label's end.
+/// Where the first label starts and where it ends, if there is a source within which it ends.
+/// Breaks are counted once up to the label's end.
 pub fn positions(
     source: Option<SourceRef<'_>>,
     labels: &[LabeledSpan],
@@ -85,8 +85,10 @@ fn column_of(bytes: &[u8], offset: usize) -> usize
 /// An offset, where the LF of a CRLF counts as its CR.
 fn settled(bytes: &[u8], offset: usize) -> usize
     requires { offset ≤ length bytes.now }
-    ensures pair { 0 < offset → slice_index bytes.now (offset - 1) ≡ 13 → slice_index bytes.now offset ≡ 10 → result ≡ offset - 1 }
-    ensures other { (0 < offset → slice_index bytes.now (offset - 1) ≡ 13 → slice_index bytes.now offset ≡ 10 → ⊥) → result ≡ offset }
+    ensures pair { 0 < offset → slice_index bytes.now (offset - 1) ≡ 13
+        → slice_index bytes.now offset ≡ 10 → result ≡ offset - 1 }
+    ensures other { (0 < offset → slice_index bytes.now (offset - 1) ≡ 13
+        → slice_index bytes.now offset ≡ 10 → ⊥) → result ≡ offset }
     ensures bound { result ≤ offset }
 {
     if offset > 0 && bytes[offset - 1] == b'\r' && bytes.get(offset) == Some(&b'\n') {

@@ -10,8 +10,8 @@ use std::alloc::{AllocError, Global};
 
 /// The parts of a diagnostic that a renderer shows.
 ///
-/// A contract knows a diagnostic by one record, `parts`, and each call answers the part of its name. An
-/// implementation that lacks a part answers none, or an empty list.
+/// A contract knows a diagnostic by one record, `parts`, and each call answers the part of its
+/// name. An implementation that lacks a part answers none, or an empty list.
 pub trait Diagnostic: Drop {
     ghost use Rattle.oxc_protocol.specs.SourceViews.{ref_views};
 

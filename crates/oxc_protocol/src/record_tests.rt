@@ -1,5 +1,6 @@
 // Diagnostics by example, and callers whose contracts say what the derived traits mean.
-ghost use Rattle.std.specs.Prelude.{◌≡◌, ◌<◌, ◌^◌, ◌+◌, ◌↔◌, ◌∷◌, [], None, ◌++◌, Some, false, IsTrue, IfOk, OnOk, codes, map, string_bytes};
+ghost use Rattle.std.specs.Prelude.{◌≡◌, ◌<◌, ◌^◌, ◌+◌, ◌↔◌, ◌∷◌, [], None, ◌++◌, Some, false};
+ghost use Rattle.std.specs.Prelude.{IsTrue, IfOk, OnOk, codes, map, string_bytes};
 ghost use Rattle.oxc_protocol.specs.Code.{code_cmp};
 ghost use Rattle.oxc_protocol.specs.MessageLines.{message_lines};
 ghost use Rattle.oxc_protocol.specs.Parts.{Parts, bare_diagnostic};
@@ -55,7 +56,8 @@ fn unused(alloc: Global, name: &str, offset: u32, len: u32) -> Result<OxcDiagnos
 
 /// Appends the message of a box and an LF.
 fn push_line(lines: &mut String, error: &Error) -> Result<(), AllocError>
-    ensures { OnOk result (string_bytes lines.new ≡ string_bytes lines.old ++ (parts error.now).message ++ 10 ∷ []) }
+    ensures { OnOk result (string_bytes lines.new
+        ≡ string_bytes lines.old ++ (parts error.now).message ++ 10 ∷ []) }
 {
     lines.push_str(error.message())?;
     lines.push('\n')?;
@@ -187,6 +189,19 @@ fn a_code_may_lack_parts(rt: HostRuntime) -> Result<(), Fail> {
     shows_code(&rt, alloc, &number, Some("1"))?;
     assert!(rt; !OxcCode::default().is_some());
     assert!(rt; OxcCode::default() < code(alloc, Some("s"), Some("1"))?);
+    Ok(())
+}
+
+#[test]
+fn codes_are_gathered_in_one_text(rt: HostRuntime) -> Result<(), Fail> {
+    let alloc = rt.alloc();
+    let mut text = String::new(alloc);
+    let bare = OxcDiagnostic::error(alloc, "m")?;
+    assert!(rt; !bare.push_code(&mut text)?);
+    let coded = bare.with_error_code(alloc, "s", "1")?;
+    assert!(rt; coded.push_code(&mut text)?);
+    assert!(rt; code(alloc, None, Some("9"))?.push_onto(&mut text)?);
+    assert_eq!(rt; text.as_str(), "s(1)9");
     Ok(())
 }
 

@@ -1,5 +1,6 @@
 //! Reporters, which turn diagnostics into texts, and what an editor is told of a diagnostic.
-ghost use Rattle.std.specs.Prelude.{◌≡◌, ℕ, List, Option, None, false, IfOk, OnOk, OnErr, map, string_bytes};
+ghost use Rattle.std.specs.Prelude.{◌≡◌, ℕ, List, Option, None, false, IfOk, OnOk, OnErr, map};
+ghost use Rattle.std.specs.Prelude.{string_bytes};
 ghost use Rattle.std.specs.Fn.{CalledAt};
 ghost use Rattle.std.specs.Option.{option_copied};
 ghost use Rattle.oxc_span.specs.Views.{text_bytes};
@@ -8,7 +9,8 @@ ghost use Rattle.oxc_protocol.specs.SourceViews.{ref_views};
 ghost use Rattle.oxc_protocol.specs.Parts.{Parts};
 ghost use Rattle.oxc_protocol.specs.Counts.{Counts};
 ghost use Rattle.oxc_protocol.specs.Info.{filename_of, told_severity};
-ghost use Rattle.oxc_protocol.specs.Reporters.{KeepsFront, KeptAt, RendersAll, RendersFront, RendersUntil};
+ghost use Rattle.oxc_protocol.specs.Reporters.{KeepsFront, KeptAt, RendersAll, RendersFront};
+ghost use Rattle.oxc_protocol.specs.Reporters.{RendersUntil};
 
 use crate::place::positions;
 use crate::{Diagnostic, Error, Severity, SourceRef};
@@ -17,9 +19,10 @@ use std::marker::Model;
 
 /// Renders diagnostics to some format, a text at a time.
 ///
-/// An implementation says by two relations what it does: `renders` speaks of the reporter before, the diagnostic's
-/// parts, the text or none that is answered, and the reporter after; `finishes` of the reporter before, the counts,
-/// the text or none, and the reporter after. The list calls are known by `renders` alone.
+/// An implementation says by two relations what it does: `renders` speaks of the reporter before,
+/// the diagnostic's parts, the text or none that is answered, and the reporter after; `finishes` of
+/// the reporter before, the counts, the text or none, and the reporter after. The list calls are
+/// known by `renders` alone.
 pub trait DiagnosticReporter {
     ghost renders: { Self → Parts → Option (List ℕ) → Self → Type 0 };
 
@@ -35,8 +38,8 @@ pub trait DiagnosticReporter {
     ) -> Result<Option<String>, AllocError>
         ensures { IfOk result (λ text. finishes self.old counts.now (text_bytes text) self.new) };
 
-    /// Whether a very long line of a text may be replaced by a warning that the file is minified. A reporter whose
-    /// texts are read by programs answers false.
+    /// Whether a very long line of a text may be replaced by a warning that the file is minified. A
+    /// reporter whose texts are read by programs answers false.
     fn supports_minified_file_fallback(&self) -> bool
         ensures { result ≡ false → lacks_fallback self.now }
     {
@@ -61,8 +64,12 @@ pub trait DiagnosticReporter {
     where
         Self: Sized,
         requires { F.IsAlwaysCallable emit }
-        ensures all { OnOk result ((last : F) × RendersAll renders (λ f text g. CalledAt F.FnMut f text tt g) self.old emit (map parts errors.items) self.new last) }
-        ensures front { OnErr result ((last : F) × RendersFront renders (λ f text g. CalledAt F.FnMut f text tt g) self.old emit (map parts errors.items) last) }
+        ensures all { OnOk result ((last : F)
+            × RendersAll renders (λ f text g. CalledAt F.FnMut f text tt g)
+            self.old emit (map parts errors.items) self.new last) }
+        ensures front { OnErr result ((last : F)
+            × RendersFront renders (λ f text g. CalledAt F.FnMut f text tt g)
+            self.old emit (map parts errors.items) last) }
     {
         self.render_errors_into(alloc, errors, &mut emit)
     }
@@ -78,8 +85,11 @@ pub trait DiagnosticReporter {
         Self: Sized,
         requires { F.IsAlwaysCallable emit.old }
         ensures callable { F.IsAlwaysCallable emit.new }
-        ensures all { OnOk result (RendersAll renders (λ f text g. CalledAt F.FnMut f text tt g) self.old emit.old (map parts errors.items) self.new emit.new) }
-        ensures front { OnErr result (RendersFront renders (λ f text g. CalledAt F.FnMut f text tt g) self.old emit.old (map parts errors.items) emit.new) }
+        ensures all { OnOk result (RendersAll renders (λ f text g. CalledAt F.FnMut f text tt g)
+            self.old emit.old (map parts errors.items) self.new emit.new) }
+        ensures front { OnErr result
+            (RendersFront renders (λ f text g. CalledAt F.FnMut f text tt g)
+            self.old emit.old (map parts errors.items) emit.new) }
     {
         for error in errors {
             if let Some(text) = self.render_error(alloc, error)? {
@@ -89,8 +99,8 @@ pub trait DiagnosticReporter {
         Ok(())
     }
 
-    /// Renders diagnostics in order, and offers each text that this gives with the name of its source, up to and with
-    /// the first that is not kept.
+    /// Renders diagnostics in order, and offers each text that this gives with the name of its
+    /// source, up to and with the first that is not kept.
     ///
     /// # Errors
     ///
@@ -104,8 +114,10 @@ pub trait DiagnosticReporter {
     where
         Self: Sized,
         requires { F.IsAlwaysCallable keep }
-        ensures until { OnOk result ((last : F) × RendersUntil renders (KeptAt F.step) self.old keep (map parts errors.items) self.new last) }
-        ensures front { OnErr result ((last : F) × KeepsFront renders (KeptAt F.step) self.old keep (map parts errors.items) last) }
+        ensures until { OnOk result ((last : F) × RendersUntil renders (KeptAt F.step)
+            self.old keep (map parts errors.items) self.new last) }
+        ensures front { OnErr result ((last : F) × KeepsFront renders (KeptAt F.step)
+            self.old keep (map parts errors.items) last) }
     {
         self.render_errors_until_into(alloc, errors, &mut keep)
     }
@@ -121,8 +133,10 @@ pub trait DiagnosticReporter {
         Self: Sized,
         requires { F.IsAlwaysCallable keep.old }
         ensures callable { F.IsAlwaysCallable keep.new }
-        ensures until { OnOk result (RendersUntil renders (KeptAt F.step) self.old keep.old (map parts errors.items) self.new keep.new) }
-        ensures front { OnErr result (KeepsFront renders (KeptAt F.step) self.old keep.old (map parts errors.items) keep.new) }
+        ensures until { OnOk result (RendersUntil renders (KeptAt F.step)
+            self.old keep.old (map parts errors.items) self.new keep.new) }
+        ensures front { OnErr result (KeepsFront renders (KeptAt F.step)
+            self.old keep.old (map parts errors.items) keep.new) }
     {
         for error in errors {
             let name = source_name(alloc, &error)?;
@@ -164,7 +178,8 @@ fn lent(name: &Option<String>) -> Option<&str>
     name.as_deref()
 }
 
-/// How many warnings and errors were reported, and whether the warnings were more than allowed. The caller counts.
+/// How many warnings and errors were reported, and whether the warnings were more than allowed. The
+/// caller counts.
 #[derive(Debug, Drop)]
 pub struct DiagnosticResult {
     warnings_count: usize,
@@ -177,13 +192,21 @@ impl Model for DiagnosticResult {
 
     ghost Value = { Counts };
 
-    ghost view = { λ r. record { warnings = r.warnings_count; errors = r.errors_count; exceeded = r.max_warnings_exceeded } };
+    ghost view = { λ r. record {
+      warnings = r.warnings_count;
+      errors = r.errors_count;
+      exceeded = r.max_warnings_exceeded;
+    } };
 }
 
 impl DiagnosticResult {
     /// A result of these numbers.
     pub fn new(warnings_count: usize, errors_count: usize, max_warnings_exceeded: bool) -> Self
-        ensures { result ≡ record { warnings = warnings_count; errors = errors_count; exceeded = max_warnings_exceeded } }
+        ensures { result ≡ record {
+          warnings = warnings_count;
+          errors = errors_count;
+          exceeded = max_warnings_exceeded;
+        } }
     {
         DiagnosticResult {
             warnings_count,
@@ -255,9 +278,10 @@ impl Info {
 
     /// What is told of a diagnostic.
     ///
-    /// A position is found where it has a source and a label, and its first label ends within the source. A missing
-    /// severity is then an error, and advice is a warning. Where no position is found, both positions are 0, the message
-    /// is empty, and the severity is a warning, whatever the diagnostic says.
+    /// A position is found where it has a source and a label, and its first label ends within the
+    /// source. A missing severity is then an error, and advice is a warning. Where no position is
+    /// found, both positions are 0, the message is empty, and the severity is a warning, whatever
+    /// the diagnostic says.
     ///
     /// # Errors
     ///
@@ -290,7 +314,8 @@ impl Info {
 
 /// The name of a source, empty where there is none.
 fn filename(alloc: Global, source: Option<SourceRef<'_>>) -> Result<String, AllocError>
-    ensures { IfOk result (λ name. string_bytes name ≡ filename_of (source_name (ref_views source.entry))) }
+    ensures { IfOk result (λ name. string_bytes name
+        ≡ filename_of (source_name (ref_views source.entry))) }
 {
     let name = name_of(alloc, source)?;
     Ok(name.unwrap_or(String::new(alloc)))

@@ -1,5 +1,7 @@
-// Reporters and what an editor is told, by example, and callers that are proved from the contracts alone.
-ghost use Rattle.std.specs.Prelude.{◌≡◌, ◌<◌, ◌^◌, ◌+◌, ◌↔◌, None, false, true, IfOk, IsTrue, map, string_bytes};
+// Reporters and what an editor is told, by example, and callers that are proved from the contracts
+// alone.
+ghost use Rattle.std.specs.Prelude.{◌≡◌, ◌<◌, ◌^◌, ◌+◌, ◌↔◌, None, false, true, IfOk, IsTrue, map};
+ghost use Rattle.std.specs.Prelude.{string_bytes};
 ghost use Rattle.std.specs.List.{concat};
 ghost use Rattle.std.specs.Ordering.{nat_cmp, ordering_then};
 ghost use Rattle.oxc_protocol.specs.MessageLines.{unless_skip};
@@ -45,7 +47,8 @@ impl DiagnosticReporter for Messages {
 
 /// The texts of all, one after another, and whether there was memory for each.
 fn gathered(alloc: Global, errors: Vec<Error>) -> Result<(String, bool), AllocError>
-    ensures { IfOk result (λ found. found.1 ≡ true → string_bytes found.0 ≡ concat (texts_in (map unless_skip (map parts errors.items)))) }
+    ensures { IfOk result (λ found. found.1 ≡ true
+        → string_bytes found.0 ≡ concat (texts_in (map unless_skip (map parts errors.items)))) }
 {
     let mut text = String::new(alloc);
     let mut whole = true;
@@ -65,7 +68,8 @@ fn keeps_fallback() -> bool
 }
 
 fn order_of_positions(a: &InfoPosition, b: &InfoPosition) -> Ordering
-    ensures { result ≡ ordering_then (nat_cmp a.now.line b.now.line) (nat_cmp a.now.column b.now.column) }
+    ensures { result
+        ≡ ordering_then (nat_cmp a.now.line b.now.line) (nat_cmp a.now.column b.now.column) }
 {
     a.cmp(b)
 }

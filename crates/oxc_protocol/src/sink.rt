@@ -31,7 +31,8 @@ pub trait Sink {
 /// After `Failed` the sink took a first part of them.
 pub fn write_all<K: Sink>(sink: &mut K, bytes: &[u8]) -> Result<(), Failed>
     ensures whole { OnOk result (Appends (K.received sink.old) (K.received sink.new) bytes.now) }
-    ensures part { OnErr result (AppendsPrefix (K.received sink.old) (K.received sink.new) bytes.now) }
+    ensures part { OnErr result (AppendsPrefix (K.received sink.old)
+        (K.received sink.new) bytes.now) }
     ensures cause { HasCause (K.faults sink.old) (K.faults sink.new) result }
 {
     let mut rest = bytes;

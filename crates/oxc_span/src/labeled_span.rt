@@ -9,9 +9,9 @@ use std::marker::Model;
 
 /// A place in a source that a diagnostic points to.
 ///
-/// The place is an offset from the source's first byte and a length, in bytes, whose sum is in the range of
-/// `u32`. A report has at its head the place of its primary label, if one is marked so. The default is an
-/// empty label at 0 with no text, not primary.
+/// The place is an offset from the source's first byte and a length, in bytes, whose sum is in the
+/// range of `u32`. A report has at its head the place of its primary label, if one is marked so.
+/// The default is an empty label at 0 with no text, not primary.
 #[derive(Debug, Drop)]
 pub struct LabeledSpan {
     label: Option<String>,
@@ -39,7 +39,8 @@ impl LabeledSpan {
     /// A label that is not primary. The sum of `offset` and `len` is in the range of `u32`.
     pub fn new(label: Option<String>, offset: u32, len: u32) -> Self
         requires { offset + len < 2 ^ 32 }
-        ensures { result ≡ record { text = text_bytes label; offset = offset; len = len; primary = false } }
+        ensures { result ≡ record
+            { text = text_bytes label; offset = offset; len = len; primary = false } }
     {
         LabeledSpan {
             label,
@@ -52,7 +53,8 @@ impl LabeledSpan {
     /// A primary label. The sum of `offset` and `len` is in the range of `u32`.
     pub fn primary_at(label: Option<String>, offset: u32, len: u32) -> Self
         requires { offset + len < 2 ^ 32 }
-        ensures { result ≡ record { text = text_bytes label; offset = offset; len = len; primary = true } }
+        ensures { result ≡ record
+            { text = text_bytes label; offset = offset; len = len; primary = true } }
     {
         LabeledSpan {
             label,

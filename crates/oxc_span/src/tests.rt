@@ -45,7 +45,9 @@ fn containment_includes_both_ends(rt: HostRuntime) -> Result<(), Fail> {
 
 /// The span of a label, unless it leaves `limits`.
 fn span_within(label: &LabeledSpan, limits: Span) -> Option<Span>
-    ensures { SomeIff result ((limits.start ≤ label.now.offset) × (label_end label.now ≤ limits.end)) (record { start = label.now.offset; end = label_end label.now }) }
+    ensures { SomeIff result ((limits.start ≤ label.now.offset)
+        × (label_end label.now ≤ limits.end))
+        (record { start = label.now.offset; end = label_end label.now }) }
 {
     let span = label.span();
     if limits.contains_inclusive(span) {

@@ -169,3 +169,6 @@ unfolding row_start
 row_at_start len list zero ok le = omega (arith, row_of_le list 0 ok)
 row_at_start len list (suc k) ok le =
     ap (row_of list) (row_start_after len list k no_break le) ∙ row_past_end list k no_break ok le ∙ omega arith
+
+-- what a settled offset is, by its row
+pub ruleset settled_by_row = (settled_at_row, settled_else_row, settled_past_row, row_start_le, row_start_le_settled)

@@ -1,8 +1,9 @@
 -- The steps of many reads.
-use Rattle.std.proofs.Common.{suc, zero, ◌≡◌, ℕ, ◌+◌, ◌<◌, ◌≤◌, List, [], ◌∷◌, ◌++◌, Option, Some, None, refl, sym, ap, subst, ◌∙◌, arith, ⊎_elim, if◌then◌else◌, All, get_or, drop, length, append_assoc}
+use Rattle.std.proofs.Common.{suc, zero, ◌≡◌, ℕ, ◌+◌, ◌<◌, ◌≤◌, List, [], ◌∷◌, ◌++◌, Option, Some, None, refl, sym, ap, subst, ◌∙◌, arith, ⊎_elim, if◌then◌else◌, All, get_or, drop, length, map, append_assoc}
 use Rattle.std.proofs.lemmas.Bool.{cases_lt, le-ltb, lt-ltb}
 use Rattle.oxc_span.specs.declared.span.Span.{Span}
 use Rattle.oxc_windows.specs.Kept.{first_after}
+use Rattle.oxc_windows.specs.Scan.{Scan, IsSameReader, contents_read}
 use Rattle.std.proofs.Math.Seq.{drop-cons}
 use Rattle.oxc_windows.specs.declared.breaks.LineBreak.{LineBreak}
 use Rattle.oxc_windows.specs.declared.window.Window.{Window}
@@ -47,12 +48,28 @@ first_step len now next s rest all e f = rw (e, f) refl
 pub front : (xs : List Span) (i : ℕ) (d : Span) → i < length xs → drop i xs ≡ get_or xs i d ∷ drop (i + 1) xs
 front xs i d h = let one_more : suc i ≡ i + 1 = omega arith in drop-cons xs i d h ∙ ap (λ k. get_or xs i d ∷ drop k xs) one_more
 
+-- one item more of a list that is made item by item
+pub map_step : {A B : Type 0} (f : A → B) (pushed new all : List B) (w : B) (s : A) (now rest : List A)
+    → new ≡ pushed ++ w ∷ [] → w ≡ f s → now ≡ s ∷ rest → pushed ++ map f now ≡ all → new ++ map f rest ≡ all
+map_step f pushed new all w s now rest e g h i =
+    ap (λ l. l ++ map f rest) e ∙ append_assoc pushed (w ∷ []) (map f rest)
+    ∙ ap (λ v. pushed ++ (v ∷ map f rest)) g ∙ ap (λ l. pushed ++ map f l) (sym h) ∙ i
+
+-- the same reader gives the same contents
+pub read_same : (old new : Scan) (span : Span) → IsSameReader old new → contents_read new span ≡ contents_read old span
+read_same old new span same =
+    let input : new.input ≡ old.input = same.input in
+    let before : new.before ≡ old.before = same.before in
+    let after : new.after ≡ old.after = same.after in
+    rw (input, before, after) refl
+
+pub same_then : (one two three : Scan) → IsSameReader one two → IsSameReader two three → IsSameReader one three
+same_then one two three a b = record { input = b.input ∙ a.input; before = b.before ∙ a.before; after = b.after ∙ a.after }
+
 pub value_step : (len : ℕ) (list : List LineBreak) (before after : ℕ) (pushed new all : List (Option Window)) (w : Option Window) (s : Span) (now rest : List Span)
     → new ≡ pushed ++ w ∷ [] → w ≡ window_of len list before after s.start s.end → now ≡ s ∷ rest → pushed ++ windows_of len list before after now ≡ all
     → new ++ windows_of len list before after rest ≡ all
-value_step len list before after pushed new all w s now rest e f g h =
-    ap (λ l. l ++ windows_of len list before after rest) e ∙ append_assoc pushed (w ∷ []) (windows_of len list before after rest)
-    ∙ ap (λ v. pushed ++ (v ∷ windows_of len list before after rest)) f ∙ ap (λ l. pushed ++ windows_of len list before after l) (sym g) ∙ h
+value_step len list before after = map_step (λ span. window_of len list before after span.start span.end)
 
 none_left : (xs : List Span) (i : ℕ) → length xs ≤ i → drop i xs ≡ []
 none_left [] zero h = refl

@@ -77,3 +77,6 @@ window_reaches len list end ok le =
     inl (subst (λ r. end < row_start len list r) one_more (omega (arith, row_start_after len list k no_break inside, before, apart, shape))))
     (λ past. inr (subst (λ r. row_start len list r ≡ len) one_more (row_start_past len list (suc k) (omega (arith, past)))))
     (cases_lt k (length list))
+
+-- where a window ends with rows after it
+pub ruleset window_ends = (row_start_saturated, row_start_past_last, row_start_within)

@@ -1,6 +1,7 @@
 -- What an index holds of a list of breaks: those of consecutive rows, up to the place up to which breaks are known.
 use Rattle.std.specs.Prelude.{◌≡◌, ℕ, ◌+◌, ◌<◌, ◌≤◌, List, ◌∷◌, ◌++◌, length, map, reverse, All, false, if◌then◌else◌}
 use Rattle.oxc_windows.specs.declared.breaks.LineBreak.{LineBreak}
+use Rattle.oxc_windows.specs.declared.held.Rows.{Rows}
 use Rattle.oxc_windows.specs.Rows.{row_of, row_start, is_second_byte}
 
 -- the list in three parts: the breaks above row `top`, those that are held, which end before the known place, and the rest
@@ -24,6 +25,10 @@ pub record IsHeld (len : ℕ) (list : List LineBreak) (top known : ℕ) (starts 
   pub kept : List LineBreak
   pub held : Held len list top known starts kept
   pub heads_are : heads ≡ map (λ b. b.start) kept
+
+-- the rows are those of a source of that length with these breaks
+abbrev pub AreRowsOf : ℕ → List LineBreak → Rows → Type 0
+AreRowsOf len breaks rows = IsHeld len breaks rows.top rows.known rows.starts.items rows.heads.items
 
 -- a walk back from the place `cut`, which stands at `at`: the breaks passed so far, last first, and those above
 pub record Back (list : List LineBreak) (top cut at : ℕ) (taken : List LineBreak) : Type 0 where

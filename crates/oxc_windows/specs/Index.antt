@@ -4,7 +4,7 @@ use Rattle.oxc_windows.specs.declared.breaks.LineBreak.{LineBreak}
 use Rattle.oxc_windows.specs.declared.held.Rows.{Rows}
 use Rattle.oxc_windows.specs.declared.index.WindowIndex.{WindowIndex}
 use Rattle.oxc_windows.specs.Rows.{row_of}
-use Rattle.oxc_windows.specs.Held.{IsHeld}
+use Rattle.oxc_windows.specs.Held.{AreRowsOf}
 
 -- what contracts see of an index: the rows of context that it was made for, the start of the first span that had a window,
 -- how many bytes it has not looked at since (0 before that span), and the row starts that it keeps
@@ -29,9 +29,13 @@ index_view index =
       kept = index.rows.starts.items;
     }
 
+-- an index that has read nothing
+abbrev pub new_index : ℕ → ℕ → IndexView
+new_index before after = record { before = before; after = after; first = None; left = 0; kept = [] }
+
 -- what an index holds from the first span on
 pub record IsSeeded (len : ℕ) (breaks : List LineBreak) (before first size : ℕ) (rows : Rows) : Type 0 where
-  pub held : IsHeld len breaks rows.top rows.known rows.starts.items rows.heads.items
+  pub held : AreRowsOf len breaks rows
   pub top : rows.top ≡ row_of breaks first - before
   pub reached : first ≤ rows.known
   pub whole : size ≡ len

@@ -11,4 +11,5 @@ pub mod Total
 pub mod Scan
 pub mod WindowRead
 pub mod SpanRead
+pub mod Text
 pub mod Views

@@ -1,5 +1,5 @@
 -- What contracts see of a scanner, and of the contents that it reads.
-use Rattle.std.specs.Prelude.{◌≡◌, ℕ, ◌+◌, ◌<◌, ◌≤◌, List, length, slice_range, Option, Some}
+use Rattle.std.specs.Prelude.{◌≡◌, ℕ, ◌+◌, ◌<◌, ◌≤◌, List, [], length, slice_range, Option, Some, None}
 use Rattle.std.specs.Str.{IsUtf8}
 use Rattle.std.specs.Option.{option_map}
 use Rattle.oxc_span.specs.declared.span.Span.{Span}
@@ -17,6 +17,10 @@ pub record Scan : Type 0 where
   pub first : Option ℕ
   pub left : ℕ
   pub kept : List ℕ
+
+-- a scanner of these bytes that has read nothing
+abbrev pub new_scan : List ℕ → ℕ → ℕ → Scan
+new_scan input before after = record { input = input; before = before; after = after; first = None; left = 0; kept = [] }
 
 -- the same source, and as many rows of context: what stays of a scanner whatever is read
 pub record IsSameReader (old new : Scan) : Type 0 where

@@ -29,7 +29,13 @@ impl<'a> Model for SpanContents<'a> {
 impl<'a> SpanContents<'a> {
     /// Contents of exactly these parts.
     pub fn new(bytes: &'a [u8], span: Span, line: usize, column: usize, line_count: usize) -> Self
-        ensures { result ≡ record { bytes = bytes.now; span = span; line = line; column = column; line_count = line_count } }
+        ensures { result ≡ record {
+          bytes = bytes.now;
+          span = span;
+          line = line;
+          column = column;
+          line_count = line_count;
+        } }
     {
         SpanContents {
             bytes,
@@ -61,7 +67,8 @@ impl<'a> SpanContents<'a> {
         self.line
     }
 
-    /// The byte column of the span that was read, from 0, where no row stands before it, and 0 else.
+    /// The byte column of the span that was read, from 0, where no row stands before it, and 0
+    /// else.
     pub fn column(&self) -> usize
         ensures { result ≡ self.now.column }
     {

@@ -1,4 +1,5 @@
-//! The bytes that end rows, sought in one pass by vectors: how many LFs there are, and whether there is a CR.
+//! The bytes that end rows, sought in one pass by vectors: how many LFs there are, and whether
+//! there is a CR.
 ghost use Rattle.std.specs.Prelude.{◌≡◌, ◌≤◌, ◌<◌, ◌^◌, ◌==◌, count_by, length, map, sum, sum_by};
 ghost use Rattle.std.specs.List.{list_any};
 ghost use Rattle.bytecount.specs.Words.{flags};
@@ -40,7 +41,8 @@ fn has_zero(values: u8x32) -> bool
     values.simd_eq(u8x32::splat(0)).to_bitmask() != 0
 }
 
-/// The LFs of at most 127 pairs of vectors, of which no counter passes 254, and whether there is a CR.
+/// The LFs of at most 127 pairs of vectors, of which no counter passes 254, and whether there is a
+/// CR.
 fn endings_in_block(block: &[[u8; 64]]) -> (usize, bool)
     requires { length block.now ≤ 127 }
     ensures feeds { result.0 ≡ sum_by (λ pair. count_by (λ byte. byte == 10) pair) block.now }

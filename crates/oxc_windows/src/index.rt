@@ -1,9 +1,11 @@
 //! The lazy index: windows of rows, from breaks that are looked for once.
-ghost use Rattle.std.specs.Prelude.{◌≡◌, ℕ, ◌*◌, true, Some, None, IsSome, ◌+◌, ◌≤◌, List, [], IfOk, OnOk, OnErr};
+ghost use Rattle.std.specs.Prelude.{◌≡◌, ℕ, ◌*◌, true, Some, None, IsSome, ◌+◌, ◌≤◌, List, []};
+ghost use Rattle.std.specs.Prelude.{IfOk, OnOk, OnErr};
 ghost use Rattle.oxc_windows.specs.declared.breaks.LineBreak.{LineBreak};
+ghost use Rattle.oxc_windows.specs.Breaks.{IsBreakList};
 ghost use Rattle.oxc_windows.specs.Window.{window_of};
-ghost use Rattle.oxc_windows.specs.Kept.{AllStay};
-ghost use Rattle.oxc_windows.specs.Index.{IsIndexOf, index_view, is_served};
+ghost use Rattle.oxc_windows.specs.Kept.{AllStay, AreKept};
+ghost use Rattle.oxc_windows.specs.Index.{IsIndexOf, index_view, is_served, new_index};
 ghost use Rattle.oxc_windows.specs.WindowRead.{KeepsRows, ReadsWindow, TicksForWindow};
 
 use crate::held::Rows;
@@ -13,10 +15,11 @@ use oxc_span::Span;
 use std::alloc::{AllocError, Global};
 use std::sync::ledger::Ledger;
 
-/// The rows of a source, as far as windows of it were asked for: each byte is looked at once, and a later window of the rows
-/// held costs a search among them.
+/// The rows of a source, as far as windows of it were asked for: each byte is looked at once, and a
+/// later window of the rows held costs a search among them.
 ///
-/// An index holds no source: each read is handed one, and each source that is handed in has the same length and breaks.
+/// An index holds no source: each read is handed one, and each source that is handed in has the
+/// same length and breaks.
 #[derive(Drop)]
 pub struct WindowIndex {
     alloc: Global,
@@ -28,10 +31,11 @@ pub struct WindowIndex {
 }
 
 impl WindowIndex {
-    /// An empty index, for windows with so many rows of context before and after a span. It takes no memory.
+    /// An empty index, for windows with so many rows of context before and after a span. It takes
+    /// no memory.
     pub fn new(alloc: Global, before: usize, after: usize) -> Self
         ensures empty { (len : ℕ) (breaks : List LineBreak) → IsIndexOf len breaks result }
-        ensures view { index_view result ≡ record { before = before; after = after; first = None; left = 0; kept = [] } }
+        ensures view { index_view result ≡ new_index before after }
     {
         WindowIndex {
             alloc,
@@ -48,9 +52,13 @@ impl WindowIndex {
         }
     }
 
-    /// The row starts that the index keeps, ascending: offsets in bytes.
+    /// The row starts that the index keeps, ascending: offsets in bytes. They are those of
+    /// consecutive rows of each source that it is an index of.
     pub fn kept(&self) -> &[u32]
-        ensures { result.now ≡ (index_view self.now).kept }
+        ensures value { result.now ≡ (index_view self.now).kept }
+        ensures true_rows { (len : ℕ) (breaks : List LineBreak) → IsBreakList len breaks
+            → IsIndexOf len breaks self.now
+            → AreKept len breaks self.now.before self.now.first result.now }
     {
         &self.rows.starts
     }
@@ -72,8 +80,10 @@ impl WindowIndex {
         ensures after { self.new.after ≡ self.old.after }
         ensures first { OnOk result (self.new.first ≡ Some start) }
         ensures unchanged { OnErr result (self.new ≡ self.old) }
-        ensures value { IfOk result (λ w. window_of (S.size source.now) (S.breaks source.now) self.old.before self.old.after start end ≡ Some w) }
-        ensures ticks { OnOk result (steps.new + (index_view self.new).left ≤ steps.old + S.size source.now + start + 2) }
+        ensures value { IfOk result (λ w. window_of (S.size source.now) (S.breaks source.now)
+            self.old.before self.old.after start end ≡ Some w) }
+        ensures ticks { OnOk result (steps.new + (index_view self.new).left
+            ≤ steps.old + S.size source.now + start + 2) }
         ensures held { IfOk result (λ w. w.end ≤ self.new.rows.known) }
     {
         let mut rows = seeded(self.alloc, source, self.before, start, steps)?;
@@ -86,7 +96,8 @@ impl WindowIndex {
 
     /// Whether the rows of a span's window are held, or follow those held.
     fn serves(&self, start: usize) -> bool
-        ensures { result ≡ is_served self.now.rows.top self.now.before self.now.rows.starts.items start }
+        ensures { result
+            ≡ is_served self.now.rows.top self.now.before self.now.rows.starts.items start }
     {
         if self.rows.top == 0 {
             return true;
@@ -114,8 +125,10 @@ impl WindowIndex {
         ensures before { self.new.before ≡ self.old.before }
         ensures after { self.new.after ≡ self.old.after }
         ensures first { self.new.first ≡ self.old.first }
-        ensures value { IfOk result (λ w. window_of (S.size source.now) (S.breaks source.now) self.old.before self.old.after start end ≡ Some w) }
-        ensures ticks { OnOk result (steps.new + (index_view self.new).left ≡ steps.old + (index_view self.old).left) }
+        ensures value { IfOk result (λ w. window_of (S.size source.now) (S.breaks source.now)
+            self.old.before self.old.after start end ≡ Some w) }
+        ensures ticks { OnOk result (steps.new + (index_view self.new).left
+            ≡ steps.old + (index_view self.old).left) }
         ensures held { IfOk result (λ w. w.end ≤ self.new.rows.known) }
         ensures most { IfOk result (λ w. steps.new ≤ steps.old + w.end) }
         ensures left { (index_view self.new).left ≤ (index_view self.old).left }
@@ -135,17 +148,20 @@ impl WindowIndex {
     ) -> Result<Window, AllocError>
         requires ordered { start ≤ end }
         requires within { end ≤ S.size source.now }
-        ensures value { IfOk result (λ w. window_of (S.size source.now) (S.breaks source.now) self.now.before self.now.after start end ≡ Some w) }
+        ensures value { IfOk result (λ w. window_of (S.size source.now) (S.breaks source.now)
+            self.now.before self.now.after start end ≡ Some w) }
         ensures ticks { IfOk result (λ w. steps.new ≤ steps.old + 2 * w.end + 2) }
     {
         let mut rows = seeded(self.alloc, source, self.before, start, steps)?;
         rows.answer(source, self.before, self.after, start, end, steps)
     }
 
-    /// The window of a span whose start is not after its end. There is none exactly where the span ends past the source.
+    /// The window of a span whose start is not after its end. There is none exactly where the span
+    /// ends past the source.
     ///
-    /// The first span that has a window is looked for from the source's start; from then on the index looks further from the
-    /// place where it stopped. A span above the rows held is looked for afresh, and leaves the index as it was.
+    /// The first span that has a window is looked for from the source's start; from then on the
+    /// index looks further from the place where it stopped. A span above the rows held is looked
+    /// for afresh, and leaves the index as it was.
     ///
     /// # Errors
     ///
@@ -163,7 +179,8 @@ impl WindowIndex {
             self.old self.new span result }
         ensures rows { KeepsRows (S.size source.now) (S.breaks source.now)
             self.old self.new span result }
-        ensures ticks { TicksForWindow (S.size source.now) self.old self.new span result steps.old steps.new }
+        ensures ticks { TicksForWindow (S.size source.now)
+            self.old self.new span result steps.old steps.new }
     {
         let start = span.start as usize;
         let end = span.end as usize;

@@ -1,11 +1,28 @@
-//! Windows: the part of a source that a report shows round a span, with rows of context before and after.
+//! Windows: the part of a source that a report shows round a span, with rows of context before and
+//! after.
 //!
 //! A [`SpanScanner`] over the bytes of a source answers for each [`Span`](oxc_span::Span) the
-//! [`SpanContents`] of its window. Rows are counted under all three breaks, which are LF, CR, and CRLF taken as
-//! one; offsets and columns count bytes. All numbers count from 0.
+//! [`SpanContents`] of its window. Rows are counted under all three breaks, which are LF, CR, and
+//! CRLF taken as one; offsets and columns count bytes. All numbers count from 0.
 //!
-//! A scanner holds a [`SliceSource`], which finds breaks, and a [`WindowIndex`], which keeps the rows that were found. The
-//! index works over every [`BreakSource`], and counts by [`Steps`] the bytes that were looked at.
+//! A scanner holds a [`SliceSource`], which finds breaks, and a [`WindowIndex`], which keeps the
+//! rows that were found. The index works over every [`BreakSource`], and counts by [`Steps`] the
+//! bytes that were looked at.
+//!
+//! The modules, in the order in which a source goes through them:
+//! - `breaks`: the breaks that end rows, one at a place
+//! - `endings`: how many LFs there are before a place, and whether there is a CR
+//! - `source`: what a source of breaks is asked for
+//! - `slice`: a slice of bytes as such a source
+//! - `steps`: a counter of the bytes that were looked at
+//! - `window`: the numbers of a window
+//! - `seed`: the rows of the first span, by a walk back from it
+//! - `seen`: rows, columns and ends, from the rows held
+//! - `held`: the rows held, and searches from there on
+//! - `index`: windows of rows, which are looked for once
+//! - `contents`: the bytes of a window with its numbers
+//! - `scanner`: an index with the source that it reads
+//! - `reads`: many windows one after another
 #![tactic(auto)]
 
 mod breaks;
@@ -25,7 +42,7 @@ mod window;
 pub use crate::breaks::LineBreak;
 pub use crate::contents::SpanContents;
 pub use crate::index::WindowIndex;
-pub use crate::reads::read_all;
+pub use crate::reads::{read_all, read_spans};
 pub use crate::scanner::SpanScanner;
 pub use crate::slice::SliceSource;
 pub use crate::source::BreakSource;

@@ -1,10 +1,12 @@
-//! The plain reader: it finds all breaks of a source anew for each window. Tests compare the index with it.
+//! The plain reader: it finds all breaks of a source anew for each window. Tests compare the index
+//! with it.
 ghost use Rattle.std.specs.Prelude.{◌≡◌, ◌+◌, ◌^◌, ◌<◌, ◌≤◌, IfOk, length};
 ghost use Rattle.std.specs.List.{filter_map};
 ghost use Rattle.memchr.specs.Find.{is_byte2, places};
 ghost use Rattle.oxc_windows.specs.Breaks.{AreBreaks, IsBreakList, break_at, breaks_of};
 ghost use Rattle.oxc_windows.specs.Rows.{row_of, row_start, settled, byte_column};
-ghost use Rattle.oxc_windows.specs.Window.{is_first_byte, is_in_break, row_further, window_begin, window_column, window_at, window_end, window_of};
+ghost use Rattle.oxc_windows.specs.Window.{is_first_byte, is_in_break, row_further, window_begin};
+ghost use Rattle.oxc_windows.specs.Window.{window_column, window_at, window_end, window_of};
 
 use crate::breaks::break_starting;
 use crate::{LineBreak, Window};
@@ -12,7 +14,8 @@ use memchr::memchr2_iter;
 use oxc_span::Span;
 use std::alloc::{AllocError, Global};
 
-/// The window of a span, with rows of context before and after, and none where the span ends past the source.
+/// The window of a span, with rows of context before and after, and none where the span ends past
+/// the source.
 #[tactic(auto, unfolding(crate::specs::Window::window_of))]
 pub fn plain_window(
     alloc: Global,
@@ -23,7 +26,8 @@ pub fn plain_window(
 ) -> Result<Option<Window>, AllocError>
     requires short { length bytes.now < 2 ^ 32 }
     requires ordered { span.start ≤ span.end }
-    ensures { IfOk result (λ found. found ≡ window_of (length bytes.now) (breaks_of bytes.now) before after span.start span.end) }
+    ensures { IfOk result (λ found. found ≡ window_of (length bytes.now) (breaks_of bytes.now)
+        before after span.start span.end) }
 {
     let len = bytes.len();
     let end = span.end as usize;
@@ -46,7 +50,8 @@ fn line_breaks(alloc: Global, bytes: &[u8]) -> Result<Vec<LineBreak>, AllocError
 
 /// The breaks that start at one of the bytes that make breaks.
 fn breaks_at_bytes(alloc: Global, bytes: &[u8]) -> Result<Vec<LineBreak>, AllocError>
-    ensures { IfOk result (λ list. list.items ≡ filter_map (break_at bytes.now) (places (is_byte2 10 13) bytes.now)) }
+    ensures { IfOk result (λ list. list.items
+        ≡ filter_map (break_at bytes.now) (places (is_byte2 10 13) bytes.now)) }
 {
     let list = memchr2_iter(b'\n', b'\r', bytes)
         .filter_map(|at| break_starting(bytes, at))
@@ -89,7 +94,7 @@ fn column_at(len: usize, breaks: &[LineBreak], offset: usize, row: usize) -> usi
 }
 
 /// An offset, where the LF of a CRLF counts as its CR.
-#[tactic(auto, using(crate::proofs::RowsLemmas::settled_at_row, crate::proofs::RowsLemmas::settled_else_row, crate::proofs::RowsLemmas::settled_past_row, crate::proofs::RowsLemmas::row_start_le, crate::proofs::RowsLemmas::row_start_le_settled))]
+#[tactic(auto, using(crate::proofs::RowsLemmas::settled_by_row))]
 fn settled_offset(len: usize, breaks: &[LineBreak], offset: usize, row: usize) -> usize
     requires valid { AreBreaks breaks.now }
     requires at { row ≡ row_of breaks.now offset }
@@ -150,7 +155,7 @@ fn begin_of_window(
 }
 
 /// Where the window of a span ends, given the span's end.
-#[tactic(auto, using(crate::proofs::WindowLemmas::row_start_saturated, crate::proofs::WindowLemmas::row_start_past_last, crate::proofs::WindowLemmas::row_start_within), unfolding(crate::specs::Window::window_end))]
+#[tactic(auto, using(crate::proofs::WindowLemmas::window_ends), unfolding(crate::specs::Window::window_end))]
 fn end_of_window(len: usize, breaks: &[LineBreak], after: usize, end: usize) -> usize
     requires valid { IsBreakList len breaks.now }
     requires short { len < 2 ^ 32 }

@@ -1,6 +1,10 @@
 //! The scanner, which reads windows of one source.
-ghost use Rattle.std.specs.Prelude.{◌≡◌, ℕ, Some, None, Ok, [], ◌+◌, ◌*◌, ◌<◌, ◌≤◌, ◌↔◌, length, IfOk, OnOk, OnErr, IfSome, IsNone, IsSome, IsTrue, MatchResult};
-ghost use Rattle.std.specs.Str.{IsUtf8, IsValidUpTo};
+ghost use Rattle.std.specs.Prelude.{◌≡◌, ℕ, Some, None, Ok, [], ◌+◌, ◌*◌, ◌<◌, ◌≤◌, ◌↔◌, length};
+ghost use Rattle.std.specs.Prelude.{IfOk, OnOk, OnErr, IfSome, IsNone, IsSome, IsTrue, MatchResult};
+ghost use Rattle.oxc_windows.specs.Breaks.{breaks_of};
+ghost use Rattle.oxc_windows.specs.Kept.{AreKept};
+ghost use Rattle.oxc_windows.specs.Scan.{new_scan};
+ghost use Rattle.oxc_windows.specs.Text.{IsAsText};
 ghost use Rattle.oxc_windows.specs.SpanRead.{ReadsSpan, TicksForSpan};
 
 use crate::contents::contents_in;
@@ -13,7 +17,8 @@ use std::sync::ledger::{Blank, Ledger};
 
 /// Reads the windows of spans in one source, with rows of context before and after them.
 ///
-/// It keeps the rows that it found: each byte is looked at once, and a later window costs a search among the rows.
+/// It keeps the rows that it found: each byte is looked at once, and a later window costs a search
+/// among the rows.
 #[derive(Drop)]
 pub struct SpanScanner<'a> {
     source: SliceSource<'a>,
@@ -34,11 +39,11 @@ impl<'a> Model for SpanScanner<'a> {
 }
 
 impl<'a> SpanScanner<'a> {
-    /// A scanner of a source of fewer than `u32::MAX` bytes, with so many rows of context before and after a span.
-    /// It takes no memory.
+    /// A scanner of a source of fewer than `u32::MAX` bytes, with so many rows of context before
+    /// and after a span. It takes no memory.
     pub fn new(alloc: Global, input: &'a [u8], before: usize, after: usize) -> Self
         requires { length input.now < 4294967295 }
-        ensures { result ≡ record { input = input.now; before = before; after = after; first = None; left = 0; kept = [] } }
+        ensures { result ≡ new_scan input.now before after }
     {
         SpanScanner {
             source: SliceSource::new(input),
@@ -50,7 +55,7 @@ impl<'a> SpanScanner<'a> {
     /// The same of a source that is a text, which [`text`](SpanScanner::text) then need not check.
     pub fn of_text(alloc: Global, text: &'a str, before: usize, after: usize) -> Self
         requires { length text.now < 4294967295 }
-        ensures { result ≡ record { input = text.now; before = before; after = after; first = None; left = 0; kept = [] } }
+        ensures { result ≡ new_scan text.now before after }
     {
         SpanScanner {
             source: SliceSource::new(text.as_bytes()),
@@ -66,13 +71,15 @@ impl<'a> SpanScanner<'a> {
         self.source.bytes() == input
     }
 
-    /// The source as a text, or how many of its first bytes are one. The source is read at the first call alone.
+    /// The source as a text, or how many of its first bytes are one. The source is read at the
+    /// first call alone.
     ///
     /// # Errors
     ///
-    /// The source is no UTF-8: the number of bytes before the first that doesn't belong to a character.
+    /// The source is no UTF-8: the number of bytes before the first that doesn't belong to a
+    /// character.
     pub fn text(&mut self) -> Result<&'a str, usize>
-        ensures cases { MatchResult result (λ text. (text.now ≡ self.old.input) × IsUtf8 self.old.input) (λ upto. (¬ (IsUtf8 self.old.input)) × IsValidUpTo self.old.input upto) }
+        ensures cases { IsAsText self.old.input result }
         ensures unchanged { self.new ≡ self.old }
     {
         if let Some(known) = self.text {
@@ -83,20 +90,24 @@ impl<'a> SpanScanner<'a> {
         found
     }
 
-    /// The row starts that the scanner keeps, ascending: offsets in bytes.
+    /// The row starts that the scanner keeps, ascending: offsets in bytes. They are those of
+    /// consecutive rows, from the first row of the first window on.
     pub fn kept(&self) -> &[u32]
-        ensures { result.now ≡ self.now.kept }
+        ensures value { result.now ≡ self.now.kept }
+        ensures true_rows { AreKept (length self.now.input) (breaks_of self.now.input)
+            self.now.before self.now.first result.now }
     {
         self.index.kept()
     }
 
-    /// The contents of the window of a span whose start is not after its end. There is none exactly where the span
-    /// ends past the source.
+    /// The contents of the window of a span whose start is not after its end. There is none exactly
+    /// where the span ends past the source.
     ///
-    /// The window begins at the start of the first row of context, or at the span's start where no row is asked for.
-    /// It ends after the last row of context, counted from the row of the span's last byte, and one row further if that
-    /// byte belongs to a break. Where no row is asked for it ends after the last byte, or after the LF of its CRLF.
-    /// An empty span has the byte before it for its last, and byte 0 at the source's start.
+    /// The window begins at the start of the first row of context, or at the span's start where no
+    /// row is asked for. It ends after the last row of context, counted from the row of the span's
+    /// last byte, and one row further if that byte belongs to a break. Where no row is asked for it
+    /// ends after the last byte, or after the LF of its CRLF. An empty span has the byte before it
+    /// for its last, and byte 0 at the source's start.
     ///
     /// # Errors
     ///
@@ -147,7 +158,7 @@ fn read_on_own<'a, P: Page>(
 
 /// Bytes as a text, or how many of the first are one.
 fn text_of(bytes: &[u8]) -> Result<&str, usize>
-    ensures { MatchResult result (λ text. (text.now ≡ bytes.now) × IsUtf8 bytes.now) (λ upto. (¬ (IsUtf8 bytes.now)) × IsValidUpTo bytes.now upto) }
+    ensures { IsAsText bytes.now result }
 {
     match from_utf8(bytes) {
         Ok(text) => Ok(text),

@@ -1,7 +1,7 @@
 //! The rows of a span that is the first: a count up to it, and a walk back over the rows before it.
 ghost use Rattle.std.specs.Prelude.{◌≡◌, ◌+◌, ◌-◌, ◌*◌, ◌<◌, ◌≤◌, [], false, IfOk, OnOk};
 ghost use Rattle.oxc_windows.specs.Rows.{row_of, row_start, is_second_byte};
-ghost use Rattle.oxc_windows.specs.Held.{Back, IsCut, IsHeld};
+ghost use Rattle.oxc_windows.specs.Held.{AreRowsOf, Back, IsCut};
 
 use crate::held::Rows;
 use crate::{BreakSource, Steps};
@@ -43,7 +43,7 @@ fn walked_back<L: Ledger, S: BreakSource<L>>(
     requires outside { is_second_byte (S.breaks source.now) cut ≡ false }
     requires place { place ≡ row_of (S.breaks source.now) cut }
     requires low { low ≤ place }
-    ensures held { IfOk result (λ r. IsHeld (S.size source.now) (S.breaks source.now) r.top r.known r.starts.items r.heads.items) }
+    ensures held { IfOk result (λ r. AreRowsOf (S.size source.now) (S.breaks source.now) r) }
     ensures top { IfOk result (λ r. r.top ≡ low) }
     ensures known { IfOk result (λ r. r.known ≡ cut) }
     ensures ticks { OnOk result (steps.new ≤ steps.old + cut) }
@@ -81,7 +81,7 @@ pub fn seeded<L: Ledger, S: BreakSource<L>>(
     steps: &mut Steps<L>,
 ) -> Result<Rows, AllocError>
     requires within { start ≤ S.size source.now }
-    ensures held { IfOk result (λ r. IsHeld (S.size source.now) (S.breaks source.now) r.top r.known r.starts.items r.heads.items) }
+    ensures held { IfOk result (λ r. AreRowsOf (S.size source.now) (S.breaks source.now) r) }
     ensures top { IfOk result (λ r. r.top ≡ row_of (S.breaks source.now) start - before) }
     ensures known { IfOk result (λ r. (r.known ≤ start) × (start ≤ r.known + 1)) }
     ensures ticks { IfOk result (λ r. steps.new ≤ steps.old + 2 * r.known + 2) }
@@ -104,7 +104,7 @@ fn seeded_at<L: Ledger, S: BreakSource<L>>(
 ) -> Result<Rows, AllocError>
     requires within { start ≤ S.size source.now }
     requires cut { IsCut (S.breaks source.now) start cut }
-    ensures held { IfOk result (λ r. IsHeld (S.size source.now) (S.breaks source.now) r.top r.known r.starts.items r.heads.items) }
+    ensures held { IfOk result (λ r. AreRowsOf (S.size source.now) (S.breaks source.now) r) }
     ensures top { IfOk result (λ r. r.top ≡ row_of (S.breaks source.now) start - before) }
     ensures known { IfOk result (λ r. r.known ≡ cut) }
     ensures ticks { OnOk result (steps.new ≤ steps.old + 2 * cut) }

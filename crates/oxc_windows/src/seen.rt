@@ -1,7 +1,9 @@
 //! What the rows that are held say of places.
-ghost use Rattle.std.specs.Prelude.{◌≡◌, ◌⊎◌, ◌+◌, ◌-◌, ◌^◌, ◌<◌, ◌≤◌, IsTrue, length, slice_index_or};
+ghost use Rattle.std.specs.Prelude.{◌≡◌, ◌⊎◌, ◌+◌, ◌-◌, ◌^◌, ◌<◌, ◌≤◌, IsTrue, length};
+ghost use Rattle.std.specs.Prelude.{slice_index_or};
 ghost use Rattle.std.specs.List.Sorted.{IsNonDecreasing};
-ghost use Rattle.oxc_windows.specs.Seen.{AreInOrder, column_seen, end_seen, heads_before, is_first_seen, is_second_seen, row_seen, settled_seen};
+ghost use Rattle.oxc_windows.specs.Seen.{AreInOrder, column_seen, end_seen, heads_before};
+ghost use Rattle.oxc_windows.specs.Seen.{is_first_seen, is_second_seen, row_seen, settled_seen};
 
 /// The number at a place of a list, or another where the list has no such place.
 pub fn at_or(list: &[u32], place: usize, other: usize) -> usize
@@ -25,7 +27,9 @@ fn row_seen(starts: &[u32], offset: usize) -> usize
 
 /// Whether a row has an offset.
 fn is_row_of(starts: &[u32], row: usize, offset: usize) -> bool
-    ensures { IsTrue result → (row < length starts.now) × (slice_index_or starts.now row 0 ≤ offset) × (offset < slice_index_or starts.now (row + 1) 18446744073709551615) }
+    ensures { IsTrue result → (row < length starts.now)
+        × (slice_index_or starts.now row 0 ≤ offset)
+        × (offset < slice_index_or starts.now (row + 1) 18446744073709551615) }
 {
     row < starts.len()
         && at_or(starts, row, 0) <= offset
@@ -69,7 +73,9 @@ pub fn heads_before(heads: &[u32], to: usize) -> usize
 
 /// Whether so many breaks start before a place.
 fn is_count_of(heads: &[u32], count: usize, to: usize) -> bool
-    ensures { IsTrue result → (count ≤ length heads.now) × ((count ≡ 0) ⊎ (slice_index_or heads.now (count - 1) 0 < to)) × (to ≤ slice_index_or heads.now count 18446744073709551615) }
+    ensures { IsTrue result → (count ≤ length heads.now)
+        × ((count ≡ 0) ⊎ (slice_index_or heads.now (count - 1) 0 < to))
+        × (to ≤ slice_index_or heads.now count 18446744073709551615) }
 {
     count <= heads.len()
         && (count == 0 || at_or(heads, count - 1, 0) < to)
@@ -138,7 +144,8 @@ pub fn column_seen(len: usize, starts: &[u32], heads: &[u32], row: usize, offset
     settled_seen(starts, heads, row, offset) - at_or(starts, row, len)
 }
 
-/// Where the window of a span ends that ends within the source. The guess is of the breaks that start before its end.
+/// Where the window of a span ends that ends within the source. The guess is of the breaks that
+/// start before its end.
 #[tactic(auto, using(crate::proofs::StartsLemmas::seen_saturated), unfolding(crate::specs::Seen::end_seen))]
 pub fn end_seen(
     len: usize,

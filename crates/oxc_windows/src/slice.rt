@@ -46,7 +46,8 @@ fn is_before_no_lf(bytes: &[u8], at: usize) -> bool
 /// The number of CRs before a place that no LF follows.
 fn count_stray(bytes: &[u8], to: usize) -> usize
     requires { to ≤ length bytes.now }
-    ensures { result ≡ length (filter (is_before_no_lf bytes.now) (places (is_byte 13) (take to bytes.now))) }
+    ensures { result
+        ≡ length (filter (is_before_no_lf bytes.now) (places (is_byte 13) (take to bytes.now))) }
 {
     memchr_iter(b'\r', &bytes[..to])
         .filter(|at| is_before_no_lf(bytes, *at))
@@ -72,7 +73,8 @@ fn first_in(bytes: &[u8], from: usize, to: usize) -> Option<LineBreak>
     requires within { to ≤ length bytes.now }
     requires outside { is_second_byte (breaks_of bytes.now) from ≡ false }
     ensures value { result ≡ first_between (breaks_of bytes.now) from to }
-    ensures place { IfSome result (λ found. (from ≤ found.start) × (found.start ≤ found.end) × (found.end < length bytes.now)) }
+    ensures place { IfSome result (λ found. (from ≤ found.start) × (found.start ≤ found.end)
+        × (found.end < length bytes.now)) }
 {
     let mut places = memchr2_iter(b'\n', b'\r', &bytes[from..to]);
     // an iterator looks near before it looks far

@@ -8,7 +8,8 @@ ghost use Rattle.oxc_windows.specs.Source.{first_between, last_before, looked_at
 use crate::{LineBreak, Steps};
 use std::sync::ledger::Ledger;
 
-/// A source whose breaks are found by looking, and each look is counted: a step is a byte that was looked at.
+/// A source whose breaks are found by looking, and each look is counted: a step is a byte that was
+/// looked at.
 ///
 /// Places are offsets in bytes, from 0.
 pub trait BreakSource<L: Ledger> {
@@ -20,15 +21,16 @@ pub trait BreakSource<L: Ledger> {
     fn len(&self) -> usize
         ensures { result ≡ size self.now };
 
-    /// The number of breaks that end before a place, which is not inside a CRLF. It looks at all bytes before the place.
+    /// The number of breaks that end before a place, which is not inside a CRLF. It looks at all
+    /// bytes before the place.
     fn count_breaks(&self, to: usize, steps: &mut Steps<L>) -> usize
         requires within { to ≤ size self.now }
         requires outside { is_second_byte (breaks self.now) to ≡ false }
         ensures value { result ≡ row_of (breaks self.now) to }
         ensures ticks { steps.new ≡ steps.old + to };
 
-    /// The first break that starts from a place, which is not inside a CRLF, to before another. It looks at the bytes from
-    /// the first place to the end of what it finds, or to the other place.
+    /// The first break that starts from a place, which is not inside a CRLF, to before another. It
+    /// looks at the bytes from the first place to the end of what it finds, or to the other place.
     fn first_break(&self, from: usize, to: usize, steps: &mut Steps<L>) -> Option<LineBreak>
         requires ordered { from ≤ to }
         requires within { to ≤ size self.now }
@@ -36,8 +38,8 @@ pub trait BreakSource<L: Ledger> {
         ensures value { result ≡ first_between (breaks self.now) from to }
         ensures ticks { steps.new ≡ steps.old + looked_at result from to };
 
-    /// The last break that ends before a place, which is not inside a CRLF. It looks at the bytes from the start of what it
-    /// finds, or from the source's start, to the place.
+    /// The last break that ends before a place, which is not inside a CRLF. It looks at the bytes
+    /// from the start of what it finds, or from the source's start, to the place.
     fn last_break(&self, to: usize, steps: &mut Steps<L>) -> Option<LineBreak>
         requires within { to ≤ size self.now }
         requires outside { is_second_byte (breaks self.now) to ≡ false }

@@ -17,8 +17,9 @@ pub trait StepLedger: Ledger {
 
 /// A number of steps, which contracts see as that number. It takes no bytes.
 ///
-/// It is made by [`Steps::new`] alone, from a value of its ledger, can't be copied, and only [`Steps::tick`] adds to it.
-/// So code that is handed a counter and no ledger can count on that counter alone.
+/// It is made by [`Steps::new`] alone, from a value of its ledger, can't be copied, and only
+/// [`Steps::tick`] adds to it. So code that is handed a counter and no ledger can count on that
+/// counter alone.
 #[derive(Drop)]
 pub struct Steps<L: Ledger> {
     book: Book<L>,

@@ -9,6 +9,7 @@ use crate::endings::endings;
 use crate::plain::plain_window;
 use crate::{
     OwnLedger, Page, SliceSource, SpanContents, SpanScanner, Steps, Window, WindowIndex, read_all,
+    read_spans,
 };
 use oxc_span::Span;
 use std::alloc::{AllocError, Global};
@@ -78,7 +79,8 @@ fn a_last_byte_in_a_break_moves_the_end(rt: HostRuntime) -> Result<(), Fail> {
     Ok(())
 }
 
-// Whether a span is read as these numbers and bytes, by a second read where the first found no memory.
+// Whether a span is read as these numbers and bytes, by a second read where the first found no
+// memory.
 fn reads_at_last(
     scanner: &mut SpanScanner<'_>,
     start: u32,
@@ -107,7 +109,10 @@ fn a_scanner_reads_on_after_want_of_memory(rt: HostRuntime) {
 fn place(scanner: &mut SpanScanner<'_>, span: Span) -> Result<Option<(usize, usize)>, AllocError>
     requires bare { scanner.old.before ≡ 0 }
     requires ordered { span.start ≤ span.end }
-    ensures place { IfOk result (λ found. SomeIff found (span.end ≤ length scanner.old.input) (row_of (breaks_of scanner.old.input) span.start, byte_column (length scanner.old.input) (breaks_of scanner.old.input) span.start)) }
+    ensures place { IfOk result (λ found. SomeIff found (span.end ≤ length scanner.old.input) (
+      row_of (breaks_of scanner.old.input) span.start,
+      byte_column (length scanner.old.input) (breaks_of scanner.old.input) span.start,
+    )) }
     ensures unchanged { IsSameReader scanner.old scanner.new }
 {
     match scanner.read_span(span)? {
@@ -149,7 +154,8 @@ fn is_same(found: Option<SpanContents<'_>>, want: Option<Window>) -> bool {
     }
 }
 
-// Whether a scanner gives the windows of the plain reader for all spans with this start, past the source's end too.
+// Whether a scanner gives the windows of the plain reader for all spans with this start, past the
+// source's end too.
 fn agrees_at(
     alloc: Global,
     scanner: &mut SpanScanner<'_>,
@@ -229,6 +235,14 @@ fn four_reads<L: Ledger>(
     Ok(found)
 }
 
+// Two spans of one scanner, read together.
+fn spans_read<L: Ledger>(alloc: Global, steps: &mut Steps<L>) -> Result<usize, AllocError> {
+    let mut scanner = SpanScanner::new(alloc, FOUR_ROWS, 1, 1);
+    let spans = [Span::new(0, 1), Span::new(6, 7)];
+    let found = read_spans(alloc, &mut scanner, &spans, steps)?;
+    Ok(found.iter().filter(|contents| contents.is_some()).count())
+}
+
 // Two spans of one scanner: at most ten steps, where memory serves.
 fn two_reads<L: Ledger>(alloc: Global, steps: &mut Steps<L>) -> Result<(), AllocError>
     ensures { OnOk result (steps.new ≤ steps.old + 10) }
@@ -246,6 +260,9 @@ fn counted<P: Page>(alloc: Global, blank: Blank) -> Result<Vec<Option<Window>>, 
 {
     let mut steps = Steps::new(OwnLedger::<P>::new(blank));
     two_reads(alloc, &mut steps)?;
+    if spans_read(alloc, &mut steps)? != 2 {
+        return Ok(Vec::new(alloc));
+    }
     four_reads(alloc, &mut steps)
 }
 

@@ -1,7 +1,8 @@
 //! Texts inside a line: what is escaped in them.
 ghost use Rattle.std.specs.Prelude.{◌≡◌, ◌++◌, ◌<◌, IfSome, OnOk, string_bytes};
 ghost use Rattle.std.specs.List.{position};
-ghost use Rattle.problem_lines.specs.Escape.{escape, escape_byte, is_escaped, IsFirstEscape, letter_of as letter_for, own_letter as own_letter_for};
+ghost use Rattle.problem_lines.specs.Escape.{escape, escape_byte, is_escaped, IsFirstEscape};
+ghost use Rattle.problem_lines.specs.Escape.{letter_of as letter_for, own_letter as own_letter_for};
 
 use std::alloc::AllocError;
 

@@ -3,7 +3,13 @@ ghost use Rattle.std.specs.Prelude.{◌≡◌, ◌^◌, ◌<◌, IfSome, option_
 ghost use Rattle.std.specs.Option.{option_copied};
 ghost use Rattle.std.specs.List.{list_all};
 ghost use Rattle.problem_lines.specs.Line.{IsInRange, IsSmall};
-ghost use Rattle.problem_lines.specs.Parsed.{behind as behind_front, cut_at, head_at, is_digit as is_digit_byte, leads_well as leads_as_number, looks_as_number as looks_numeral, number_of as number_in, parsed, place_at, rule_at, severity_at, tail_at, texts_of, without_lf as without_last_lf};
+ghost use Rattle.problem_lines.specs.Parsed.{behind as behind_front, cut_at, head_at};
+ghost use Rattle.problem_lines.specs.Parsed.{is_digit as is_digit_byte};
+ghost use Rattle.problem_lines.specs.Parsed.{leads_well as leads_as_number};
+ghost use Rattle.problem_lines.specs.Parsed.{looks_as_number as looks_numeral};
+ghost use Rattle.problem_lines.specs.Parsed.{number_of as number_in, parsed, place_at, rule_at};
+ghost use Rattle.problem_lines.specs.Parsed.{severity_at, tail_at, texts_of};
+ghost use Rattle.problem_lines.specs.Parsed.{without_lf as without_last_lf};
 
 use oxc_protocol::{InfoPosition, Severity};
 
@@ -52,7 +58,8 @@ fn head(line: &str) -> Option<(&str, InfoPosition, InfoPosition, &str)>
 /// The severity, the rule and the message.
 #[tactic(auto, unfolding(crate::specs::Parsed::tail_at))]
 fn tail(text: &str) -> Option<(Severity, Option<&str>, &str)>
-    ensures { option_map (λ it. (it.0, option_map (λ rule. rule.now) it.1, it.2.now)) result ≡ tail_at text.now }
+    ensures { option_map (λ it. (it.0, option_map (λ rule. rule.now) it.1, it.2.now)) result
+        ≡ tail_at text.now }
 {
     let rest = behind(text, " ")?;
     let (severity, rest) = severity(rest)?;
@@ -91,7 +98,8 @@ fn severity(text: &str) -> Option<(Severity, &str)>
 /// A rule in brackets, where one stands here, and the text behind it.
 #[tactic(auto, unfolding(crate::specs::Parsed::rule_at))]
 fn rule(text: &str) -> Option<(Option<&str>, &str)>
-    ensures { option_map (λ it. (option_map (λ rule. rule.now) it.0, it.1.now)) result ≡ rule_at text.now }
+    ensures { option_map (λ it. (option_map (λ rule. rule.now) it.0, it.1.now)) result
+        ≡ rule_at text.now }
 {
     let Some(rest) = behind(text, "[") else {
         return Some((None, text));

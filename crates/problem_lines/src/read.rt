@@ -1,12 +1,14 @@
 //! Problems out of lines.
-ghost use Rattle.std.specs.Prelude.{◌≡◌, List, ◌∷◌, ◌++◌, ◌<◌, ◌≤◌, true, [], IfOk, IfErr, OnOk, length, map, option_map, string_bytes};
+ghost use Rattle.std.specs.Prelude.{◌≡◌, List, ◌∷◌, ◌++◌, ◌<◌, ◌≤◌, true, [], IfOk, IfErr, OnOk};
+ghost use Rattle.std.specs.Prelude.{length, map, option_map, string_bytes};
 ghost use Rattle.std.specs.List.{All, flat_map};
 ghost use Rattle.std.specs.Option.{option_copied};
 ghost use Rattle.oxc_span.specs.Views.{text_bytes};
 ghost use Rattle.oxc_protocol.specs.Info.{InfoParts, info_parts};
 ghost use Rattle.problem_lines.specs.Line.{IsInRange, problem_line};
 ghost use Rattle.problem_lines.specs.Lines.{AreProblemsOf, GivesBack, IsCause, lines_of};
-ghost use Rattle.problem_lines.specs.Parsed.{meaning_of, meant as meant_by, texts_of, unescape as unescaped_text, unescape_from, unescaped};
+ghost use Rattle.problem_lines.specs.Parsed.{meaning_of, meant as meant_by, texts_of};
+ghost use Rattle.problem_lines.specs.Parsed.{unescape as unescaped_text, unescape_from, unescaped};
 ghost use Rattle.problem_lines.specs.Read.{IsRead};
 ghost use Rattle.problem_lines.specs.Reported.{ReadsReported};
 
@@ -43,8 +45,8 @@ impl From<AllocError> for ProblemError {
 
 /// The problem whose line a text is, or none, exactly where it is no problem's.
 ///
-/// The line has its LF. It is taken apart, its escapes are turned back, and what that gives is written again: it is a
-/// problem's line exactly where the same comes out.
+/// The line has its LF. It is taken apart, its escapes are turned back, and what that gives is
+/// written again: it is a problem's line exactly where the same comes out.
 ///
 /// # Errors
 ///
@@ -67,8 +69,8 @@ pub fn read_problem(alloc: Global, line: &str) -> Result<Option<Info>, AllocErro
 
 /// The problems whose lines a text is made of, in order.
 ///
-/// The text is cut after each LF; a rest without one counts as a line, and as one that is no problem's. The empty text is
-/// the empty list.
+/// The text is cut after each LF; a rest without one counts as a line, and as one that is no
+/// problem's. The empty text is the empty list.
 ///
 /// # Errors
 ///
@@ -76,7 +78,8 @@ pub fn read_problem(alloc: Global, line: &str) -> Result<Option<Info>, AllocErro
 pub fn read_problems(alloc: Global, text: &str) -> Result<Vec<Info>, ProblemError>
     ensures read { IfOk result (λ infos. AreProblemsOf (map info_parts infos.items) text.now) }
     ensures cause { IfErr result (λ e. IsCause (lines_of text.now) e) }
-    ensures back { (problems : List InfoParts) → All IsInRange problems → text.now ≡ flat_map problem_line problems → GivesBack result problems }
+    ensures back { (problems : List InfoParts) → All IsInRange problems
+        → text.now ≡ flat_map problem_line problems → GivesBack result problems }
     ensures reported { ReadsReported text.now result }
 {
     read_all(alloc, text)
@@ -139,7 +142,8 @@ fn build(alloc: Global, parts: LineParts<'_>) -> Result<Info, AllocError>
 
 /// A rule whose escapes are turned back.
 fn unescape_rule(alloc: Global, rule: Option<&str>) -> Result<Option<String>, AllocError>
-    ensures { IfOk result (λ out. text_bytes out ≡ option_map unescaped_text (option_copied rule.entry)) }
+    ensures { IfOk result (λ out. text_bytes out ≡ option_map unescaped_text
+        (option_copied rule.entry)) }
 {
     match rule {
         Some(rule) => Ok(Some(unescape(alloc, rule)?)),
@@ -163,7 +167,8 @@ fn unescape(alloc: Global, text: &str) -> Result<String, AllocError>
 
 /// Appends what the letter behind a backslash stands for, and gives what follows it.
 fn push_meant<'a>(out: &mut String, behind: &'a str) -> Result<&'a str, AllocError>
-    ensures text { IfOk result (λ rest. string_bytes out.new ++ unescaped_text rest.now ≡ string_bytes out.old ++ unescape_from true behind.now) }
+    ensures text { IfOk result (λ rest. string_bytes out.new ++ unescaped_text rest.now
+        ≡ string_bytes out.old ++ unescape_from true behind.now) }
     ensures shorter { IfOk result (λ rest. length rest.now ≤ length behind.now) }
 {
     match meaning(behind) {

@@ -32,8 +32,8 @@ impl DiagnosticReporter for ProblemReporter {
 
     ghost lacks_fallback = { λ _. ⊤ };
 
-    /// The counts in one line, as `2 errors, 1 warnings`, with `, too many warnings` behind where there were more than
-    /// allowed. It is no problem's line.
+    /// The counts in one line, as `2 errors, 1 warnings`, with `, too many warnings` behind where
+    /// there were more than allowed. It is no problem's line.
     #[tactic(auto, unfolding(crate::specs::Report::counts_line))]
     fn finish(
         &mut self,
@@ -75,13 +75,15 @@ fn told(alloc: Global, error: &Error) -> Result<Info, AllocError>
     Info::new(alloc, &**error)
 }
 
-/// The lines of diagnostics, one after another, as a log keeps them: each text that [`ProblemReporter`] hands on.
+/// The lines of diagnostics, one after another, as a log keeps them: each text that
+/// [`ProblemReporter`] hands on.
 ///
 /// # Errors
 ///
 /// Want of memory.
 pub fn report_lines(alloc: Global, errors: Vec<Error>) -> Result<String, AllocError>
-    ensures text { IfOk result (λ text. string_bytes text ≡ flat_map problem_line (map info_of (map parts errors.items))) }
+    ensures text { IfOk result (λ text. string_bytes text
+        ≡ flat_map problem_line (map info_of (map parts errors.items))) }
     ensures range { IfOk result (λ _. All IsInRange (map info_of (map parts errors.items))) }
 {
     let mut text = String::new(alloc);

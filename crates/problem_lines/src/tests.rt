@@ -1,4 +1,5 @@
-// Lines of problems by example, there and back, and a caller that is proved from the contracts alone.
+// Lines of problems by example, there and back, and a caller that is proved from the contracts
+// alone.
 ghost use Rattle.std.specs.Prelude.{◌≡◌, Some, IfOk, option_map};
 ghost use Rattle.oxc_protocol.specs.Info.{info_parts};
 

@@ -2,7 +2,8 @@
 ghost use Rattle.std.specs.Prelude.{◌≡◌, ◌++◌, IfOk, OnOk, decimal, string_bytes};
 ghost use Rattle.oxc_span.specs.Views.{text_bytes};
 ghost use Rattle.oxc_protocol.specs.Info.{info_parts};
-ghost use Rattle.problem_lines.specs.Line.{IsInRange, IsSmall, head_text, problem_line, place_text, rule_text, severity_name as name_of_severity, tail_text};
+ghost use Rattle.problem_lines.specs.Line.{IsInRange, IsSmall, head_text, problem_line, place_text};
+ghost use Rattle.problem_lines.specs.Line.{rule_text, severity_name as name_of_severity, tail_text};
 
 use crate::escape::{Field, push_escaped};
 use itoa::Buffer;
@@ -11,10 +12,12 @@ use std::alloc::{AllocError, Global};
 
 /// The line of a problem, with its LF.
 ///
-/// It is `name:line:column:line:column: severity[rule]: message`, where the first line and column are those of the start and
-/// the others those of the end, in decimal without leading zeros, and `[rule]` stands only where there is a rule. The severity
-/// is `error`, `warning` or `advice`. In all texts a backslash is `\\`, LF is `\n` and CR is `\r`; in the name `:` is also
-/// `\c`, and in the rule `]` is also `\b`. Nothing else is escaped, and these always are, so a problem has one line.
+/// It is `name:line:column:line:column: severity[rule]: message`, where the first line and column
+/// are those of the start and the others those of the end, in decimal without leading zeros, and
+/// `[rule]` stands only where there is a rule. The severity is `error`, `warning` or `advice`. In
+/// all texts a backslash is `\\`, LF is `\n` and CR is `\r`; in the name `:` is also `\c`, and in
+/// the rule `]` is also `\b`. Nothing else is escaped, and these always are, so a problem has one
+/// line.
 ///
 /// # Errors
 ///
@@ -33,7 +36,8 @@ pub fn write_problem(alloc: Global, info: &Info) -> Result<String, AllocError>
 /// Appends the name and both positions.
 #[tactic(auto, unfolding(crate::specs::Line::head_text))]
 fn push_head(out: &mut String, info: &Info) -> Result<(), AllocError>
-    ensures text { OnOk result (string_bytes out.new ≡ string_bytes out.old ++ head_text (info_parts info.now)) }
+    ensures text { OnOk result (string_bytes out.new ≡ string_bytes out.old ++ head_text
+        (info_parts info.now)) }
     ensures range { OnOk result (IsInRange (info_parts info.now)) }
 {
     push_escaped(out, Field::Name, info.filename.as_str())?;
@@ -45,7 +49,8 @@ fn push_head(out: &mut String, info: &Info) -> Result<(), AllocError>
 /// Appends the severity, the rule and the message.
 #[tactic(auto, unfolding(crate::specs::Line::tail_text))]
 fn push_tail(out: &mut String, info: &Info) -> Result<(), AllocError>
-    ensures { OnOk result (string_bytes out.new ≡ string_bytes out.old ++ tail_text (info_parts info.now)) }
+    ensures { OnOk result (string_bytes out.new ≡ string_bytes out.old ++ tail_text
+        (info_parts info.now)) }
 {
     out.push_str(" ")?;
     out.push_str(severity_name(info.severity))?;
@@ -69,7 +74,8 @@ fn severity_name(severity: Severity) -> &'static str
 /// Appends the rule in brackets, where there is one.
 #[tactic(auto, unfolding(crate::specs::Line::rule_text))]
 fn push_rule(out: &mut String, rule: &Option<String>) -> Result<(), AllocError>
-    ensures { OnOk result (string_bytes out.new ≡ string_bytes out.old ++ rule_text (text_bytes rule.now)) }
+    ensures { OnOk result (string_bytes out.new ≡ string_bytes out.old ++ rule_text
+        (text_bytes rule.now)) }
 {
     match rule {
         Some(rule) => {
@@ -84,7 +90,8 @@ fn push_rule(out: &mut String, rule: &Option<String>) -> Result<(), AllocError>
 /// Appends a line and a column, each with a colon behind.
 #[tactic(auto, unfolding(crate::specs::Line::place_text))]
 fn push_place(out: &mut String, place: &InfoPosition) -> Result<(), AllocError>
-    ensures text { OnOk result (string_bytes out.new ≡ string_bytes out.old ++ place_text place.now) }
+    ensures text { OnOk result (string_bytes out.new
+        ≡ string_bytes out.old ++ place_text place.now) }
     ensures range { OnOk result (IsSmall place.now) }
 {
     push_number(out, place.line)?;

@@ -14,7 +14,8 @@ use std::marker::Model;
 
 /// Offsets of positions in the files of a database, which is what contracts see of it.
 ///
-/// The line index of a file is made when the first position by row and column asks for it, and kept.
+/// The line index of a file is made when the first position by row and column asks for it, and
+/// kept.
 #[derive(Drop)]
 pub(crate) struct Offsets<'a> {
     files: &'a Files<String>,
@@ -100,7 +101,8 @@ impl<'a> Offsets<'a> {
         location: SourceLocation,
     ) -> Result<Option<u32>, AllocError>
         requires { file < length self.old }
-        ensures offset { IfOk result (λ offset. offset ≡ offset_at (text_of self.old file) location) }
+        ensures offset { IfOk result (λ offset. offset
+            ≡ offset_at (text_of self.old file) location) }
         ensures unchanged { self.new ≡ self.old }
     {
         let source = self.files.source(file).as_str();

@@ -1,11 +1,13 @@
 // Which report is refused, and where the labels of the others stand.
-ghost use Rattle.std.specs.Prelude.{◌≡◌, ◌<◌, ◌≤◌, ◌-◌, nat_lt, None, Some, map, length, IfOk, MatchResult, MatchOption, if◌then◌else◌};
+ghost use Rattle.std.specs.Prelude.{◌≡◌, ◌<◌, ◌≤◌, ◌-◌, nat_lt, None, Some, map, length, IfOk};
+ghost use Rattle.std.specs.Prelude.{MatchOption, if◌then◌else◌};
 ghost use Rattle.codespan.specs.Texts.{text_of};
 ghost use Rattle.render_files.specs.declared.places.ReportError.TheVariants.{LabelReversed};
 ghost use Rattle.render_files.specs.Given.{given_label, given_report};
-ghost use Rattle.render_files.specs.Refusal.{end_offset, first_at, outside, refusal_in, refusal_of, reversed, start_offset};
+ghost use Rattle.render_files.specs.Refusal.{end_offset, first_at, outside, refusal_in, refusal_of};
+ghost use Rattle.render_files.specs.Refusal.{reversed, start_offset};
 ghost use Rattle.render_files.specs.Shown.{placed, placed_labels};
-ghost use Rattle.render_files.specs.Causes.{IsRefusal};
+ghost use Rattle.render_files.specs.Causes.{IsJudged};
 
 use crate::indexes::Offsets;
 use crate::places::{FileReport, PlaceLabel, ReportError};
@@ -16,17 +18,18 @@ use std::ops::Range;
 
 /// Gives the labels of each report their offsets in its file's source, report by report.
 ///
-/// The first report that has a fault decides, as [`ReportError`] says. `OutOfMemory` may come before any
-/// other error, and `SinkFault` never comes. A file's line index is made once for all reports, and only
-/// where a label names a row and a column of the file.
+/// The first report that has a fault decides, as [`ReportError`] says. `OutOfMemory` may come
+/// before any other error, and `SinkFault` never comes. A file's line index is made once for all
+/// reports, and only where a label names a row and a column of the file.
 #[tactic(auto, unfolding(crate::specs::Refusal::refusal_of))]
 pub fn place_labels(
     alloc: Global,
     files: &Files<String>,
     reports: &[FileReport],
 ) -> Result<Vec<Vec<LabeledSpan>>, ReportError>
-    ensures placed { IfOk result (λ spans. map (λ labels. labels.items) spans.items ≡ map (placed_labels files.now) (map given_report reports.now)) }
-    ensures cause { MatchResult result (λ _. refusal_of files.now (map given_report reports.now) ≡ None) (IsRefusal (refusal_of files.now (map given_report reports.now))) }
+    ensures placed { IfOk result (λ spans. map (λ labels. labels.items) spans.items
+        ≡ map (placed_labels files.now) (map given_report reports.now)) }
+    ensures cause { IsJudged (refusal_of files.now (map given_report reports.now)) result }
 {
     let mut offsets = Offsets::new(alloc, files);
     let mut spans = Vec::with_capacity(alloc, reports.len())?;
@@ -44,8 +47,9 @@ fn place_report(
     place: usize,
     report: &FileReport,
 ) -> Result<Vec<LabeledSpan>, ReportError>
-    ensures placed { IfOk result (λ spans. spans.items ≡ placed_labels offsets.old (given_report report.now)) }
-    ensures cause { MatchResult result (λ _. refusal_in offsets.old place (given_report report.now) ≡ None) (IsRefusal (refusal_in offsets.old place (given_report report.now))) }
+    ensures placed { IfOk result (λ spans. spans.items ≡ placed_labels offsets.old
+        (given_report report.now)) }
+    ensures cause { IsJudged (refusal_in offsets.old place (given_report report.now)) result }
     ensures unchanged { offsets.new ≡ offsets.old }
 {
     if !offsets.contains(report.file) {
@@ -75,9 +79,12 @@ fn judge_positions(
     given: &PlaceLabel,
 ) -> Result<Range<u32>, ReportError>
     requires { file < length offsets.old }
-    ensures start { IfOk result (λ range. range.start ≡ start_offset (text_of offsets.old file) (given_label given.now)) }
-    ensures end { IfOk result (λ range. range.end ≡ end_offset (text_of offsets.old file) (given_label given.now)) }
-    ensures cause { MatchResult result (λ _. outside (text_of offsets.old file) report label (given_label given.now) ≡ None) (IsRefusal (outside (text_of offsets.old file) report label (given_label given.now))) }
+    ensures start { IfOk result (λ range. range.start ≡ start_offset (text_of offsets.old file)
+        (given_label given.now)) }
+    ensures end { IfOk result (λ range. range.end ≡ end_offset (text_of offsets.old file)
+        (given_label given.now)) }
+    ensures cause { IsJudged (outside (text_of offsets.old file) report label
+        (given_label given.now)) result }
     ensures unchanged { offsets.new ≡ offsets.old }
 {
     let Some(start) = offsets.start_of(file, given.place)? else {
@@ -99,7 +106,8 @@ fn judge_positions(
 
 /// Why a label with these offsets is refused, if it is.
 fn judge_order(report: usize, label: usize, range: &Range<u32>) -> Option<ReportError>
-    ensures { result ≡ (if nat_lt range.now.end range.now.start then Some (LabelReversed report label range.now.start range.now.end) else None) }
+    ensures { result ≡ (if nat_lt range.now.end range.now.start then Some
+        (LabelReversed report label range.now.start range.now.end) else None) }
 {
     if range.end < range.start {
         Some(ReportError::LabelReversed {
@@ -120,7 +128,14 @@ fn label_at(
     range: &Range<u32>,
 ) -> Result<LabeledSpan, AllocError>
     requires { range.now.start ≤ range.now.end }
-    ensures { IfOk result (λ span. span ≡ record { text = (given_label label.now).text; offset = range.now.start; len = range.now.end - range.now.start; primary = label.now.primary }) }
+    ensures { IfOk result
+        (λ span. span
+        ≡ record {
+          text = (given_label label.now).text;
+          offset = range.now.start;
+          len = range.now.end - range.now.start;
+          primary = label.now.primary;
+        }) }
 {
     let text = match &label.text {
         Some(text) => Some(String::from_str(alloc, text.as_str())?),

@@ -1,4 +1,5 @@
-// What a person says of reports: which is refused and why, and where the labels of the others stand.
+// What a person says of reports: which is refused and why, and where the labels of the others
+// stand.
 use crate::{FileReport, LabelPlace, PlaceLabel, ReportError, place_labels};
 use codespan::{FileId, Files};
 use oxc_protocol::OxcDiagnostic;
@@ -94,7 +95,8 @@ fn is_refused_second(
     }
 }
 
-/// Whether a report with one label is accepted, and the label stands at the offset and has the length.
+/// Whether a report with one label is accepted, and the label stands at the offset and has the
+/// length.
 fn is_placed(alloc: Global, source: &str, place: LabelPlace, offset: u32, length: u32) -> bool {
     let Ok(spans) = judged(alloc, source, &[(0, &[place])]) else {
         return false;

@@ -1,5 +1,6 @@
 // Reports drawn, or written as JSON, by scanners that are kept, one for each file.
-ghost use Rattle.std.specs.Prelude.{◌≡◌, ◌<◌, ◌≤◌, ◌++◌, All, IfOk, IfSome, OnOk, Some, length, string_bytes};
+ghost use Rattle.std.specs.Prelude.{◌≡◌, ◌<◌, ◌≤◌, ◌++◌, All, IfOk, IfSome, OnOk, Some, length};
+ghost use Rattle.std.specs.Prelude.{string_bytes};
 ghost use Rattle.std.specs.Option.{option_copied};
 ghost use Rattle.codespan.specs.Texts.{text_of};
 ghost use Rattle.oxc_span.specs.Label.{label_end};
@@ -16,10 +17,12 @@ use std::alloc::{AllocError, Global};
 use std::collections::BTreeMap;
 use std::marker::Model;
 
-/// Scanners of the files of a database. Contracts see the files, and how many rows of context the scanners read round a span.
+/// Scanners of the files of a database. Contracts see the files, and how many rows of context the
+/// scanners read round a span.
 ///
-/// The scanner of a file is made for the first report on it, and kept for the reports to come. It begins to keep
-/// rows at the least place that was told of the file, so that reports in any order find the rows that they show.
+/// The scanner of a file is made for the first report on it, and kept for the reports to come. It
+/// begins to keep rows at the least place that was told of the file, so that reports in any order
+/// find the rows that they show.
 #[derive(Drop)]
 pub(crate) struct Readers<'a> {
     files: &'a Files<String>,
@@ -36,11 +39,13 @@ impl<'a> Model for Readers<'a> {
 
     ghost view = { λ it. record { files = it.files.now; rows = it.rows } };
 
-    ghost invariant = { λ it. AreReadersOf (record { files = it.files.now; rows = it.rows }) it.scanners };
+    ghost invariant = { λ it. AreReadersOf (record { files = it.files.now; rows = it.rows })
+        it.scanners };
 }
 
 impl<'a> Readers<'a> {
-    /// No scanner is made yet; those to come read so many rows of context before a span and after one.
+    /// No scanner is made yet; those to come read so many rows of context before a span and after
+    /// one.
     pub(crate) fn new(alloc: Global, files: &'a Files<String>, rows: usize) -> Self
         ensures { result ≡ record { files = files.now; rows = rows } }
     {
@@ -75,13 +80,21 @@ impl<'a> Readers<'a> {
     ) -> Result<(), AllocError>
         requires held { file < length self.old.files }
         requires round { self.old.rows ≡ 1 }
-        requires source { IfSome (view_parts view.now).source (λ source. source.bytes ≡ text_of self.old.files file) }
-        requires within { All (λ label. label_end label ≤ length (text_of self.old.files file)) (view_parts view.now).labels }
-        ensures text { OnOk result (string_bytes out.new ≡ string_bytes out.old ++ drawn handler.now.theme handler.now.width (plan_of handler.now.tab (view_parts view.now))) }
+        requires source { IfSome (view_parts view.now).source
+            (λ source. source.bytes ≡ text_of self.old.files file) }
+        requires within { All (λ label. label_end label ≤ length (text_of self.old.files file))
+            (view_parts view.now).labels }
+        ensures text { OnOk result (string_bytes out.new
+            ≡ string_bytes out.old ++ drawn handler.now.theme handler.now.width
+            (plan_of handler.now.tab (view_parts view.now))) }
         ensures unchanged { self.new ≡ self.old }
     {
-        let mut scanner = self.reader_of(file)?;
-        handler.push_view_with_scanner(self.alloc, out, view, &mut scanner)?;
+        let alloc = self.alloc;
+        if let Some(scanner) = self.scanners.get_mut(&file) {
+            return handler.push_view_with_scanner(alloc, out, view, scanner);
+        }
+        let mut scanner = self.new_reader(file)?;
+        handler.push_view_with_scanner(alloc, out, view, &mut scanner)?;
         self.scanners.insert(file, scanner)?;
         Ok(())
     }
@@ -96,8 +109,10 @@ impl<'a> Readers<'a> {
     ) -> Result<(), AllocError>
         requires held { file < length self.old.files }
         requires alone { self.old.rows ≡ 0 }
-        requires source { source_bytes (view_parts view.now).source ≡ Some (text_of self.old.files file) }
-        ensures text { OnOk result (string_bytes out.new ≡ string_bytes out.old ++ json_of (with_url view.now (option_copied url.entry))) }
+        requires source { source_bytes (view_parts view.now).source
+            ≡ Some (text_of self.old.files file) }
+        ensures text { OnOk result (string_bytes out.new ≡ string_bytes out.old ++ json_of
+            (with_url view.now (option_copied url.entry))) }
         ensures unchanged { self.new ≡ self.old }
     {
         let mut scanner = Some(self.reader_of(file)?);
@@ -114,9 +129,17 @@ impl<'a> Readers<'a> {
         ensures reads { IfOk result (Reads (text_of self.old.files file) self.old.rows) }
         ensures unchanged { self.new ≡ self.old }
     {
-        if let Some(scanner) = self.scanners.remove(&file) {
-            return Ok(scanner);
+        match self.scanners.remove(&file) {
+            Some(scanner) => Ok(scanner),
+            None => self.new_reader(file),
         }
+    }
+
+    /// A scanner of a file, which keeps rows from the least place on that was told.
+    fn new_reader(&self, file: FileId) -> Result<SpanScanner<'a>, AllocError>
+        requires { file < length self.now.files }
+        ensures { IfOk result (Reads (text_of self.now.files file) self.now.rows) }
+    {
         let source = self.files.source(file).as_str();
         let mut scanner = SpanScanner::of_text(self.alloc, source, self.rows, self.rows);
         if let Some(start) = self.starts.get(&file) {

@@ -1,6 +1,8 @@
 // Reports on files, drawn or as JSON, and sent to a sink.
-ghost use Rattle.std.specs.Prelude.{◌≡◌, ◌≢◌, ◌++◌, ◌∷◌, [], ◌<◌, ◌≤◌, All, None, Some, OnOk, IfOk, IfErr, IsErrOf, IsOk, IsOkAnd, MatchResult, length, map, string_bytes};
+ghost use Rattle.std.specs.Prelude.{◌≡◌, ◌≢◌, ◌++◌, ◌∷◌, [], ◌<◌, ◌≤◌, All, None, Some, OnOk, IfOk};
+ghost use Rattle.std.specs.Prelude.{IfErr, IsErrOf, IsOk, IsOkAnd, length, map, string_bytes};
 ghost use Rattle.std.specs.Io.KnownBytes.{Appends};
+ghost use Rattle.std.specs.Option.{option_copied};
 ghost use Rattle.codespan.specs.Texts.{text_of};
 ghost use Rattle.oxc_span.specs.Views.{text_bytes};
 ghost use Rattle.oxc_protocol.specs.Faults.{Rose};
@@ -10,7 +12,7 @@ ghost use Rattle.render_files.specs.Given.{given_report};
 ghost use Rattle.render_files.specs.Refusal.{refusal_of};
 ghost use Rattle.render_files.specs.Shown.{placed_labels, view_of as shown_of};
 ghost use Rattle.oxc_handlers.specs.JsonText.{json_of, source_bytes};
-ghost use Rattle.render_files.specs.Causes.{IsRefusal, IsSendingCause, Leaves};
+ghost use Rattle.render_files.specs.Causes.{IsJudged, IsSendJudged, Leaves};
 ghost use Rattle.render_files.specs.Rendered.{StandsInFile, code_of, drawn_reports, json_lines};
 
 use crate::judge::place_labels;
@@ -23,12 +25,14 @@ use std::alloc::{AllocError, Global};
 
 /// Draws reports on the files of a database, and sends the drawings to the sink one after another.
 ///
-/// The whole text is built before its first byte goes out. A file's source is read by one scanner for all reports on it.
+/// The whole text is built before its first byte goes out. A file's source is read by one scanner
+/// for all reports on it.
 ///
 /// # Errors
 ///
-/// The refusals of [`ReportError`], by the first report that has a fault, and want of memory, which may come before any
-/// other: nothing was written. `SinkFault`: the sink took a first part of the text.
+/// The refusals of [`ReportError`], by the first report that has a fault, and want of memory, which
+/// may come before any other: nothing was written. `SinkFault`: the sink took a first part of the
+/// text.
 #[tactic(auto, using(crate::proofs::Standing::none_refused))]
 pub fn render_files<K: Sink>(
     alloc: Global,
@@ -37,11 +41,16 @@ pub fn render_files<K: Sink>(
     reports: &[FileReport],
     sink: &mut K,
 ) -> Result<(), ReportError>
-    ensures drawn { OnOk result (Appends (K.received sink.old) (K.received sink.new) (drawn_reports handler.now files.now (map given_report reports.now))) }
-    ensures cause { MatchResult result (λ _. refusal_of files.now (map given_report reports.now) ≡ None) (IsSendingCause (refusal_of files.now (map given_report reports.now))) }
-    ensures left { IfErr result (Leaves (K.received sink.old) (K.received sink.new) (drawn_reports handler.now files.now (map given_report reports.now))) }
-    ensures fault { IsErrOf result ReportError.SinkFault → Rose (K.faults sink.old) (K.faults sink.new) }
+    ensures drawn { OnOk result (Appends (K.received sink.old) (K.received sink.new)
+        (drawn_reports handler.now files.now (map given_report reports.now))) }
+    ensures cause { IsSendJudged (refusal_of files.now (map given_report reports.now)) result }
+    ensures left { IfErr result (Leaves (K.received sink.old) (K.received sink.new)
+        (drawn_reports handler.now files.now (map given_report reports.now))) }
+    ensures fault { IsErrOf result ReportError.SinkFault
+        → Rose (K.faults sink.old) (K.faults sink.new) }
     ensures later { K.faults sink.old ≤ K.faults sink.new }
+    ensures untouched { IfErr result (λ error. error ≢ ReportError.SinkFault
+        → sink.new ≡ sink.old) }
     ensures empty { reports.now ≡ [] → IsOk result × (sink.new ≡ sink.old) }
 {
     if reports.is_empty() {
@@ -66,17 +75,22 @@ pub fn render_files_json<K: Sink>(
     reports: &[FileReport],
     sink: &mut K,
 ) -> Result<(), ReportError>
-    ensures written { OnOk result (Appends (K.received sink.old) (K.received sink.new) (json_lines files.now (map given_report reports.now))) }
-    ensures cause { MatchResult result (λ _. refusal_of files.now (map given_report reports.now) ≡ None) (IsSendingCause (refusal_of files.now (map given_report reports.now))) }
-    ensures left { IfErr result (Leaves (K.received sink.old) (K.received sink.new) (json_lines files.now (map given_report reports.now))) }
-    ensures fault { IsErrOf result ReportError.SinkFault → Rose (K.faults sink.old) (K.faults sink.new) }
+    ensures written { OnOk result (Appends (K.received sink.old) (K.received sink.new)
+        (json_lines files.now (map given_report reports.now))) }
+    ensures cause { IsSendJudged (refusal_of files.now (map given_report reports.now)) result }
+    ensures left { IfErr result (Leaves (K.received sink.old) (K.received sink.new)
+        (json_lines files.now (map given_report reports.now))) }
+    ensures fault { IsErrOf result ReportError.SinkFault
+        → Rose (K.faults sink.old) (K.faults sink.new) }
     ensures later { K.faults sink.old ≤ K.faults sink.new }
+    ensures untouched { IfErr result (λ error. error ≢ ReportError.SinkFault
+        → sink.new ≡ sink.old) }
     ensures empty { reports.now ≡ [] → IsOk result × (sink.new ≡ sink.old) }
 {
     if reports.is_empty() {
         return Ok(());
     }
-    let text = json_text(alloc, files, reports)?;
+    let text = files_json(alloc, files, reports)?;
     write_all(sink, text.as_bytes())?;
     Ok(())
 }
@@ -93,8 +107,9 @@ pub fn files_text(
     files: &Files<String>,
     reports: &[FileReport],
 ) -> Result<String, ReportError>
-    ensures drawn { IfOk result (λ text. string_bytes text ≡ drawn_reports handler.now files.now (map given_report reports.now)) }
-    ensures cause { MatchResult result (λ _. refusal_of files.now (map given_report reports.now) ≡ None) (IsRefusal (refusal_of files.now (map given_report reports.now))) }
+    ensures drawn { IfOk result (λ text. string_bytes text ≡ drawn_reports handler.now files.now
+        (map given_report reports.now)) }
+    ensures cause { IsJudged (refusal_of files.now (map given_report reports.now)) result }
     ensures never { IfErr result (λ error. error ≢ ReportError.SinkFault) }
     ensures empty { reports.now ≡ [] → IsOkAnd result (λ text. string_bytes text ≡ []) }
 {
@@ -106,16 +121,25 @@ pub fn files_text(
 }
 
 /// The text that [`render_files_json`] sends.
-#[tactic(auto, using(crate::proofs::Standing::never_fault))]
-fn json_text(
+///
+/// # Errors
+///
+/// The same refusals, and want of memory; never `SinkFault`.
+#[tactic(auto, using(crate::proofs::Standing::never_fault, crate::proofs::Standing::none_refused))]
+pub fn files_json(
     alloc: Global,
     files: &Files<String>,
     reports: &[FileReport],
 ) -> Result<String, ReportError>
-    ensures written { IfOk result (λ text. string_bytes text ≡ json_lines files.now (map given_report reports.now)) }
-    ensures cause { MatchResult result (λ _. refusal_of files.now (map given_report reports.now) ≡ None) (IsRefusal (refusal_of files.now (map given_report reports.now))) }
+    ensures written { IfOk result (λ text. string_bytes text
+        ≡ json_lines files.now (map given_report reports.now)) }
+    ensures cause { IsJudged (refusal_of files.now (map given_report reports.now)) result }
     ensures never { IfErr result (λ error. error ≢ ReportError.SinkFault) }
+    ensures empty { reports.now ≡ [] → IsOkAnd result (λ text. string_bytes text ≡ []) }
 {
+    if reports.is_empty() {
+        return Ok(String::new(alloc));
+    }
     let spans = place_labels(alloc, files, reports)?;
     let codes = codes_of(alloc, reports)?;
     Ok(write_all_json(alloc, files, reports, &spans, &codes)?)
@@ -123,7 +147,8 @@ fn json_text(
 
 /// The codes of reports, as they are shown.
 fn codes_of(alloc: Global, reports: &[FileReport]) -> Result<Vec<Option<String>>, AllocError>
-    ensures { IfOk result (λ codes. map text_bytes codes.items ≡ map code_of (map given_report reports.now)) }
+    ensures { IfOk result (λ codes. map text_bytes codes.items
+        ≡ map code_of (map given_report reports.now)) }
 {
     let mut codes = Vec::with_capacity(alloc, reports.len())?;
     for report in reports {
@@ -144,20 +169,23 @@ fn draw_all<'a>(
     spans: &'a [Vec<LabeledSpan>],
 ) -> Result<String, AllocError>
     requires stand { All (StandsInFile files.now) (map given_report reports.now) }
-    requires spans { map (λ labels. labels.items) spans.now ≡ map (placed_labels files.now) (map given_report reports.now) }
-    ensures { IfOk result (λ text. string_bytes text ≡ drawn_reports handler.now files.now (map given_report reports.now)) }
+    requires spans { map (λ labels. labels.items) spans.now ≡ map (placed_labels files.now)
+        (map given_report reports.now) }
+    ensures { IfOk result (λ text. string_bytes text ≡ drawn_reports handler.now files.now
+        (map given_report reports.now)) }
 {
     let mut readers = readers_for(alloc, files, reports, spans, 1)?;
     let mut text = String::with_capacity(alloc, reports.len().saturating_mul(GUESS))?;
     for (at, report) in reports.iter().enumerate() {
         let code = report.diagnostic.code(alloc)?;
-        let view = view_of(files, report, &code, spans[at].as_slice());
+        let view = view_of(files, report, code.as_deref(), spans[at].as_slice());
         readers.draw(handler, &mut text, report.file, &view)?;
     }
     Ok(text)
 }
 
-/// Readers of the database, with so many rows of context, that were told where the labels of reports start.
+/// Readers of the database, with so many rows of context, that were told where the labels of
+/// reports start.
 fn readers_for<'a>(
     alloc: Global,
     files: &'a Files<String>,
@@ -185,14 +213,16 @@ fn write_all_json<'a>(
     codes: &'a [Option<String>],
 ) -> Result<String, AllocError>
     requires stand { All (StandsInFile files.now) (map given_report reports.now) }
-    requires spans { map (λ labels. labels.items) spans.now ≡ map (placed_labels files.now) (map given_report reports.now) }
+    requires spans { map (λ labels. labels.items) spans.now ≡ map (placed_labels files.now)
+        (map given_report reports.now) }
     requires codes { map text_bytes codes.now ≡ map code_of (map given_report reports.now) }
-    ensures { IfOk result (λ text. string_bytes text ≡ json_lines files.now (map given_report reports.now)) }
+    ensures { IfOk result (λ text. string_bytes text
+        ≡ json_lines files.now (map given_report reports.now)) }
 {
     let mut readers = readers_for(alloc, files, reports, spans, 0)?;
     let mut text = String::new(alloc);
     for (at, report) in reports.iter().enumerate() {
-        let view = view_of(files, report, &codes[at], spans[at].as_slice());
+        let view = view_of(files, report, codes[at].as_deref(), spans[at].as_slice());
         push_line(&mut text, &mut readers, report, &view)?;
     }
     Ok(text)
@@ -208,8 +238,10 @@ fn push_line<'a>(
 ) -> Result<(), AllocError>
     requires held { report.now.file < length readers.old.files }
     requires alone { readers.old.rows ≡ 0 }
-    requires source { source_bytes (view_parts view.now).source ≡ Some (text_of readers.old.files report.now.file) }
-    ensures line { OnOk result (string_bytes text.new ≡ string_bytes text.old ++ (json_of (record (view_parts view.now) { url = report.now.diagnostic.url }) ++ 10 ∷ [])) }
+    requires source { source_bytes (view_parts view.now).source
+        ≡ Some (text_of readers.old.files report.now.file) }
+    ensures line { OnOk result (string_bytes text.new ≡ string_bytes text.old ++
+        (json_of (record (view_parts view.now) { url = report.now.diagnostic.url }) ++ 10 ∷ [])) }
     ensures unchanged { readers.new ≡ readers.old }
 {
     readers.push_json(text, report.file, view, report.diagnostic.url())?;
@@ -220,18 +252,19 @@ fn push_line<'a>(
 fn view_of<'b>(
     files: &'b Files<String>,
     report: &'b FileReport,
-    code: &'b Option<String>,
+    code: Option<&'b str>,
     labels: &'b [LabeledSpan],
 ) -> DiagnosticView<'b>
     requires held { report.now.file < length files.now }
     requires labels { labels.now ≡ placed_labels files.now (given_report report.now) }
-    requires code { text_bytes code.now ≡ code_of (given_report report.now) }
-    ensures { view_parts result ≡ record (shown_of files.now (given_report report.now)) { url = None } }
+    requires code { option_copied code ≡ code_of (given_report report.now) }
+    ensures { view_parts result ≡ record (shown_of files.now (given_report report.now))
+        { url = None } }
 {
     let source = files.source(report.file).as_str().as_bytes();
     DiagnosticView {
         message: report.diagnostic.message(),
-        code: code.as_deref(),
+        code,
         severity: report.diagnostic.severity(),
         help: report.diagnostic.help(),
         note: report.diagnostic.note(),

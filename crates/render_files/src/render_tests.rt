@@ -1,6 +1,6 @@
 // Reports on one file, drawn and as JSON, and that memory suffices for them.
 use crate::judge_tests::{bytes, report};
-use crate::{ReportError, files_text, render_files, render_files_json};
+use crate::{ReportError, files_json, files_text, render_files, render_files_json};
 use codespan::{FileId, Files};
 use oxc_handlers::{GraphicalReportHandler, GraphicalTheme};
 use oxc_protocol::MemorySink;
@@ -11,11 +11,15 @@ const FIRST: &str = "\n  x m\n   ,-[a:1:1]\n 1 | ab\n   : ^\n 2 | cd\n   `----\n
 
 const SECOND: &str = "\n  x m\n   ,-[a:2:1]\n 1 | ab\n 2 | cd\n   : ^\n   `----\n";
 
-const FIRST_JSON: &str =
-    "{\"message\": \"m\",\"severity\": \"error\",\"filename\": \"a\",\"labels\": [{\"span\": {\"offset\": 0,\"length\": 1,\"line\": 1,\"column\": 1}}]}\n";
+const FIRST_JSON: &str = concat!(
+    "{\"message\": \"m\",\"severity\": \"error\",\"filename\": \"a\",",
+    "\"labels\": [{\"span\": {\"offset\": 0,\"length\": 1,\"line\": 1,\"column\": 1}}]}\n",
+);
 
-const SECOND_JSON: &str =
-    "{\"message\": \"m\",\"severity\": \"error\",\"filename\": \"a\",\"labels\": [{\"span\": {\"offset\": 3,\"length\": 1,\"line\": 2,\"column\": 1}}]}\n";
+const SECOND_JSON: &str = concat!(
+    "{\"message\": \"m\",\"severity\": \"error\",\"filename\": \"a\",",
+    "\"labels\": [{\"span\": {\"offset\": 3,\"length\": 1,\"line\": 2,\"column\": 1}}]}\n",
+);
 
 /// Whether a text is that of the second report and then that of the first.
 fn are_both(text: &[u8], first: &str, second: &str) -> bool {
@@ -40,11 +44,13 @@ fn shows_both(alloc: Global) -> Result<bool, ReportError> {
     let text = files_text(alloc, &handler, &files, &reports)?;
     let mut drawn = MemorySink::new(alloc, 400, 7, Vec::new(alloc))?;
     render_files(alloc, &handler, &files, &reports, &mut drawn)?;
+    let lines = files_json(alloc, &files, &reports)?;
     let mut json = MemorySink::new(alloc, 400, 7, Vec::new(alloc))?;
     render_files_json(alloc, &files, &reports, &mut json)?;
     Ok(
         are_both(text.as_bytes(), FIRST, SECOND)
             && are_both(drawn.received(), FIRST, SECOND)
+            && are_both(lines.as_bytes(), FIRST_JSON, SECOND_JSON)
             && are_both(json.received(), FIRST_JSON, SECOND_JSON),
     )
 }

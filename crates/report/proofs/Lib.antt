@@ -1,9 +1,3 @@
-pub mod Consuming
-pub mod KeyLemmas
-pub mod KindLemmas
 pub mod WordLemmas
-pub mod GeneratedLemmas
-pub mod PlacesLemmas
-pub mod FormLemmas
 pub mod TrueLemmas
 pub mod RunLemmas

@@ -3,7 +3,7 @@ use Rattle.std.specs.Prelude.{ℕ, ◌++◌, ◌==◌, List, length, count_by, B
 use Rattle.oxc_handlers.specs.declared.theme.GraphicalTheme.{GraphicalTheme}
 use Rattle.oxc_handlers.specs.Theme.{none_theme, unicode_theme, unicode_nocolor_theme}
 use Rattle.render_files.specs.Rendered.{drawn_reports, json_lines}
-use Rattle.report.specs.Document.{Document}
+use Rattle.documents.specs.Document.{Document}
 use Rattle.report.specs.declared.words.ThemeName.{ThemeName}
 use Rattle.report.specs.declared.words.ThemeName.TheVariants.{Plain, Unicode, UnicodeNocolor}
 

@@ -1,10 +1,3 @@
-pub mod Reading
-pub mod MemorySource
-pub mod Kinds
-pub mod Document
-pub mod Fields
-pub mod Views
-pub mod Generated
 pub mod Words
 pub mod Settled
 pub mod Code

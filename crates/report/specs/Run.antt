@@ -13,10 +13,10 @@ use Rattle.render_files.specs.Given.{GivenReport}
 use Rattle.render_files.specs.Refusal.{refusal_of}
 use Rattle.render_files.specs.Rendered.{StandsInFile}
 use Rattle.render_files.specs.Shown.{placed_labels}
-use Rattle.report.specs.Document.{Document, document_of}
+use Rattle.documents.specs.Document.{Document, document_of}
 use Rattle.report.specs.Drawn.{measured, shown}
 use Rattle.report.specs.Ending.{IsTold, line_of, status_of}
-use Rattle.report.specs.Generated.{generated}
+use Rattle.documents.specs.Generated.{generated}
 use Rattle.report.specs.declared.ending.Ending.{Ending}
 use Rattle.report.specs.declared.ending.Ending.TheVariants.{Done, Refused, Usage, NoDocument, ReadFault, SinkFault, OutOfMemory, InputTooLong}
 use Rattle.report.specs.declared.words.Command.{Command}

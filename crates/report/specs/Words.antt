@@ -4,7 +4,7 @@ use Rattle.std.specs.List.{list_all}
 use Rattle.std.specs.Option.{option_or}
 use Rattle.std.specs.Str.{bytes_eq}
 use Rattle.std.specs.Str.Parse.{digits_value}
-use Rattle.report.specs.Kinds.{only_if}
+use Rattle.documents.specs.Kinds.{only_if}
 use Rattle.report.specs.declared.words.Command.{Command}
 use Rattle.report.specs.declared.words.Command.TheVariants.{Draw, Make}
 use Rattle.report.specs.declared.words.Setting.{Setting}

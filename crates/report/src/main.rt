@@ -4,34 +4,23 @@
 //! [`run`] is the whole program over any source and sinks; `main` gives it the standard streams.
 #![tactic(auto)]
 
-mod document;
 mod ending;
-mod fields;
-mod generate;
-mod memory;
-mod source;
 mod status;
-mod streams;
 mod top;
-mod values;
 mod words;
 
-pub use document::{Document, read_document};
-pub use generate::generate;
-pub use memory::MemorySource;
-pub use source::{Reading, Source, read_all};
 pub use status::Status;
 
 #[cfg(test)]
-mod document_tests;
-#[cfg(test)]
 mod run_tests;
+#[cfg(test)]
+mod words_tests;
 
+use documents::{StderrSink, StdinSource, StdoutSink};
 use ending::{Ending, say};
 use std::env;
 use std::io::ErrorKind;
 use std::process::ExitCode;
-pub use streams::{ReaderSource, StderrSink, StdinSource, StdoutSink, WriterSink};
 pub use top::run;
 pub use words::{Command, ThemeName, read_words};
 

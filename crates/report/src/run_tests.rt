@@ -1,5 +1,6 @@
 // What no clause says: that ample memory suffices, that no empty piece is written or read, and the bytes of whole runs.
-use crate::{MemorySource, Status, run};
+use crate::{Status, run};
+use documents::MemorySource;
 use oxc_protocol::MemorySink;
 use std::alloc::{AllocError, Global};
 use std::test::Fail;

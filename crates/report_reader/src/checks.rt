@@ -1,8 +1,12 @@
 //! Which values a drawn report can have.
 ghost use Rattle.std.specs.Prelude.{◌≡◌, ◌==◌, None, map, option_map, string_bytes};
 ghost use Rattle.std.specs.List.{list_all};
-ghost use Rattle.report_reader.specs.Seen.{head_model, mark_model, report_model, row_model, snippet_model};
-ghost use Rattle.report_reader.specs.WellFormed.{are_marks, are_rows, ends_in_space, is_behind, is_head, is_line, is_line_of, is_mark, is_next_mark, is_next_row, is_snippet, is_well_formed};
+ghost use Rattle.report_reader.specs.Seen.{head_model, mark_model, report_model, row_model};
+ghost use Rattle.report_reader.specs.Seen.{snippet_model};
+ghost use Rattle.report_reader.specs.WellFormed.{are_marks, are_rows, ends_in_space, is_behind};
+ghost use Rattle.report_reader.specs.WellFormed.{is_head, is_line, is_line_of, is_mark};
+ghost use Rattle.report_reader.specs.WellFormed.{is_next_mark, is_next_row, is_snippet};
+ghost use Rattle.report_reader.specs.WellFormed.{is_well_formed};
 
 use crate::seen::{Seen, SeenHead, SeenMark, SeenRow, SeenSnippet};
 
@@ -122,9 +126,10 @@ fn are_snippets(snippets: &[SeenSnippet]) -> bool
 
 /// Whether a value is what a drawn report can say, so that it can be shown and read back.
 ///
-/// No text holds an LF, and the title doesn't end in a space. The row and the column of a head are at least 1; without a
-/// name it has them exactly where there are two rows or more. Row numbers don't descend. Marks under a row have a cell each, and a
-/// free cell between them; an arrow has a text and one cell; start and end of a mark have a sum that fits `usize`.
+/// No text holds an LF, and the title doesn't end in a space. The row and the column of a head are
+/// at least 1; without a name it has them exactly where there are two rows or more. Row numbers
+/// don't descend. Marks under a row have a cell each, and a free cell between them; an arrow has a
+/// text and one cell; start and end of a mark have a sum that fits `usize`.
 #[tactic(auto, unfolding(crate::specs::WellFormed::is_well_formed))]
 pub fn well_formed(seen: &Seen) -> bool
     ensures { result ≡ is_well_formed (report_model seen.now) }

@@ -10,11 +10,12 @@ use oxc_handlers::DiagnosticView;
 use oxc_plan::TabWidth;
 use oxc_protocol::SourceRef;
 
-/// The law that drawings are read back: for every width and every distance of the tab stops, a view that can be drawn, whose
-/// filled title, name and label texts have one line each, without bars beside its rows, without help or note, and
-/// whose marks stand at least one column apart, is drawn in the plain theme as exactly the text that shows what its plan says;
-/// that is well formed, and so it is what [`read_report`](crate::read_report) gives. Its calls only recall what the
-/// types of its arguments have; a caller calls it to know the law.
+/// The law that drawings are read back: for every width and every distance of the tab stops, a view
+/// that can be drawn, whose filled title, name and label texts have one line each, without bars
+/// beside its rows, without help or note, and whose marks stand at least one column apart, is drawn
+/// in the plain theme as exactly the text that shows what its plan says; that is well formed, and
+/// so it is what [`read_report`](crate::read_report) gives. Its calls only recall what the types of
+/// its arguments have; a caller calls it to know the law.
 pub fn drawings_read_back(_width: usize, tabs: TabWidth, view: &DiagnosticView<'_>)
     ensures { ReadsBack _width tabs (view_parts view.now) }
 {

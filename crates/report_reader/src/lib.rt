@@ -1,8 +1,9 @@
 //! A drawn report, read back.
 //!
-//! [`read_report`] takes a text that a report drawn in the plain theme has, and gives what it says: which rows, which marks
-//! under them, which texts at those. [`show_report`] is the way back, and [`well_formed`] tells which values have one.
-//! Cells and columns count from 0, rows and the places in heads from 1.
+//! [`read_report`] takes a text that a report drawn in the plain theme has, and gives what it says:
+//! which rows, which marks under them, which texts at those. [`show_report`] is the way back, and
+//! [`well_formed`] tells which values have one. Cells and columns count from 0, rows and the places
+//! in heads from 1.
 #![tactic(auto)]
 
 mod checks;

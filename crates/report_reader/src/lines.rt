@@ -1,7 +1,8 @@
 //! The kinds of lines below a title, and what heads and titles say.
 ghost use Rattle.std.specs.Prelude.{◌≡◌, IfOk, option_map, slice_index};
 ghost use Rattle.report_reader.specs.Seen.{head_model};
-ghost use Rattle.report_reader.specs.Reading.{head_in, line_in, line_model, severity_by, severity_in, title_in};
+ghost use Rattle.report_reader.specs.Reading.{head_in, line_in, line_model, severity_by};
+ghost use Rattle.report_reader.specs.Reading.{severity_in, title_in};
 
 use crate::seen::SeenHead;
 use crate::texts::{number_of, split_behind, split_first, trimmed};

@@ -1,8 +1,10 @@
 //! The marks of a line, and the texts that hang below it.
-ghost use Rattle.std.specs.Prelude.{◌≡◌, ◌+◌, ◌<◌, ◌^◌, ◌++◌, IfOk, OnOk, None, drop, is_some, map, option_map};
+ghost use Rattle.std.specs.Prelude.{◌≡◌, ◌+◌, ◌<◌, ◌^◌, ◌++◌, IfOk, OnOk, None, drop, is_some, map};
+ghost use Rattle.std.specs.Prelude.{option_map};
 ghost use Rattle.std.specs.Option.{option_to_list};
 ghost use Rattle.report_reader.specs.Seen.{mark_model};
-ghost use Rattle.report_reader.specs.Reading.{first_text, grown, hangs_behind, mark_by, marks_in, runs_from};
+ghost use Rattle.report_reader.specs.Reading.{first_text, grown, hangs_behind, mark_by, marks_in};
+ghost use Rattle.report_reader.specs.Reading.{runs_from};
 
 use crate::seen::SeenMark;
 use crate::texts::split_first;
@@ -62,11 +64,14 @@ fn runs_of(alloc: Global, cells: &[u8]) -> Result<Vec<Run>, AllocError>
     Ok(runs)
 }
 
-/// The text of the hanging line at an index, where it hangs from a cell, and the index behind what was taken.
+/// The text of the hanging line at an index, where it hangs from a cell, and the index behind what
+/// was taken.
 #[tactic(auto, using(crate::proofs::ReaderLemmas::drop_next))]
 fn take_text<'a>(hangs: &[&'a str], index: usize, bar: usize) -> (Option<&'a str>, usize)
-    ensures text { option_map (λ text. text.now) result.0 ≡ first_text (map (λ line. line.now) (drop index hangs.now)) bar }
-    ensures rest { map (λ line. line.now) (drop result.1 hangs.now) ≡ hangs_behind (is_some result.0) (map (λ line. line.now) (drop index hangs.now)) }
+    ensures text { option_map (λ text. text.now) result.0
+        ≡ first_text (map (λ line. line.now) (drop index hangs.now)) bar }
+    ensures rest { map (λ line. line.now) (drop result.1 hangs.now)
+        ≡ hangs_behind (is_some result.0) (map (λ line. line.now) (drop index hangs.now)) }
 {
     if index < hangs.len() {
         let (front, back) = split_first(hangs[index], '`');
@@ -78,7 +83,8 @@ fn take_text<'a>(hangs: &[&'a str], index: usize, bar: usize) -> (Option<&'a str
 }
 
 fn mark_of(alloc: Global, run: Run, text: Option<&str>) -> Result<SeenMark, AllocError>
-    ensures { IfOk result (λ mark. mark_model mark ≡ mark_by run (option_map (λ text. text.now) text.entry)) }
+    ensures { IfOk result (λ mark. mark_model mark
+        ≡ mark_by run (option_map (λ text. text.now) text.entry)) }
 {
     let arrow = text.is_some() && !run.has_bar;
     let text = match text {
@@ -100,7 +106,8 @@ pub(crate) fn marks_of(
     line: &str,
     hangs: &[&str],
 ) -> Result<Vec<SeenMark>, AllocError>
-    ensures { IfOk result (λ marks. map mark_model marks.items ≡ marks_in line.now (map (λ line. line.now) hangs.now)) }
+    ensures { IfOk result (λ marks. map mark_model marks.items
+        ≡ marks_in line.now (map (λ line. line.now) hangs.now)) }
 {
     let runs = runs_of(alloc, line.as_bytes())?;
     let mut marks = Vec::new(alloc);

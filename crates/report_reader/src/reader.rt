@@ -1,8 +1,11 @@
 //! A report read back: what a text would be, held against what that shows.
-ghost use Rattle.std.specs.Prelude.{◌≡◌, ◌==◌, IfOk, IfSome, map, option_map, option_copied, reverse};
+ghost use Rattle.std.specs.Prelude.{◌≡◌, ◌==◌, IfOk, IfSome, map, option_map, option_copied};
+ghost use Rattle.std.specs.Prelude.{reverse};
 ghost use Rattle.std.specs.List.{slice_split};
 ghost use Rattle.report_reader.specs.Seen.{mark_model, report_model, row_model, snippet_model};
-ghost use Rattle.report_reader.specs.Reading.{IsRead, ReadsEach, add_line, guess, head_in, head_kind, line_model, marks_by, parts_model, row_kind, snippets_in, under_kind};
+ghost use Rattle.report_reader.specs.Reading.{IsRead, ReadsEach, add_line, guess, head_in};
+ghost use Rattle.report_reader.specs.Reading.{head_kind, line_model, marks_by, parts_model};
+ghost use Rattle.report_reader.specs.Reading.{row_kind, snippets_in, under_kind};
 
 use crate::checks::well_formed;
 use crate::lines::{Line, head_of, line_of, severity_of, title_of};
@@ -11,7 +14,8 @@ use crate::seen::{Seen, SeenMark, SeenRow, SeenSnippet};
 use crate::shows::show_report;
 use std::alloc::{AllocError, Global};
 
-/// What the lines from some line to the last make. Each list stands from its last item to its first.
+/// What the lines from some line to the last make. Each list stands from its last item to its
+/// first.
 #[derive(Drop)]
 pub(crate) struct Parts<'a> {
     line: Option<&'a str>,
@@ -25,7 +29,8 @@ fn marks_under(
     line: Option<&str>,
     hangs: &[&str],
 ) -> Result<Vec<SeenMark>, AllocError>
-    ensures { IfOk result (λ marks. map mark_model marks.items ≡ marks_by (option_copied line.entry) (map (λ line. line.now) hangs.now)) }
+    ensures { IfOk result (λ marks. map mark_model marks.items
+        ≡ marks_by (option_copied line.entry) (map (λ line. line.now) hangs.now)) }
 {
     match line {
         None => Ok(Vec::new(alloc)),
@@ -35,7 +40,8 @@ fn marks_under(
 
 /// With a line below a row, of which the cells are given.
 fn with_line<'a>(parts: Parts<'a>, cells: &'a str) -> Result<Parts<'a>, AllocError>
-    ensures { IfOk result (λ more. parts_model more ≡ add_line (under_kind cells.now) (parts_model parts.entry)) }
+    ensures { IfOk result (λ more. parts_model more ≡ add_line (under_kind cells.now)
+        (parts_model parts.entry)) }
 {
     let Parts {
         line,
@@ -61,7 +67,8 @@ fn with_row<'a>(
     number: usize,
     text: &str,
 ) -> Result<Parts<'a>, AllocError>
-    ensures { IfOk result (λ more. parts_model more ≡ add_line (row_kind number text.now) (parts_model parts.entry)) }
+    ensures { IfOk result (λ more. parts_model more ≡ add_line (row_kind number text.now)
+        (parts_model parts.entry)) }
 {
     let Parts {
         line,
@@ -86,7 +93,8 @@ fn with_row<'a>(
 /// A snippet of a head and of rows from the last to the first.
 #[tactic(auto, using(crate::proofs::ReaderLemmas::map_reverse))]
 fn snippet_of(alloc: Global, head: &str, mut rows: Vec<SeenRow>) -> Result<SeenSnippet, AllocError>
-    ensures { IfOk result (λ snippet. snippet_model snippet ≡ record { head = head_in head.now; rows = reverse (map row_model rows.items) }) }
+    ensures { IfOk result (λ snippet. snippet_model snippet
+        ≡ record { head = head_in head.now; rows = reverse (map row_model rows.items) }) }
 {
     rows.reverse();
     Ok(SeenSnippet {
@@ -97,7 +105,8 @@ fn snippet_of(alloc: Global, head: &str, mut rows: Vec<SeenRow>) -> Result<SeenS
 
 /// With a head, below which stand the rows that were read last.
 fn with_head<'a>(alloc: Global, parts: Parts<'a>, head: &str) -> Result<Parts<'a>, AllocError>
-    ensures { IfOk result (λ more. parts_model more ≡ add_line (head_kind head.now) (parts_model parts.entry)) }
+    ensures { IfOk result (λ more. parts_model more ≡ add_line (head_kind head.now)
+        (parts_model parts.entry)) }
 {
     let Parts {
         rows,
@@ -114,7 +123,8 @@ fn with_head<'a>(alloc: Global, parts: Parts<'a>, head: &str) -> Result<Parts<'a
 }
 
 fn added<'a>(alloc: Global, parts: Parts<'a>, line: Line<'a>) -> Result<Parts<'a>, AllocError>
-    ensures { IfOk result (λ more. parts_model more ≡ add_line (line_model line.entry) (parts_model parts.entry)) }
+    ensures { IfOk result (λ more. parts_model more ≡ add_line (line_model line.entry)
+        (parts_model parts.entry)) }
 {
     match line {
         Line::Below(cells) => with_line(parts, cells),
@@ -127,7 +137,8 @@ fn added<'a>(alloc: Global, parts: Parts<'a>, line: Line<'a>) -> Result<Parts<'a
 /// The snippets of the lines below a title.
 #[tactic(auto, unfolding(crate::specs::Reading::snippets_in))]
 fn snippets_of(alloc: Global, lines: &[&str]) -> Result<Vec<SeenSnippet>, AllocError>
-    ensures { IfOk result (λ snippets. map snippet_model snippets.items ≡ snippets_in (map (λ line. line.now) lines.now)) }
+    ensures { IfOk result (λ snippets. map snippet_model snippets.items
+        ≡ snippets_in (map (λ line. line.now) lines.now)) }
 {
     let mut parts = Parts {
         line: None,
@@ -146,7 +157,8 @@ fn snippets_of(alloc: Global, lines: &[&str]) -> Result<Vec<SeenSnippet>, AllocE
 }
 
 fn lines_of<'a>(alloc: Global, text: &'a str) -> Result<Vec<&'a str>, AllocError>
-    ensures { IfOk result (λ lines. map (λ line. line.now) lines.items ≡ slice_split (λ b. b == 10) text.now) }
+    ensures { IfOk result (λ lines. map (λ line. line.now) lines.items
+        ≡ slice_split (λ b. b == 10) text.now) }
 {
     text.split('\n').collect(alloc)
 }
@@ -173,14 +185,15 @@ fn guess_of(alloc: Global, text: &str) -> Result<Option<Seen>, AllocError>
 /// What a drawn report says: the one value that is [`well_formed`](crate::well_formed) and whose
 /// [`show_report`](crate::show_report) is this text. None, exactly where there is no such value.
 ///
-/// A report with bars beside its rows, with help or with a note has none, with one exception: bars without a text at
-/// their end are read as parts of the rows.
+/// A report with bars beside its rows, with help or with a note has none, with one exception: bars
+/// without a text at their end are read as parts of the rows.
 ///
 /// # Errors
 ///
 /// Want of memory.
 pub fn read_report(alloc: Global, text: &str) -> Result<Option<Seen>, AllocError>
-    ensures sound { IfOk result (λ seen. IfSome seen (λ report. IsRead text.now (report_model report))) }
+    ensures sound { IfOk result
+        (λ seen. IfSome seen (λ report. IsRead text.now (report_model report))) }
     ensures complete { IfOk result (λ seen. ReadsEach text.now (option_map report_model seen)) }
 {
     match guess_of(alloc, text)? {

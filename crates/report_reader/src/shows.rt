@@ -1,8 +1,15 @@
 //! What a report looks like.
-ghost use Rattle.std.specs.Prelude.{◌≡◌, ◌++◌, ◌∷◌, [], ◌<◌, ◌≤◌, ◌^◌, IfOk, OnOk, decimal, length, map, replicate, reverse, string_bytes, None};
+ghost use Rattle.std.specs.Prelude.{◌≡◌, ◌++◌, ◌∷◌, [], ◌<◌, ◌≤◌, ◌^◌, IfOk, OnOk, decimal, length};
+ghost use Rattle.std.specs.Prelude.{map, replicate, reverse, string_bytes, None};
 ghost use Rattle.std.specs.List.{flat_map};
-ghost use Rattle.report_reader.specs.Seen.{head_model, mark_model, report_model, row_model, snippet_model};
-ghost use Rattle.report_reader.specs.Shown.{bar_of, bars_to, close_line, ended, gap, hang_line, hang_of, hangs_from, head_line, head_text, icon, mark_body, mark_cells, marker, marks_lines, number_width, other_front, row_front, row_lines, shown, snippet_lines, title_line, unders};
+ghost use Rattle.report_reader.specs.Seen.{head_model, mark_model, report_model, row_model};
+ghost use Rattle.report_reader.specs.Seen.{snippet_model};
+ghost use Rattle.report_reader.specs.Shown.{bar_of, bars_to, close_line, ended, gap, hang_line};
+ghost use Rattle.report_reader.specs.Shown.{hang_of, hangs_from, head_line, head_text, icon};
+ghost use Rattle.report_reader.specs.Shown.{mark_body, mark_cells, marker, marks_lines};
+ghost use Rattle.report_reader.specs.Shown.{number_width, other_front, row_front, row_lines, shown};
+ghost use Rattle.report_reader.specs.Shown.{snippet_lines, title_line, unders};
+ghost use Rattle.textwrap.specs.Appends.{Appends};
 
 use crate::seen::{Seen, SeenHead, SeenMark, SeenRow, SeenSnippet};
 use itoa::Buffer;
@@ -12,7 +19,7 @@ use std::alloc::{AllocError, Global};
 /// An ASCII character some times over.
 fn push_times(out: &mut String, c: char, count: usize) -> Result<(), AllocError>
     requires { c < 128 }
-    ensures { OnOk result (string_bytes out.new ≡ string_bytes out.old ++ replicate count c) }
+    ensures { OnOk result (Appends out.old out.new (replicate count c)) }
 {
     for _i in 0..count {
         out.push(c)?;
@@ -22,7 +29,7 @@ fn push_times(out: &mut String, c: char, count: usize) -> Result<(), AllocError>
 
 /// A number.
 fn push_number(out: &mut String, number: usize) -> Result<(), AllocError>
-    ensures { OnOk result (string_bytes out.new ≡ string_bytes out.old ++ decimal number) }
+    ensures { OnOk result (Appends out.old out.new (decimal number)) }
 {
     let mut buffer = Buffer::new();
     out.push_str(buffer.format(number))
@@ -48,7 +55,7 @@ fn bar_cell(mark: &SeenMark) -> usize
 /// The cells of a mark.
 #[tactic(auto, unfolding(crate::specs::Shown::mark_body))]
 fn push_mark(out: &mut String, mark: &SeenMark) -> Result<(), AllocError>
-    ensures { OnOk result (string_bytes out.new ≡ string_bytes out.old ++ mark_body (mark_model mark.now)) }
+    ensures { OnOk result (Appends out.old out.new (mark_body (mark_model mark.now))) }
 {
     let bar = bar_cell(mark);
     push_times(out, '^', bar.saturating_sub(mark.start))?;
@@ -64,7 +71,7 @@ fn push_mark(out: &mut String, mark: &SeenMark) -> Result<(), AllocError>
 /// The cells of the marks of a row.
 #[tactic(auto, using(crate::proofs::ShownLemmas::cells_more, crate::proofs::ShownLemmas::cells_none))]
 fn push_marks(out: &mut String, marks: &[SeenMark]) -> Result<(), AllocError>
-    ensures { OnOk result (string_bytes out.new ≡ string_bytes out.old ++ mark_cells 0 (map mark_model marks.now)) }
+    ensures { OnOk result (Appends out.old out.new (mark_cells 0 (map mark_model marks.now))) }
 {
     let mut from = 0;
     for mark in marks {
@@ -79,7 +86,7 @@ fn push_marks(out: &mut String, marks: &[SeenMark]) -> Result<(), AllocError>
 #[tactic(auto, unfolding(crate::specs::Shown::other_front))]
 fn push_other_front(out: &mut String, digits: usize) -> Result<(), AllocError>
     requires { digits < 2 ^ 62 }
-    ensures { OnOk result (string_bytes out.new ≡ string_bytes out.old ++ other_front digits) }
+    ensures { OnOk result (Appends out.old out.new (other_front digits)) }
 {
     push_times(out, ' ', digits + 2)?;
     out.push_str(": ")?;
@@ -89,7 +96,7 @@ fn push_other_front(out: &mut String, digits: usize) -> Result<(), AllocError>
 /// What stands before a row.
 #[tactic(auto, unfolding(crate::specs::Shown::row_front))]
 fn push_row_front(out: &mut String, digits: usize, number: usize) -> Result<(), AllocError>
-    ensures { OnOk result (string_bytes out.new ≡ string_bytes out.old ++ row_front digits number) }
+    ensures { OnOk result (Appends out.old out.new (row_front digits number)) }
 {
     out.push_str(" ")?;
     push_times(out, ' ', digits.saturating_sub(digits_of(number)))?;
@@ -101,7 +108,7 @@ fn push_row_front(out: &mut String, digits: usize, number: usize) -> Result<(), 
 /// The text of a head.
 #[tactic(auto, unfolding(crate::specs::Shown::head_text))]
 fn push_head_text(out: &mut String, head: &SeenHead) -> Result<(), AllocError>
-    ensures { OnOk result (string_bytes out.new ≡ string_bytes out.old ++ head_text (head_model head.now)) }
+    ensures { OnOk result (Appends out.old out.new (head_text (head_model head.now))) }
 {
     match head {
         SeenHead::Named { name, row, column } => {
@@ -138,7 +145,7 @@ fn icon_of(severity: Severity) -> &'static str
 /// The title's line.
 #[tactic(auto, unfolding(crate::specs::Shown::title_line))]
 fn push_title(out: &mut String, severity: Severity, title: &str) -> Result<(), AllocError>
-    ensures { OnOk result (string_bytes out.new ≡ string_bytes out.old ++ (title_line severity title.now ++ 0x0A ∷ [])) }
+    ensures { OnOk result (Appends out.old out.new (title_line severity title.now ++ 0x0A ∷ [])) }
 {
     out.push_str("  ")?;
     out.push_str(icon_of(severity))?;
@@ -160,7 +167,7 @@ fn gap_before(before: Option<usize>, cell: usize) -> usize
 /// The bars of marks, up to a cell.
 #[tactic(auto, using(crate::proofs::ShownLemmas::bars_more, crate::proofs::ShownLemmas::bars_none))]
 fn push_bars(out: &mut String, marks: &[SeenMark], to: usize) -> Result<(), AllocError>
-    ensures { OnOk result (string_bytes out.new ≡ string_bytes out.old ++ bars_to None to (map mark_model marks.now)) }
+    ensures { OnOk result (Appends out.old out.new (bars_to None to (map mark_model marks.now))) }
 {
     let mut before = None;
     for mark in marks {
@@ -182,7 +189,9 @@ fn push_hang(
     mark: &SeenMark,
 ) -> Result<(), AllocError>
     requires { digits < 2 ^ 62 }
-    ensures { OnOk result (string_bytes out.new ≡ string_bytes out.old ++ ended (unders digits (hang_of (map mark_model earlier.now) (bar_of (mark_model mark.now)) (mark_model mark.now).text))) }
+    ensures { OnOk result (Appends out.old out.new
+        (ended (unders digits (hang_of (map mark_model earlier.now) (bar_of (mark_model mark.now))
+        (mark_model mark.now).text)))) }
 {
     if let Some(text) = &mark.text {
         push_other_front(out, digits)?;
@@ -197,7 +206,8 @@ fn push_hang(
 /// The hanging lines of marks, from the last to the first.
 fn push_hangs(out: &mut String, digits: usize, marks: &[SeenMark]) -> Result<(), AllocError>
     requires { digits < 2 ^ 62 }
-    ensures { OnOk result (string_bytes out.new ≡ string_bytes out.old ++ ended (unders digits (reverse (hangs_from [] (map mark_model marks.now))))) }
+    ensures { OnOk result (Appends out.old out.new
+        (ended (unders digits (reverse (hangs_from [] (map mark_model marks.now)))))) }
 {
     let mut left = marks.len();
     while left > 0 {
@@ -211,7 +221,8 @@ fn push_hangs(out: &mut String, digits: usize, marks: &[SeenMark]) -> Result<(),
 #[tactic(auto, using(crate::proofs::ShownLemmas::under_none, crate::proofs::ShownLemmas::under_some))]
 fn push_under(out: &mut String, digits: usize, marks: &[SeenMark]) -> Result<(), AllocError>
     requires { digits < 2 ^ 62 }
-    ensures { OnOk result (string_bytes out.new ≡ string_bytes out.old ++ ended (unders digits (marks_lines (map mark_model marks.now)))) }
+    ensures { OnOk result (Appends out.old out.new
+        (ended (unders digits (marks_lines (map mark_model marks.now))))) }
 {
     if marks.is_empty() {
         return Ok(());
@@ -227,7 +238,7 @@ fn push_under(out: &mut String, digits: usize, marks: &[SeenMark]) -> Result<(),
 #[tactic(auto, unfolding(crate::specs::Shown::row_lines))]
 fn push_row(out: &mut String, digits: usize, row: &SeenRow) -> Result<(), AllocError>
     requires { digits < 2 ^ 62 }
-    ensures { OnOk result (string_bytes out.new ≡ string_bytes out.old ++ ended (row_lines digits (row_model row.now))) }
+    ensures { OnOk result (Appends out.old out.new (ended (row_lines digits (row_model row.now)))) }
 {
     push_row_front(out, digits, row.number)?;
     out.push_str(&row.text)?;
@@ -240,7 +251,8 @@ fn push_row(out: &mut String, digits: usize, row: &SeenRow) -> Result<(), AllocE
 #[tactic(auto, using(crate::proofs::ShownLemmas::lines_more, crate::proofs::ShownLemmas::lines_none))]
 fn push_rows(out: &mut String, digits: usize, rows: &[SeenRow]) -> Result<(), AllocError>
     requires { digits < 2 ^ 62 }
-    ensures { OnOk result (string_bytes out.new ≡ string_bytes out.old ++ ended (flat_map (row_lines digits) (map row_model rows.now))) }
+    ensures { OnOk result (Appends out.old out.new
+        (ended (flat_map (row_lines digits) (map row_model rows.now)))) }
 {
     for row in rows {
         push_row(out, digits, row)?;
@@ -262,7 +274,8 @@ fn width_of(rows: &[SeenRow]) -> usize
 #[tactic(auto, unfolding(crate::specs::Shown::head_line))]
 fn push_head(out: &mut String, digits: usize, head: &SeenHead) -> Result<(), AllocError>
     requires { digits < 2 ^ 62 }
-    ensures { OnOk result (string_bytes out.new ≡ string_bytes out.old ++ (head_line digits (head_model head.now) ++ 0x0A ∷ [])) }
+    ensures { OnOk result (Appends out.old out.new
+        (head_line digits (head_model head.now) ++ 0x0A ∷ [])) }
 {
     push_times(out, ' ', digits + 2)?;
     out.push_str(",-")?;
@@ -274,7 +287,7 @@ fn push_head(out: &mut String, digits: usize, head: &SeenHead) -> Result<(), All
 #[tactic(auto, unfolding(crate::specs::Shown::close_line))]
 fn push_close(out: &mut String, digits: usize) -> Result<(), AllocError>
     requires { digits < 2 ^ 62 }
-    ensures { OnOk result (string_bytes out.new ≡ string_bytes out.old ++ (close_line digits ++ 0x0A ∷ [])) }
+    ensures { OnOk result (Appends out.old out.new (close_line digits ++ 0x0A ∷ [])) }
 {
     push_times(out, ' ', digits + 2)?;
     out.push_str("`----")?;
@@ -285,7 +298,8 @@ fn push_close(out: &mut String, digits: usize) -> Result<(), AllocError>
 /// The lines of a snippet.
 #[tactic(auto, using(crate::proofs::ShownLemmas::snippet_whole))]
 fn push_snippet(out: &mut String, snippet: &SeenSnippet) -> Result<(), AllocError>
-    ensures { OnOk result (string_bytes out.new ≡ string_bytes out.old ++ ended (snippet_lines (snippet_model snippet.now))) }
+    ensures { OnOk result (Appends out.old out.new
+        (ended (snippet_lines (snippet_model snippet.now)))) }
 {
     let digits = width_of(&snippet.rows);
     push_head(out, digits, &snippet.head)?;
@@ -296,7 +310,8 @@ fn push_snippet(out: &mut String, snippet: &SeenSnippet) -> Result<(), AllocErro
 
 /// The text of a drawn report that says this, in the plain theme.
 ///
-/// For a value that isn't [`well_formed`](crate::well_formed) it is a text all the same, but nothing is promised about reading it.
+/// For a value that isn't [`well_formed`](crate::well_formed) it is a text all the same, but
+/// nothing is promised about reading it.
 ///
 /// # Errors
 ///
@@ -314,7 +329,8 @@ pub fn show_report(alloc: Global, seen: &Seen) -> Result<String, AllocError>
 
 #[tactic(auto, using(crate::proofs::ShownLemmas::lines_more, crate::proofs::ShownLemmas::lines_none))]
 fn push_snippets(out: &mut String, snippets: &[SeenSnippet]) -> Result<(), AllocError>
-    ensures { OnOk result (string_bytes out.new ≡ string_bytes out.old ++ ended (flat_map snippet_lines (map snippet_model snippets.now))) }
+    ensures { OnOk result (Appends out.old out.new
+        (ended (flat_map snippet_lines (map snippet_model snippets.now)))) }
 {
     for snippet in snippets {
         push_snippet(out, snippet)?;

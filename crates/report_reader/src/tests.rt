@@ -117,9 +117,12 @@ fn are_same(one: &Seen, other: &Seen) -> bool
     one == other
 }
 
-/// Whether two drawn reports say the same, in every part. None where one of the texts is no drawn report.
+/// Whether two drawn reports say the same, in every part. None where one of the texts is no drawn
+/// report.
 fn say_the_same(alloc: Global, one: &str, other: &str) -> Result<Option<bool>, AllocError>
-    ensures { IfOk result (λ answer. IfSome answer (λ same. (a b : Report) × IsRead one.now a × IsRead other.now b × (IsTrue same ↔ (a ≡ b)))) }
+    ensures { IfOk result
+        (λ answer. IfSome answer (λ same. (a b : Report) × IsRead one.now a × IsRead other.now b
+        × (IsTrue same ↔ (a ≡ b)))) }
 {
     let (Some(first), Some(second)) = (read_report(alloc, one)?, read_report(alloc, other)?) else {
         return Ok(None);
@@ -150,7 +153,8 @@ fn drawn_and_read(
     tabs: TabWidth,
     view: &DiagnosticView<'_>,
 ) -> Result<Option<Seen>, RenderError>
-    ensures { IfOk result (λ seen. IsReadable width (plan_of tabs (view_parts view.now)) → option_map report_model seen ≡ Some (seen_of (plan_of tabs (view_parts view.now)))) }
+    ensures { IfOk result (λ seen. IsReadable width (plan_of tabs (view_parts view.now))
+        → option_map report_model seen ≡ Some (seen_of (plan_of tabs (view_parts view.now)))) }
 {
     let plain = GraphicalReportHandler::new_themed(GraphicalTheme::none());
     let handler = plain.with_width(width).with_tabs(tabs);

@@ -2,7 +2,8 @@
 ghost use Rattle.std.specs.Prelude.{◌≡◌, ◌<◌, Some, None, IfNone, option_map};
 ghost use Rattle.std.specs.List.{list_all};
 ghost use Rattle.std.specs.Char.{is_ascii_digit};
-ghost use Rattle.report_reader.specs.Reading.{back, cut, front, number_in, split_last, without_spaces};
+ghost use Rattle.report_reader.specs.Reading.{back, cut, front, number_in, split_last};
+ghost use Rattle.report_reader.specs.Reading.{without_spaces};
 
 /// What stands before the first such character, or all, and what stands behind it, or nothing.
 pub(crate) fn split_first(text: &str, c: char) -> (&str, &str)

@@ -15,7 +15,8 @@ pub struct Edit {
     pub insert: String,
 }
 
-/// Why an edit was refused. `edit` is its place in the list of edits, from 0, and 0 for a single one.
+/// Why an edit was refused. `edit` is its place in the list of edits, from 0, and 0 for a single
+/// one.
 ///
 /// The causes are judged in this order. A refusal changes nothing.
 #[derive(Clone, Copy, Debug, thiserror::Error, PartialEq, Eq)]
@@ -87,7 +88,8 @@ pub(crate) fn check(place: usize, text: &str, edit: &Edit) -> Result<(), EditErr
 /// The first of two places that is no boundary.
 fn parted_end(text: &str, start: TextSize, end: TextSize) -> Option<TextSize>
     ensures { MatchOption result (IsCharBoundary text.now start × IsCharBoundary text.now end)
-        (λ at. (¬ IsCharBoundary text.now start × (at ≡ start)) ⊎ (IsCharBoundary text.now start × ¬ IsCharBoundary text.now end × (at ≡ end))) }
+        (λ at. (¬ IsCharBoundary text.now start × (at ≡ start))
+        ⊎ (IsCharBoundary text.now start × ¬ IsCharBoundary text.now end × (at ≡ end))) }
 {
     if !text.is_char_boundary(start.to_usize()) {
         return Some(start);

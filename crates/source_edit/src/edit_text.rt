@@ -1,10 +1,14 @@
 // A text that is edited in place.
-ghost use Rattle.std.specs.Prelude.{◌≡◌, ℕ, ◌+◌, ◌-◌, ◌^◌, ◌<◌, ◌≤◌, ◌++◌, ◌∷◌, [], true, false, Ok, IsOk, IfOk, OnOk, OnErr, MatchBool, MatchResult, List, length, nat_lt, map, take, string_bytes, string_len, string_capacity, vec_len, vec_capacity};
+ghost use Rattle.std.specs.Prelude.{◌≡◌, ℕ, ◌+◌, ◌-◌, ◌^◌, ◌<◌, ◌≤◌, ◌++◌, ◌∷◌, [], true, false};
+ghost use Rattle.std.specs.Prelude.{Ok, IsOk, IfOk, OnOk, OnErr, MatchBool, MatchResult, List};
+ghost use Rattle.std.specs.Prelude.{length, nat_lt, map, take, string_bytes, string_len};
+ghost use Rattle.std.specs.Prelude.{string_capacity, vec_len, vec_capacity};
 ghost use Rattle.std.specs.Str.{IsCharBoundary};
 ghost use Rattle.source_location.specs.Breaks.{breaks_of};
 ghost use Rattle.source_location.specs.Rows.{line_starts as row_starts};
 ghost use Rattle.source_location.specs.Index.{Fits};
-ghost use Rattle.source_edit.specs.Edits.{Change, Editing, change_of, edited, after_edit, after_edits};
+ghost use Rattle.source_edit.specs.Edits.{Change, Editing, change_of, edited, after_edit};
+ghost use Rattle.source_edit.specs.Edits.{after_edits};
 ghost use Rattle.source_edit.specs.Causes.{IsAcceptable, AreAcceptable, IsCause, IsCauseAmong};
 ghost use Rattle.source_edit.specs.Starts.{starts_between};
 ghost use Rattle.source_edit.specs.Ready.{IsReady, KeepsWhatGoes};
@@ -28,11 +32,12 @@ struct Step {
     starts: Vec<TextSize>,
 }
 
-/// A text of fewer than `u32::MAX` bytes that is edited in place, with its row starts and the way back.
+/// A text of fewer than `u32::MAX` bytes that is edited in place, with its row starts and the way
+/// back.
 ///
-/// Contracts see the text and its history: the list of texts to which [`undo`](EditText::undo) goes back, the latest
-/// last. An accepted edit puts the text of that moment at its end. No copy of a text is kept, but the bytes that
-/// each edit removed.
+/// Contracts see the text and its history: the list of texts to which [`undo`](EditText::undo) goes
+/// back, the latest last. An accepted edit puts the text of that moment at its end. No copy of a
+/// text is kept, but the bytes that each edit removed.
 #[derive(Debug, Drop)]
 pub struct EditText {
     text: String,
@@ -92,9 +97,10 @@ impl EditText {
 
     /// Edits the text.
     ///
-    /// It answers `Outside` where the range ends behind the text; else `NotBoundary` where its start, or else its
-    /// end, is inside a character; else `TooLong` where the new text would have `u32::MAX` bytes or more; else it may
-    /// answer `OutOfMemory`. A refusal leaves the text, its row starts and its history as they were.
+    /// It answers `Outside` where the range ends behind the text; else `NotBoundary` where its
+    /// start, or else its end, is inside a character; else `TooLong` where the new text would have
+    /// `u32::MAX` bytes or more; else it may answer `OutOfMemory`. A refusal leaves the text, its
+    /// row starts and its history as they were.
     pub fn apply(&mut self, edit: Edit) -> Result<(), EditError>
         ensures accepted { OnOk result (self.new ≡ after_edit self.old (change_of edit)) }
         ensures cause { MatchResult result (λ _. IsAcceptable self.old.text (change_of edit))
@@ -104,11 +110,14 @@ impl EditText {
         self.apply_at(0, &edit)
     }
 
-    /// Edits the text by each of the edits in turn, each on the text that the one before left: by all, or by none.
+    /// Edits the text by each of the edits in turn, each on the text that the one before left: by
+    /// all, or by none.
     ///
-    /// It answers what `apply` answers to the first edit that is refused, with its place in the list.
+    /// It answers what `apply` answers to the first edit that is refused, with its place in the
+    /// list.
     pub fn apply_all(&mut self, edits: Vec<Edit>) -> Result<(), EditError>
-        ensures accepted { OnOk result (self.new ≡ after_edits self.old (map change_of edits.items)) }
+        ensures accepted { OnOk result (self.new
+            ≡ after_edits self.old (map change_of edits.items)) }
         ensures cause { MatchResult result (λ _. AreAcceptable self.old.text (map change_of edits.items))
             (λ error. IsCauseAmong 0 self.old.text (map change_of edits.items) error) }
         ensures unchanged { OnErr result (self.new ≡ self.old) }
@@ -127,8 +136,10 @@ impl EditText {
     /// It always succeeds: what it needs of memory was taken by the edit.
     pub fn undo(&mut self) -> Result<bool, AllocError>
         ensures said { result ≡ Ok (nat_lt 0 (length self.old.history)) }
-        ensures latest { 0 < length self.old.history → self.old.history ≡ self.new.history ++ self.new.text ∷ [] }
-        ensures reverts { (before : Editing) (change : Change) → self.old ≡ after_edit before change → self.new ≡ before }
+        ensures latest { 0 < length self.old.history
+            → self.old.history ≡ self.new.history ++ self.new.text ∷ [] }
+        ensures reverts { (before : Editing) (change : Change)
+            → self.old ≡ after_edit before change → self.new ≡ before }
         ensures none { self.old.history ≡ [] → self.new ≡ self.old }
     {
         Ok(self.step_back())
@@ -162,7 +173,8 @@ impl EditText {
 
     /// Goes back by one edit, and says whether there was one.
     fn step_back(&mut self) -> bool
-        ensures { MatchBool result (self.old.history ≡ self.new.history ++ self.new.text ∷ []) ((self.old.history ≡ []) × (self.new ≡ self.old)) }
+        ensures { MatchBool result (self.old.history ≡ self.new.history ++ self.new.text ∷ [])
+            ((self.old.history ≡ []) × (self.new ≡ self.old)) }
     {
         let Some(step) = self.steps.pop() else {
             return false;
@@ -179,7 +191,8 @@ impl EditText {
 
     /// Goes back by so many edits.
     fn step_back_by(&mut self, count: usize)
-        ensures { (before : Editing) (changes : List Change) → length changes ≡ count → self.old ≡ after_edits before changes → self.new ≡ before }
+        ensures { (before : Editing) (changes : List Change) → length changes ≡ count
+            → self.old ≡ after_edits before changes → self.new ≡ before }
     {
         for _ in 0..count {
             self.step_back();
@@ -187,8 +200,8 @@ impl EditText {
     }
 }
 
-/// Takes the room that an edit and its undoing need, and finds the rows that start in what it inserts and what it
-/// removes. The text and its row starts stay as they are.
+/// Takes the room that an edit and its undoing need, and finds the rows that start in what it
+/// inserts and what it removes. The text and its row starts stay as they are.
 fn prepare(
     alloc: Global,
     text: &mut String,
@@ -201,7 +214,9 @@ fn prepare(
     ensures starts { line_starts.new.items ≡ line_starts.old.items }
     ensures text_room { string_capacity text.old ≤ string_capacity text.new }
     ensures starts_room { vec_capacity line_starts.old ≤ vec_capacity line_starts.new }
-    ensures ready { IfOk result (λ made. IsReady (string_capacity text.new) (vec_capacity line_starts.new) (string_bytes text.old) (change_of edit.now) made.0.items made.1) }
+    ensures ready { IfOk result (λ made. IsReady (string_capacity text.new)
+        (vec_capacity line_starts.new) (string_bytes text.old)
+        (change_of edit.now) made.0.items made.1) }
 {
     let step = step_of(alloc, text.as_str(), line_starts.as_slice(), edit)?;
     let starts = starts_near(alloc, text.as_str(), edit)?;
@@ -236,7 +251,9 @@ fn step_of(
 /// The rows that will start in what an edit inserts in a text, or right at its ends.
 fn starts_near(alloc: Global, text: &str, edit: &Edit) -> Result<Vec<TextSize>, AllocError>
     requires { IsAcceptable text.now (change_of edit.now) }
-    ensures { IfOk result (λ starts. starts.items ≡ starts_between (edited text.now (change_of edit.now)) (change_of edit.now).start ((change_of edit.now).start + length (change_of edit.now).insert)) }
+    ensures { IfOk result (λ starts. starts.items
+        ≡ starts_between (edited text.now (change_of edit.now)) (change_of edit.now).start
+        ((change_of edit.now).start + length (change_of edit.now).insert)) }
 {
     let (start, end) = (edit.range.start().to_usize(), edit.range.end().to_usize());
     let bytes = text.as_bytes();
@@ -248,8 +265,8 @@ fn starts_near(alloc: Global, text: &str, edit: &Edit) -> Result<Vec<TextSize>, 
     )
 }
 
-/// Puts bytes in the place of a range of a text, and mends its row starts by those near what is inserted. There is
-/// room for both.
+/// Puts bytes in the place of a range of a text, and mends its row starts by those near what is
+/// inserted. There is room for both.
 fn put(
     text: &mut String,
     line_starts: &mut Vec<TextSize>,
@@ -257,12 +274,18 @@ fn put(
     insert: &str,
     starts: &[TextSize],
 )
-    requires acceptable { IsAcceptable (string_bytes text.old) (record { start = range.0; end = range.1; insert = insert.now }) }
+    requires acceptable { IsAcceptable (string_bytes text.old)
+        (record { start = range.0; end = range.1; insert = insert.now }) }
     requires indexed { line_starts.old.items ≡ row_starts (breaks_of (string_bytes text.old)) }
-    requires starts { starts.now ≡ starts_between (edited (string_bytes text.old) (record { start = range.0; end = range.1; insert = insert.now })) range.0 (range.0 + length insert.now) }
+    requires starts { starts.now ≡ starts_between
+        (edited (string_bytes text.old)
+        (record { start = range.0; end = range.1; insert = insert.now })) range.0
+        (range.0 + length insert.now) }
     requires text_room { string_len text.old + length insert.now ≤ string_capacity text.old }
-    requires starts_room { vec_len line_starts.old + length starts.now ≤ vec_capacity line_starts.old }
-    ensures edited { string_bytes text.new ≡ edited (string_bytes text.old) (record { start = range.0; end = range.1; insert = insert.now }) }
+    requires starts_room { vec_len line_starts.old + length starts.now
+        ≤ vec_capacity line_starts.old }
+    ensures edited { string_bytes text.new ≡ edited (string_bytes text.old)
+        (record { start = range.0; end = range.1; insert = insert.now }) }
     ensures indexed { line_starts.new.items ≡ row_starts (breaks_of (string_bytes text.new)) }
     ensures text_room { string_capacity text.old ≤ string_capacity text.new }
     ensures starts_room { vec_capacity line_starts.old ≤ vec_capacity line_starts.new }

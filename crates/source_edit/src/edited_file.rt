@@ -9,9 +9,11 @@ use crate::{Edit, EditError};
 use codespan::{FileId, Files};
 use std::alloc::{AllocError, Global};
 
-/// Edits the text of one file of a database, which holds it. Its name stays, and so do all other files.
+/// Edits the text of one file of a database, which holds it. Its name stays, and so do all other
+/// files.
 ///
-/// It refuses what [`EditText::apply`](crate::EditText::apply) refuses, and then leaves the database as it was.
+/// It refuses what [`EditText::apply`](crate::EditText::apply) refuses, and then leaves the
+/// database as it was.
 pub fn edit_file(
     alloc: Global,
     files: &mut Files<String>,
@@ -19,7 +21,8 @@ pub fn edit_file(
     edit: &Edit,
 ) -> Result<(), EditError>
     requires { file < length files.old }
-    ensures edited { OnOk result (files.new ≡ with_text files.old file (edited (text_of files.old file) (change_of edit.now))) }
+    ensures edited { OnOk result (files.new ≡ with_text files.old file
+        (edited (text_of files.old file) (change_of edit.now))) }
     ensures cause { MatchResult result (λ _. IsAcceptable (text_of files.old file) (change_of edit.now))
         (λ error. IsCause 0 (text_of files.old file) (change_of edit.now) error) }
     ensures unchanged { OnErr result (files.new ≡ files.old) }

@@ -11,16 +11,26 @@ use oxc_span::{LabeledSpan, Span};
 
 /// Where a label of a text lies after an edit of it.
 ///
-/// A label wholly before or behind the range covers the same text as before. The new start and end are in the range
-/// of `u32`, as they are where the label was within the text and the edit was accepted.
+/// A label wholly before or behind the range covers the same text as before. The new start and end
+/// are in the range of `u32`, as they are where the label was within the text and the edit was
+/// accepted.
 #[must_use]
 pub fn move_label(label: &LabeledSpan, edit: &Edit) -> Span
     requires start { moved_start (change_of edit.now) label.now.offset < 2 ^ 32 }
     requires end { moved_end (change_of edit.now) (label_end label.now) < 2 ^ 32 }
     ensures moved { result ≡ moved_label (change_of edit.now) label.now }
-    ensures boundaries { (text : List ℕ) → IsAcceptable text (change_of edit.now) → IsCharBoundary text label.now.offset → IsCharBoundary text (label_end label.now) → IsCharBoundary (edited text (change_of edit.now)) result.start × IsCharBoundary (edited text (change_of edit.now)) result.end }
-    ensures before { (text : List ℕ) → IsAcceptable text (change_of edit.now) → label_end label.now ≤ edit.now.range.0 → slice_range (edited text (change_of edit.now)) result.start result.end ≡ slice_range text label.now.offset (label_end label.now) }
-    ensures behind { (text : List ℕ) → IsAcceptable text (change_of edit.now) → edit.now.range.1 ≤ label.now.offset → slice_range (edited text (change_of edit.now)) result.start result.end ≡ slice_range text label.now.offset (label_end label.now) }
+    ensures boundaries { (text : List ℕ) → IsAcceptable text (change_of edit.now)
+        → IsCharBoundary text label.now.offset → IsCharBoundary text (label_end label.now)
+        → IsCharBoundary (edited text (change_of edit.now)) result.start
+        × IsCharBoundary (edited text (change_of edit.now)) result.end }
+    ensures before { (text : List ℕ) → IsAcceptable text (change_of edit.now)
+        → label_end label.now ≤ edit.now.range.0
+        → slice_range (edited text (change_of edit.now)) result.start result.end
+        ≡ slice_range text label.now.offset (label_end label.now) }
+    ensures behind { (text : List ℕ) → IsAcceptable text (change_of edit.now)
+        → edit.now.range.1 ≤ label.now.offset
+        → slice_range (edited text (change_of edit.now)) result.start result.end
+        ≡ slice_range text label.now.offset (label_end label.now) }
 {
     let span = label.span();
     let start = new_start(span.start, edit);

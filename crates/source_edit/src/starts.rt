@@ -1,5 +1,7 @@
 // Where the rows of a text start, mended after an edit.
-ghost use Rattle.std.specs.Prelude.{◌≡◌, ℕ, ◌+◌, ◌-◌, ◌^◌, ◌<◌, ◌≤◌, ◌++◌, ◌∷◌, [], nat_lt, count_by, length, map, take, drop, slice_index, ◌==◌, if◌then◌else◌, All, IfOk, vec_capacity, vec_len};
+ghost use Rattle.std.specs.Prelude.{◌≡◌, ℕ, ◌+◌, ◌-◌, ◌^◌, ◌<◌, ◌≤◌, ◌++◌, ◌∷◌, [], nat_lt};
+ghost use Rattle.std.specs.Prelude.{count_by, length, map, take, drop, slice_index, ◌==◌};
+ghost use Rattle.std.specs.Prelude.{if◌then◌else◌, All, IfOk, vec_capacity, vec_len};
 ghost use Rattle.std.specs.List.Sorted.{IsNonDecreasing};
 ghost use Rattle.source_edit.specs.Starts.{ends_row, starts_between};
 
@@ -16,7 +18,8 @@ fn rows_before(line_starts: &[TextSize], place: usize) -> usize
     line_starts.partition_point(|start| start.to_usize() < place)
 }
 
-/// The rows that start before a range, and those that start before it, in it or at one of its ends: how many.
+/// The rows that start before a range, and those that start before it, in it or at one of its ends:
+/// how many.
 pub(crate) fn rows_near(line_starts: &[TextSize], range: TextRange) -> (usize, usize)
     requires { IsNonDecreasing line_starts.now }
     ensures first { result.0 ≡ count_by (λ start. nat_lt start range.0) line_starts.now }
@@ -29,8 +32,9 @@ pub(crate) fn rows_near(line_starts: &[TextSize], range: TextRange) -> (usize, u
     (first, behind)
 }
 
-/// The rows that start in a text from where `insert` begins to where it ends, both places included. The text is
-/// `before`, `insert` and `behind`; of the first only the last byte is read, of the last only the first.
+/// The rows that start in a text from where `insert` begins to where it ends, both places included.
+/// The text is `before`, `insert` and `behind`; of the first only the last byte is read, of the
+/// last only the first.
 pub(crate) fn starts_in(
     alloc: Global,
     before: &[u8],
@@ -38,7 +42,9 @@ pub(crate) fn starts_in(
     behind: &[u8],
 ) -> Result<Vec<TextSize>, AllocError>
     requires { length before.now + length insert.now + length behind.now < 2 ^ 32 }
-    ensures { IfOk result (λ starts. starts.items ≡ starts_between ((before.now ++ insert.now) ++ behind.now) (length before.now) (length before.now + length insert.now)) }
+    ensures { IfOk result (λ starts. starts.items
+        ≡ starts_between ((before.now ++ insert.now) ++ behind.now) (length before.now)
+        (length before.now + length insert.now)) }
 {
     let mut starts = first_start(alloc, before, byte_at(insert, behind, 0))?;
     for at in memchr2_iter(b'\n', b'\r', insert) {
@@ -52,7 +58,10 @@ pub(crate) fn starts_in(
 /// The row that starts behind some bytes, given the byte after them, if one does.
 fn first_start(alloc: Global, before: &[u8], next: u8) -> Result<Vec<TextSize>, AllocError>
     requires { length before.now < 2 ^ 32 }
-    ensures { IfOk result (λ starts. starts.items ≡ (if length before.now == 0 then length before.now ∷ [] else if ends_row (slice_index before.now (length before.now - 1)) next then length before.now ∷ [] else [])) }
+    ensures { IfOk result (λ starts. starts.items ≡ (if length before.now == 0
+        then length before.now ∷ []
+        else if ends_row (slice_index before.now (length before.now - 1)) next
+        then length before.now ∷ [] else [])) }
 {
     let mut starts = Vec::new(alloc);
     if before.is_empty() || ends_row(before[before.len() - 1], next) {
@@ -85,8 +94,10 @@ fn byte_at(front: &[u8], back: &[u8], place: usize) -> u8
 /// Moves the row starts from one on by what the text lost before them, and by what it won.
 pub(crate) fn shift_behind(line_starts: &mut Vec<TextSize>, behind: usize, lost: u32, won: u32)
     requires within { behind ≤ vec_len line_starts.old }
-    requires range { All (λ start. (lost ≤ start) × (start - lost + won < 2 ^ 32)) (drop behind line_starts.old.items) }
-    ensures items { line_starts.new.items ≡ take behind line_starts.old.items ++ map (λ start. start - lost + won) (drop behind line_starts.old.items) }
+    requires range { All (λ start. (lost ≤ start) × (start - lost + won < 2 ^ 32))
+        (drop behind line_starts.old.items) }
+    ensures items { line_starts.new.items ≡ take behind line_starts.old.items ++ map
+        (λ start. start - lost + won) (drop behind line_starts.old.items) }
     ensures capacity { vec_capacity line_starts.new ≡ vec_capacity line_starts.old }
 {
     shift(&mut line_starts[behind..], lost, won);
@@ -112,7 +123,8 @@ pub(crate) fn put_starts(
     requires ordered { first ≤ behind }
     requires within { behind ≤ vec_len line_starts.old }
     requires room { vec_len line_starts.old + length starts.now ≤ vec_capacity line_starts.old }
-    ensures items { line_starts.new.items ≡ take first line_starts.old.items ++ (starts.now ++ drop behind line_starts.old.items) }
+    ensures items { line_starts.new.items ≡ take first line_starts.old.items ++
+        (starts.now ++ drop behind line_starts.old.items) }
     ensures capacity { vec_capacity line_starts.old ≤ vec_capacity line_starts.new }
 {
     if first == behind && starts.is_empty() {

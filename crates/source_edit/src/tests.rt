@@ -16,7 +16,8 @@ use text_size::{TextRange, TextSize};
 
 /// Whether a text takes an edit. The text is as before.
 fn takes(text: &mut EditText, edit: Edit) -> Result<(), EditError>
-    ensures said { MatchResult result (λ _. IsAcceptable text.old.text (change_of edit)) (λ error. IsCause 0 text.old.text (change_of edit) error) }
+    ensures said { MatchResult result (λ _. IsAcceptable text.old.text (change_of edit))
+        (λ error. IsCause 0 text.old.text (change_of edit) error) }
     ensures kept { text.new ≡ text.old }
 {
     text.apply(edit)?;
@@ -26,7 +27,8 @@ fn takes(text: &mut EditText, edit: Edit) -> Result<(), EditError>
 
 /// Where a label lies after an edit, unless it may go past what a `u32` counts.
 fn place_after(label: &LabeledSpan, edit: &Edit) -> Option<Span>
-    ensures { SomeIff result (label_end label.now + length (string_bytes edit.now.insert) < 2 ^ 32) (moved_label (change_of edit.now) label.now) }
+    ensures { SomeIff result (label_end label.now + length (string_bytes edit.now.insert) < 2 ^ 32)
+        (moved_label (change_of edit.now) label.now) }
 {
     let farthest = label.span().end as u64 + edit.insert.len() as u64;
     if farthest > u32::MAX as u64 {

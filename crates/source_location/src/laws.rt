@@ -1,4 +1,5 @@
-// What holds of the definitions that the contracts cite, as the contracts of functions that do nothing.
+// What holds of the definitions that the contracts cite, as the contracts of functions that do
+// nothing.
 ghost use Rattle.std.specs.Prelude.{◌≡◌, chars, length};
 ghost use Rattle.std.specs.Str.{IsCharBoundary};
 ghost use Rattle.source_location.specs.Breaks.{breaks_of, IsBreakList};
@@ -15,7 +16,8 @@ pub fn columns_count_characters(_text: &str)
     ensures { char_count _text.now ≡ length (chars _text.now) }
 {}
 
-/// Each boundary of a text is found again from its location; for 0 before a byte order mark it is 3, behind the mark.
+/// Each boundary of a text is found again from its location; for 0 before a byte order mark it is
+/// 3, behind the mark.
 pub fn boundary_is_found_again(_text: &str, _offset: usize)
     requires { IsCharBoundary _text.now _offset }
     ensures { LeadsBack _text.now _offset }

@@ -1,10 +1,12 @@
 //! Rows, columns and lines of a text, counted under LF, CR and CRLF alike.
 //!
-//! A [`LineIndex`] turns offsets of a text into rows and columns and back; a [`SourceCode`] is a text with its index; a
-//! [`UniversalNewlineIterator`] goes over a text line by line, from both ends.
+//! A [`LineIndex`] turns offsets of a text into rows and columns and back; a [`SourceCode`] is a
+//! text with its index; a [`UniversalNewlineIterator`] goes over a text line by line, from both
+//! ends.
 #![tactic(auto)]
 
-ghost use Rattle.std.specs.Prelude.{◌≡◌, ◌+◌, ◌-◌, ◌≤◌, IfOk, IfSome, length, take, drop, slice_range, string_bytes};
+ghost use Rattle.std.specs.Prelude.{◌≡◌, ◌+◌, ◌-◌, ◌≤◌, IfOk, IfSome, length, take, drop};
+ghost use Rattle.std.specs.Prelude.{slice_range, string_bytes};
 ghost use Rattle.std.specs.Str.{IsCharBoundary};
 ghost use Rattle.source_location.specs.Breaks.{breaks_of};
 ghost use Rattle.source_location.specs.Rows.{row_of, row_start, row_text, row_count};
@@ -30,7 +32,8 @@ use text_size::{TextRange, TextSize};
 
 /// A text with its index.
 ///
-/// Contracts see it as the text; the index is always that text's. Two are equal where their texts are.
+/// Contracts see it as the text; the index is always that text's. Two are equal where their texts
+/// are.
 #[derive(Debug, Drop)]
 pub struct SourceCode<'src, 'index> {
     text: &'src str,
@@ -121,15 +124,20 @@ impl<'src, 'index> SourceCode<'src, 'index> {
         self.index.line_end(line, self.text)
     }
 
-    /// Where a row with its break starts and ends. One past the last row there is an empty row at the text's end.
+    /// Where a row with its break starts and ends. One past the last row there is an empty row at
+    /// the text's end.
     pub fn line_range(&self, line: OneIndexed) -> TextRange
         requires { line ≤ row_count self.now + 1 }
-        ensures { result ≡ (row_start (length self.now) (breaks_of self.now) (line - 1), row_start (length self.now) (breaks_of self.now) line) }
+        ensures { result ≡ (
+          row_start (length self.now) (breaks_of self.now) (line - 1),
+          row_start (length self.now) (breaks_of self.now) line,
+        ) }
     {
         self.index.line_range(line, self.text)
     }
 
-    /// The text of a row with its break. One past the last row there is an empty row at the text's end.
+    /// The text of a row with its break. One past the last row there is an empty row at the text's
+    /// end.
     #[inline]
     pub fn line_text(&self, index: OneIndexed) -> &'src str
         requires { index ≤ row_count self.now + 1 }
@@ -178,7 +186,8 @@ impl<'src, 'index> Eq for SourceCode<'src, 'index> {
     ghost laws = { text_eq_equiv };
 }
 
-/// The parts of a [`SourceFile`] that is being made: its name, its text, and perhaps the text's index.
+/// The parts of a [`SourceFile`] that is being made: its name, its text, and perhaps the text's
+/// index.
 ///
 /// Contracts see it as the name and the text.
 #[derive(Drop)]
@@ -195,9 +204,11 @@ impl Model for SourceFileBuilder {
 
     ghost Value = { FileView };
 
-    ghost view = { λ file. record { name = string_bytes file.name; text = string_bytes file.code } };
+    ghost view = { λ file. record
+        { name = string_bytes file.name; text = string_bytes file.code } };
 
-    ghost invariant = { λ file. Fits (string_bytes file.code) × IfSome file.index (λ index. index ≡ index_of (string_bytes file.code)) };
+    ghost invariant = { λ file. Fits (string_bytes file.code)
+        × IfSome file.index (λ index. index ≡ index_of (string_bytes file.code)) };
 }
 
 impl SourceFileBuilder {
@@ -231,7 +242,8 @@ impl SourceFileBuilder {
         self.index = Some(index);
     }
 
-    /// The file, whose index is made here if none was handed in. For want of memory the parts are given up.
+    /// The file, whose index is made here if none was handed in. For want of memory the parts are
+    /// given up.
     pub fn finish(self, alloc: Global) -> Result<SourceFile, AllocError>
         ensures { IfOk result (λ file. file ≡ self) }
     {
@@ -274,9 +286,11 @@ impl Model for SourceFile {
 
     ghost Value = { FileView };
 
-    ghost view = { λ file. record { name = string_bytes file.name; text = string_bytes file.code } };
+    ghost view = { λ file. record
+        { name = string_bytes file.name; text = string_bytes file.code } };
 
-    ghost invariant = { λ file. Fits (string_bytes file.code) × (file.line_index ≡ index_of (string_bytes file.code)) };
+    ghost invariant = { λ file. Fits (string_bytes file.code)
+        × (file.line_index ≡ index_of (string_bytes file.code)) };
 }
 
 impl SourceFile {

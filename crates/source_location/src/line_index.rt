@@ -1,5 +1,7 @@
 // The index of a text's rows, and numbers that count from 1.
-ghost use Rattle.std.specs.Prelude.{◌≡◌, ◌+◌, ◌-◌, ◌^◌, ◌<◌, ◌≤◌, ◌↔◌, ◌&&◌, ℕ, List, Some, [], ◌∷◌, IsErr, IsTrue, IfOk, IfErr, MatchOption, true, min, max, nat_le, count_by, length, take, slice_range};
+ghost use Rattle.std.specs.Prelude.{◌≡◌, ◌+◌, ◌-◌, ◌^◌, ◌<◌, ◌≤◌, ◌↔◌, ◌&&◌, ℕ, List, Some, []};
+ghost use Rattle.std.specs.Prelude.{◌∷◌, IsErr, IsTrue, IfOk, IfErr, MatchOption, true, min, max};
+ghost use Rattle.std.specs.Prelude.{nat_le, count_by, length, take, slice_range};
 ghost use Rattle.std.specs.Option.{SomeIff};
 ghost use Rattle.std.specs.Fmt.{decimal};
 ghost use Rattle.std.specs.Str.{IsCharBoundary};
@@ -7,7 +9,8 @@ ghost use Rattle.std.specs.List.Sorted.{IsNonDecreasing};
 ghost use Rattle.source_location.specs.Breaks.{breaks_of};
 ghost use Rattle.source_location.specs.Rows.{row_of, row_start};
 ghost use Rattle.source_location.specs.Characters.{is_char_start, char_count};
-ghost use Rattle.source_location.specs.Locations.{begins_with_mark, counted_from, location_of, offset_at, IsOffsetAt};
+ghost use Rattle.source_location.specs.Locations.{begins_with_mark, counted_from, location_of};
+ghost use Rattle.source_location.specs.Locations.{offset_at, IsOffsetAt};
 ghost use Rattle.source_location.specs.Index.{Fits, index_of, is_ascii, is_ascii_kind};
 
 use crate::{SourceLocation, find_newline};
@@ -27,8 +30,8 @@ pub fn fits(text: &str) -> bool
 
 /// Where the rows of a text start, by which its offsets are turned into rows and columns and back.
 ///
-/// A row ends after an LF, a CR that no LF follows, or a CRLF. An index holds no text: each call that needs
-/// one takes the text that the index was made of.
+/// A row ends after an LF, a CR that no LF follows, or a CRLF. An index holds no text: each call
+/// that needs one takes the text that the index was made of.
 #[derive(Debug, Drop)]
 pub struct LineIndex {
     line_starts: Vec<TextSize>,
@@ -41,9 +44,18 @@ impl Model for LineIndex {
 
     ghost Value = { IndexView };
 
-    ghost view = { λ index. record { line_starts = index.line_starts.items; length = index.length; is_ascii = is_ascii_kind index.kind } };
+    ghost view = { λ index. record {
+      line_starts = index.line_starts.items;
+      length = index.length;
+      is_ascii = is_ascii_kind index.kind;
+    } };
 
-    ghost invariant = { λ index. IsIndex (record { line_starts = index.line_starts.items; length = index.length; is_ascii = is_ascii_kind index.kind }) };
+    ghost invariant = { λ index. IsIndex
+        (record {
+          line_starts = index.line_starts.items;
+          length = index.length;
+          is_ascii = is_ascii_kind index.kind;
+        }) };
 }
 
 impl LineIndex {
@@ -115,7 +127,8 @@ impl LineIndex {
     /// The row of an offset; past the text's end it is the last row.
     pub fn line_index(&self, offset: TextSize) -> OneIndexed
         ensures counted { result ≡ count_by (λ start. nat_le start offset) self.now.line_starts }
-        ensures row { (text : List ℕ) → self.now ≡ index_of text → result ≡ row_of (breaks_of text) offset + 1 }
+        ensures row { (text : List ℕ) → self.now ≡ index_of text
+            → result ≡ row_of (breaks_of text) offset + 1 }
     {
         OneIndexed::from_zero_indexed(self.row_at(offset) as u32)
     }
@@ -146,7 +159,10 @@ impl LineIndex {
     /// A row with its break.
     pub(crate) fn line_range(&self, line: OneIndexed, contents: &str) -> TextRange
         requires indexed { self.now ≡ index_of contents.now }
-        ensures { result ≡ (row_start (length contents.now) (breaks_of contents.now) (line - 1), row_start (length contents.now) (breaks_of contents.now) line) }
+        ensures { result ≡ (
+          row_start (length contents.now) (breaks_of contents.now) (line - 1),
+          row_start (length contents.now) (breaks_of contents.now) line,
+        ) }
     {
         TextRange::new(
             self.line_start(line, contents),
@@ -192,8 +208,10 @@ impl LineIndex {
 
     /// The row of an offset, from 0.
     fn row_at(&self, offset: TextSize) -> usize
-        ensures counted { result + 1 ≡ count_by (λ start. nat_le start offset) self.now.line_starts }
-        ensures row { (text : List ℕ) → self.now ≡ index_of text → result ≡ row_of (breaks_of text) offset }
+        ensures counted { result + 1 ≡ count_by
+            (λ start. nat_le start offset) self.now.line_starts }
+        ensures row { (text : List ℕ) → self.now ≡ index_of text
+            → result ≡ row_of (breaks_of text) offset }
         ensures within { result < length self.now.line_starts }
         ensures few { length self.now.line_starts < 2 ^ 32 }
         ensures fits { (text : List ℕ) → self.now ≡ index_of text → Fits text }
@@ -305,7 +323,8 @@ impl IndexKind {
     /// The boundary after the first characters of a row, if it has so many.
     fn nth_boundary(self, row: &[u8], characters: usize) -> Option<usize>
         requires { is_ascii_kind self ≡ true → is_ascii row.now ≡ true }
-        ensures { MatchOption result (char_count row.now < characters) (λ at. IsCharBoundary row.now at × (char_count (take at row.now) ≡ characters)) }
+        ensures { MatchOption result (char_count row.now < characters)
+            (λ at. IsCharBoundary row.now at × (char_count (take at row.now) ≡ characters)) }
     {
         match self {
             IndexKind::Ascii if characters <= row.len() => Some(characters),
@@ -326,7 +345,8 @@ fn character_count(bytes: &[u8]) -> usize
 /// The same for any row, by a walk over its bytes.
 #[tactic(auto, using(crate::proofs::CharactersLemmas::char_count_begun, crate::proofs::CharactersLemmas::char_count_within, crate::proofs::CharactersLemmas::no_characters, crate::proofs::CharactersLemmas::all_characters))]
 fn boundary_after(row: &[u8], characters: usize) -> Option<usize>
-    ensures { MatchOption result (char_count row.now < characters) (λ at. IsCharBoundary row.now at × (char_count (take at row.now) ≡ characters)) }
+    ensures { MatchOption result (char_count row.now < characters)
+        (λ at. IsCharBoundary row.now at × (char_count (take at row.now) ≡ characters)) }
 {
     let mut left = characters;
     for (at, byte) in row.iter().enumerate() {
@@ -386,7 +406,8 @@ impl OneIndexed {
         }
     }
 
-    /// One more than a number that counts from 0; a number above `u32::MAX` comes back as the error.
+    /// One more than a number that counts from 0; a number above `u32::MAX` comes back as the
+    /// error.
     pub fn try_from_zero_indexed(value: usize) -> Result<Self, usize>
         ensures ok { IfOk result (λ n. n ≡ min (value + 1) (2 ^ 32 - 1)) }
         ensures refused { IsErr result ↔ (2 ^ 32 ≤ value) }

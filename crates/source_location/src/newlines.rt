@@ -1,10 +1,14 @@
 // The line endings of a text, and its lines from both ends.
-ghost use Rattle.std.specs.Prelude.{◌≡◌, ℕ, ◌+◌, ◌-◌, ◌^◌, ◌<◌, ◌≤◌, ◌↔◌, List, [], ◌∷◌, ◌++◌, length, map, take, drop, slice_index, IsTrue, MatchOption, ◌==◌, if◌then◌else◌};
+ghost use Rattle.std.specs.Prelude.{◌≡◌, ℕ, ◌+◌, ◌-◌, ◌^◌, ◌<◌, ◌≤◌, ◌↔◌, List, [], ◌∷◌, ◌++◌};
+ghost use Rattle.std.specs.Prelude.{length, map, take, drop, slice_index, IsTrue, MatchOption};
+ghost use Rattle.std.specs.Prelude.{◌==◌, if◌then◌else◌};
 ghost use Rattle.std.specs.Str.{IsCharBoundary};
 ghost use Rattle.std.specs.Iterator.{YieldsFirstBy, YieldsLastBy, item_count};
 ghost use Rattle.source_location.specs.Breaks.{breaks_of};
 ghost use Rattle.source_location.specs.Newlines.{ending_bytes, ending_with, IsFirstBreak};
-ghost use Rattle.source_location.specs.Lines.{LineView, lines_of, lines_with_trailing, ending_length, without_ending, texts_of, IsFirstLine, IsLastLine};
+ghost use Rattle.source_location.specs.Lines.{LineView, lines_of, lines_with_trailing};
+ghost use Rattle.source_location.specs.Lines.{ending_length, without_ending, texts_of, IsFirstLine};
+ghost use Rattle.source_location.specs.Lines.{IsLastLine};
 
 use crate::scan::{first_of_breaks, last_of_breaks};
 use std::marker::Model;
@@ -21,9 +25,11 @@ pub fn universal_newlines(text: &str) -> UniversalNewlineIterator<'_>
     UniversalNewlineIterator::from(text)
 }
 
-/// An iterator over the lines of a text with their breaks, under LF, CR and CRLF alike, from both ends.
+/// An iterator over the lines of a text with their breaks, under LF, CR and CRLF alike, from both
+/// ends.
 ///
-/// Contracts see it as the lines that are left. Each line comes once, from one of the ends; then none comes for good.
+/// Contracts see it as the lines that are left. Each line comes once, from one of the ends; then
+/// none comes for good.
 #[derive(Drop)]
 pub struct UniversalNewlineIterator<'a> {
     text: &'a str,
@@ -42,7 +48,8 @@ impl<'a> Model for UniversalNewlineIterator<'a> {
 }
 
 impl<'a> UniversalNewlineIterator<'a> {
-    /// The lines of a text that starts at an offset; the sum of the offset and the text's length is a `u32`.
+    /// The lines of a text that starts at an offset; the sum of the offset and the text's length is
+    /// a `u32`.
     pub fn with_offset(text: &'a str, offset: TextSize) -> UniversalNewlineIterator<'a>
         requires { offset + length text.now < 2 ^ 32 }
         ensures lines { result ≡ lines_of offset text.now }
@@ -63,11 +70,13 @@ impl<'a> UniversalNewlineIterator<'a> {
     }
 }
 
-/// The first break of a text: its place in bytes, and its kind. None exactly where the text has no break.
+/// The first break of a text: its place in bytes, and its kind. None exactly where the text has no
+/// break.
 #[tactic(auto, using(crate::proofs::NewlinesLemmas::no_newline))]
 #[inline]
 pub fn find_newline(text: &str) -> Option<(usize, LineEnding)>
-    ensures { MatchOption result (breaks_of text.now ≡ []) (λ found. IsFirstBreak text.now found.0 found.1) }
+    ensures { MatchOption result (breaks_of text.now ≡ [])
+        (λ found. IsFirstBreak text.now found.0 found.1) }
 {
     let bytes = text.as_bytes();
     match first_of_breaks(bytes) {
@@ -79,7 +88,8 @@ pub fn find_newline(text: &str) -> Option<(usize, LineEnding)>
 /// The line ending that begins at the place of an LF or a CR.
 fn ending_at(bytes: &[u8], position: usize) -> LineEnding
     requires { position < length bytes.now }
-    ensures { result ≡ ending_with (slice_index bytes.now position) (slice_index bytes.now (position + 1)) }
+    ensures { result ≡ ending_with (slice_index bytes.now position)
+        (slice_index bytes.now (position + 1)) }
 {
     match bytes[position] {
         b'\n' => LineEnding::Lf,
@@ -167,7 +177,8 @@ fn length_of_ending(bytes: &[u8]) -> usize
     }
 }
 
-/// The same lines, forwards alone, and an empty one at the text's end if the text ends in an LF or a CR.
+/// The same lines, forwards alone, and an empty one at the text's end if the text ends in an LF or
+/// a CR.
 ///
 /// Contracts see it as the lines that are left.
 #[derive(Drop)]
@@ -198,7 +209,8 @@ impl<'a> NewlineWithTrailingNewline<'a> {
         Self::with_offset(input, TextSize::default())
     }
 
-    /// The lines of a text that starts at an offset; the sum of the offset and the text's length is a `u32`.
+    /// The lines of a text that starts at an offset; the sum of the offset and the text's length is
+    /// a `u32`.
     pub fn with_offset(input: &'a str, offset: TextSize) -> Self
         requires { offset + length input.now < 2 ^ 32 }
         ensures lines { result ≡ lines_with_trailing offset input.now }
@@ -215,7 +227,8 @@ impl<'a> NewlineWithTrailingNewline<'a> {
     /// The empty line at the end of a text that ends in an LF or a CR.
     fn trailing_line(input: &'a str, offset: TextSize) -> Option<Line<'a>>
         requires { offset + length input.now < 2 ^ 32 }
-        ensures { line_views result ≡ (if ending_length input.now == 0 then [] else record { text = []; start = offset + length input.now } ∷ []) }
+        ensures { line_views result ≡ (if ending_length input.now == 0 then [] else record
+            { text = []; start = offset + length input.now } ∷ []) }
     {
         if length_of_ending(input.as_bytes()) == 0 {
             None
@@ -258,7 +271,8 @@ pub struct Line<'a> {
 impl<'a> Line<'a> {
     ghost use Rattle.source_location.specs.Views.{line_view};
 
-    /// A line with that text, break included, at that offset; the sum of the offset and the text's length is a `u32`.
+    /// A line with that text, break included, at that offset; the sum of the offset and the text's
+    /// length is a `u32`.
     pub fn new(text: &'a str, offset: TextSize) -> Self
         requires { offset + length text.now < 2 ^ 32 }
         ensures { line_view result ≡ record { text = text.now; start = offset } }
@@ -285,7 +299,8 @@ impl<'a> Line<'a> {
     /// Where the line ends, without its break.
     #[inline]
     pub fn end(&self) -> TextSize
-        ensures { result ≡ (line_view self.now).start + length (without_ending (line_view self.now).text) }
+        ensures { result ≡ (line_view self.now).start + length
+            (without_ending (line_view self.now).text) }
     {
         self.offset + self.as_str().text_len()
     }
@@ -293,7 +308,10 @@ impl<'a> Line<'a> {
     /// The range of the line, its break included.
     #[inline]
     pub fn full_range(&self) -> TextRange
-        ensures { result ≡ ((line_view self.now).start, (line_view self.now).start + length (line_view self.now).text) }
+        ensures { result ≡ (
+          (line_view self.now).start,
+          (line_view self.now).start + length (line_view self.now).text,
+        ) }
     {
         TextRange::at(self.offset, self.text.text_len())
     }
@@ -301,7 +319,10 @@ impl<'a> Line<'a> {
     /// The range of the line, without its break.
     #[inline]
     pub fn range(&self) -> TextRange
-        ensures { result ≡ ((line_view self.now).start, (line_view self.now).start + length (without_ending (line_view self.now).text)) }
+        ensures { result ≡ (
+          (line_view self.now).start,
+          (line_view self.now).start + length (without_ending (line_view self.now).text),
+        ) }
     {
         TextRange::new(self.start(), self.end())
     }

@@ -1,5 +1,6 @@
 //! The first and the last LF or CR of some bytes, sought a vector at a time.
-ghost use Rattle.std.specs.Prelude.{◌≡◌, ◌≢◌, ◌↔◌, ℕ, ◌<◌, ◌≤◌, true, length, slice_index, MatchOption};
+ghost use Rattle.std.specs.Prelude.{◌≡◌, ◌≢◌, ◌↔◌, ℕ, ◌<◌, ◌≤◌, true, length, slice_index};
+ghost use Rattle.std.specs.Prelude.{MatchOption};
 ghost use Rattle.std.specs.Int.{bit_at};
 ghost use Rattle.memchr.specs.Find.{IsFirst, IsFirstByte, IsLast, IsLastByte, Passes, is_byte2};
 
@@ -68,7 +69,8 @@ fn last_before(bytes: &[u8], end: usize) -> Option<usize>
 /// The bits of the lanes that hold an LF or a CR, the first lane's the lowest.
 #[inline]
 fn marks(lanes: u8x32) -> u64
-    ensures { (lane : ℕ) → (bit_at result lane ≡ 1) ↔ (is_byte2 10 13 (slice_index lanes lane) ≡ true) }
+    ensures { (lane : ℕ) → (bit_at result lane ≡ 1)
+        ↔ (is_byte2 10 13 (slice_index lanes lane) ≡ true) }
 {
     let line_feeds = lanes.simd_eq(u8x32::splat(b'\n'));
     let carriage_returns = lanes.simd_eq(u8x32::splat(b'\r'));

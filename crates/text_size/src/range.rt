@@ -1,5 +1,7 @@
 // Ranges.
-ghost use Rattle.std.specs.Prelude.{◌≡◌, ℕ, ◌+◌, ◌-◌, ◌<◌, ◌≤◌, ◌^◌, ◌++◌, ◌↔◌, Some, codes, IsTrue, IsNone, IfSome, SomeIff, length, slice_range, min, max, ⊤};
+ghost use Rattle.std.specs.Prelude.{◌≡◌, ℕ, ◌+◌, ◌-◌, ◌<◌, ◌≤◌, ◌^◌, ◌++◌, ◌↔◌, Some, codes};
+ghost use Rattle.std.specs.Prelude.{IsTrue, IsNone, IfSome, SomeIff, length, slice_range, min, max};
+ghost use Rattle.std.specs.Prelude.{⊤};
 ghost use Rattle.std.specs.Borrow.{sem};
 ghost use Rattle.std.specs.Fmt.{decimal};
 ghost use Rattle.std.specs.declared.cmp.Ordering.TheVariants.{Less, Equal, Greater};
@@ -17,7 +19,8 @@ use std::{cmp, fmt};
 
 /// A range of a text in bytes: a start, and an end that is excluded and never before the start.
 ///
-/// Contracts see it as the pair of its start and its end. Equality, hash and `Debug` are those of the pair.
+/// Contracts see it as the pair of its start and its end. Equality, hash and `Debug` are those of
+/// the pair.
 #[derive(Default, Copy, Clone, Eq, PartialEq, Hash)]
 pub struct TextRange {
     start: TextSize,
@@ -149,8 +152,9 @@ impl TextRange {
         self.start <= other.start && other.end <= self.end
     }
 
-    /// What the two ranges have in common: from the larger start to the smaller end. Ranges that touch give an empty range;
-    /// `None` comes exactly where the smaller end is less than the larger start.
+    /// What the two ranges have in common: from the larger start to the smaller end. Ranges that
+    /// touch give an empty range; `None` comes exactly where the smaller end is less than the
+    /// larger start.
     #[inline]
     pub fn intersect(self, other: TextRange) -> Option<TextRange>
         ensures apart { IsNone result ↔ (min self.1 other.1 < max self.0 other.0) }
@@ -208,8 +212,8 @@ impl TextRange {
         })
     }
 
-    /// `Less` where this range ends at or before the start of `other`; else `Greater` where `other` ends at or before the start
-    /// of this range; else `Equal`: the two overlap.
+    /// `Less` where this range ends at or before the start of `other`; else `Greater` where `other`
+    /// ends at or before the start of this range; else `Equal`: the two overlap.
     #[inline]
     pub fn ordering(self, other: TextRange) -> Ordering
         ensures less { (result ≡ Less) ↔ (self.1 ≤ other.0) }
@@ -279,7 +283,8 @@ pub fn slice(text: &str, range: TextRange) -> &str
 
 /// The bytes in the range, to be written. The range's end is at most the number of bytes.
 ///
-/// Once the part is given up, the bytes are what they were, but for those of the range, which are as they were left.
+/// Once the part is given up, the bytes are what they were, but for those of the range, which are
+/// as they were left.
 #[inline]
 pub fn slice_mut(text: &mut [u8], range: TextRange) -> &mut [u8]
     requires { range.1 ≤ length text.old }

@@ -1,5 +1,6 @@
 // Sizes and offsets.
-ghost use Rattle.std.specs.Prelude.{◌≡◌, ℕ, ◌+◌, ◌-◌, ◌<◌, ◌≤◌, ◌^◌, Some, SomeIff, MatchResult, sum, sum_by};
+ghost use Rattle.std.specs.Prelude.{◌≡◌, ℕ, ◌+◌, ◌-◌, ◌<◌, ◌≤◌, ◌^◌, Some, SomeIff, MatchResult};
+ghost use Rattle.std.specs.Prelude.{sum, sum_by};
 ghost use Rattle.std.specs.Fmt.{decimal};
 
 use crate::TextLen;
@@ -44,7 +45,8 @@ impl TextSize {
         TextSize { raw: offset }
     }
 
-    /// The length of a `&str`, a `&String` or a `char` in bytes of UTF-8, which has to be at most `u32::MAX`.
+    /// The length of a `&str`, a `&String` or a `char` in bytes of UTF-8, which has to be at most
+    /// `u32::MAX`.
     #[inline]
     pub fn of<T: TextLen>(text: T) -> TextSize
         requires { T.byte_length text < 2 ^ 32 }
@@ -110,7 +112,8 @@ impl From<TextSize> for u32 {
 impl TryFrom<usize> for TextSize {
     type Error = TryFromIntError;
 
-    ghost try_from_gives = { λ number outcome. MatchResult outcome (λ size. (number < 2 ^ 32) × (size ≡ number)) (λ _. 2 ^ 32 ≤ number) };
+    ghost try_from_gives = { λ number outcome. MatchResult outcome
+        (λ size. (number < 2 ^ 32) × (size ≡ number)) (λ _. 2 ^ 32 ≤ number) };
 
     #[inline]
     fn try_from(number: usize) -> Result<TextSize, TryFromIntError> {

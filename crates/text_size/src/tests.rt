@@ -1,5 +1,7 @@
-// Values from the original's examples, the printed texts, and what callers are told of equality, order and hash.
-ghost use Rattle.std.specs.Prelude.{◌≡◌, ◌≤◌, ◌↔◌, ◌++◌, ◌<◌, ◌^◌, IsTrue, IsSome, IfSome, slice_range, sum, length, take, drop};
+// Values from the original's examples, the printed texts, and what callers are told of equality,
+// order and hash.
+ghost use Rattle.std.specs.Prelude.{◌≡◌, ◌≤◌, ◌↔◌, ◌++◌, ◌<◌, ◌^◌, IsTrue, IsSome, IfSome};
+ghost use Rattle.std.specs.Prelude.{slice_range, sum, length, take, drop};
 ghost use Rattle.std.specs.Hash as fed;
 ghost use Rattle.std.specs.List.{fold};
 ghost use Rattle.std.specs.Ordering.{nat_cmp};
@@ -61,7 +63,8 @@ fn range_by_default() -> TextRange
 }
 
 fn text_in(text: &str, range: TextRange) -> Option<&str>
-    ensures found { IsSome result ↔ (IsCharBoundary text.now range.0 × IsCharBoundary text.now range.1) }
+    ensures found { IsSome result ↔ (IsCharBoundary text.now range.0
+        × IsCharBoundary text.now range.1) }
     ensures bytes { IfSome result (λ part. part.now ≡ slice_range text.now range.0 range.1) }
 {
     let start = range.start().to_usize();

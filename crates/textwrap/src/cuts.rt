@@ -1,5 +1,6 @@
 //! The front of a text that fits a room.
-ghost use Rattle.std.specs.Prelude.{◌≡◌, ◌==◌, ◌&&◌, nat_lt, ◌*◌, ◌<◌, ◌≤◌, [], ◌∷◌, length, take, drop, if◌then◌else◌};
+ghost use Rattle.std.specs.Prelude.{◌≡◌, ◌==◌, ◌&&◌, nat_lt, ◌*◌, ◌<◌, ◌≤◌, [], ◌∷◌, length, take};
+ghost use Rattle.std.specs.Prelude.{drop, if◌then◌else◌};
 ghost use Rattle.std.specs.Str.{IsCharBoundary};
 ghost use Rattle.textwrap.specs.Width.{display_width as width_of_text};
 ghost use Rattle.textwrap.specs.Cuts.{cuts};
@@ -15,7 +16,9 @@ pub struct Front {
 
 /// The longest front of a text that fits the room, and no less than a character.
 pub fn front_cut(text: &str, room: usize) -> Front
-    ensures cut { cuts room text.now ≡ (if result.len == length text.now then text.now ∷ [] else take result.len text.now ∷ cuts room (drop result.len text.now)) }
+    ensures cut { cuts room text.now
+        ≡ (if result.len == length text.now then text.now ∷
+        [] else take result.len text.now ∷ cuts room (drop result.len text.now)) }
     ensures width { result.width ≡ width_of_text (take result.len text.now) }
     ensures bound { result.width ≤ 2 * result.len }
     ensures boundary { IsCharBoundary text.now result.len }
@@ -40,7 +43,8 @@ pub fn front_cut(text: &str, room: usize) -> Front
     }
 }
 
-/// Whether a character no longer belongs to a front of `len` bytes, which it would make `width` cells wide.
+/// Whether a character no longer belongs to a front of `len` bytes, which it would make `width`
+/// cells wide.
 fn is_over(len: usize, width: usize, room: usize) -> bool
     ensures { result ≡ (nat_lt 0 len && nat_lt room width) }
 {

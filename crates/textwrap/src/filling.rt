@@ -1,9 +1,12 @@
 //! Texts filled to a width.
-ghost use Rattle.std.specs.Prelude.{◌≡◌, ◌==◌, ◌↔◌, ◌-◌, ◌≤◌, All, IfOk, IsFalse, IsTrue, OnOk, false, length, map, slice_index, string_bytes};
+ghost use Rattle.std.specs.Prelude.{◌≡◌, ◌==◌, ◌↔◌, ◌-◌, ◌≤◌, All, IfOk, IsFalse, IsTrue, OnOk};
+ghost use Rattle.std.specs.Prelude.{false, length, map, slice_index, string_bytes};
 ghost use Rattle.textwrap.specs.OneLine.{FitsOnLine};
 ghost use Rattle.std.specs.List.{flat_map};
 ghost use Rattle.textwrap.specs.Appends.{Appends};
-ghost use Rattle.textwrap.specs.Filled.{IsFilled, filled, filled_part, filled_parts, joined_by_breaks, later_part, parts_of as parts_of_text, room};
+ghost use Rattle.textwrap.specs.Filled.{IsFilled, filled, filled_part, filled_parts};
+ghost use Rattle.textwrap.specs.Filled.{joined_by_breaks, later_part, parts_of as parts_of_text};
+ghost use Rattle.textwrap.specs.Filled.{room};
 
 use crate::core_::display_width;
 use crate::lines::push_pieces;
@@ -14,14 +17,19 @@ use std::alloc::{AllocError, Global};
 
 /// Fills a text to the options' width: each part of it between LFs by itself, by first fit.
 ///
-/// A part is laid out in words, and the spaces behind them. A word may be parted behind a `-` between two
-/// ASCII letters or digits, and where it is wider than the room of a later line, then into longest pieces that
-/// fit. A line takes pieces, with the spaces between them, as long as they fit behind its indent, and
-/// one in any case; spaces at its end are dropped. Lines are joined by LF.
+/// A part is laid out in words, and the spaces behind them. A word may be parted behind a `-`
+/// between two ASCII letters or digits, and where it is wider than the room of a later line, then
+/// into longest pieces that fit. A line takes pieces, with the spaces between them, as long as they
+/// fit behind its indent, and one in any case; spaces at its end are dropped. Lines are joined by
+/// LF.
 #[tactic(auto, using(crate::proofs::FilledLemmas::filled_is))]
 pub fn fill(alloc: Global, text: &str, options: &Options<'_>) -> Result<String, AllocError>
-    ensures relation { IfOk result (λ out. IsFilled options.now.width options.now.initial_indent.now options.now.subsequent_indent.now text.now (string_bytes out)) }
-    ensures value { IfOk result (λ out. string_bytes out ≡ filled options.now.width options.now.initial_indent.now options.now.subsequent_indent.now text.now) }
+    ensures relation { IfOk result
+        (λ out. IsFilled options.now.width options.now.initial_indent.now
+        options.now.subsequent_indent.now text.now (string_bytes out)) }
+    ensures value { IfOk result (λ out. string_bytes out
+        ≡ filled options.now.width options.now.initial_indent.now options.now.subsequent_indent.now
+        text.now) }
 {
     let mut out = String::new(alloc);
     fill_onto(alloc, &mut out, text, options)?;
@@ -36,7 +44,8 @@ pub fn fill_onto(
     options: &Options<'_>,
 ) -> Result<(), AllocError>
     ensures { OnOk result (Appends out.old out.new
-        (filled options.now.width options.now.initial_indent.now options.now.subsequent_indent.now text.now)) }
+        (filled options.now.width options.now.initial_indent.now options.now.subsequent_indent.now
+        text.now)) }
 {
     if fits_on_line(text, least_room(options.width, options.initial_indent)) {
         out.push_str(options.initial_indent)?;
@@ -47,8 +56,8 @@ pub fn fill_onto(
     push_parts(alloc, out, &parts, options)
 }
 
-/// Whether it is easily seen that a text fits on a line of so many cells: it has no more bytes than these, no LF, and no
-/// space at its end. Such a text is filled to its indent and itself.
+/// Whether it is easily seen that a text fits on a line of so many cells: it has no more bytes than
+/// these, no LF, and no space at its end. Such a text is filled to its indent and itself.
 pub fn fits_on_line(text: &str, room: usize) -> bool
     ensures { IsTrue result ↔ FitsOnLine room text.now }
 {
@@ -93,7 +102,10 @@ fn push_parts(
     parts: &[&str],
     options: &Options<'_>,
 ) -> Result<(), AllocError>
-    ensures { OnOk result (Appends out.old out.new (joined_by_breaks (filled_parts options.now.width options.now.initial_indent.now options.now.subsequent_indent.now (map (λ part. part.now) parts.now)))) }
+    ensures { OnOk result (Appends out.old out.new
+        (joined_by_breaks
+        (filled_parts options.now.width options.now.initial_indent.now
+        options.now.subsequent_indent.now (map (λ part. part.now) parts.now)))) }
 {
     let Some((first, later)) = parts.split_first() else {
         return Ok(());
@@ -109,7 +121,9 @@ fn push_later_parts(
     parts: &[&str],
     options: &Options<'_>,
 ) -> Result<(), AllocError>
-    ensures { OnOk result (Appends out.old out.new (flat_map (later_part options.now.width options.now.subsequent_indent.now) (map (λ part. part.now) parts.now))) }
+    ensures { OnOk result (Appends out.old out.new
+        (flat_map (later_part options.now.width options.now.subsequent_indent.now)
+        (map (λ part. part.now) parts.now))) }
 {
     for part in parts {
         out.push('\n')?;
@@ -127,7 +141,9 @@ fn push_part(
     options: &Options<'_>,
     indent: &str,
 ) -> Result<(), AllocError>
-    ensures { OnOk result (Appends out.old out.new (joined_by_breaks (filled_part options.now.width indent.now options.now.subsequent_indent.now part.now))) }
+    ensures { OnOk result (Appends out.old out.new
+        (joined_by_breaks
+        (filled_part options.now.width indent.now options.now.subsequent_indent.now part.now))) }
 {
     let first = room_behind(options.width, indent);
     let later = room_behind(options.width, options.subsequent_indent);

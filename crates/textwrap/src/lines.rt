@@ -29,7 +29,8 @@ pub fn push_pieces(
     indent: &str,
 ) -> Result<(), AllocError>
     requires { extent (map piece_view pieces.now) < 2 ^ 64 }
-    ensures { OnOk result (Appends out.old out.new (laid_out indent.now first later (map piece_view pieces.now))) }
+    ensures { OnOk result (Appends out.old out.new
+        (laid_out indent.now first later (map piece_view pieces.now))) }
 {
     let Some((piece, more)) = pieces.split_first() else {
         return Ok(());
@@ -52,7 +53,8 @@ fn push_more(
     indent: &str,
 ) -> Result<(), AllocError>
     requires { first.used + first.gap + extent (map piece_view pieces.now) < 2 ^ 64 }
-    ensures { OnOk result (Appends out.old out.new (continued indent.now later first (map piece_view pieces.now))) }
+    ensures { OnOk result (Appends out.old out.new
+        (continued indent.now later first (map piece_view pieces.now))) }
 {
     let mut line = first;
     for piece in pieces {
@@ -72,7 +74,8 @@ fn push_piece(
 ) -> Result<Line, AllocError>
     requires { line.used + line.gap + piece.now.width < 2 ^ 64 }
     ensures line { IfOk result (λ next. next ≡ line_behind later line (piece_view piece.now)) }
-    ensures text { OnOk result (Appends out.old out.new (appended indent.now line (piece_view piece.now))) }
+    ensures text { OnOk result (Appends out.old out.new
+        (appended indent.now line (piece_view piece.now))) }
 {
     let used = line.used + line.gap + piece.width;
     if used <= line.room {

@@ -16,7 +16,8 @@ pub struct Piece<'a> {
     pub gap: usize,
 }
 
-/// The pieces of a part, none wider than the room if it has more than one character that takes cells.
+/// The pieces of a part, none wider than the room if it has more than one character that takes
+/// cells.
 #[tactic(auto, unfolding(crate::specs::Pieces::pieces))]
 pub fn pieces_of<'a>(
     alloc: Global,
@@ -24,7 +25,8 @@ pub fn pieces_of<'a>(
     room: usize,
 ) -> Result<Vec<Piece<'a>>, AllocError>
     ensures pieces { IfOk result (λ list. map piece_view list.items ≡ pieces room part.now) }
-    ensures extent { IfOk result (λ list. extent (map piece_view list.items) ≤ 2 * length part.now) }
+    ensures extent { IfOk result (λ list. extent (map piece_view list.items)
+        ≤ 2 * length part.now) }
 {
     let mut list = Vec::new(alloc);
     let mut rest = part;
@@ -44,8 +46,11 @@ fn push_word<'a>(
     gap: usize,
     room: usize,
 ) -> Result<(), AllocError>
-    ensures extent { OnOk result (extent (map piece_view list.new.items) ≤ extent (map piece_view list.old.items) + 2 * length text.entry.now + gap) }
-    ensures pieces { OnOk result (map piece_view list.new.items ≡ map piece_view list.old.items ++ word_pieces room (record { text = text.entry.now; gap = gap })) }
+    ensures extent { OnOk result (extent (map piece_view list.new.items)
+        ≤ extent (map piece_view list.old.items) + 2 * length text.entry.now + gap) }
+    ensures pieces { OnOk result (map piece_view list.new.items
+        ≡ map piece_view list.old.items ++ word_pieces room
+        (record { text = text.entry.now; gap = gap })) }
 {
     let mut rest = text;
     loop {

@@ -122,7 +122,8 @@ fn escape_sequences_take_no_cells(rt: HostRuntime) {
 
 /// A help text, its lines below one another behind its label.
 fn help(alloc: Global, text: &str, width: usize) -> Result<String, AllocError>
-    ensures { IfOk result (λ shown. string_bytes shown ≡ filled (width - 4) (codes "  help: ") (codes "        ") text.now) }
+    ensures { IfOk result (λ shown. string_bytes shown ≡ filled (width - 4) (codes "  help: ")
+        (codes "        ") text.now) }
 {
     let options = Options::new(width.saturating_sub(4))
         .initial_indent("  help: ")

@@ -1,5 +1,6 @@
 //! The words of a part of a text, cut at hyphens.
-ghost use Rattle.std.specs.Prelude.{◌≡◌, ◌+◌, ◌-◌, ◌==◌, ◌&&◌, ◌<◌, nat_lt, ◌∷◌, length, take, drop, slice_index};
+ghost use Rattle.std.specs.Prelude.{◌≡◌, ◌+◌, ◌-◌, ◌==◌, ◌&&◌, ◌<◌, nat_lt, ◌∷◌, length, take};
+ghost use Rattle.std.specs.Prelude.{drop, slice_index};
 ghost use Rattle.std.specs.List.{take_while};
 ghost use Rattle.std.specs.Str.{IsCharBoundary, IsUtf8};
 ghost use Rattle.textwrap.specs.Words.{is_inner_hyphen, is_letter_or_digit, words};
@@ -15,7 +16,8 @@ pub struct WordLength {
 pub fn first_word(part: &[u8]) -> WordLength
     requires text { IsUtf8 part.now }
     requires some { 0 < length part.now }
-    ensures first { words part.now ≡ record { text = take result.len part.now; gap = result.gap } ∷ words (drop (result.len + result.gap) part.now) }
+    ensures first { words part.now ≡ record { text = take result.len part.now; gap = result.gap }
+        ∷ words (drop (result.len + result.gap) part.now) }
     ensures some { 0 < result.len + result.gap }
     ensures text_end { IsCharBoundary part.now result.len }
     ensures gap_end { IsCharBoundary part.now (result.len + result.gap) }
@@ -50,7 +52,9 @@ fn leading_spaces(bytes: &[u8]) -> usize
 /// Whether a word is cut behind a byte: a `-` between two ASCII letters or digits.
 fn is_cut_behind(bytes: &[u8], at: usize) -> bool
     requires { at < length bytes.now }
-    ensures { result ≡ is_inner_hyphen (nat_lt 0 at && is_letter_or_digit (slice_index bytes.now (at - 1))) (slice_index bytes.now at) (slice_index bytes.now (at + 1)) }
+    ensures { result ≡ is_inner_hyphen (nat_lt 0 at && is_letter_or_digit
+        (slice_index bytes.now (at - 1))) (slice_index bytes.now at)
+        (slice_index bytes.now (at + 1)) }
 {
     at > 0
         && is_letter_or_digit_at(bytes, at - 1)

@@ -24,7 +24,8 @@ pub(crate) fn mark_line(
     requires start { IsCharBoundary text.now start }
     requires end { IsCharBoundary text.now end }
     requires ordered { start ≤ end }
-    requires line { (place : ℕ) → start ≤ place → place < end → line_start_of text.now place ≡ start }
+    requires line { (place : ℕ) → start ≤ place → place < end → line_start_of text.now place
+        ≡ start }
     requires marked { AreWideBefore text.now start wide.old.items }
     ensures { OnOk result (AreWideBefore text.now end wide.new.items) }
 {

@@ -1,5 +1,6 @@
 // The index that turns offsets into places and back.
-ghost use Rattle.std.specs.Prelude.{◌≡◌, ◌^◌, ◌<◌, ◌≤◌, ◌↔◌, ℕ, List, [], ◌∷◌, IsTrue, Some, IfOk, length, take, count_by, nat_le};
+ghost use Rattle.std.specs.Prelude.{◌≡◌, ◌^◌, ◌<◌, ◌≤◌, ◌↔◌, ℕ, List, [], ◌∷◌, IsTrue, Some, IfOk};
+ghost use Rattle.std.specs.Prelude.{length, take, count_by, nat_le};
 ghost use Rattle.std.specs.List.Sorted.{IsNonDecreasing};
 ghost use Rattle.std.specs.Option.{option_map};
 ghost use Rattle.std.specs.Str.{IsCharBoundary};
@@ -7,7 +8,8 @@ ghost use Rattle.source_location.specs.Breaks.{breaks_of};
 ghost use Rattle.source_location.specs.Rows.{row_of, row_start};
 ghost use Rattle.source_location.specs.Locations.{offset_at};
 ghost use Rattle.source_location.specs.Index.{Fits, index_of};
-ghost use Rattle.utf16_places.specs.Places.{utf16_place, line_end, IsOffsetOf, IsNearest, PartsNoCrlf};
+ghost use Rattle.utf16_places.specs.Places.{utf16_place, line_end, IsOffsetOf, IsNearest};
+ghost use Rattle.utf16_places.specs.Places.{PartsNoCrlf};
 ghost use Rattle.utf16_places.specs.Index.{IsIndexOf};
 ghost use Rattle.utf16_places.specs.Parts.{IsLastIn};
 
@@ -19,10 +21,11 @@ use std::alloc::{AllocError, Global};
 use std::marker::Model;
 use text_size::{TextRange, TextSize};
 
-/// Where the lines of a text start and where their breaks begin, and the characters past ASCII: what turns offsets of the
-/// text into places and back.
+/// Where the lines of a text start and where their breaks begin, and the characters past ASCII:
+/// what turns offsets of the text into places and back.
 ///
-/// A line ends after an LF, a CR that no LF follows, or a CRLF. The index holds no text and needs none to answer.
+/// A line ends after an LF, a CR that no LF follows, or a CRLF. The index holds no text and needs
+/// none to answer.
 #[derive(Debug, Drop)]
 pub struct Utf16Index {
     line_starts: Vec<TextSize>,
@@ -36,13 +39,25 @@ impl Model for Utf16Index {
 
     ghost Value = { Utf16View };
 
-    ghost view = { λ index. record { line_starts = index.line_starts.items; line_breaks = index.line_breaks.items; wide = index.wide.items; end = index.end } };
+    ghost view = { λ index. record {
+      line_starts = index.line_starts.items;
+      line_breaks = index.line_breaks.items;
+      wide = index.wide.items;
+      end = index.end;
+    } };
 
-    ghost invariant = { λ index. IsIndex (record { line_starts = index.line_starts.items; line_breaks = index.line_breaks.items; wide = index.wide.items; end = index.end }) };
+    ghost invariant = { λ index. IsIndex
+        (record {
+          line_starts = index.line_starts.items;
+          line_breaks = index.line_breaks.items;
+          wide = index.wide.items;
+          end = index.end;
+        }) };
 }
 
 impl Utf16Index {
-    /// Builds the index of a text that fits (`source_location::fits` tests it), in one pass over it. It fails for want of memory alone.
+    /// Builds the index of a text that fits (`source_location::fits` tests it), in one pass over
+    /// it. It fails for want of memory alone.
     pub fn new(alloc: Global, text: &str) -> Result<Utf16Index, AllocError>
         requires { Fits text.now }
         ensures { IfOk result (λ index. IsIndexOf index text.now) }
@@ -70,9 +85,11 @@ impl Utf16Index {
         })
     }
 
-    /// The place of a boundary of the text. Of an offset that is none (`is_boundary` tests it) the place isn't said.
+    /// The place of a boundary of the text. Of an offset that is none (`is_boundary` tests it) the
+    /// place isn't said.
     pub fn place_of(&self, offset: TextSize) -> Place16
-        ensures { (text : List ℕ) → IsIndexOf self.now text → IsCharBoundary text offset → result ≡ utf16_place text offset }
+        ensures { (text : List ℕ) → IsIndexOf self.now text → IsCharBoundary text offset
+            → result ≡ utf16_place text offset }
     {
         let line = self.line_at(offset);
         let start = self.line_start(line);
@@ -84,16 +101,18 @@ impl Utf16Index {
 
     /// Whether the offset is a boundary of the text.
     pub fn is_boundary(&self, offset: TextSize) -> bool
-        ensures { (text : List ℕ) → IsIndexOf self.now text → (IsTrue result ↔ IsCharBoundary text offset) }
+        ensures { (text : List ℕ) → IsIndexOf self.now text
+            → (IsTrue result ↔ IsCharBoundary text offset) }
     {
         offset <= self.end && is_outside(self.wide.as_slice(), offset)
     }
 
-    /// The boundary with the place; None exactly where no boundary has it, as inside a character past U+FFFF, behind a line's
-    /// end, or past the last line.
+    /// The boundary with the place; None exactly where no boundary has it, as inside a character
+    /// past U+FFFF, behind a line's end, or past the last line.
     pub fn offset_of(&self, place: Place16) -> Option<TextSize>
         ensures only { (text : List ℕ) → IsIndexOf self.now text → IsOffsetOf text place result }
-        ensures back { (text : List ℕ) (offset : ℕ) → IsIndexOf self.now text → IsCharBoundary text offset → place ≡ utf16_place text offset → result ≡ Some offset }
+        ensures back { (text : List ℕ) (offset : ℕ) → IsIndexOf self.now text
+            → IsCharBoundary text offset → place ≡ utf16_place text offset → result ≡ Some offset }
     {
         let line = place.line as usize;
         if line >= self.line_starts.len() {
@@ -112,12 +131,13 @@ impl Utf16Index {
         }
     }
 
-    /// The boundary nearest to a place: past the last line the text's end; in a line the largest boundary not behind where its
-    /// break begins whose unit is at most the asked one.
+    /// The boundary nearest to a place: past the last line the text's end; in a line the largest
+    /// boundary not behind where its break begins whose unit is at most the asked one.
     pub fn nearest(&self, place: Place16) -> TextSize
         ensures nearest { (text : List ℕ) → IsIndexOf self.now text → IsNearest text place result }
         ensures boundary { (text : List ℕ) → IsIndexOf self.now text → IsCharBoundary text result }
-        ensures back { (text : List ℕ) (offset : ℕ) → IsIndexOf self.now text → PartsNoCrlf text offset → place ≡ utf16_place text offset → result ≡ offset }
+        ensures back { (text : List ℕ) (offset : ℕ) → IsIndexOf self.now text
+            → PartsNoCrlf text offset → place ≡ utf16_place text offset → result ≡ offset }
     {
         let line = place.line as usize;
         if line >= self.line_starts.len() {
@@ -134,14 +154,16 @@ impl Utf16Index {
 
     /// The places of both ends of a range, each of which is a boundary of the text.
     pub fn range_of(&self, range: TextRange) -> (Place16, Place16)
-        ensures start { (text : List ℕ) → IsIndexOf self.now text → IsCharBoundary text range.0 → result.0 ≡ utf16_place text range.0 }
-        ensures end { (text : List ℕ) → IsIndexOf self.now text → IsCharBoundary text range.1 → result.1 ≡ utf16_place text range.1 }
+        ensures start { (text : List ℕ) → IsIndexOf self.now text → IsCharBoundary text range.0
+            → result.0 ≡ utf16_place text range.0 }
+        ensures end { (text : List ℕ) → IsIndexOf self.now text → IsCharBoundary text range.1
+            → result.1 ≡ utf16_place text range.1 }
     {
         (self.place_of(range.start()), self.place_of(range.end()))
     }
 
-    /// The place of a location by rows and columns of characters, which count from 1; None exactly where no boundary of the text
-    /// has the location.
+    /// The place of a location by rows and columns of characters, which count from 1; None exactly
+    /// where no boundary of the text has the location.
     pub fn from_location(
         &self,
         text: &str,
@@ -160,7 +182,8 @@ impl Utf16Index {
 
     /// The line of an offset; past the text's end the last one.
     fn line_at(&self, offset: TextSize) -> usize
-        ensures line { (text : List ℕ) → IsIndexOf self.now text → result ≡ row_of (breaks_of text) offset }
+        ensures line { (text : List ℕ) → IsIndexOf self.now text
+            → result ≡ row_of (breaks_of text) offset }
         ensures within { result < length self.now.line_starts }
         ensures few { length self.now.line_starts < 2 ^ 32 }
     {
@@ -170,7 +193,8 @@ impl Utf16Index {
     /// Where a line starts.
     fn line_start(&self, line: usize) -> TextSize
         requires { line < length self.now.line_starts }
-        ensures { (text : List ℕ) → IsIndexOf self.now text → result ≡ row_start (length text) (breaks_of text) line }
+        ensures { (text : List ℕ) → IsIndexOf self.now text
+            → result ≡ row_start (length text) (breaks_of text) line }
     {
         self.line_starts[line]
     }

@@ -1,6 +1,8 @@
-//! Positions for language servers: lines and UTF-16 units of a text, from its offsets in bytes and back.
+//! Positions for language servers: lines and UTF-16 units of a text, from its offsets in bytes and
+//! back.
 //!
-//! A [`Utf16Index`] is made of a text once and answers without it. Its two directions are inverse to each other.
+//! A [`Utf16Index`] is made of a text once and answers without it. Its two directions are inverse
+//! to each other.
 #![tactic(auto)]
 
 mod build;

@@ -1,6 +1,7 @@
 // Places as language servers count them.
 
-/// A place in a text as language servers count it: the line, and the UTF-16 unit in it, both from 0.
+/// A place in a text as language servers count it: the line, and the UTF-16 unit in it, both from
+/// 0.
 ///
 /// A character up to U+FFFF is one unit, one past it two. Places are ordered by line, then by unit.
 #[derive(Clone, Copy, Debug, Default, PartialEq, Eq, PartialOrd, Ord, Hash)]

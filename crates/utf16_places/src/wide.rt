@@ -1,5 +1,6 @@
 // The characters past ASCII of a text, and how lines are counted by them.
-ghost use Rattle.std.specs.Prelude.{◌≡◌, ◌⊎◌, ◌-◌, ◌<◌, ◌≤◌, ◌||◌, ◌&&◌, ℕ, List, true, false, nat_lt, nat_le, length, slice_range, slice_index_or};
+ghost use Rattle.std.specs.Prelude.{◌≡◌, ◌⊎◌, ◌-◌, ◌<◌, ◌≤◌, ◌||◌, ◌&&◌, ℕ, List, true, false};
+ghost use Rattle.std.specs.Prelude.{nat_lt, nat_le, length, slice_range, slice_index_or};
 ghost use Rattle.std.specs.List.Sorted.{IsPartitionPoint};
 ghost use Rattle.std.specs.Str.{IsCharBoundary};
 ghost use Rattle.utf16_places.specs.Units.{utf16_units};
@@ -9,7 +10,8 @@ ghost use Rattle.utf16_places.specs.declared.wide.WideCharacter.{WideCharacter};
 
 use text_size::TextSize;
 
-/// A character past ASCII: where it starts and ends, and how many units of its line are before its end.
+/// A character past ASCII: where it starts and ends, and how many units of its line are before its
+/// end.
 #[derive(Debug, Clone, Copy)]
 pub(crate) struct WideCharacter {
     pub(crate) start: TextSize,
@@ -27,8 +29,10 @@ pub(crate) struct Counted {
 /// Whether an offset of the text stands inside none of the characters.
 pub(crate) fn is_outside(wide: &[WideCharacter], offset: TextSize) -> bool
     requires { AreWide wide.now }
-    ensures yes { (text : List ℕ) → AreWideOf text wide.now → offset ≤ length text → result ≡ true → IsCharBoundary text offset }
-    ensures no { (text : List ℕ) → AreWideOf text wide.now → IsCharBoundary text offset → result ≡ true }
+    ensures yes { (text : List ℕ) → AreWideOf text wide.now → offset ≤ length text → result ≡ true
+        → IsCharBoundary text offset }
+    ensures no { (text : List ℕ) → AreWideOf text wide.now → IsCharBoundary text offset
+        → result ≡ true }
 {
     let passed = starting_before(wide, offset);
     passed == 0 || wide[passed - 1].end <= offset
@@ -38,7 +42,8 @@ pub(crate) fn is_outside(wide: &[WideCharacter], offset: TextSize) -> bool
 pub(crate) fn units_before(wide: &[WideCharacter], start: TextSize, offset: TextSize) -> u32
     requires known { AreWide wide.now }
     requires ordered { start ≤ offset }
-    ensures { (text : List ℕ) → AreWideOf text wide.now → IsLinePart text start offset → result ≡ utf16_units (slice_range text start offset) }
+    ensures { (text : List ℕ) → AreWideOf text wide.now → IsLinePart text start offset
+        → result ≡ utf16_units (slice_range text start offset) }
 {
     let counted = counted_to(wide, starting_before(wide, offset), start);
     counted.unit + offset.to_u32().saturating_sub(counted.offset.to_u32())
@@ -52,9 +57,13 @@ pub(crate) fn boundary_up_to(
     unit: u32,
 ) -> Counted
     requires { AreWideWithPart wide.now start limit }
-    ensures counted { (text : List ℕ) → AreWideOf text wide.now → IsLinePart text start limit → IsCounted text start limit result }
+    ensures counted { (text : List ℕ) → AreWideOf text wide.now → IsLinePart text start limit
+        → IsCounted text start limit result }
     ensures few { result.unit ≤ unit }
-    ensures largest { (text : List ℕ) (offset : ℕ) → AreWideOf text wide.now → IsLinePart text start limit → IsCharBoundary text offset → start ≤ offset → offset ≤ limit → utf16_units (slice_range text start offset) ≤ unit → offset ≤ result.offset }
+    ensures largest { (text : List ℕ) (offset : ℕ) → AreWideOf text wide.now
+        → IsLinePart text start limit → IsCharBoundary text offset → start ≤ offset
+        → offset ≤ limit → utf16_units (slice_range text start offset) ≤ unit
+        → offset ≤ result.offset }
 {
     let passed = reached_by(wide, start, limit, unit);
     let counted = counted_to(wide, passed, start);
@@ -70,30 +79,42 @@ pub(crate) fn boundary_up_to(
 fn starting_before(wide: &[WideCharacter], offset: TextSize) -> usize
     requires { AreWide wide.now }
     ensures bound { result ≤ length wide.now }
-    ensures parted { IsPartitionPoint (λ c. c.start < offset) (λ c. offset ≤ c.start) wide.now result }
+    ensures parted { IsPartitionPoint (λ c. c.start < offset)
+        (λ c. offset ≤ c.start) wide.now result }
 {
     wide.partition_point(|character| character.start < offset)
 }
 
-/// How many of the characters stand before a line, or in the part of it with at most so many units before their end.
+/// How many of the characters stand before a line, or in the part of it with at most so many units
+/// before their end.
 fn reached_by(wide: &[WideCharacter], start: TextSize, limit: TextSize, unit: u32) -> usize
     requires { AreWideWithPart wide.now start limit }
     ensures bound { result ≤ length wide.now }
-    ensures parted { IsPartitionPoint (λ c. (nat_lt c.start start || (nat_lt c.start limit && nat_le c.unit unit)) ≡ true) (λ c. (nat_lt c.start start || (nat_lt c.start limit && nat_le c.unit unit)) ≡ false) wide.now result }
+    ensures parted { IsPartitionPoint
+        (λ c. (nat_lt c.start start || (nat_lt c.start limit && nat_le c.unit unit)) ≡ true)
+        (λ c. (nat_lt c.start start || (nat_lt c.start limit && nat_le c.unit unit)) ≡ false)
+        wide.now result }
 {
     wide.partition_point(|character| {
         character.start < start || (character.start < limit && character.unit <= unit)
     })
 }
 
-/// The end of the last of the first so many characters if it stands in the line, and else the line's start.
+/// The end of the last of the first so many characters if it stands in the line, and else the
+/// line's start.
 fn counted_to(wide: &[WideCharacter], passed: usize, start: TextSize) -> Counted
     requires known { AreWide wide.now }
     requires bound { passed ≤ length wide.now }
-    ensures counted { (text : List ℕ) (limit : ℕ) → AreWideOf text wide.now → IsLinePart text start limit → ((k : ℕ) (d : WideCharacter) → k < passed → (slice_index_or wide.now k d).start < limit) → IsCounted text start limit result }
-    ensures behind { (k : ℕ) (d : WideCharacter) → k < passed → (slice_index_or wide.now k d).start < result.offset }
+    ensures counted { (text : List ℕ) (limit : ℕ) → AreWideOf text wide.now
+        → IsLinePart text start limit → ((k : ℕ) (d : WideCharacter) → k < passed
+        → (slice_index_or wide.now k d).start < limit) → IsCounted text start limit result }
+    ensures behind { (k : ℕ) (d : WideCharacter) → k < passed → (slice_index_or wide.now k d).start
+        < result.offset }
     ensures few { result.unit ≤ result.offset }
-    ensures last { (result.unit ≡ 0) ⊎ ((0 < passed) × ((d : WideCharacter) → (start ≤ (slice_index_or wide.now (passed - 1) d).start) × (result.unit ≡ (slice_index_or wide.now (passed - 1) d).unit))) }
+    ensures last { (result.unit ≡ 0)
+        ⊎ ((0 < passed)
+        × ((d : WideCharacter) → (start ≤ (slice_index_or wide.now (passed - 1) d).start)
+        × (result.unit ≡ (slice_index_or wide.now (passed - 1) d).unit))) }
 {
     if stands_from(wide, passed, start) {
         let last = wide[passed - 1];
@@ -112,8 +133,10 @@ fn counted_to(wide: &[WideCharacter], passed: usize, start: TextSize) -> Counted
 /// Whether the last of the first so many characters starts at an offset or behind it.
 fn stands_from(wide: &[WideCharacter], passed: usize, start: TextSize) -> bool
     requires { passed ≤ length wide.now }
-    ensures yes { result ≡ true → (0 < passed) × ((d : WideCharacter) → start ≤ (slice_index_or wide.now (passed - 1) d).start) }
-    ensures no { result ≡ false → (d : WideCharacter) → 0 < passed → (slice_index_or wide.now (passed - 1) d).start < start }
+    ensures yes { result ≡ true → (0 < passed)
+        × ((d : WideCharacter) → start ≤ (slice_index_or wide.now (passed - 1) d).start) }
+    ensures no { result ≡ false → (d : WideCharacter) → 0 < passed
+        → (slice_index_or wide.now (passed - 1) d).start < start }
 {
     passed > 0 && wide[passed - 1].start >= start
 }
@@ -122,8 +145,10 @@ fn stands_from(wide: &[WideCharacter], passed: usize, start: TextSize) -> bool
 fn next_start(wide: &[WideCharacter], passed: usize, limit: TextSize) -> TextSize
     requires { passed ≤ length wide.now }
     ensures up_to { result ≤ limit }
-    ensures ahead { (d : WideCharacter) → passed < length wide.now → result ≤ (slice_index_or wide.now passed d).start }
-    ensures met { (result ≡ limit) ⊎ ((passed < length wide.now) × ((d : WideCharacter) → (slice_index_or wide.now passed d).start ≡ result)) }
+    ensures ahead { (d : WideCharacter) → passed < length wide.now
+        → result ≤ (slice_index_or wide.now passed d).start }
+    ensures met { (result ≡ limit) ⊎ ((passed < length wide.now)
+        × ((d : WideCharacter) → (slice_index_or wide.now passed d).start ≡ result)) }
 {
     match wide.get(passed) {
         Some(next) if next.start < limit => next.start,

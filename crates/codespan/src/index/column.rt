@@ -48,7 +48,8 @@ impl From<ColumnIndex> for usize {
 impl Offset for ColumnOffset {
     ghost use Rattle.std.specs.Prelude.{pos};
     ghost use Rattle.std.proofs.Common.{ap};
-    ghost use Rattle.codespan.specs.Laws.{number_zero_right, number_zero_left, number_opposite, number_back, number_forth};
+    ghost use Rattle.codespan.specs.Laws.{number_zero_right, number_zero_left, number_opposite};
+    ghost use Rattle.codespan.specs.Laws.{number_back, number_forth};
 
     const ZERO: ColumnOffset = ColumnOffset(0);
 

@@ -12,7 +12,9 @@ use text_size::{TextRange, TextSize};
 fn bytes_of(index: &Utf16Index, start: Place16, end: Place16) -> TextRange
     ensures start { (text : List ℕ) → IsIndexOf index.now text → IsCharBoundary text result.0 }
     ensures end { (text : List ℕ) → IsIndexOf index.now text → IsCharBoundary text result.1 }
-    ensures exact { (text : List ℕ) (from to : ℕ) → IsIndexOf index.now text → PartsNoCrlf text from → PartsNoCrlf text to → from ≤ to → start ≡ utf16_place text from → end ≡ utf16_place text to → result ≡ (from, to) }
+    ensures exact { (text : List ℕ) (from to : ℕ) → IsIndexOf index.now text
+        → PartsNoCrlf text from → PartsNoCrlf text to → from ≤ to → start ≡ utf16_place text from
+        → end ≡ utf16_place text to → result ≡ (from, to) }
 {
     let from = index.nearest(start);
     let to = index.nearest(end);
@@ -21,7 +23,8 @@ fn bytes_of(index: &Utf16Index, start: Place16, end: Place16) -> TextRange
 
 // A diagnostic's bytes as a client's range, and back.
 fn shown_and_back(index: &Utf16Index, range: TextRange) -> TextRange
-    ensures { (text : List ℕ) → IsIndexOf index.now text → PartsNoCrlf text range.0 → PartsNoCrlf text range.1 → result ≡ range }
+    ensures { (text : List ℕ) → IsIndexOf index.now text → PartsNoCrlf text range.0
+        → PartsNoCrlf text range.1 → result ≡ range }
 {
     let (start, end) = index.range_of(range);
     bytes_of(index, start, end)

@@ -2,8 +2,8 @@ use Rattle.std.proofs.Common.{◌≡◌, ◌-◌, ◌<◌, ◌≤◌, ◌++◌, 
 use Rattle.std.specs.declared.ops.Range.{Range}
 use Rattle.std.specs.Option.{unwrap_or}
 use Rattle.oxc_windows.specs.Breaks.{breaks_of}
-use Rattle.oxc_plan.specs.Groups.{AreGroups, group_window, span_at}
-use Rattle.oxc_plan.specs.Keeping.{KeepsRows, ReadsOn}
+use Rattle.oxc_plan.specs.Groups.{AreGroups, span_at}
+use Rattle.oxc_plan.specs.Keeping.{KeepsGroup, ReadsOn}
 use Rattle.oxc_plan.proofs.grouping.groups_of_spans.Given as goal
 
 -- groups of what is left make the groups of all
@@ -12,7 +12,7 @@ invariant-loop-first l = record {
   scanner : ReadsOn l.fn.scanner l.scanner;
   none : l.first ≡ 0 → l.scanner.first ≡ l.fn.scanner.first;
   set : 0 < l.first → l.scanner.first ≡ Some (unwrap_or l.fn.scanner.first (span_at l.spans 0).start);
-  keeps : All (λ group. KeepsRows l.fn.scanner.input l.scanner (span_at l.spans group.start).start (group_window (length l.fn.scanner.input) (breaks_of l.fn.scanner.input) l.spans group).end) l.found.items;
+  keeps : All (KeepsGroup l.fn.scanner.input l.spans l.scanner) l.found.items;
   within : l.first ≤ length l.spans;
   ahead : (rest : List (Range ℕ)) → AreGroups (length l.fn.scanner.input) (breaks_of l.fn.scanner.input) l.spans l.first rest
       → AreGroups (length l.fn.scanner.input) (breaks_of l.fn.scanner.input) l.spans 0 (l.found.items ++ rest);

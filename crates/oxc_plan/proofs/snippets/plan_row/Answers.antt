@@ -1,12 +1,12 @@
-use Rattle.std.proofs.Common.{◌∙◌}
+use Rattle.std.proofs.Common.{◌∙◌, arith, map}
+use Rattle.std.proofs.lemmas.List.{nil_from_length}
+use Rattle.oxc_plan.specs.Plan.{ordered_view}
 use Rattle.oxc_plan.specs.Rows.{row_view}
-use Rattle.oxc_plan.proofs.SweepLemmas.{multi_row_from, one_row_from}
+use Rattle.oxc_plan.proofs.AloneLemmas.{bare_made, none_met}
 use Rattle.oxc_plan.proofs.snippets.plan_row.Goals as goal
 
-pub plan_at-requires-clause-within : goal.plan_at-requires-clause-within
-plan_at-requires-clause-within c =
-    c.deref.ensures.value ∙ c.in_ok-within.ensures ∙ one_row_from (row_view c.args.row.now) c.args.spans.now c.args.active.now c.requires.among
-
-pub plan_at-requires-clause-across : goal.plan_at-requires-clause-across
-plan_at-requires-clause-across c =
-    c.deref-2.ensures.value ∙ c.in_ok-across.ensures ∙ multi_row_from (row_view c.args.row.now) c.args.spans.now c.args.active.now c.requires.among
+pub returns-in-empty : goal.returns-in-empty
+returns-in-empty c =
+    let row = row_view c.args.row.now in
+    let none = none_met row c.args.spans.now c.args.active.now c.requires.among (nil_from_length c.args.active.now (omega (arith, c.in-empty.len_below))) in
+    c.bare_row.ensures ∙ bare_made c.args.tabs (map ordered_view c.args.labels.now) row c.args.spans.now c.requires.spans none.0 none.1

@@ -19,4 +19,4 @@ returns-in-Some-clause-rows c =
     c.in_ok-rows_of-in-Some.ensures
     ∙ rows_read c.args.text.now c.new-scanner.result c.args.span c.in-Some.contents
     (ap (λ s. s.input) c.new-scanner.ensures ∙ c.as_bytes.ensures.value) (ap (λ s. s.before) c.new-scanner.ensures) (ap (λ s. s.after) c.new-scanner.ensures)
-    (sym c.in_ok-contents.ensures.value ∙ c.in-Some.is)
+    (sym c.in_ok-contents.ensures.read.value ∙ c.in-Some.is)

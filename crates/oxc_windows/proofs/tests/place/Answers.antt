@@ -23,5 +23,5 @@ place_read scan span contents bare e false is =
 
 pub returns-in-Some-clause-place : goal.returns-in-Some-clause-place
 returns-in-Some-clause-place c =
-    let read = place_read c.args.scanner.now c.args.span c.in-Some.contents c.requires.bare (sym c.in_ok-contents.ensures.value ∙ c.in-Some.is) (nat_lt (length c.args.scanner.now.input) c.args.span.end) refl in
+    let read = place_read c.args.scanner.now c.args.span c.in-Some.contents c.requires.bare (sym c.in_ok-contents.ensures.read.value ∙ c.in-Some.is) (nat_lt (length c.args.scanner.now.input) c.args.span.end) refl in
     (read.0, cc (read.1.0, read.1.1, c.line.ensures, c.column.ensures))

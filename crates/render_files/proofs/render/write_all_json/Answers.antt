@@ -20,8 +20,10 @@ view_of-view-requires-clause-labels c =
 
 pub view_of-view-requires-clause-code : goal.view_of-view-requires-clause-code
 view_of-view-requires-clause-code c =
+    let same : text_bytes c.index-codes-at.result ≡ code_of (given_report c.index-reports-at.result) =
     same_at text_bytes code_of given_report c.args.codes.now c.args.reports.now c.loop-at.at c.index-codes-at.result c.index-reports-at.result
-    c.requires.codes c.loop-at-test.true c.index-codes-at.is c.index-reports-at.is
+    c.requires.codes c.loop-at-test.true c.index-codes-at.is c.index-reports-at.is in
+    c.as_deref.ensures.value ∙ same
 
 pub push_line-requires-clause-held : goal.push_line-requires-clause-held
 push_line-requires-clause-held c =

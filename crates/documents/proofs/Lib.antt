@@ -1,0 +1,6 @@
+pub mod Consuming
+pub mod KeyLemmas
+pub mod KindLemmas
+pub mod GeneratedLemmas
+pub mod PlacesLemmas
+pub mod FormLemmas

@@ -1,0 +1,26 @@
+-- Each key was taken out of the members that the ones before left.
+use Rattle.std.proofs.Common.{[], ◌∷◌, ◌∙◌, sym, refl, ap, codes}
+use Rattle.serde_json.specs.Find.{get_member}
+use Rattle.serde_json.specs.View.{members_view}
+use Rattle.documents.specs.Kinds.{only_keys, without}
+use Rattle.documents.specs.Document.{document_keys}
+use Rattle.documents.proofs.KeyLemmas.{get_others, only_all}
+use Rattle.documents.proofs.fields.document_fields.Goals as goal
+
+pub returns-clause-files : goal.returns-clause-files
+returns-clause-files c =
+    let left-1 = c.take.ensures.left in
+    c.take-2.ensures.value ∙ ap (get_member (codes "files")) left-1 ∙ get_others (codes "version" ∷ []) (codes "files") (members_view c.args.members.entries) refl
+
+pub returns-clause-reports : goal.returns-clause-reports
+returns-clause-reports c =
+    let left-1 = c.take.ensures.left in
+    let left-2 = c.take-2.ensures.left ∙ ap (without (codes "files")) left-1 in
+    c.take-3.ensures.value ∙ ap (get_member (codes "reports")) left-2 ∙ get_others (codes "version" ∷ codes "files" ∷ []) (codes "reports") (members_view c.args.members.entries) refl
+
+pub returns-clause-all : goal.returns-clause-all
+returns-clause-all c version =
+    let left-1 = c.take.ensures.left in
+    let left-2 = c.take-2.ensures.left ∙ ap (without (codes "files")) left-1 in
+    let left-3 = c.take-3.ensures.left ∙ ap (without (codes "reports")) left-2 in
+    c.is_empty.ensures ∙ ap (only_keys []) left-3 ∙ sym (only_all (document_keys version) (members_view c.args.members.entries))

@@ -1,0 +1,182 @@
+// The values of an object, taken out of it by their keys.
+ghost use Rattle.std.specs.Prelude.{◌≡◌, [], codes, is_some, option_map};
+ghost use Rattle.serde_json.specs.View.{view, members_view};
+ghost use Rattle.serde_json.specs.Find.{get_member};
+ghost use Rattle.documents.specs.Kinds.{only_keys, without};
+ghost use Rattle.documents.specs.declared.document.Version.{Version};
+ghost use Rattle.documents.specs.declared.document.Version.{Version};
+ghost use Rattle.documents.specs.Document.{byte_keys, document_keys, file_keys, report_keys, row_keys};
+
+use serde_json::{Map, Value};
+
+/// What stands under a key, if anything does.
+#[derive(Drop)]
+pub(crate) struct Found {
+    pub(crate) value: Option<Value>,
+}
+
+/// What stands under the keys of a file, and whether these are all its keys.
+#[derive(Drop)]
+pub(crate) struct FileFields {
+    pub(crate) name: Found,
+    pub(crate) source: Found,
+    pub(crate) are_all: bool,
+}
+
+pub(crate) fn file_fields(mut members: Map<String, Value>) -> FileFields
+    ensures name { option_map view result.name.value ≡ get_member (codes "name") (members_view members.entries) }
+    ensures source { option_map view result.source.value ≡ get_member (codes "source") (members_view members.entries) }
+    ensures all { result.are_all ≡ only_keys file_keys (members_view members.entries) }
+{
+    FileFields {
+        name: take(&mut members, "name"),
+        source: take(&mut members, "source"),
+        are_all: is_empty(&members),
+    }
+}
+
+/// What stands under the keys of a label by rows and columns, and whether these are all its keys.
+#[derive(Drop)]
+pub(crate) struct RowFields {
+    pub(crate) start: Found,
+    pub(crate) end: Found,
+    pub(crate) text: Found,
+    pub(crate) primary: Found,
+    pub(crate) are_all: bool,
+}
+
+pub(crate) fn row_fields(mut members: Map<String, Value>) -> RowFields
+    ensures start { option_map view result.start.value ≡ get_member (codes "start") (members_view members.entries) }
+    ensures end { option_map view result.end.value ≡ get_member (codes "end") (members_view members.entries) }
+    ensures text { option_map view result.text.value ≡ get_member (codes "text") (members_view members.entries) }
+    ensures primary { option_map view result.primary.value ≡ get_member (codes "primary") (members_view members.entries) }
+    ensures all { result.are_all ≡ only_keys row_keys (members_view members.entries) }
+{
+    RowFields {
+        start: take(&mut members, "start"),
+        end: take(&mut members, "end"),
+        text: take(&mut members, "text"),
+        primary: take(&mut members, "primary"),
+        are_all: is_empty(&members),
+    }
+}
+
+/// What stands under the keys of a label by bytes, and whether these are all its keys.
+#[derive(Drop)]
+pub(crate) struct ByteFields {
+    pub(crate) bytes: Found,
+    pub(crate) text: Found,
+    pub(crate) primary: Found,
+    pub(crate) are_all: bool,
+}
+
+pub(crate) fn byte_fields(mut members: Map<String, Value>) -> ByteFields
+    ensures bytes { option_map view result.bytes.value ≡ get_member (codes "bytes") (members_view members.entries) }
+    ensures text { option_map view result.text.value ≡ get_member (codes "text") (members_view members.entries) }
+    ensures primary { option_map view result.primary.value ≡ get_member (codes "primary") (members_view members.entries) }
+    ensures all { result.are_all ≡ only_keys byte_keys (members_view members.entries) }
+{
+    ByteFields {
+        bytes: take(&mut members, "bytes"),
+        text: take(&mut members, "text"),
+        primary: take(&mut members, "primary"),
+        are_all: is_empty(&members),
+    }
+}
+
+/// What stands under the keys of a report.
+#[derive(Drop)]
+pub(crate) struct ReportFields {
+    pub(crate) file: Found,
+    pub(crate) labels: Found,
+    pub(crate) said: SaidFields,
+}
+
+/// What stands under the keys by which a report says something, and whether the report has no other key.
+#[derive(Drop)]
+pub(crate) struct SaidFields {
+    pub(crate) message: Found,
+    pub(crate) severity: Found,
+    pub(crate) scope: Found,
+    pub(crate) number: Found,
+    pub(crate) help: Found,
+    pub(crate) note: Found,
+    pub(crate) url: Found,
+    pub(crate) are_all: bool,
+}
+
+pub(crate) fn report_fields(mut members: Map<String, Value>) -> ReportFields
+    ensures file { option_map view result.file.value ≡ get_member (codes "file") (members_view members.entries) }
+    ensures labels { option_map view result.labels.value ≡ get_member (codes "labels") (members_view members.entries) }
+    ensures message { option_map view result.said.message.value ≡ get_member (codes "message") (members_view members.entries) }
+    ensures severity { option_map view result.said.severity.value ≡ get_member (codes "severity") (members_view members.entries) }
+    ensures scope { option_map view result.said.scope.value ≡ get_member (codes "scope") (members_view members.entries) }
+    ensures number { option_map view result.said.number.value ≡ get_member (codes "number") (members_view members.entries) }
+    ensures help { option_map view result.said.help.value ≡ get_member (codes "help") (members_view members.entries) }
+    ensures note { option_map view result.said.note.value ≡ get_member (codes "note") (members_view members.entries) }
+    ensures url { option_map view result.said.url.value ≡ get_member (codes "url") (members_view members.entries) }
+    ensures all { (version : Version) → result.said.are_all ≡ only_keys (report_keys version) (members_view members.entries) }
+{
+    ReportFields {
+        file: take(&mut members, "file"),
+        labels: take(&mut members, "labels"),
+        said: SaidFields {
+            message: take(&mut members, "message"),
+            severity: take(&mut members, "severity"),
+            scope: take(&mut members, "scope"),
+            number: take(&mut members, "number"),
+            help: take(&mut members, "help"),
+            note: take(&mut members, "note"),
+            url: take(&mut members, "url"),
+            are_all: is_empty(&members),
+        },
+    }
+}
+
+/// What stands under the keys of a document, and whether these are all its keys.
+#[derive(Drop)]
+pub(crate) struct DocumentFields {
+    pub(crate) version: Found,
+    pub(crate) files: Found,
+    pub(crate) reports: Found,
+    pub(crate) are_all: bool,
+}
+
+pub(crate) fn document_fields(mut members: Map<String, Value>) -> DocumentFields
+    ensures version { option_map view result.version.value ≡ get_member (codes "version") (members_view members.entries) }
+    ensures files { option_map view result.files.value ≡ get_member (codes "files") (members_view members.entries) }
+    ensures reports { option_map view result.reports.value ≡ get_member (codes "reports") (members_view members.entries) }
+    ensures all { (version : Version) → result.are_all ≡ only_keys (document_keys version) (members_view members.entries) }
+{
+    DocumentFields {
+        version: take(&mut members, "version"),
+        files: take(&mut members, "files"),
+        reports: take(&mut members, "reports"),
+        are_all: is_empty(&members),
+    }
+}
+
+/// Whether there is such a key.
+pub(crate) fn has_key(members: &Map<String, Value>, key: &str) -> bool
+    ensures { result ≡ is_some (get_member key.now (members_view members.now.entries)) }
+{
+    members.contains_key(key)
+}
+
+// Takes out what stands under the key.
+fn take(members: &mut Map<String, Value>, key: &str) -> Found
+    ensures value { option_map view result.value ≡ get_member key.now (members_view members.old.entries) }
+    ensures left { members_view members.new.entries ≡ without key.now (members_view members.old.entries) }
+{
+    Found {
+        value: members.remove(key),
+    }
+}
+
+// Whether nothing is left.
+#[tactic(auto, using(crate::proofs::KeyLemmas::none_left, crate::proofs::KeyLemmas::some_left))]
+fn is_empty(members: &Map<String, Value>) -> bool
+    ensures { result ≡ only_keys [] (members_view members.now.entries) }
+{
+    members.is_empty()
+}

@@ -1,0 +1,152 @@
+// Single values of a document, by their kinds. Texts are moved out of the JSON values.
+ghost use Rattle.std.specs.Prelude.{◌≡◌, ◌^◌, ◌-◌, is_some, IfSome, option_map, option_and_then, string_bytes};
+ghost use Rattle.oxc_span.specs.Views.{text_bytes};
+ghost use Rattle.codespan.specs.Texts.{Fits};
+ghost use Rattle.serde_json.specs.View.{view, items_view};
+ghost use Rattle.documents.specs.Kinds.{bytes_pair as two_numbers, is_allowed, pair_in, place as row_and_column, severity as severity_in, severity_named as severity_of_name, some_text as filled_text, source as short_text, text as text_in, truth as truth_in, whole as whole_in};
+
+use oxc_protocol::Severity;
+use serde_json::Value;
+use source_location::{OneIndexed, SourceLocation};
+
+/// A text.
+pub(crate) fn text(value: Value) -> Option<String>
+    ensures { option_map string_bytes result ≡ text_in (view value) }
+{
+    match value {
+        Value::String(text) => Some(text),
+        _ => None,
+    }
+}
+
+/// A text that isn't empty.
+pub(crate) fn some_text(value: Value) -> Option<String>
+    ensures { option_map string_bytes result ≡ filled_text (view value) }
+{
+    let text = text(value)?;
+    if text.is_empty() { None } else { Some(text) }
+}
+
+/// A text of fewer than `u32::MAX` bytes.
+pub(crate) fn source(value: Value) -> Option<String>
+    ensures value { option_map string_bytes result ≡ short_text (view value) }
+    ensures fits { IfSome result (λ text. Fits (string_bytes text)) }
+{
+    let text = text(value)?;
+    if text.len() < u32::MAX as usize {
+        Some(text)
+    } else {
+        None
+    }
+}
+
+/// A text that may be left out: `None` where something else stands there.
+pub(crate) fn optional_text(found: Option<Value>) -> Option<Option<String>>
+    ensures allowed { is_some result ≡ is_allowed text_in (option_map view found) }
+    ensures value { IfSome result (λ it. text_bytes it ≡ option_and_then text_in (option_map view found)) }
+{
+    match found {
+        Some(value) => Some(Some(text(value)?)),
+        None => Some(None),
+    }
+}
+
+/// A text that may be left out and isn't empty.
+pub(crate) fn optional_some_text(found: Option<Value>) -> Option<Option<String>>
+    ensures allowed { is_some result ≡ is_allowed filled_text (option_map view found) }
+    ensures value { IfSome result (λ it. text_bytes it ≡ option_and_then filled_text (option_map view found)) }
+{
+    match found {
+        Some(value) => Some(Some(some_text(value)?)),
+        None => Some(None),
+    }
+}
+
+/// A truth value that may be left out.
+pub(crate) fn optional_truth(found: &Option<Value>) -> Option<Option<bool>>
+    ensures allowed { is_some result ≡ is_allowed truth_in (option_map view found.now) }
+    ensures value { IfSome result (λ it. it ≡ option_and_then truth_in (option_map view found.now)) }
+{
+    match found {
+        Some(value) => Some(Some(value.as_bool()?)),
+        None => Some(None),
+    }
+}
+
+/// How grave a report is, which may be left out.
+pub(crate) fn optional_severity(found: &Option<Value>) -> Option<Option<Severity>>
+    ensures allowed { is_some result ≡ is_allowed severity_in (option_map view found.now) }
+    ensures value { IfSome result (λ it. it ≡ option_and_then severity_in (option_map view found.now)) }
+{
+    match found {
+        Some(value) => Some(Some(severity_named(value.as_str()?)?)),
+        None => Some(None),
+    }
+}
+
+fn severity_named(name: &str) -> Option<Severity>
+    ensures { result ≡ severity_of_name name.now }
+{
+    match name {
+        "error" => Some(Severity::Error),
+        "warning" => Some(Severity::Warning),
+        "advice" => Some(Severity::Advice),
+        _ => None,
+    }
+}
+
+/// A whole number from the least to the most.
+pub(crate) fn whole(least: u32, most: u32, value: &Value) -> Option<u32>
+    ensures { result ≡ whole_in least most (view value.now) }
+{
+    let number = value.as_u64()?;
+    if least as u64 <= number && number <= most as u64 {
+        Some(number as u32)
+    } else {
+        None
+    }
+}
+
+/// A row and a column, both from 1.
+pub(crate) fn place(value: &Value) -> Option<SourceLocation>
+    ensures { result ≡ row_and_column (view value.now) }
+{
+    place_of(value.as_array()?)
+}
+
+#[tactic(auto, using(crate::proofs::KindLemmas::no_pair))]
+fn place_of(values: &[Value]) -> Option<SourceLocation>
+    ensures { result ≡ option_map (λ pair. record { row = pair.0; column = pair.1 }) (pair_in (whole_in 1 (2 ^ 32 - 1)) (items_view values.now)) }
+{
+    match values {
+        [row, column] => Some(SourceLocation {
+            row: counted(row)?,
+            column: counted(column)?,
+        }),
+        _ => None,
+    }
+}
+
+// A number from 1 on.
+fn counted(value: &Value) -> Option<OneIndexed>
+    ensures { result ≡ whole_in 1 (2 ^ 32 - 1) (view value.now) }
+{
+    OneIndexed::new(whole(1, u32::MAX, value)?)
+}
+
+/// Two numbers of bytes.
+pub(crate) fn bytes_pair(value: &Value) -> Option<(u32, u32)>
+    ensures { result ≡ two_numbers (view value.now) }
+{
+    pair_of(value.as_array()?)
+}
+
+#[tactic(auto, using(crate::proofs::KindLemmas::no_pair))]
+fn pair_of(values: &[Value]) -> Option<(u32, u32)>
+    ensures { result ≡ pair_in (whole_in 0 (2 ^ 32 - 1)) (items_view values.now) }
+{
+    match values {
+        [start, end] => Some((whole(0, u32::MAX, start)?, whole(0, u32::MAX, end)?)),
+        _ => None,
+    }
+}

@@ -1,0 +1,123 @@
+// Places as tools give them, and the note that tells them.
+ghost use Rattle.std.specs.Prelude.{◌≡◌, ◌++◌, IfOk, OnOk, string_bytes};
+ghost use Rattle.std.specs.Option.{option_copied};
+ghost use Rattle.oxc_span.specs.Views.{text_bytes};
+ghost use Rattle.found_reports.specs.Place.{at_text, noted, number_text, place_line};
+ghost use Rattle.found_reports.specs.Place.{reason as reason_of, why_text};
+
+use crate::sources::Lack;
+use itoa::Buffer;
+use std::alloc::{AllocError, Global};
+
+/// Where a tool says that a finding stands, in numbers as it gave them, and none where it gave
+/// none. The name is that of the report's file.
+#[derive(Clone, Copy, Debug, PartialEq, Eq)]
+pub struct GivenPlace {
+    /// The row of the start.
+    pub line: Option<u32>,
+    /// The column of the start.
+    pub column: Option<u32>,
+    /// The row of the end.
+    pub end_line: Option<u32>,
+    /// The column of the end.
+    pub end_column: Option<u32>,
+}
+
+/// A note with a last line that tells where a report stands that has no label:
+/// `at NAME:LINE:COLUMN`, as far as these are given, and behind it why the source wasn't read,
+/// where that isn't because there is none.
+///
+/// # Errors
+///
+/// Want of memory.
+#[tactic(auto, unfolding(crate::specs::Place::noted))]
+pub fn note_of(
+    alloc: Global,
+    note: Option<&str>,
+    name: &str,
+    place: GivenPlace,
+    why: Option<Lack>,
+) -> Result<String, AllocError>
+    ensures { IfOk result (λ text. string_bytes text
+        ≡ noted (option_copied note.entry) name.now place why) }
+{
+    let mut text = String::new(alloc);
+    if let Some(note) = note {
+        text.push_str(note)?;
+        text.push_str("\n")?;
+    }
+    push_line(&mut text, name, place, why)?;
+    Ok(text)
+}
+
+/// Appends the line of a place.
+#[tactic(auto, unfolding(crate::specs::Place::place_line))]
+fn push_line(
+    out: &mut String,
+    name: &str,
+    place: GivenPlace,
+    why: Option<Lack>,
+) -> Result<(), AllocError>
+    ensures { OnOk result (string_bytes out.new
+        ≡ string_bytes out.old ++ place_line name.now place why) }
+{
+    push_place(out, name, place)?;
+    push_why(out, why)
+}
+
+/// Appends a name, and the row and the column of the start, as far as they are given.
+#[tactic(auto, unfolding(crate::specs::Place::at_text))]
+fn push_place(out: &mut String, name: &str, place: GivenPlace) -> Result<(), AllocError>
+    ensures { OnOk result (string_bytes out.new ≡ string_bytes out.old ++ at_text name.now place) }
+{
+    out.push_str("at ")?;
+    out.push_str(name)?;
+    let Some(line) = place.line else {
+        return Ok(());
+    };
+    push_number(out, line)?;
+    let Some(column) = place.column else {
+        return Ok(());
+    };
+    push_number(out, column)
+}
+
+/// Appends a colon and a number.
+#[tactic(auto, unfolding(crate::specs::Place::number_text))]
+fn push_number(out: &mut String, number: u32) -> Result<(), AllocError>
+    ensures { OnOk result (string_bytes out.new ≡ string_bytes out.old ++ number_text number) }
+{
+    out.push_str(":")?;
+    out.push_str(Buffer::new().format(number))
+}
+
+/// Appends why a source wasn't read.
+#[tactic(auto, unfolding(crate::specs::Place::why_text))]
+fn push_why(out: &mut String, why: Option<Lack>) -> Result<(), AllocError>
+    ensures { OnOk result (string_bytes out.new ≡ string_bytes out.old ++ why_text why) }
+{
+    let Some(why) = why else {
+        return Ok(());
+    };
+    let reason = reason(why);
+    if reason.is_empty() {
+        return Ok(());
+    }
+    out.push_str(" (")?;
+    out.push_str(reason)?;
+    out.push_str(")")
+}
+
+/// Why there is no text, in words; empty where there is nothing of the name.
+fn reason(why: Lack) -> &'static str
+    ensures { result.now ≡ reason_of why }
+{
+    match why {
+        Lack::Missing => "",
+        Lack::Outside => "not read: outside of the root",
+        Lack::NoFile => "not read: no plain file",
+        Lack::TooLong => "not read: longer than 64 MiB",
+        Lack::NoText => "not read: no UTF-8",
+        Lack::Unreadable => "it can't be read",
+    }
+}

@@ -1,7 +1,0 @@
--- The map is the object's members.
-use Rattle.std.proofs.Common.{◌∙◌}
-use Rattle.report.proofs.KeyLemmas.{has_key}
-use Rattle.report.proofs.fields.has_key.Goals as goal
-
-pub returns : goal.returns
-returns c = c.contains_key.ensures ∙ has_key c.args.key.now c.args.members.now.entries

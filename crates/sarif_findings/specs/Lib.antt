@@ -1,0 +1,4 @@
+pub mod Fill
+pub mod Rules
+pub mod Findings
+pub mod Views

@@ -1,0 +1,5 @@
+pub mod FormLemmas
+pub mod NumberLemmas
+pub mod LogLemmas
+pub mod AnswerLemmas
+pub mod CutLemmas

@@ -1,0 +1,5 @@
+pub mod Form
+pub mod Faults
+pub mod Log
+pub mod Answer
+pub mod Cut

@@ -1,0 +1,258 @@
+//! The first fault of a value, in reading order.
+ghost use Rattle.std.specs.Prelude.{◌≡◌, ◌&&◌, find, map, option_map, Some, None, IfOk};
+ghost use Rattle.std.specs.List.{list_any};
+ghost use Rattle.std.specs.Option.{is_none};
+ghost use Rattle.std.specs.Str.{bytes_eq};
+ghost use Rattle.json.specs.Find.{get};
+ghost use Rattle.json.specs.Json.{object};
+ghost use Rattle.json.specs.Value.{value_view, items_view, members_view};
+ghost use Rattle.sarif_log.specs.declared.form.Kind.TheVariants.{Object};
+ghost use Rattle.sarif_log.specs.Form.{key_view};
+ghost use Rattle.sarif_log.specs.Faults.{fault_in, fault_view, here as fault_here};
+ghost use Rattle.sarif_log.specs.Faults.{is_any as takes_all, is_word as is_word_of};
+ghost use Rattle.sarif_log.specs.Faults.{items_fault as fault_in_items, item_kind as kind_of_items};
+ghost use Rattle.sarif_log.specs.Faults.{member_kind as kind_of_member};
+ghost use Rattle.sarif_log.specs.Faults.{members_fault as fault_in_members};
+ghost use Rattle.sarif_log.specs.Faults.{missing as fault_missing, missing_key as key_missing};
+ghost use Rattle.sarif_log.specs.Faults.{step_view, takes_null as null_fits};
+ghost use Rattle.sarif_log.specs.Faults.{takes_number as number_fits, takes_text as text_fits};
+ghost use Rattle.sarif_log.specs.Faults.{unless as fault_unless, words_of as all_words};
+ghost use Rattle.sarif_log.specs.Faults.{within as fault_within};
+
+use crate::form::{Key, Kind, Shape, Words, keys_of, kind_under};
+use crate::numbers::number_of;
+use json::Value;
+use std::alloc::{AllocError, Global};
+
+/// A step into a value.
+#[derive(Clone, Copy, Debug, PartialEq, Eq)]
+pub enum Step<'v> {
+    Key(&'v str),
+    Index(usize),
+}
+
+/// Where a value isn't of its kind: the steps to it, from the inside out.
+#[derive(Debug, Drop)]
+pub struct Fault<'v> {
+    pub steps: Vec<Step<'v>>,
+    pub wanted: Kind,
+}
+
+static VERSION: [&str; 1] = ["2.1.0"];
+
+static LEVEL: [&str; 4] = ["none", "note", "warning", "error"];
+
+static RESULT_KIND: [&str; 6] = [
+    "notApplicable",
+    "pass",
+    "fail",
+    "review",
+    "open",
+    "informational",
+];
+
+static COLUMN_KIND: [&str; 2] = ["utf16CodeUnits", "unicodeCodePoints"];
+
+static BASELINE_STATE: [&str; 4] = ["new", "unchanged", "updated", "absent"];
+
+static STATUS: [&str; 3] = ["accepted", "underReview", "rejected"];
+
+#[tactic(auto, unfolding(crate::specs::Faults::words_of))]
+fn words_of(words: Words) -> &'static [&'static str]
+    ensures { map (λ word. word.now) result.now ≡ all_words words }
+{
+    match words {
+        Words::Version => &VERSION,
+        Words::Level => &LEVEL,
+        Words::ResultKind => &RESULT_KIND,
+        Words::ColumnKind => &COLUMN_KIND,
+        Words::BaselineState => &BASELINE_STATE,
+        Words::Status => &STATUS,
+    }
+}
+
+fn is_one_of(words: &[&str], text: &str) -> bool
+    ensures { result ≡ list_any (λ word. bytes_eq word.now text.now) words.now }
+{
+    words.iter().any(|word| *word == text)
+}
+
+fn is_word(words: Words, text: &str) -> bool
+    ensures { result ≡ is_word_of words text.now }
+{
+    is_one_of(words_of(words), text)
+}
+
+fn takes_text(kind: Kind, text: &str) -> bool
+    ensures { result ≡ text_fits kind text.now }
+{
+    match kind {
+        Kind::Any | Kind::Text => true,
+        Kind::Word(words) => is_word(words, text),
+        _ => false,
+    }
+}
+
+fn takes_number(kind: Kind, text: &str) -> bool
+    ensures { result ≡ number_fits kind text.now }
+{
+    match kind {
+        Kind::Any => true,
+        Kind::Whole => number_of(text).is_some() || text == "-1",
+        _ => false,
+    }
+}
+
+fn takes_null(kind: Kind) -> bool
+    ensures { result ≡ null_fits kind }
+{
+    match kind {
+        Kind::Any | Kind::Objects(Shape::Run) | Kind::Objects(Shape::Result) => true,
+        _ => false,
+    }
+}
+
+fn is_any(kind: Kind) -> bool
+    ensures { result ≡ takes_all kind }
+{
+    match kind {
+        Kind::Any => true,
+        _ => false,
+    }
+}
+
+fn item_kind(kind: Kind) -> Option<Kind>
+    ensures { result ≡ kind_of_items kind }
+{
+    match kind {
+        Kind::Texts => Some(Kind::Text),
+        Kind::Objects(shape) => Some(Kind::Object(shape)),
+        _ => None,
+    }
+}
+
+fn member_kind(kind: Kind, name: &str) -> Kind
+    ensures { result ≡ kind_of_member kind name.now }
+{
+    match kind {
+        Kind::Object(shape) => kind_under(shape, name),
+        Kind::Named(shape) => Kind::Object(shape),
+        _ => Kind::Any,
+    }
+}
+
+fn here<'v>(alloc: Global, kind: Kind) -> Fault<'v>
+    ensures { fault_view result ≡ fault_here kind }
+{
+    Fault {
+        steps: Vec::new(alloc),
+        wanted: kind,
+    }
+}
+
+fn unless<'v>(alloc: Global, fits: bool, kind: Kind) -> Option<Fault<'v>>
+    ensures { option_map fault_view result ≡ fault_unless fits kind }
+{
+    if fits { None } else { Some(here(alloc, kind)) }
+}
+
+fn within<'v>(step: Step<'v>, mut fault: Fault<'v>) -> Result<Fault<'v>, AllocError>
+    ensures { IfOk result (λ it. fault_view it ≡ fault_within (step_view step.entry)
+        (fault_view fault.entry)) }
+{
+    fault.steps.push(step)?;
+    Ok(fault)
+}
+
+fn missing_key(keys: &'static [Key], value: &Value<'_>) -> Option<Key>
+    ensures { option_map key_view result ≡ key_missing (map key_view keys.now)
+        (value_view value.now) }
+{
+    for key in keys {
+        if key.must && value.get(key.name).is_none() {
+            return Some(*key);
+        }
+    }
+    None
+}
+
+fn missing<'v>(
+    alloc: Global,
+    shape: Shape,
+    value: &Value<'_>,
+) -> Result<Option<Fault<'v>>, AllocError>
+    ensures { IfOk result (λ it. option_map fault_view it
+        ≡ fault_missing shape (value_view value.now)) }
+{
+    match missing_key(keys_of(shape), value) {
+        Some(key) => Ok(Some(within(Step::Key(key.name), here(alloc, key.kind))?)),
+        None => Ok(None),
+    }
+}
+
+/// The first fault of a value, in reading order, if it isn't of the kind.
+#[cycle(fault)]
+#[tactic(auto, unfolding(crate::specs::Faults::fault_in))]
+pub fn find_fault<'d>(
+    alloc: Global,
+    kind: Kind,
+    value: &Value<'d>,
+) -> Result<Option<Fault<'d>>, AllocError>
+    ensures { IfOk result (λ it. option_map fault_view it ≡ fault_in kind (value_view value.now)) }
+{
+    match value {
+        Value::Null => Ok(unless(alloc, takes_null(kind), kind)),
+        Value::Bool(_) => Ok(unless(alloc, is_any(kind), kind)),
+        Value::Number(text) => Ok(unless(alloc, takes_number(kind, text), kind)),
+        Value::String(text) => Ok(unless(alloc, takes_text(kind, text), kind)),
+        Value::Array(items) => match item_kind(kind) {
+            Some(inner) => items_fault(alloc, inner, items),
+            None => Ok(unless(alloc, is_any(kind), kind)),
+        },
+        Value::Object(members) => match kind {
+            Kind::Any => Ok(None),
+            Kind::Named(_) => members_fault(alloc, kind, members),
+            Kind::Object(shape) => match members_fault(alloc, kind, members)? {
+                Some(fault) => Ok(Some(fault)),
+                None => missing(alloc, shape, value),
+            },
+            _ => Ok(Some(here(alloc, kind))),
+        },
+    }
+}
+
+#[cycle(fault)]
+#[tactic(auto, unfolding(crate::specs::Faults::fault_in))]
+fn items_fault<'d>(
+    alloc: Global,
+    kind: Kind,
+    items: &Vec<Value<'d>>,
+) -> Result<Option<Fault<'d>>, AllocError>
+    ensures { IfOk result (λ it. option_map fault_view it
+        ≡ fault_in_items kind 0 (items_view items.now.items)) }
+{
+    for (at, item) in items.iter().enumerate() {
+        if let Some(fault) = find_fault(alloc, kind, item)? {
+            return Ok(Some(within(Step::Index(at), fault)?));
+        }
+    }
+    Ok(None)
+}
+
+#[cycle(fault)]
+#[tactic(auto, unfolding(crate::specs::Faults::fault_in))]
+fn members_fault<'d>(
+    alloc: Global,
+    kind: Kind,
+    members: &Vec<(&'d str, Value<'d>)>,
+) -> Result<Option<Fault<'d>>, AllocError>
+    ensures { IfOk result (λ it. option_map fault_view it
+        ≡ fault_in_members kind (members_view members.now.items)) }
+{
+    for member in members {
+        if let Some(fault) = find_fault(alloc, member_kind(kind, member.0), &member.1)? {
+            return Ok(Some(within(Step::Key(member.0), fault)?));
+        }
+    }
+    Ok(None)
+}

@@ -1,0 +1,3 @@
+pub mod SpanLemmas
+pub mod RowLemmas
+pub mod OffsetLemmas
