@@ -160,3 +160,8 @@ front_boundary n all block text le is_block utf8 =
 
 pub written_once : (s text : List ℕ) → s ++ text ≡ s ++ repeated 1 text
 written_once s text = ap (λ l. l ++ text) (written_none s text) ∙ written_more s text 0
+
+-- a run, block by block, and one by one
+pub ruleset blocks_one_by_one = (block_more, blocks_end, blocks_none)
+
+pub ruleset chars_one_by_one = (written_none, written_more)

@@ -3,7 +3,7 @@ use Rattle.std.proofs.Common.{◌≡◌, ℕ, ◌+◌, ◌-◌, ◌<◌, ◌≤�
 use Rattle.std.proofs.lemmas.Bool.Decides.{nat_tests}
 use Rattle.std.proofs.lemmas.List.{at_drop_more, drop_all}
 use Rattle.oxc_plan.specs.declared.bars.Bar.{Bar}
-use Rattle.oxc_handlers.specs.declared.span.LabelRenderMode.{LabelRenderMode}
+use Rattle.oxc_handlers.specs.declared.text_lines.LabelRenderMode.{LabelRenderMode}
 use Rattle.oxc_handlers.specs.Setting.{SettingView}
 use Rattle.oxc_handlers.specs.Cells.{repeated}
 use Rattle.oxc_handlers.specs.Gutters.{bar_piece, passes, ends, turn, gutter_from, gutter, ending, below_from, gutter_below}
@@ -53,3 +53,8 @@ below_ends setting mode place bars i d lt end = at_drop_more (below_from setting
 pub below_none : (setting : SettingView) (mode : LabelRenderMode) (place : ℕ) (bars : List Bar) (i : ℕ) → length bars ≤ i → below_from setting mode place (drop i bars) ≡ repeated (setting.gutter + 3 - place) (encode_utf8 0x20)
 unfolding below_from
 below_none setting mode place bars i le = ap (below_from setting mode place) (drop_all i bars le)
+
+-- a row's gutter, bar by bar, and that of a line under it
+pub ruleset row_gutter = (gutter_zero, gutter_some, gutter_more, gutter_turns, gutter_none)
+
+pub ruleset under_gutter = (below_zero, below_some, below_more, below_ends, below_none)

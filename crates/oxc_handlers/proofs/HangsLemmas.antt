@@ -121,3 +121,6 @@ bar_reached setting label from marks i d lt here = at_drop_more (bars_to setting
 pub bars_end : (setting : SettingView) (label from : ℕ) (marks : List MarkCells) (i : ℕ) (out : List ℕ) → length marks ≤ i → out ++ bars_to setting label from (drop i marks) ≡ out
 unfolding bars_to
 bars_end setting label from marks i out le = ap (λ l. out ++ bars_to setting label from l) (drop_all i marks le) ∙ append-nil out
+
+-- the bars before that of a label, one by one
+pub ruleset bars_one_by_one = (bars_before_is, bars_more, bars_end, bar_reached)

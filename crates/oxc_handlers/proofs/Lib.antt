@@ -5,6 +5,7 @@ mod JsonReading
 mod StripsColors
 mod LinesColors
 pub mod ShownBytes
+mod ShownColumns
 mod SnippetColors
 pub mod SettingLemmas
 pub mod CellsLemmas
@@ -20,5 +21,6 @@ pub mod TabsLemmas
 pub mod ReportsLemmas
 pub mod KeepsLemmas
 pub mod PlacesLemmas
+mod UnderLemmas
 pub mod PlainLemmas
 pub mod TitleLemmas

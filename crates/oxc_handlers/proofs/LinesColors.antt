@@ -8,8 +8,8 @@ use Rattle.oxc_plan.specs.declared.bars.BarKind.TheVariants.{Passes, Starts, End
 use Rattle.oxc_plan.specs.declared.marks.MarkCells.{MarkCells}
 use Rattle.oxc_plan.specs.declared.hangs.Hang.{Hang}
 use Rattle.oxc_plan.specs.Plan.{RowPlanView}
-use Rattle.oxc_handlers.specs.declared.span.LabelRenderMode.{LabelRenderMode}
-use Rattle.oxc_handlers.specs.declared.span.LabelRenderMode.TheVariants.{SingleLine, BlockFirst, BlockRest}
+use Rattle.oxc_handlers.specs.declared.text_lines.LabelRenderMode.{LabelRenderMode}
+use Rattle.oxc_handlers.specs.declared.text_lines.LabelRenderMode.TheVariants.{SingleLine, BlockFirst, BlockRest}
 use Rattle.oxc_handlers.specs.Theme.{unicode_theme, unicode_nocolor_theme}
 use Rattle.oxc_handlers.specs.Setting.{SettingView, text_at, is_empty_at}
 use Rattle.oxc_handlers.specs.Cells.{repeated}

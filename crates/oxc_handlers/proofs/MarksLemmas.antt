@@ -96,3 +96,6 @@ drawn_marks_none setting out before marks i le = ap (λ l. out ++ drawn_marks se
 pub ordered_more : (before : ℕ) (marks : List MarkCells) (i : ℕ) (d : MarkCells) → i < length marks → AreOrdered before (drop i marks)
     → IsMark before (get_or marks i d) × AreOrdered (get_or marks i d).end (drop (i + 1) marks)
 ordered_more before marks i d lt ordered = subst (AreOrdered before) (at_drop_more (λ l. l) marks i d lt) ordered
+
+-- a mark line, mark by mark
+pub ruleset marks_one_by_one = (mark_line_is, drawn_marks_more, drawn_marks_none)

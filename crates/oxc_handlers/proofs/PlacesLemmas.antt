@@ -12,20 +12,20 @@ use Rattle.oxc_handlers.specs.Places.{first_turn, char_by, bar_at, char_from, Ha
 use Rattle.oxc_handlers.proofs.CellsLemmas.{cells_between, cells_from_to, cells_at, cells_agree, cells_first, repeated_first, repeated_none}
 use Rattle.oxc_handlers.proofs.GuttersLemmas.{gutter_some}
 
-abbrev PlainStyles : SettingView → Type 0
+abbrev pub PlainStyles : SettingView → Type 0
 PlainStyles setting = (label : ℕ) → highlight setting.theme label ≡ Plain
 
-styled_plain : (text : List ℕ) → styled Plain text ≡ text
+pub styled_plain : (text : List ℕ) → styled Plain text ≡ text
 unfolding styled
 styled_plain text = append-nil text
 
-run_plain : (setting : SettingView) (label n c : ℕ) → PlainStyles setting → run_of setting label n c ≡ repeated n (encode_utf8 c)
+pub run_plain : (setting : SettingView) (label n c : ℕ) → PlainStyles setting → run_of setting label n c ≡ repeated n (encode_utf8 c)
 run_plain setting label n c all = ap (λ style. styled style (repeated n (encode_utf8 c))) (all label) ∙ styled_plain (repeated n (encode_utf8 c))
 
 repeated_once : (text : List ℕ) → repeated 1 text ≡ text
 repeated_once text = repeated_first 0 text ∙ ap (λ l. text ++ l) (repeated_none text) ∙ append-nil text
 
-one_plain : (setting : SettingView) (label c : ℕ) → PlainStyles setting → run_of setting label 1 c ≡ encode_utf8 c
+pub one_plain : (setting : SettingView) (label c : ℕ) → PlainStyles setting → run_of setting label 1 c ≡ encode_utf8 c
 one_plain setting label c all = run_plain setting label 1 c all ∙ repeated_once (encode_utf8 c)
 
 -- the places of the first bar and of the others, where it passes
@@ -35,7 +35,7 @@ turn_passed bar more pass = rw pass (omega arith)
 turn_here : (bar : Bar) (more : List Bar) → passes bar.kind ≡ false → first_turn (bar ∷ more) ≡ 0
 turn_here bar more turns = rw turns refl
 
-next_lt : (a b : ℕ) → ltb (a + 1) (b + 1) ≡ ltb a b
+pub next_lt : (a b : ℕ) → ltb (a + 1) (b + 1) ≡ ltb a b
 next_lt a b = grind (arith, nat_tests)
 
 next_at : {A : Type 0} (x : A) (xs : List A) (i : ℕ) (d : A) → get_or (x ∷ xs) (i + 1) d ≡ get_or xs i d

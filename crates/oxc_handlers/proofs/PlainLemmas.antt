@@ -9,14 +9,11 @@ use Rattle.oxc_handlers.specs.Marks.{cell_at, mark_line, mark_pieces, AreOrdered
 use Rattle.oxc_handlers.specs.Places.{HasColumns, last_end}
 use Rattle.oxc_handlers.proofs.DrawableLemmas.{in_order}
 use Rattle.oxc_handlers.proofs.CellsLemmas.{cells_between, cells_none}
+use Rattle.oxc_handlers.proofs.PlacesLemmas.{styled_plain}
 
 last_end-le : (before : ℕ) (marks : List MarkCells) → AreOrdered before marks → before ≤ last_end before marks
 last_end-le before [] ordered = omega arith
 last_end-le before (m ∷ more) (mark, ordered) = omega (arith, mark.start, mark.bar, mark.end, last_end-le m.end more ordered)
-
-styled_plain : (text : List ℕ) → styled Plain text ≡ text
-unfolding styled
-styled_plain text = append-nil text
 
 pieces_plain : (setting : SettingView) (all : List MarkCells) (before : ℕ) (marks : List MarkCells) → ((label : ℕ) → highlight setting.theme label ≡ Plain) → AreOrdered before marks
     → mark_pieces setting all before marks ≡ cells (cell_at setting all) before (last_end before marks - before)

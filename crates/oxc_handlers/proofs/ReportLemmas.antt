@@ -88,16 +88,6 @@ pub no_label_snippets : (tab : ℕ) (parts : Parts) → length parts.labels ≡ 
 unfolding snippets_in
 no_label_snippets tab parts e = none_of tab parts.source parts.labels (nil_from_length parts.labels e)
 
--- a scanner that reads nothing reads on
-pub stands_still : (scan : Scan) → ReadsOn scan scan
-stands_still scan =
-    record {
-      same = record { input = refl; before = refl; after = refl };
-      first = λ first set. set;
-      stay = take_all (length scan.kept) scan.kept (omega arith);
-      rows = λ kept. kept;
-    }
-
 -- what a drawing that went on with a scanner leaves
 leaves : (parts : Parts) (source : SourceParts) (handed_in : Option Scan) (taken new : Scan) → parts.source ≡ Some source → IsTaken source.bytes handed_in taken → ReadsOn taken new
     → HoldsLabels taken.input parts.labels taken new → IsDrawerOf parts handed_in (Some new)

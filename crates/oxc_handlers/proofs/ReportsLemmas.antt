@@ -1,14 +1,16 @@
 -- Diagnostics by their views, and lists of them.
-use Rattle.std.proofs.Common.{◌≡◌, ℕ, ◌+◌, ◌<◌, ◌≤◌, List, [], ◌∷◌, ◌++◌, Some, Result, Ok, Err, MatchResult, All, length, map, take, drop, get_or, refl, sym, ap, subst, ◌∙◌, arith, append_assoc, zero, suc}
+use Rattle.std.proofs.Common.{◌≡◌, ℕ, ◌+◌, ◌<◌, ◌≤◌, List, [], ◌∷◌, ◌++◌, Option, Some, Result, Ok, Err, MatchResult, All, length, map, take, drop, get_or, refl, sym, ap, subst, ◌∙◌, arith, append_assoc, zero, suc}
 use Rattle.std.specs.List.{flat_map, slice_get}
 use Rattle.std.proofs.lemmas.List.{at_drop_more, length-map, map-append, take_all}
 use Rattle.std.proofs.lemmas.List.Elements.{All-more}
 use Rattle.oxc_protocol.specs.Parts.{Parts}
+use Rattle.oxc_handlers.specs.declared.view.DiagnosticView.{DiagnosticView}
 use Rattle.oxc_handlers.specs.declared.view.RenderError.{RenderError}
 use Rattle.oxc_handlers.specs.declared.view.RenderError.TheVariants.{LabelOutside, NotUtf8, SinkFault, OutOfMemory}
 use Rattle.oxc_handlers.specs.Handler.{Handler}
+use Rattle.oxc_handlers.specs.JsonView.{with_url}
 use Rattle.oxc_handlers.specs.Refusals.{IsFaultless, IsNoText, IsRefusal, error_at, outside_in}
-use Rattle.oxc_handlers.specs.Report.{drawn, name_in, plan_of, severity_in, snippets_in, title_of, without_url}
+use Rattle.oxc_handlers.specs.Report.{drawn, name_in, plan_of, severity_in, snippets_in, title_of, view_parts, without_url}
 use Rattle.oxc_handlers.specs.Reports.{IsListRefusal, IsSendRefusal, text_of}
 use Rattle.oxc_handlers.proofs.SettingLemmas.{get_or_map}
 
@@ -16,6 +18,10 @@ use Rattle.oxc_handlers.proofs.SettingLemmas.{get_or_map}
 pub text_of_view : (handler : Handler) (parts view : Parts) → view ≡ without_url parts → drawn handler.theme handler.width (plan_of handler.tab view) ≡ text_of handler parts
 unfolding text_of plan_of title_of severity_in name_in snippets_in
 text_of_view handler parts view e = ap (λ p. drawn handler.theme handler.width (plan_of handler.tab p)) e
+
+-- a view with the diagnostic's url shows all of it
+pub url_back : (parts : Parts) (view : DiagnosticView) (url : Option (List ℕ)) → view_parts view ≡ without_url parts → url ≡ parts.url → with_url view url ≡ parts
+url_back parts view url shown same = ap (λ (p : Parts). record p { url = url }) shown ∙ ap (λ (u : Option (List ℕ)). record parts { url = u }) same
 
 faultless_of : (parts : Parts) → IsFaultless (without_url parts) → IsFaultless parts
 faultless_of parts is = record { within = is.within; text = is.text }

@@ -32,3 +32,6 @@ all_map_at P f xs i x all lt e =
 pub labels_in_order : (labels : List Label) (order : List ℕ) → order ≡ label_order labels → map (λ at. ordered_label (label_at labels at)) order ≡ in_order labels
 unfolding in_order
 labels_in_order labels order e = ap (map (λ at. ordered_label (label_at labels at))) e
+
+-- what stands at a place of a list that is mapped
+pub ruleset at_mapped = (get_or_map, get_past_map)

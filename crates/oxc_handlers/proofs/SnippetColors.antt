@@ -6,10 +6,11 @@ use Rattle.std.specs.List.{onto_first}
 use Rattle.std.specs.Option.{option_map_or}
 use Rattle.std.specs.Str.{IsUtf8}
 use Rattle.std.proofs.lemmas.Bool.Decides.{nat_tests}
+use Rattle.oxc_windows.proofs.ListLemmas.{all_cons}
 use Rattle.oxc_plan.specs.declared.hangs.Hang.{Hang}
 use Rattle.oxc_plan.specs.Plan.{Ordered, RowPlanView, SnippetView}
-use Rattle.oxc_handlers.specs.declared.span.LabelRenderMode.{LabelRenderMode}
-use Rattle.oxc_handlers.specs.declared.span.LabelRenderMode.TheVariants.{BlockRest}
+use Rattle.oxc_handlers.specs.declared.text_lines.LabelRenderMode.{LabelRenderMode}
+use Rattle.oxc_handlers.specs.declared.text_lines.LabelRenderMode.TheVariants.{BlockRest}
 use Rattle.oxc_handlers.specs.Theme.{unicode_theme, unicode_nocolor_theme}
 use Rattle.oxc_handlers.specs.Setting.{SettingView, text_at}
 use Rattle.oxc_handlers.specs.Texts.{shown_text}
@@ -55,10 +56,6 @@ Clean text = has_no_escape text ≡ true
 
 all_tail : {X : Type 0} (P : X → Type 0) (x : X) (xs : List X) → All P (x ∷ xs) → All P xs
 all_tail P x xs all k d lt = all (suc k) d (omega arith)
-
-all_cons : {X : Type 0} (P : X → Type 0) (x : X) (xs : List X) → P x → All P xs → All P (x ∷ xs)
-all_cons P x xs px all zero d lt = px
-all_cons P x xs px all (suc k) d lt = all k d (omega arith)
 
 clean_onto : (b : ℕ) (parts : List (List ℕ)) → eqb b 0x1B ≡ false → All Clean parts → All Clean (onto_first b parts)
 clean_onto b [] other all = all_cons Clean (b ∷ []) [] (rw other refl) all

@@ -7,6 +7,8 @@ use Rattle.std.proofs.lemmas.Str.{chars_past_char, encodes-chars, length-le-enco
 use Rattle.oxc_plan.specs.declared.columns.Pen.{Pen}
 use Rattle.oxc_plan.specs.Width.{with_lead, led, moved}
 use Rattle.oxc_handlers.specs.Texts.{shown_char, shown_from}
+-- the pen over a character, and the room that is left for it
+pub use Rattle.oxc_plan.proofs.WidthLemmas.{char_step, one_char_less, few_chars}
 
 pub shown_none : (tab : ℕ) (pen : Pen) (out : List ℕ) → out ++ shown_from tab pen [] ≡ out
 unfolding shown_from
@@ -36,13 +38,5 @@ pub shown_cluster : (out : List ℕ) (tab : ℕ) (pen : Pen) (cluster : List ℕ
 shown_cluster out tab pen cluster clusters =
     append_assoc out _ _ ∙ ap (λ l. out ++ l) (sym (shown_append tab pen (led cluster) (flat_map led clusters)))
 
--- the pen over a character, and the room that is left for it
-pub char_step : (tab : ℕ) (pen : Pen) (lead c : ℕ) (bytes rest : List ℕ) → IsUtf8 bytes → bytes ≡ encode_utf8 c ++ rest
-    → fold (moved tab) (moved tab pen (lead, c)) (with_lead 0 (chars rest)) ≡ fold (moved tab) pen (with_lead lead (chars bytes))
-char_step tab pen lead c bytes rest utf8 e = ap (λ cs. fold (moved tab) pen (with_lead lead cs)) (sym (chars_past_char bytes rest c utf8 e))
-
-pub one_char_less : (c : ℕ) (bytes rest : List ℕ) → IsUtf8 bytes → bytes ≡ encode_utf8 c ++ rest → length (chars bytes) ≡ length (chars rest) + 1
-one_char_less c bytes rest utf8 e = omega (arith, ap length (chars_past_char bytes rest c utf8 e))
-
-pub few_chars : (bytes : List ℕ) → IsUtf8 bytes → length (chars bytes) ≤ length bytes
-few_chars bytes utf8 = omega (arith, length-le-encodes (chars bytes), ap length (encodes-chars bytes utf8))
+-- a text, cluster by cluster
+pub ruleset clusters_one_by_one = (shown_cluster, shown_none)

@@ -4,8 +4,8 @@ use Rattle.std.specs.Option.{is_some}
 use Rattle.oxc_plan.specs.declared.bars.Bar.{Bar}
 use Rattle.oxc_plan.specs.declared.bars.BarKind.{BarKind}
 use Rattle.oxc_plan.specs.declared.bars.BarKind.TheVariants.{Passes, Starts, Ends}
-use Rattle.oxc_handlers.specs.declared.span.LabelRenderMode.{LabelRenderMode}
-use Rattle.oxc_handlers.specs.declared.span.LabelRenderMode.TheVariants.{SingleLine, BlockFirst, BlockRest}
+use Rattle.oxc_handlers.specs.declared.text_lines.LabelRenderMode.{LabelRenderMode}
+use Rattle.oxc_handlers.specs.declared.text_lines.LabelRenderMode.TheVariants.{SingleLine, BlockFirst, BlockRest}
 use Rattle.oxc_handlers.specs.Cells.{repeated}
 use Rattle.oxc_handlers.specs.Setting.{SettingView, text_at, highlight}
 use Rattle.oxc_handlers.specs.Theme.{styled}

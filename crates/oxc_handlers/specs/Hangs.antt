@@ -4,8 +4,8 @@ use Rattle.std.specs.List.{find, position_or_len, list_any}
 use Rattle.std.specs.Option.{option_map_or}
 use Rattle.oxc_plan.specs.declared.marks.MarkCells.{MarkCells}
 use Rattle.oxc_plan.specs.declared.hangs.Hang.{Hang}
-use Rattle.oxc_handlers.specs.declared.span.LabelRenderMode.{LabelRenderMode}
-use Rattle.oxc_handlers.specs.declared.span.LabelRenderMode.TheVariants.{SingleLine, BlockFirst, BlockRest}
+use Rattle.oxc_handlers.specs.declared.text_lines.LabelRenderMode.{LabelRenderMode}
+use Rattle.oxc_handlers.specs.declared.text_lines.LabelRenderMode.TheVariants.{SingleLine, BlockFirst, BlockRest}
 use Rattle.oxc_handlers.specs.Cells.{repeated, cells}
 use Rattle.oxc_handlers.specs.Gutters.{bar_piece}
 use Rattle.oxc_handlers.specs.Setting.{SettingView, highlight}

@@ -23,3 +23,4 @@ pub mod Scanners
 pub mod Reports
 pub mod Keeping
 pub mod Places
+pub mod ShownRows

@@ -9,7 +9,9 @@ use Rattle.oxc_plan.specs.declared.marks.MarkCells.{MarkCells}
 use Rattle.oxc_handlers.specs.declared.theme.GraphicalTheme.{GraphicalTheme}
 use Rattle.oxc_handlers.specs.declared.theme.Style.TheVariants.{Plain}
 use Rattle.oxc_handlers.specs.Cells.{cells}
-use Rattle.oxc_handlers.specs.Gutters.{passes, corner, gutter}
+use Rattle.oxc_handlers.specs.declared.text_lines.LabelRenderMode.{LabelRenderMode}
+use Rattle.oxc_handlers.specs.declared.text_lines.LabelRenderMode.TheVariants.{SingleLine, BlockFirst, BlockRest}
+use Rattle.oxc_handlers.specs.Gutters.{passes, ends, corner, gutter, gutter_below}
 use Rattle.oxc_handlers.specs.Marks.{cell_at, mark_line}
 use Rattle.oxc_handlers.specs.Setting.{SettingView, highlight}
 
@@ -45,6 +47,47 @@ abbrev pub HasPlaces : SettingView → List Bar → Type 0
 HasPlaces setting bars =
     HasPlainLabels setting → 0 < setting.gutter → length bars ≤ setting.gutter
     → gutter setting bars ≡ cells (λ p. encode_utf8 (char_from setting 0 bars p)) 0 (setting.gutter + 3)
+
+-- the first place whose label ends in the row, or the number of bars
+abbrev pub first_end : List Bar → ℕ
+first_end bars = position_or_len (λ b. ends b.kind) bars
+
+-- what stands under a row from the place of a label that ends on: its corner and a line from it, but nothing beside a later line of
+-- its text
+abbrev pub ending_char : SettingView → LabelRenderMode → ℕ → ℕ → ℕ
+ending_char setting SingleLine corner_at p = if p == corner_at then setting.theme.characters.lbot else setting.theme.characters.hbar
+ending_char setting BlockFirst corner_at p = if p == corner_at then setting.theme.characters.lbot else setting.theme.characters.hbar
+ending_char setting BlockRest corner_at p = 0x20
+
+-- the places that it goes up to: one less beside a text of several lines, which has a bar of its own there
+abbrev pub ending_places : LabelRenderMode → ℕ → ℕ
+ending_places SingleLine width = width + 3
+ending_places BlockFirst width = width + 2
+ending_places BlockRest width = width + 2
+
+-- the character at a place under a row, where the first label that ends stands at `corner_at`, if there is one: a bar before it, what
+-- ends there from it on, and spaces where none ends
+abbrev pub under_by : SettingView → LabelRenderMode → ℕ → Bool → ℕ → ℕ
+under_by setting mode corner_at there p =
+    if nat_lt p corner_at then setting.theme.characters.vbar
+    else if there then ending_char setting mode corner_at p
+    else 0x20
+
+-- the character at a place under a row, where the bars stand from `place` on
+unfoldable pub char_under : SettingView → LabelRenderMode → ℕ → List Bar → ℕ → ℕ
+char_under setting mode place bars p = under_by setting mode (place + first_end bars) (nat_lt (first_end bars) (length bars)) p
+
+-- the places of the gutter under a row
+abbrev pub places_under : SettingView → LabelRenderMode → List Bar → ℕ
+places_under setting mode bars =
+    if nat_lt (first_end bars) (length bars) then ending_places mode setting.gutter
+    else setting.gutter + 3
+
+-- the law: without styles the gutter under a row has one character for each of its places, whatever line stands beside it
+abbrev pub HasPlacesUnder : SettingView → List Bar → Type 0
+HasPlacesUnder setting bars =
+    (mode : LabelRenderMode) → HasPlainLabels setting → 0 < setting.gutter → length bars ≤ setting.gutter
+    → gutter_below setting mode bars ≡ cells (λ p. encode_utf8 (char_under setting mode 0 bars p)) 0 (places_under setting mode bars)
 
 -- where the last mark ends
 abbrev pub last_end : ℕ → List MarkCells → ℕ

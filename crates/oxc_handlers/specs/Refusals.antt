@@ -1,5 +1,5 @@
 -- Why a report is not drawn.
-use Rattle.std.specs.Prelude.{◌≡◌, ℕ, ◌<◌, ◌≤◌, nat_lt, List, length, All, Option, Some, None, IfSome, ⊤}
+use Rattle.std.specs.Prelude.{◌≡◌, ℕ, ◌<◌, ◌≤◌, nat_lt, List, length, All, Option, Some, None, IfSome, Result, MatchResult, ⊤}
 use Rattle.std.specs.List.{position}
 use Rattle.std.specs.Option.{option_and_then}
 use Rattle.std.specs.Str.{IsUtf8, IsValidUpTo}
@@ -36,6 +36,10 @@ IsRefusal place parts (LabelOutside report label) = (report ≡ place) × (outsi
 IsRefusal place parts (NotUtf8 report valid_up_to) = (report ≡ place) × (outside_in parts ≡ None) × IsNoText parts valid_up_to
 IsRefusal place parts SinkFault = ⊥
 IsRefusal place parts OutOfMemory = ⊤
+
+-- an answer comes only where the diagnostic can be drawn, and an error only for a reason
+abbrev pub IsJudged : {A : Type 0} → Parts → Result A RenderError → Type 0
+IsJudged parts result = MatchResult result (λ _. IsFaultless parts) (IsRefusal 0 parts)
 
 -- the same error of the report at another place
 abbrev pub error_at : ℕ → RenderError → RenderError

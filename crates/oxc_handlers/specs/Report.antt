@@ -10,6 +10,7 @@ use Rattle.oxc_protocol.specs.declared.protocol.Severity.TheVariants.{Error, War
 use Rattle.oxc_handlers.specs.declared.theme.GraphicalTheme.{GraphicalTheme}
 use Rattle.oxc_handlers.specs.declared.theme.Style.{Style}
 use Rattle.oxc_handlers.specs.declared.view.DiagnosticView.{DiagnosticView}
+use Rattle.oxc_handlers.specs.Handler.{Handler}
 use Rattle.oxc_handlers.specs.RowLines.{lf}
 use Rattle.oxc_handlers.specs.Snippet.{drawn_snippet}
 use Rattle.oxc_handlers.specs.Theme.{styled}
@@ -121,3 +122,16 @@ drawn_snippets theme plan = flat_map (drawn_snippet theme plan.tab plan.labels p
 unfoldable pub drawn : GraphicalTheme → ℕ → Plan → List ℕ
 drawn theme width plan =
     lf ++ title theme width plan ++ drawn_snippets theme plan ++ help_of theme width plan ++ note_of theme width plan
+
+-- the report of a diagnostic, as a handler draws it
+abbrev pub report_of : Handler → Parts → List ℕ
+report_of handler parts = drawn handler.theme handler.width (plan_of handler.tab parts)
+
+-- the title of a diagnostic by a theme, filled to a width
+abbrev pub filled_title : GraphicalTheme → ℕ → Severity → Parts → List ℕ
+filled_title theme width severity parts =
+    filled width
+    (title_indent theme severity (icon theme severity))
+    (title_indent theme severity theme.characters.vbar)
+    (styled (severity_style theme severity) (title_of parts))
+    ++ lf

@@ -4,8 +4,8 @@ use Rattle.std.specs.List.{flat_map, slice_split}
 use Rattle.std.specs.Option.{option_map_or}
 use Rattle.oxc_plan.specs.Plan.{RowPlanView}
 use Rattle.oxc_plan.specs.declared.hangs.Hang.{Hang}
-use Rattle.oxc_handlers.specs.declared.span.LabelRenderMode.{LabelRenderMode}
-use Rattle.oxc_handlers.specs.declared.span.LabelRenderMode.TheVariants.{SingleLine, BlockFirst, BlockRest}
+use Rattle.oxc_handlers.specs.declared.text_lines.LabelRenderMode.{LabelRenderMode}
+use Rattle.oxc_handlers.specs.declared.text_lines.LabelRenderMode.TheVariants.{SingleLine, BlockFirst, BlockRest}
 use Rattle.oxc_handlers.specs.Cells.{repeated}
 use Rattle.oxc_handlers.specs.Gutters.{gutter, gutter_below, run_of}
 use Rattle.oxc_handlers.specs.Hangs.{hanging_line, has_mark}
@@ -68,6 +68,10 @@ hang_line setting row hang line = other_front setting ++ gutter_below setting Si
 unfoldable pub hang_lines : SettingView → RowPlanView → Hang → List ℕ
 hang_lines setting row hang = flat_map (hang_line setting row hang) (label_lines setting hang.label)
 
+-- the lines of all texts that hang at the marks of the row, from the last label to the first
+abbrev pub hanging_lines : SettingView → RowPlanView → List ℕ
+hanging_lines setting row = flat_map (hang_lines setting row) (reverse row.hangs)
+
 -- what ties the text of a label to the gutter in which it ends
 unfoldable pub end_connector : SettingView → LabelRenderMode → ℕ
 end_connector setting SingleLine = setting.theme.characters.hbar
@@ -82,14 +86,18 @@ end_line setting row label line =
 unfoldable pub end_lines : SettingView → RowPlanView → ℕ → List ℕ
 end_lines setting row label = flat_map (end_line setting row label) (label_lines setting label)
 
+-- the lines of all texts of labels that end in the row
+abbrev pub ending_lines : SettingView → RowPlanView → List ℕ
+ending_lines setting row = flat_map (end_lines setting row) row.ends
+
 -- all lines of a row: itself, its marks, the texts that hang at them from the last label to the first, and the texts of the
 -- labels that end in it
 unfoldable pub row_lines : SettingView → RowPlanView → List ℕ
 row_lines setting row =
     row_line setting row
     ++ marks_line setting row
-    ++ flat_map (hang_lines setting row) (reverse row.hangs)
-    ++ flat_map (end_lines setting row) row.ends
+    ++ hanging_lines setting row
+    ++ ending_lines setting row
 
 -- a row that can be drawn
 pub record IsRow (setting : SettingView) (row : RowPlanView) : Type 0 where

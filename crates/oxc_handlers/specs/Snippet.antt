@@ -50,6 +50,16 @@ drawn_snippet theme tab labels name snippet = drawn_by (setting_of theme tab lab
 abbrev pub IsSnippet : GraphicalTheme → ℕ → List Ordered → SnippetView → Type 0
 IsSnippet theme tab labels snippet = All (IsRow (setting_of theme tab labels snippet)) snippet.rows
 
+-- the same by a setting: what depends on the snippet is made anew for it
+abbrev pub drawn_one : SettingView → Option (List ℕ) → SnippetView → List ℕ
+drawn_one setting name snippet = drawn_snippet setting.theme setting.tab setting.labels name snippet
+
+abbrev pub drawn_all : SettingView → Option (List ℕ) → List SnippetView → List ℕ
+drawn_all setting name snippets = flat_map (drawn_snippet setting.theme setting.tab setting.labels name) snippets
+
+abbrev pub IsSnippetIn : SettingView → SnippetView → Type 0
+IsSnippetIn setting snippet = IsSnippet setting.theme setting.tab setting.labels snippet
+
 -- snippets of a short source that can be drawn, where there are so many labels
 abbrev pub AreDrawable : ℕ → List SnippetView → Type 0
 AreDrawable count snippets = (len : ℕ) × (len < 2 ^ 32) × All (IsDrawable len count) snippets

@@ -1,12 +1,13 @@
 //! What stands to the left of a source text: row numbers, and the bars of labels over several rows.
 ghost use Rattle.std.specs.Prelude.{◌≡◌, ◌+◌, ◌-◌, ◌≤◌, ◌<◌, ◌^◌, OnOk, length};
 ghost use Rattle.textwrap.specs.Appends.{Appends};
-ghost use Rattle.oxc_handlers.specs.Gutters.{bar_piece, below_from, corner, ending, ends, gutter, gutter_below, gutter_from, passes, turn};
+ghost use Rattle.oxc_handlers.specs.Gutters.{bar_piece, below_from, corner, ending, ends, gutter};
+ghost use Rattle.oxc_handlers.specs.Gutters.{gutter_below, gutter_from, passes, turn};
 ghost use Rattle.oxc_handlers.specs.RowLines.{other_front, padded, row_front};
 
 use crate::runs::{write_spaces, write_styled_run};
 use crate::setting::Setting;
-use crate::span::LabelRenderMode;
+use crate::text_lines::LabelRenderMode;
 use itoa::Buffer;
 use oxc_plan::{Bar, BarKind};
 use std::alloc::AllocError;
@@ -55,8 +56,9 @@ pub(crate) fn write_no_linum(out: &mut String, setting: &Setting<'_>) -> Result<
     Ok(())
 }
 
-/// Appends the gutter of a row: the bars that pass it, up to the first label that starts or ends there.
-#[tactic(auto, using(crate::proofs::GuttersLemmas::gutter_zero, crate::proofs::GuttersLemmas::gutter_some, crate::proofs::GuttersLemmas::gutter_more, crate::proofs::GuttersLemmas::gutter_turns, crate::proofs::GuttersLemmas::gutter_none))]
+/// Appends the gutter of a row: the bars that pass it, up to the first label that starts or ends
+/// there.
+#[tactic(auto, using(crate::proofs::GuttersLemmas::row_gutter))]
 pub(crate) fn render_line_gutter(
     out: &mut String,
     setting: &Setting<'_>,
@@ -80,8 +82,9 @@ pub(crate) fn render_line_gutter(
     write_spaces(out, setting.gutter + 3 - place)
 }
 
-/// Appends the gutter of a line under a row: the bars that go on, up to the first label that ends in the row.
-#[tactic(auto, using(crate::proofs::GuttersLemmas::below_zero, crate::proofs::GuttersLemmas::below_some, crate::proofs::GuttersLemmas::below_more, crate::proofs::GuttersLemmas::below_ends, crate::proofs::GuttersLemmas::below_none))]
+/// Appends the gutter of a line under a row: the bars that go on, up to the first label that ends
+/// in the row.
+#[tactic(auto, using(crate::proofs::GuttersLemmas::under_gutter))]
 pub(crate) fn render_highlight_gutter(
     out: &mut String,
     setting: &Setting<'_>,

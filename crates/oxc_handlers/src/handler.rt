@@ -5,7 +5,8 @@ use crate::theme::GraphicalTheme;
 use oxc_plan::TabWidth;
 use std::marker::Model;
 
-/// Draws reports by a theme, filled to a width, where tabs stop at multiples of a number of columns.
+/// Draws reports by a theme, filled to a width, where tabs stop at multiples of a number of
+/// columns.
 #[derive(Clone, Copy, Debug)]
 pub struct GraphicalReportHandler {
     pub(crate) termwidth: usize,
@@ -18,9 +19,17 @@ impl Model for GraphicalReportHandler {
 
     ghost Value = { Handler };
 
-    ghost view = { λ handler. record { theme = handler.theme; width = handler.termwidth; tab = handler.tabs } };
+    ghost view = { λ handler. record {
+      theme = handler.theme;
+      width = handler.termwidth;
+      tab = handler.tabs;
+    } };
 
-    ghost inverse = { λ handler. record { termwidth = handler.width; theme = handler.theme; tabs = handler.tab } };
+    ghost inverse = { λ handler. record {
+      termwidth = handler.width;
+      theme = handler.theme;
+      tabs = handler.tab;
+    } };
 }
 
 impl GraphicalReportHandler {

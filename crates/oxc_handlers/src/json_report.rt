@@ -1,15 +1,16 @@
 //! Reports as JSON, for programs to read.
-ghost use Rattle.std.specs.Prelude.{◌≡◌, ◌++◌, ◌≤◌, OnOk, IfOk, IfErr, IsErrOf, string_bytes, All};
+ghost use Rattle.std.specs.Prelude.{◌≡◌, ◌≤◌, OnOk, IfOk, IfErr, IsErrOf, string_bytes, All};
 ghost use Rattle.std.specs.Option.{option_copied};
-ghost use Rattle.std.specs.Io.KnownBytes.{Appends};
+ghost use Rattle.textwrap.specs.Appends.{Appends};
 ghost use Rattle.oxc_protocol.specs.Faults.{Rose};
 ghost use Rattle.oxc_protocol.specs.SourceViews.{ref_views};
 ghost use Rattle.oxc_handlers.specs.JsonPlaces.{read_bytes, ReadsRowsAlone};
 ghost use Rattle.oxc_handlers.specs.JsonView.{with_url};
 ghost use Rattle.oxc_handlers.specs.Report.{view_parts};
-ghost use Rattle.oxc_handlers.specs.JsonText.{details, file_name, json_of, severity_name as word_for, source_bytes};
+ghost use Rattle.oxc_handlers.specs.JsonText.{details, file_name, json_of};
+ghost use Rattle.oxc_handlers.specs.JsonText.{severity_name as word_for, source_bytes};
 ghost use Rattle.oxc_handlers.specs.JsonValue.{ReadsBack};
-ghost use Rattle.oxc_handlers.specs.JsonSent.{LeavesJson};
+ghost use Rattle.oxc_handlers.specs.JsonSent.{LeavesJson, Receives};
 ghost use Rattle.oxc_handlers.specs.JsonRange.{IsInRange};
 
 mod escape;
@@ -27,8 +28,18 @@ use oxc_windows::SpanScanner;
 use std::alloc::{AllocError, Global};
 
 /// Renders diagnostics as JSON, one object each. It has no options.
-#[derive(Clone, Copy, Debug, Default)]
+#[derive(Clone, Copy, Debug)]
 pub struct JSONReportHandler;
+
+impl Default for JSONReportHandler {
+    ghost use Rattle.std.specs.Prelude.{◌≡◌};
+
+    ghost is_default = { λ handler. handler ≡ record {} };
+
+    fn default() -> Self {
+        JSONReportHandler::new()
+    }
+}
 
 impl JSONReportHandler {
     /// The handler.
@@ -41,22 +52,26 @@ impl JSONReportHandler {
 
     /// Sends a diagnostic to the sink as one JSON object, with no line break behind it.
     ///
-    /// The whole text is built before its first byte goes out. No diagnostic is refused: a label that ends past
-    /// its source has no line and no column.
+    /// The whole text is built before its first byte goes out. No diagnostic is refused: a label
+    /// that ends past its source has no line and no column.
     ///
     /// # Errors
     ///
-    /// `OutOfMemory`, and nothing was written; `SinkFault`, and the sink took a first part of the text.
+    /// `OutOfMemory`, and nothing was written; `SinkFault`, and the sink took a first part of the
+    /// text.
     pub fn render_report<K: Sink>(
         &self,
         alloc: Global,
         sink: &mut K,
         diagnostic: &dyn Diagnostic,
     ) -> Result<(), RenderError>
-        ensures sent { OnOk result (Appends (K.received sink.old) (K.received sink.new) (json_of (parts diagnostic.now))) }
+        ensures sent { OnOk result (Receives (K.received sink.old) (K.received sink.new)
+            (json_of (parts diagnostic.now))) }
         ensures reads_back { OnOk result (ReadsBack (parts diagnostic.now)) }
-        ensures left { IfErr result (LeavesJson (K.received sink.old) (K.received sink.new) (json_of (parts diagnostic.now))) }
-        ensures fault { IsErrOf result RenderError.SinkFault → Rose (K.faults sink.old) (K.faults sink.new) }
+        ensures left { IfErr result (LeavesJson (K.received sink.old) (K.received sink.new)
+            (json_of (parts diagnostic.now))) }
+        ensures fault { IsErrOf result RenderError.SinkFault
+            → Rose (K.faults sink.old) (K.faults sink.new) }
         ensures later { K.faults sink.old ≤ K.faults sink.new }
     {
         let text = json_text(alloc, diagnostic)?;
@@ -65,21 +80,13 @@ impl JSONReportHandler {
     }
 }
 
-// The JSON of a diagnostic.
+/// The JSON of a diagnostic.
 fn json_text(alloc: Global, diagnostic: &dyn Diagnostic) -> Result<String, AllocError>
     ensures text { IfOk result (λ text. string_bytes text ≡ json_of (parts diagnostic.now)) }
     ensures reads_back { OnOk result (ReadsBack (parts diagnostic.now)) }
 {
     let code = diagnostic.code(alloc)?;
-    let view = DiagnosticView {
-        message: diagnostic.message(),
-        code: code.as_deref(),
-        severity: diagnostic.severity(),
-        help: diagnostic.help(),
-        note: diagnostic.note(),
-        source: diagnostic.source_code(),
-        labels: diagnostic.labels(),
-    };
+    let view = DiagnosticView::of(diagnostic, code.as_deref());
     let mut text = String::new(alloc);
     push_json(&mut text, alloc, &view, diagnostic.url())?;
     Ok(text)
@@ -87,7 +94,8 @@ fn json_text(alloc: Global, diagnostic: &dyn Diagnostic) -> Result<String, Alloc
 
 /// Appends a report as one JSON object, with no line break behind it.
 ///
-/// A view has no url, so that comes beside it. What is appended is read back, as JSON, as the value that is meant.
+/// A view has no url, so that comes beside it. What is appended is read back, as JSON, as the value
+/// that is meant.
 ///
 /// # Errors
 ///
@@ -98,17 +106,19 @@ pub fn push_json(
     view: &DiagnosticView<'_>,
     url: Option<&str>,
 ) -> Result<(), AllocError>
-    ensures text { OnOk result (string_bytes out.new ≡ string_bytes out.old ++ json_of (with_url view.now (option_copied url.entry))) }
+    ensures text { OnOk result (Appends out.old out.new
+        (json_of (with_url view.now (option_copied url.entry)))) }
     ensures reads_back { OnOk result (ReadsBack (with_url view.now (option_copied url.entry))) }
 {
     let mut scanner = scanner_of(alloc, view.source);
     push_json_with_scanner(out, view, url, &mut scanner)
 }
 
-/// Appends what [`push_json`] does, with the places of labels by a scanner that the caller keeps for many reports on one source.
+/// Appends what [`push_json`] does, with the places of labels by a scanner that the caller keeps
+/// for many reports on one source.
 ///
-/// The scanner reads the view's source, with no rows of context round a span; where the view has no source, there is none.
-/// It is left fit for the next report, whatever the answer.
+/// The scanner reads the view's source, with no rows of context round a span; where the view has no
+/// source, there is none. It is left fit for the next report, whatever the answer.
 ///
 /// # Errors
 ///
@@ -121,7 +131,8 @@ pub fn push_json_with_scanner<'a>(
 ) -> Result<(), AllocError>
     requires source { read_bytes scanner.old ≡ source_bytes (view_parts view.now).source }
     requires alone { ReadsRowsAlone scanner.old }
-    ensures text { OnOk result (string_bytes out.new ≡ string_bytes out.old ++ json_of (with_url view.now (option_copied url.entry))) }
+    ensures text { OnOk result (Appends out.old out.new
+        (json_of (with_url view.now (option_copied url.entry)))) }
     ensures reads_back { OnOk result (ReadsBack (with_url view.now (option_copied url.entry))) }
     ensures same { read_bytes scanner.new ≡ read_bytes scanner.old }
     ensures alone { ReadsRowsAlone scanner.new }
@@ -132,7 +143,7 @@ pub fn push_json_with_scanner<'a>(
     answer
 }
 
-// A scanner that finds the places of labels in a source. It takes no memory.
+/// A scanner that finds the places of labels in a source. It takes no memory.
 fn scanner_of<'a>(alloc: Global, source: Option<SourceRef<'a>>) -> Option<SpanScanner<'a>>
     ensures source { read_bytes result ≡ source_bytes (ref_views source.entry) }
     ensures alone { ReadsRowsAlone result }
@@ -143,7 +154,7 @@ fn scanner_of<'a>(alloc: Global, source: Option<SourceRef<'a>>) -> Option<SpanSc
     }
 }
 
-// Appends a report whose labels have these places.
+/// Appends a report whose labels have these places.
 #[tactic(auto, unfolding(crate::specs::JsonText::json_of))]
 fn push_report(
     out: &mut String,
@@ -152,7 +163,8 @@ fn push_report(
     places: &mut Places<'_>,
 ) -> Result<(), AllocError>
     requires { places.old ≡ source_bytes (view_parts view.now).source }
-    ensures text { OnOk result (string_bytes out.new ≡ string_bytes out.old ++ json_of (with_url view.now (option_copied url.entry))) }
+    ensures text { OnOk result (Appends out.old out.new
+        (json_of (with_url view.now (option_copied url.entry)))) }
     ensures reads_back { OnOk result (ReadsBack (with_url view.now (option_copied url.entry))) }
     ensures same { places.new ≡ places.old }
 {
@@ -171,7 +183,8 @@ fn push_details(
     view: &DiagnosticView<'_>,
     url: Option<&str>,
 ) -> Result<(), AllocError>
-    ensures { OnOk result (string_bytes out.new ≡ string_bytes out.old ++ details (with_url view.now (option_copied url.entry))) }
+    ensures { OnOk result (Appends out.old out.new
+        (details (with_url view.now (option_copied url.entry)))) }
 {
     push_optional(out, "url", url)?;
     push_optional(out, "help", view.help)?;
@@ -179,7 +192,7 @@ fn push_details(
     push_optional(out, "filename", file_name(view.source))
 }
 
-// The word for a severity.
+/// The word for a severity.
 fn severity_name(severity: Option<Severity>) -> &'static str
     ensures { result.now ≡ word_for severity }
 {
@@ -190,7 +203,7 @@ fn severity_name(severity: Option<Severity>) -> &'static str
     }
 }
 
-// A source's name, which is empty where the source has none.
+/// A source's name, which is empty where the source has none.
 fn file_name(source: Option<SourceRef<'_>>) -> Option<&str>
     ensures { option_copied result ≡ file_name (ref_views source.entry) }
 {

@@ -1,16 +1,20 @@
-//! What stands under a row: its marks, the texts that hang at them, and the texts of the labels that end there.
-ghost use Rattle.std.specs.Prelude.{◌≡◌, ◌++◌, OnOk, reverse, string_bytes, true};
+//! What stands under a row: its marks, the texts that hang at them, and the texts of the labels
+//! that end there.
+ghost use Rattle.std.specs.Prelude.{◌≡◌, ◌++◌, OnOk};
 ghost use Rattle.std.specs.List.{flat_map};
+ghost use Rattle.textwrap.specs.Appends.{Appends};
 ghost use Rattle.oxc_plan.specs.Plan.{row_plan_view};
-ghost use Rattle.oxc_handlers.specs.Hangs.{has_mark};
-ghost use Rattle.oxc_handlers.specs.RowLines.{IsRow, end_connector, end_line, end_lines, hang_line, hang_lines, lines_of, marks_line, with_modes};
+ghost use Rattle.oxc_handlers.specs.RowLines.{IsRow, end_connector, end_line, end_lines};
+ghost use Rattle.oxc_handlers.specs.RowLines.{ending_lines, hanging_lines, lines_of, marks_line};
+ghost use Rattle.oxc_handlers.specs.RowLines.{with_modes};
 
 use crate::gutter::{render_highlight_gutter, write_no_linum};
-use crate::marks::{write_hanging_line, write_marks};
+use crate::hangs::write_hangs;
+use crate::marks::write_marks;
 use crate::runs::write_styled_run;
 use crate::setting::Setting;
-use crate::span::{LabelRenderMode, first_line, first_mode};
-use oxc_plan::{Hang, RowPlan};
+use crate::text_lines::{LabelRenderMode, first_line, first_mode};
+use oxc_plan::RowPlan;
 use std::alloc::AllocError;
 
 /// Appends the marks under a row, and the texts that hang at them, the last label's first.
@@ -20,7 +24,8 @@ pub(crate) fn render_single_line_highlights(
     row: &RowPlan<'_>,
 ) -> Result<(), AllocError>
     requires { IsRow setting.now (row_plan_view row.now) }
-    ensures { OnOk result (string_bytes out.new ≡ string_bytes out.old ++ marks_line setting.now (row_plan_view row.now) ++ flat_map (hang_lines setting.now (row_plan_view row.now)) (reverse (row_plan_view row.now).hangs)) }
+    ensures { OnOk result (Appends out.old out.new (marks_line setting.now (row_plan_view row.now)
+        ++ hanging_lines setting.now (row_plan_view row.now))) }
 {
     write_mark_line(out, setting, row)?;
     write_hangs(out, setting, row)
@@ -34,7 +39,8 @@ fn write_mark_line(
     row: &RowPlan<'_>,
 ) -> Result<(), AllocError>
     requires { IsRow setting.now (row_plan_view row.now) }
-    ensures { OnOk result (string_bytes out.new ≡ string_bytes out.old ++ marks_line setting.now (row_plan_view row.now)) }
+    ensures { OnOk result
+        (Appends out.old out.new (marks_line setting.now (row_plan_view row.now))) }
 {
     if row.marks.len() == 0 {
         return Ok(());
@@ -45,82 +51,6 @@ fn write_mark_line(
     out.push('\n')
 }
 
-/// Appends the texts that hang at the marks of a row, the last label's first.
-#[tactic(auto, using(crate::proofs::LinesLemmas::back_all))]
-fn write_hangs(out: &mut String, setting: &Setting<'_>, row: &RowPlan<'_>) -> Result<(), AllocError>
-    requires { IsRow setting.now (row_plan_view row.now) }
-    ensures { OnOk result (string_bytes out.new ≡ string_bytes out.old ++ flat_map (hang_lines setting.now (row_plan_view row.now)) (reverse (row_plan_view row.now).hangs)) }
-{
-    let hangs = row.hangs.as_slice();
-    let mut left = hangs.len();
-    while left > 0 {
-        left -= 1;
-        write_hang(out, setting, row, hangs[left])?;
-    }
-    Ok(())
-}
-
-/// Appends the lines of a hanging text.
-#[tactic(auto, unfolding(crate::specs::RowLines::hang_lines, crate::specs::RowLines::label_lines))]
-fn write_hang(
-    out: &mut String,
-    setting: &Setting<'_>,
-    row: &RowPlan<'_>,
-    hang: Hang,
-) -> Result<(), AllocError>
-    requires row { IsRow setting.now (row_plan_view row.now) }
-    requires there { has_mark hang.at (row_plan_view row.now).marks ≡ true }
-    ensures { OnOk result (string_bytes out.new ≡ string_bytes out.old ++ hang_lines setting.now (row_plan_view row.now) hang) }
-{
-    match setting.text_at(hang.label) {
-        Some(text) => write_label_text(out, setting, row, hang, text),
-        None => Ok(()),
-    }
-}
-
-/// Appends the lines of a text that hangs at a mark.
-fn write_label_text(
-    out: &mut String,
-    setting: &Setting<'_>,
-    row: &RowPlan<'_>,
-    hang: Hang,
-    text: &str,
-) -> Result<(), AllocError>
-    requires row { IsRow setting.now (row_plan_view row.now) }
-    requires there { has_mark hang.at (row_plan_view row.now).marks ≡ true }
-    ensures { OnOk result (string_bytes out.new ≡ string_bytes out.old ++ flat_map (hang_line setting.now (row_plan_view row.now) hang) (with_modes (lines_of text.now))) }
-{
-    let mut mode = first_mode(text);
-    let mut rest = Some(text);
-    while let Some(lines) = rest {
-        let (line, later) = first_line(lines);
-        write_label_line(out, setting, row, hang, mode, line)?;
-        mode = LabelRenderMode::BlockRest;
-        rest = later;
-    }
-    Ok(())
-}
-
-/// Appends a line of a text that hangs at a mark.
-#[tactic(auto, unfolding(crate::specs::RowLines::hang_line))]
-fn write_label_line(
-    out: &mut String,
-    setting: &Setting<'_>,
-    row: &RowPlan<'_>,
-    hang: Hang,
-    mode: LabelRenderMode,
-    line: &str,
-) -> Result<(), AllocError>
-    requires row { IsRow setting.now (row_plan_view row.now) }
-    requires there { has_mark hang.at (row_plan_view row.now).marks ≡ true }
-    ensures { OnOk result (string_bytes out.new ≡ string_bytes out.old ++ hang_line setting.now (row_plan_view row.now) hang (mode, line.now)) }
-{
-    write_no_linum(out, setting)?;
-    render_highlight_gutter(out, setting, LabelRenderMode::SingleLine, &row.bars)?;
-    write_hanging_line(out, setting, &row.marks, hang, mode, line)?;
-    out.push('\n')
-}
-
 /// Appends the texts of the labels over several rows that end in a row.
 pub(crate) fn render_multi_line_ends(
     out: &mut String,
@@ -128,7 +58,8 @@ pub(crate) fn render_multi_line_ends(
     row: &RowPlan<'_>,
 ) -> Result<(), AllocError>
     requires { IsRow setting.now (row_plan_view row.now) }
-    ensures { OnOk result (string_bytes out.new ≡ string_bytes out.old ++ flat_map (end_lines setting.now (row_plan_view row.now)) (row_plan_view row.now).ends) }
+    ensures { OnOk result
+        (Appends out.old out.new (ending_lines setting.now (row_plan_view row.now))) }
 {
     for label in &row.ends {
         render_multi_line_end(out, setting, row, *label)?;
@@ -145,7 +76,8 @@ fn render_multi_line_end(
     label: usize,
 ) -> Result<(), AllocError>
     requires { IsRow setting.now (row_plan_view row.now) }
-    ensures { OnOk result (string_bytes out.new ≡ string_bytes out.old ++ end_lines setting.now (row_plan_view row.now) label) }
+    ensures { OnOk result
+        (Appends out.old out.new (end_lines setting.now (row_plan_view row.now) label)) }
 {
     match setting.text_at(label) {
         Some(text) => write_end_text(out, setting, row, label, text),
@@ -162,7 +94,9 @@ fn write_end_text(
     text: &str,
 ) -> Result<(), AllocError>
     requires { IsRow setting.now (row_plan_view row.now) }
-    ensures { OnOk result (string_bytes out.new ≡ string_bytes out.old ++ flat_map (end_line setting.now (row_plan_view row.now) label) (with_modes (lines_of text.now))) }
+    ensures { OnOk result
+        (Appends out.old out.new (flat_map (end_line setting.now (row_plan_view row.now) label)
+        (with_modes (lines_of text.now)))) }
 {
     let mut mode = first_mode(text);
     let mut rest = Some(text);
@@ -186,7 +120,9 @@ fn render_multi_line_end_single(
     line: &str,
 ) -> Result<(), AllocError>
     requires { IsRow setting.now (row_plan_view row.now) }
-    ensures { OnOk result (string_bytes out.new ≡ string_bytes out.old ++ end_line setting.now (row_plan_view row.now) label (mode, line.now)) }
+    ensures { OnOk result
+        (Appends out.old out.new (end_line setting.now (row_plan_view row.now) label
+        (mode, line.now))) }
 {
     let style = setting.highlight(label);
     write_no_linum(out, setting)?;

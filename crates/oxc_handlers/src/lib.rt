@@ -1,25 +1,60 @@
 //! Drawn reports: from a diagnostic, its source and its labels to the text that a person sees.
 //!
-//! A [`GraphicalReportHandler`] draws by a [`GraphicalTheme`], filled to a width, with a distance of the tab stops.
-//! What it draws is a [`DiagnosticView`]: the parts of a diagnostic, all of them borrowed.
-//! A [`JSONReportHandler`] sends the same parts as JSON, for programs to read.
+//! A [`GraphicalReportHandler`] draws by a [`GraphicalTheme`], filled to a width, with a distance
+//! of the tab stops. What it draws is a [`DiagnosticView`]: the parts of a diagnostic, all of them
+//! borrowed. A [`JSONReportHandler`] sends the same parts as JSON, for programs to read.
+//!
+//! A report, with the names of its parts:
+//!
+//! ```text
+//!                                    an empty line, then
+//!   x eslint(no-undef): 'c' is not   the title: the icon, the code and the message
+//!   | defined                        ... filled to the width, under its bar
+//!    ,-[a.js:1:1]                    the head of a snippet: the name, the row and the column
+//!  1 | ,-> foo                       a row: its number, the gutter, the row's text
+//!  2 | |   bar                       ... where the bar of a label over several rows passes
+//!    : |   ^|^                       the mark line: the marks of the labels within the row
+//!    : |    `-- here                 a hanging text, behind the bars before it
+//!  3 | |-> baz
+//!    : `---- block                   the text of the label that ends there
+//!    `----                           the close of the snippet
+//!   help: declare it                 the help, and behind it the note
+//! ```
+//!
+//! The modules, in the order in which data goes through:
+//!
+//! - `reports`: diagnostics in boxes, one or a list, to a sink or handed on; `plain`: one as a text
+//!   without colors.
+//! - `view`: what is drawn of a diagnostic, and why it was not.
+//! - `handler`, `theme`: what it is drawn by: a width, tab stops, characters and styles.
+//! - `report`: a whole report: it judges, plans by `oxc_plan`, and writes title, snippets, help and
+//!   note.
+//! - `setting`: what the lines of a snippet are drawn by.
+//! - `snippet`: the head, the rows and the close of a snippet.
+//! - `gutter`: what stands to the left of a row and of the lines under it.
+//! - `line`: the text of a row, with its tabs.
+//! - `label`, `marks`, `hangs`: what stands under a row: its marks, the texts that hang at them,
+//!   and those of labels that end there; `text_lines` parts a text into its lines.
+//! - `runs`: runs of one character, and numbers.
+//! - `json_report`: the same parts as JSON.
+//! - `laws`: what the definitions mean, as the contracts of functions that do nothing.
 #![tactic(auto)]
 
 mod gutter;
 mod handler;
+mod hangs;
 mod json_report;
 mod label;
 mod laws;
 mod line;
 mod marks;
-mod places;
-mod rendering;
+mod plain;
 mod report;
 mod reports;
 mod runs;
 mod setting;
 mod snippet;
-mod span;
+mod text_lines;
 mod theme;
 mod view;
 
@@ -27,9 +62,10 @@ pub use crate::handler::GraphicalReportHandler;
 pub use crate::json_report::{
     JSONReportHandler, escaped_text_comes_back, push_json, push_json_with_scanner,
 };
-pub use crate::laws::colors_only;
-pub use crate::places::{gutter_by_places, marks_by_columns};
-pub use crate::rendering::{render, render_with_source_code};
+pub use crate::laws::{
+    colors_only, columns_as_shown, gutter_by_places, gutter_under_by_places, marks_by_columns,
+};
+pub use crate::plain::{render, render_with_source_code};
 pub use crate::reports::Keep;
 pub use crate::theme::GraphicalTheme;
 pub use crate::view::{DiagnosticView, RenderError};

@@ -1,7 +1,10 @@
 //! The text of a row as it is drawn.
-ghost use Rattle.std.specs.Prelude.{◌≡◌, ◌++◌, ◌+◌, ◌*◌, ◌^◌, ◌<◌, ◌≤◌, ◌↔◌, IfOk, IsTrue, OnOk, fold, length, string_bytes};
+ghost use Rattle.std.specs.Prelude.{◌≡◌, ◌+◌, ◌*◌, ◌^◌, ◌<◌, ◌≤◌, ◌↔◌, IfOk, IsTrue, OnOk, fold};
+ghost use Rattle.std.specs.Prelude.{length};
+ghost use Rattle.textwrap.specs.Appends.{Appends};
 ghost use Rattle.oxc_plan.specs.Width.{led, moved};
-ghost use Rattle.oxc_handlers.specs.Texts.{IsAsciiWithoutEscapes, shown_char, shown_from, shown_text};
+ghost use Rattle.oxc_handlers.specs.Texts.{IsAsciiWithoutEscapes, shown_char, shown_from};
+ghost use Rattle.oxc_handlers.specs.Texts.{shown_text};
 
 use crate::runs::write_spaces;
 use memchr::memchr;
@@ -10,14 +13,15 @@ use std::alloc::AllocError;
 use unicode_segmentation::UnicodeSegmentation;
 use unicode_width::UnicodeWidthStr;
 
-/// Appends the text of a row: each tab as its advance in spaces, and as nothing in an escape, all else as it is.
+/// Appends the text of a row: each tab as its advance in spaces, and as nothing in an escape, all
+/// else as it is.
 pub(crate) fn render_line_text(
     out: &mut String,
     text: &str,
     tabs: TabWidth,
 ) -> Result<(), AllocError>
     requires fits { length text.now < 2 ^ 32 }
-    ensures { OnOk result (string_bytes out.new ≡ string_bytes out.old ++ shown_text tabs text.now) }
+    ensures { OnOk result (Appends out.old out.new (shown_text tabs text.now)) }
 {
     match memchr(b'\t', text.as_bytes()) {
         Some(_) if is_ascii_without_escapes(text) => write_between_tabs(out, text, tabs),
@@ -37,7 +41,7 @@ fn is_ascii_without_escapes(text: &str) -> bool
 fn write_between_tabs(out: &mut String, text: &str, tabs: TabWidth) -> Result<(), AllocError>
     requires fits { length text.now < 2 ^ 32 }
     requires ascii { IsAsciiWithoutEscapes text.now }
-    ensures { OnOk result (string_bytes out.new ≡ string_bytes out.old ++ shown_text tabs text.now) }
+    ensures { OnOk result (Appends out.old out.new (shown_text tabs text.now)) }
 {
     let mut rest = text;
     let mut column = 0;
@@ -53,10 +57,10 @@ fn write_between_tabs(out: &mut String, text: &str, tabs: TabWidth) -> Result<()
 }
 
 /// Appends the text of a row, cluster by cluster.
-#[tactic(auto, using(crate::proofs::TextsLemmas::shown_cluster, crate::proofs::TextsLemmas::shown_none))]
+#[tactic(auto, using(crate::proofs::TextsLemmas::clusters_one_by_one))]
 fn write_clusters(out: &mut String, text: &str, tabs: TabWidth) -> Result<(), AllocError>
     requires fits { length text.now < 2 ^ 32 }
-    ensures { OnOk result (string_bytes out.new ≡ string_bytes out.old ++ shown_text tabs text.now) }
+    ensures { OnOk result (Appends out.old out.new (shown_text tabs text.now)) }
 {
     let mut pen = Pen {
         column: 0,
@@ -78,7 +82,7 @@ fn write_cluster(
     requires room { pen.column + 18 * length cluster.now < 2 ^ 64 }
     ensures exact { IfOk result (λ p. p ≡ fold (moved tabs) pen (led cluster.now)) }
     ensures bound { IfOk result (λ p. p.column ≤ pen.column + 18 * length cluster.now) }
-    ensures text { OnOk result (string_bytes out.new ≡ string_bytes out.old ++ shown_from tabs pen (led cluster.now)) }
+    ensures text { OnOk result (Appends out.old out.new (shown_from tabs pen (led cluster.now))) }
 {
     let mut at = pen;
     let mut lead = cluster.width();
@@ -93,7 +97,7 @@ fn write_cluster(
 /// Appends a character, or the spaces of a tab.
 #[tactic(auto, unfolding(crate::specs::Texts::shown_char))]
 fn write_char(out: &mut String, pen: Pen, c: char, tabs: TabWidth) -> Result<(), AllocError>
-    ensures { OnOk result (string_bytes out.new ≡ string_bytes out.old ++ shown_char tabs pen c) }
+    ensures { OnOk result (Appends out.old out.new (shown_char tabs pen c)) }
 {
     if c != '\t' {
         return out.push(c);

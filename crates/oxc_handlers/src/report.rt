@@ -1,26 +1,34 @@
 //! Drawn reports: a title, the snippets, help and note.
-ghost use Rattle.std.specs.Prelude.{◌≡◌, ◌++◌, ◌-◌, ◌<◌, ◌≤◌, ◌↔◌, All, IsFalse, IsTrue, drop, IfOk, IfSome, IsOkUnless, IsSome, MatchResult, OnOk, Some, length, map, string_bytes};
+ghost use Rattle.std.specs.Prelude.{◌≡◌, ◌++◌, ◌-◌, ◌^◌, ◌<◌, ◌≤◌, ◌↔◌, All, IsFalse, IsTrue};
+ghost use Rattle.std.specs.Prelude.{IsSome, Some, IfOk, IfSome, IsOkUnless, OnOk, drop, length};
+ghost use Rattle.std.specs.Prelude.{map, string_bytes};
 ghost use Rattle.std.specs.Option.{option_copied};
-ghost use Rattle.oxc_span.specs.Label.{label_end};
-ghost use Rattle.oxc_plan.specs.Keeping.{ReadsOn};
-ghost use Rattle.oxc_plan.specs.Scanned.{ReadsRound};
-ghost use Rattle.oxc_handlers.specs.Refusals.{IsFaultless, IsRefusal, first_outside};
-ghost use Rattle.oxc_handlers.specs.Scanners.{CanDraw, HoldsLabels, IsDrawerOf, IsTaken, ReadsRoundIfThere, StaysReader};
-ghost use Rattle.oxc_plan.specs.Plan.{snippet_view};
-ghost use Rattle.oxc_handlers.specs.Report.{code_part, drawn, drawn_snippets, footer, help_of, icon, name_in, note_of, plan_of, severity_in, severity_style, snippets_in, title, title_indent, title_of, view_parts};
-ghost use Rattle.oxc_handlers.specs.RowLines.{lf};
-ghost use Rattle.oxc_handlers.specs.Snippet.{AreDrawable};
-ghost use Rattle.oxc_handlers.specs.Theme.{styled};
+ghost use Rattle.std.specs.Str.{IsCharBoundary};
+ghost use Rattle.textwrap.specs.Appends.{Appends};
 ghost use Rattle.textwrap.specs.Filled.{filled};
 ghost use Rattle.textwrap.specs.OneLine.{FitsOnLine};
-ghost use Rattle.std.specs.Str.{IsCharBoundary};
+ghost use Rattle.oxc_span.specs.Label.{label_end};
+ghost use Rattle.oxc_plan.specs.Keeping.{ReadsOn};
+ghost use Rattle.oxc_plan.specs.Order.{label_order};
+ghost use Rattle.oxc_plan.specs.Plan.{snippet_view};
+ghost use Rattle.oxc_plan.specs.Scanned.{ReadsRound};
+ghost use Rattle.oxc_handlers.specs.Refusals.{IsFaultless, IsJudged, first_outside};
+ghost use Rattle.oxc_handlers.specs.Report.{code_part, drawn_snippets, filled_title, footer};
+ghost use Rattle.oxc_handlers.specs.Report.{help_of, icon, name_in, note_of, plan_of, report_of};
+ghost use Rattle.oxc_handlers.specs.Report.{severity_in, severity_style, snippets_in, title};
+ghost use Rattle.oxc_handlers.specs.Report.{title_indent, title_of, view_parts};
+ghost use Rattle.oxc_handlers.specs.RowLines.{lf};
+ghost use Rattle.oxc_handlers.specs.Scanners.{CanDraw, HoldsLabels, IsDrawerOf, IsTaken};
+ghost use Rattle.oxc_handlers.specs.Scanners.{ReadsRoundIfThere, StaysReader};
+ghost use Rattle.oxc_handlers.specs.Snippet.{AreDrawable};
+ghost use Rattle.oxc_handlers.specs.Theme.{styled};
 
 use crate::handler::GraphicalReportHandler;
 use crate::setting::Setting;
 use crate::snippet::render_snippets;
 use crate::theme::{GraphicalTheme, Style};
 use crate::view::{DiagnosticView, RenderError};
-use oxc_plan::{SnippetPlan, label_order, plan_snippets};
+use oxc_plan::{SnippetPlan, label_order, plan_snippets_in_order};
 use oxc_protocol::{LabeledSpan, Severity};
 use oxc_windows::SpanScanner;
 use std::alloc::{AllocError, Global};
@@ -29,15 +37,16 @@ use textwrap::{Options, fill_onto, fits_on_line};
 impl GraphicalReportHandler {
     /// The report of a view: an LF, the title, the snippets, help and note.
     ///
-    /// A scanner that is handed in reads one row of context before a span and one after. It is used again where it
-    /// reads the view's source, and replaced by one that does so else. A view without labels or without a source has no
-    /// snippets, and leaves the scanner as it is.
+    /// A scanner that is handed in reads one row of context before a span and one after. It is used
+    /// again where it reads the view's source, and replaced by one that does so else. A view
+    /// without labels or without a source has no snippets, and leaves the scanner as it is.
     ///
     /// # Errors
     ///
-    /// [`RenderError::LabelOutside`] exactly where a label ends past the source: the first of them, as given; the scanner
-    /// is as it was. [`RenderError::NotUtf8`] exactly where no label does, there is a label, and the source is no UTF-8. Both
-    /// are judged before anything is drawn, and name the report 0. [`RenderError::OutOfMemory`] at any time.
+    /// [`RenderError::LabelOutside`] exactly where a label ends past the source: the first of them,
+    /// as given; the scanner is as it was. [`RenderError::NotUtf8`] exactly where no label does,
+    /// there is a label, and the source is no UTF-8. Both are judged before anything is drawn, and
+    /// name the report 0. [`RenderError::OutOfMemory`] at any time.
     pub fn render_view<'a>(
         &self,
         alloc: Global,
@@ -45,9 +54,11 @@ impl GraphicalReportHandler {
         scanner: &mut Option<SpanScanner<'a>>,
     ) -> Result<String, RenderError>
         requires { ReadsRoundIfThere scanner.old }
-        ensures text { IfOk result (λ text. string_bytes text ≡ drawn self.now.theme self.now.width (plan_of self.now.tab (view_parts view.now))) }
-        ensures cause { MatchResult result (λ _. IsFaultless (view_parts view.now)) (IsRefusal 0 (view_parts view.now)) }
-        ensures complete { IsFaultless (view_parts view.now) → IsOkUnless result RenderError.OutOfMemory }
+        ensures text { IfOk result (λ text. string_bytes text
+            ≡ report_of self.now (view_parts view.now)) }
+        ensures cause { IsJudged (view_parts view.now) result }
+        ensures complete { IsFaultless (view_parts view.now)
+            → IsOkUnless result RenderError.OutOfMemory }
         // the scanner that is left
         ensures round { ReadsRoundIfThere scanner.new }
         ensures drawer { OnOk result (IsDrawerOf (view_parts view.now) scanner.old scanner.new) }
@@ -76,14 +87,19 @@ impl GraphicalReportHandler {
         scanner: &mut SpanScanner<'a>,
     ) -> Result<String, RenderError>
         requires round { ReadsRound scanner.old }
-        requires source { (view_parts view.now).source ≡ Some (record { bytes = scanner.old.input; name = name_in (view_parts view.now) }) }
-        requires within { All (λ label. label_end label ≤ length scanner.old.input) view.now.labels.now }
+        requires source { (view_parts view.now).source
+            ≡ Some (record { bytes = scanner.old.input; name = name_in (view_parts view.now) }) }
+        requires within { All (λ label. label_end label ≤ length scanner.old.input)
+            view.now.labels.now }
         requires some { 0 < length view.now.labels.now }
-        ensures text { IfOk result (λ text. string_bytes text ≡ drawn self.now.theme self.now.width (plan_of self.now.tab (view_parts view.now))) }
-        ensures cause { MatchResult result (λ _. IsFaultless (view_parts view.now)) (IsRefusal 0 (view_parts view.now)) }
-        ensures complete { IsFaultless (view_parts view.now) → IsOkUnless result RenderError.OutOfMemory }
+        ensures text { IfOk result (λ text. string_bytes text
+            ≡ report_of self.now (view_parts view.now)) }
+        ensures cause { IsJudged (view_parts view.now) result }
+        ensures complete { IsFaultless (view_parts view.now)
+            → IsOkUnless result RenderError.OutOfMemory }
         ensures on { ReadsOn scanner.old scanner.new }
-        ensures holds { OnOk result (HoldsLabels scanner.old.input view.now.labels.now scanner.old scanner.new) }
+        ensures holds { OnOk result
+            (HoldsLabels scanner.old.input view.now.labels.now scanner.old scanner.new) }
     {
         match scanner.text() {
             Ok(_) => Ok(self.render_view_with_scanner(alloc, view, scanner)?),
@@ -94,9 +110,9 @@ impl GraphicalReportHandler {
         }
     }
 
-    /// The report of a view, as [`render_view`](GraphicalReportHandler::render_view) gives it, without its tests: the scanner
-    /// reads the view's source, with one row of context before a span and one after, that source is UTF-8, and every label
-    /// ends within it.
+    /// The report of a view, as [`render_view`](GraphicalReportHandler::render_view) gives it,
+    /// without its tests: the scanner reads the view's source, with one row of context before a
+    /// span and one after, that source is UTF-8, and every label ends within it.
     ///
     /// # Errors
     ///
@@ -108,18 +124,21 @@ impl GraphicalReportHandler {
         scanner: &mut SpanScanner<'a>,
     ) -> Result<String, AllocError>
         requires { CanDraw scanner.old (view_parts view.now) }
-        ensures text { IfOk result (λ text. string_bytes text ≡ drawn self.now.theme self.now.width (plan_of self.now.tab (view_parts view.now))) }
+        ensures text { IfOk result (λ text. string_bytes text
+            ≡ report_of self.now (view_parts view.now)) }
         // what the scanner holds
         ensures on { ReadsOn scanner.old scanner.new }
-        ensures holds { IsSome (view_parts view.now).source → 0 < length view.now.labels.now → OnOk result (HoldsLabels scanner.old.input view.now.labels.now scanner.old scanner.new) }
+        ensures holds { IsSome (view_parts view.now).source → 0 < length view.now.labels.now
+            → OnOk result
+            (HoldsLabels scanner.old.input view.now.labels.now scanner.old scanner.new) }
     {
         let mut out = String::new(alloc);
         self.push_view_with_scanner(alloc, &mut out, view, scanner)?;
         Ok(out)
     }
 
-    /// Appends the report of a view to a text, as [`render_view_with_scanner`](GraphicalReportHandler::render_view_with_scanner)
-    /// gives it.
+    /// Appends the report of a view to a text, as
+    /// [`render_view_with_scanner`](GraphicalReportHandler::render_view_with_scanner) gives it.
     ///
     /// # Errors
     ///
@@ -132,16 +151,47 @@ impl GraphicalReportHandler {
         scanner: &mut SpanScanner<'a>,
     ) -> Result<(), AllocError>
         requires { CanDraw scanner.old (view_parts view.now) }
-        ensures text { OnOk result (string_bytes out.new ≡ string_bytes out.old ++ drawn self.now.theme self.now.width (plan_of self.now.tab (view_parts view.now))) }
+        ensures text { OnOk result
+            (Appends out.old out.new (report_of self.now (view_parts view.now))) }
         // what the scanner holds
         ensures on { ReadsOn scanner.old scanner.new }
-        ensures holds { IsSome (view_parts view.now).source → 0 < length view.now.labels.now → OnOk result (HoldsLabels scanner.old.input view.now.labels.now scanner.old scanner.new) }
+        ensures holds { IsSome (view_parts view.now).source → 0 < length view.now.labels.now
+            → OnOk result
+            (HoldsLabels scanner.old.input view.now.labels.now scanner.old scanner.new) }
+    {
+        if let [_label] = view.labels {
+            return self.push_in_order(alloc, out, view, &[0], scanner);
+        }
+        let order = label_order(alloc, view.labels)?;
+        self.push_in_order(alloc, out, view, &order, scanner)
+    }
+
+    /// The same, where the places of the labels in label order are at hand: that order is made once
+    /// for a report, and both planned and drawn by.
+    fn push_in_order<'a>(
+        &self,
+        alloc: Global,
+        out: &mut String,
+        view: &DiagnosticView<'_>,
+        order: &[usize],
+        scanner: &mut SpanScanner<'a>,
+    ) -> Result<(), AllocError>
+        requires draw { CanDraw scanner.old (view_parts view.now) }
+        requires order { order.now ≡ label_order view.now.labels.now }
+        requires few { length view.now.labels.now < 2 ^ 63 }
+        ensures text { OnOk result
+            (Appends out.old out.new (report_of self.now (view_parts view.now))) }
+        // what the scanner holds
+        ensures on { ReadsOn scanner.old scanner.new }
+        ensures holds { IsSome (view_parts view.now).source → 0 < length view.now.labels.now
+            → OnOk result
+            (HoldsLabels scanner.old.input view.now.labels.now scanner.old scanner.new) }
     {
         let Some(_source) = &view.source else {
-            return self.push_planned(alloc, out, view, &[]);
+            return self.push_planned(alloc, out, view, order, &[]);
         };
-        let snippets = plan_snippets(alloc, scanner, view.labels, self.tabs)?;
-        self.push_planned(alloc, out, view, &snippets)
+        let snippets = plan_snippets_in_order(alloc, scanner, view.labels, order, self.tabs)?;
+        self.push_planned(alloc, out, view, order, &snippets)
     }
 
     /// The report of a view, whose snippets are given.
@@ -151,31 +201,40 @@ impl GraphicalReportHandler {
         view: &DiagnosticView<'_>,
         snippets: &[SnippetPlan<'_>],
     ) -> Result<String, AllocError>
-        requires planned { map snippet_view snippets.now ≡ snippets_in self.now.tab (view_parts view.now) }
-        requires drawable { AreDrawable (length view.now.labels.now) (map snippet_view snippets.now) }
-        ensures { IfOk result (λ text. string_bytes text ≡ drawn self.now.theme self.now.width (plan_of self.now.tab (view_parts view.now))) }
+        requires planned { map snippet_view snippets.now ≡ snippets_in self.now.tab
+            (view_parts view.now) }
+        requires drawable { AreDrawable (length view.now.labels.now)
+            (map snippet_view snippets.now) }
+        ensures { IfOk result (λ text. string_bytes text
+            ≡ report_of self.now (view_parts view.now)) }
     {
         let mut out = String::new(alloc);
-        self.push_planned(alloc, &mut out, view, snippets)?;
+        let order = label_order(alloc, view.labels)?;
+        self.push_planned(alloc, &mut out, view, &order, snippets)?;
         Ok(out)
     }
 
-    /// Appends the report of a view, whose snippets are given.
+    /// Appends the report of a view, whose label order and snippets are given.
     #[tactic(auto, unfolding(crate::specs::Report::drawn))]
     fn push_planned(
         &self,
         alloc: Global,
         out: &mut String,
         view: &DiagnosticView<'_>,
+        order: &[usize],
         snippets: &[SnippetPlan<'_>],
     ) -> Result<(), AllocError>
-        requires planned { map snippet_view snippets.now ≡ snippets_in self.now.tab (view_parts view.now) }
-        requires drawable { AreDrawable (length view.now.labels.now) (map snippet_view snippets.now) }
-        ensures { OnOk result (string_bytes out.new ≡ string_bytes out.old ++ drawn self.now.theme self.now.width (plan_of self.now.tab (view_parts view.now))) }
+        requires order { order.now ≡ label_order view.now.labels.now }
+        requires few { length view.now.labels.now < 2 ^ 63 }
+        requires planned { map snippet_view snippets.now ≡ snippets_in self.now.tab
+            (view_parts view.now) }
+        requires drawable { AreDrawable (length view.now.labels.now)
+            (map snippet_view snippets.now) }
+        ensures { OnOk result (Appends out.old out.new (report_of self.now (view_parts view.now))) }
     {
         out.push('\n')?;
         self.render_title(alloc, out, view)?;
-        self.render_planned_snippets(alloc, out, view, snippets)?;
+        self.render_planned_snippets(out, view, order, snippets)?;
         self.render_help(alloc, out, view)?;
         self.render_note(alloc, out, view)?;
         Ok(())
@@ -189,7 +248,8 @@ impl GraphicalReportHandler {
         out: &mut String,
         view: &DiagnosticView<'_>,
     ) -> Result<(), AllocError>
-        ensures { OnOk result (string_bytes out.new ≡ string_bytes out.old ++ title self.now.theme self.now.width (plan_of self.now.tab (view_parts view.now))) }
+        ensures { OnOk result (Appends out.old out.new
+            (title self.now.theme self.now.width (plan_of self.now.tab (view_parts view.now)))) }
     {
         let severity = severity_of(view);
         let width = self.termwidth.saturating_sub(2);
@@ -216,20 +276,24 @@ impl GraphicalReportHandler {
     }
 
     /// Appends the snippets of a report.
-    #[tactic(auto, unfolding(crate::specs::Report::drawn_snippets, crate::specs::Report::plan_of, crate::specs::Report::snippets_in))]
+    #[tactic(auto, unfolding(crate::specs::Report::drawn_snippets, crate::specs::Report::plan_of))]
     fn render_planned_snippets(
         &self,
-        alloc: Global,
         out: &mut String,
         view: &DiagnosticView<'_>,
+        order: &[usize],
         snippets: &[SnippetPlan<'_>],
     ) -> Result<(), AllocError>
-        requires planned { map snippet_view snippets.now ≡ snippets_in self.now.tab (view_parts view.now) }
-        requires drawable { AreDrawable (length view.now.labels.now) (map snippet_view snippets.now) }
-        ensures { OnOk result (string_bytes out.new ≡ string_bytes out.old ++ drawn_snippets self.now.theme (plan_of self.now.tab (view_parts view.now))) }
+        requires order { order.now ≡ label_order view.now.labels.now }
+        requires few { length view.now.labels.now < 2 ^ 63 }
+        requires planned { map snippet_view snippets.now ≡ snippets_in self.now.tab
+            (view_parts view.now) }
+        requires drawable { AreDrawable (length view.now.labels.now)
+            (map snippet_view snippets.now) }
+        ensures { OnOk result (Appends out.old out.new
+            (drawn_snippets self.now.theme (plan_of self.now.tab (view_parts view.now)))) }
     {
-        let order = label_order(alloc, view.labels)?;
-        let setting = Setting::new(self.theme, view.labels, &order, self.tabs);
+        let setting = Setting::new(self.theme, view.labels, order, self.tabs);
         let name = source_name(view);
         render_snippets(out, &setting, name, snippets)
     }
@@ -242,7 +306,8 @@ impl GraphicalReportHandler {
         out: &mut String,
         view: &DiagnosticView<'_>,
     ) -> Result<(), AllocError>
-        ensures { OnOk result (string_bytes out.new ≡ string_bytes out.old ++ help_of self.now.theme self.now.width (plan_of self.now.tab (view_parts view.now))) }
+        ensures { OnOk result (Appends out.old out.new
+            (help_of self.now.theme self.now.width (plan_of self.now.tab (view_parts view.now)))) }
     {
         let style = self.theme.styles.help;
         self.render_footer(alloc, out, style, "  help: ", "        ", view.help)
@@ -256,7 +321,8 @@ impl GraphicalReportHandler {
         out: &mut String,
         view: &DiagnosticView<'_>,
     ) -> Result<(), AllocError>
-        ensures { OnOk result (string_bytes out.new ≡ string_bytes out.old ++ note_of self.now.theme self.now.width (plan_of self.now.tab (view_parts view.now))) }
+        ensures { OnOk result (Appends out.old out.new
+            (note_of self.now.theme self.now.width (plan_of self.now.tab (view_parts view.now)))) }
     {
         let style = self.theme.styles.note;
         self.render_footer(alloc, out, style, "  note: ", "           ", view.note)
@@ -273,7 +339,8 @@ impl GraphicalReportHandler {
         later: &str,
         text: Option<&str>,
     ) -> Result<(), AllocError>
-        ensures { OnOk result (string_bytes out.new ≡ string_bytes out.old ++ footer self.now.width style heading.now later.now (option_copied text.entry)) }
+        ensures { OnOk result (Appends out.old out.new
+            (footer self.now.width style heading.now later.now (option_copied text.entry))) }
     {
         match text {
             Some(text) => {
@@ -295,7 +362,7 @@ pub(crate) fn judge<'a>(
     scanner: &mut Option<SpanScanner<'a>>,
 ) -> Result<(), RenderError>
     requires { ReadsRoundIfThere scanner.old }
-    ensures cause { MatchResult result (λ _. IsFaultless (view_parts view.now)) (IsRefusal 0 (view_parts view.now)) }
+    ensures cause { IsJudged (view_parts view.now) result }
     ensures round { ReadsRoundIfThere scanner.new }
 {
     let Some(source) = &view.source else {
@@ -384,7 +451,8 @@ fn icon_of(theme: &GraphicalTheme, severity: Severity) -> char
     }
 }
 
-/// Appends the title of a report and an LF, where it is seen to be one line, and else nothing. Says whether it did.
+/// Appends the title of a report and an LF, where it is seen to be one line, and else nothing. Says
+/// whether it did.
 fn write_short_title(
     out: &mut String,
     theme: &GraphicalTheme,
@@ -392,8 +460,10 @@ fn write_short_title(
     width: usize,
     view: &DiagnosticView<'_>,
 ) -> Result<bool, AllocError>
-    ensures done { IfOk result (λ done. IsTrue done → string_bytes out.new ≡ string_bytes out.old ++ (filled width (title_indent theme.now severity (icon theme.now severity)) (title_indent theme.now severity theme.now.characters.vbar) (styled (severity_style theme.now severity) (title_of (view_parts view.now))) ++ lf)) }
-    ensures undone { IfOk result (λ done. IsFalse done → string_bytes out.new ≡ string_bytes out.old) }
+    ensures done { IfOk result (λ done. IsTrue done → Appends out.old out.new
+        (filled_title theme.now width severity (view_parts view.now))) }
+    ensures undone { IfOk result (λ done. IsFalse done
+        → string_bytes out.new ≡ string_bytes out.old) }
 {
     let start = out.as_str().len();
     write_title_indent(out, theme, severity, icon_of(theme, severity))?;
@@ -407,8 +477,8 @@ fn write_short_title(
     Ok(false)
 }
 
-/// Whether what stands in a text behind a place is seen to fit on a line, whose indent stands before it from another place
-/// on.
+/// Whether what stands in a text behind a place is seen to fit on a line, whose indent stands
+/// before it from another place on.
 fn fits_behind(text: &str, start: usize, behind: usize, width: usize) -> bool
     requires order { start ≤ behind }
     requires boundary { IsCharBoundary text.now behind }
@@ -425,7 +495,7 @@ fn write_title_indent(
     severity: Severity,
     c: char,
 ) -> Result<(), AllocError>
-    ensures { OnOk result (string_bytes out.new ≡ string_bytes out.old ++ title_indent theme.now severity c) }
+    ensures { OnOk result (Appends out.old out.new (title_indent theme.now severity c)) }
 {
     let style = style_of(theme, severity);
     out.push_str("  ")?;
@@ -444,7 +514,8 @@ fn write_title_text(
     severity: Severity,
     view: &DiagnosticView<'_>,
 ) -> Result<(), AllocError>
-    ensures { OnOk result (string_bytes out.new ≡ string_bytes out.old ++ styled (severity_style theme.now severity) (title_of (view_parts view.now))) }
+    ensures { OnOk result (Appends out.old out.new
+        (styled (severity_style theme.now severity) (title_of (view_parts view.now)))) }
 {
     let style = style_of(theme, severity);
     style.begin(out)?;
@@ -456,7 +527,7 @@ fn write_title_text(
 
 /// Appends a code, if there is one, and what parts it from the message.
 fn write_code(out: &mut String, code: Option<&str>) -> Result<(), AllocError>
-    ensures { OnOk result (string_bytes out.new ≡ string_bytes out.old ++ code_part (option_copied code.entry)) }
+    ensures { OnOk result (Appends out.old out.new (code_part (option_copied code.entry))) }
 {
     if let Some(code) = code {
         out.push_str(code)?;
@@ -474,7 +545,8 @@ fn write_fill(
     later: &str,
     text: &str,
 ) -> Result<(), AllocError>
-    ensures { OnOk result (string_bytes out.new ≡ string_bytes out.old ++ (filled width first.now later.now text.now ++ lf)) }
+    ensures { OnOk result (Appends out.old out.new
+        (filled width first.now later.now text.now ++ lf)) }
 {
     let options = Options::new(width)
         .initial_indent(first)

@@ -1,4 +1,7 @@
-// Diagnostics in boxes by example, and that memory suffices for them. What is expected was worked out by hand.
+// Diagnostics in boxes by example, and that memory suffices for them. What is expected was worked
+// out by hand.
+ghost use Rattle.std.specs.Prelude.{◌+◌, ◌^◌, ◌<◌, length};
+
 use crate::{
     GraphicalReportHandler, GraphicalTheme, Keep, RenderError, render, render_with_source_code,
 };
@@ -22,6 +25,10 @@ impl Keep for KeepsNone {
     }
 }
 
+fn plain() -> GraphicalReportHandler {
+    GraphicalReportHandler::new_themed(GraphicalTheme::none())
+}
+
 /// An error with a label.
 fn oops(alloc: Global) -> Result<OxcDiagnostic, AllocError> {
     let label = LabeledSpan::new(Some(String::from_str(alloc, "here")?), 4, 3);
@@ -35,25 +42,74 @@ fn rows(alloc: Global) -> Result<NamedSource<TextSource>, AllocError> {
     Ok(NamedSource::new(name, TextSource::new(text)))
 }
 
-const ONCE: &str =
-    "\n  x Oops\n   ,-[a.js:2:1]\n 1 | foo\n 2 | bar\n   : ^|^\n   :  `-- here\n 3 | baz\n   `----\n";
+const ONCE: &str = "
+  x Oops
+   ,-[a.js:2:1]
+ 1 | foo
+ 2 | bar
+   : ^|^
+   :  `-- here
+ 3 | baz
+   `----
+";
 
-const TWICE: &str =
-    "\n  x Oops\n   ,-[a.js:2:1]\n 1 | foo\n 2 | bar\n   : ^|^\n   :  `-- here\n 3 | baz\n   `----\n\n  x Oops\n   ,-[a.js:2:1]\n 1 | foo\n 2 | bar\n   : ^|^\n   :  `-- here\n 3 | baz\n   `----\n";
+const BETWEEN: &str = "
+  x b
+   ,----
+ 1 |     x
+   :     ^
+   `----
+";
+
+const TWICE: &str = "
+  x Oops
+   ,-[a.js:2:1]
+ 1 | foo
+ 2 | bar
+   : ^|^
+   :  `-- here
+ 3 | baz
+   `----
+
+  x Oops
+   ,-[a.js:2:1]
+ 1 | foo
+ 2 | bar
+   : ^|^
+   :  `-- here
+ 3 | baz
+   `----
+";
 
 /// Whether the reports of diagnostics are sent as a text.
 fn are_sent(alloc: Global, diagnostics: &[Error], text: &str) -> Result<bool, RenderError> {
-    let handler = GraphicalReportHandler::new_themed(GraphicalTheme::none());
     let mut sink = MemorySink::new(alloc, 1000, 7, Vec::new(alloc))?;
-    handler.render_reports(alloc, &mut sink, diagnostics)?;
+    plain().render_reports(alloc, &mut sink, diagnostics)?;
     Ok(sink.received() == text.as_bytes())
+}
+
+/// Why a diagnostic with a label in this text is not sent.
+fn refusal(
+    alloc: Global,
+    text: &str,
+    start: u32,
+    len: u32,
+) -> Result<Option<RenderError>, AllocError>
+    requires fits { length text.now < 4294967295 }
+    requires label { start + len < 2 ^ 32 }
+{
+    let source = TextSource::new(String::from_str(alloc, text)?);
+    let error = OxcDiagnostic::error(alloc, "m")?
+        .with_label(alloc, LabeledSpan::new(None, start, len))?
+        .with_source_code(source);
+    let mut sink = MemorySink::new(alloc, 1000, 7, Vec::new(alloc))?;
+    Ok(plain().render_report(alloc, &mut sink, &error).err())
 }
 
 /// Whether the report of a diagnostic is sent as a text.
 fn is_sent(alloc: Global, diagnostic: &dyn Diagnostic, text: &str) -> Result<bool, RenderError> {
-    let handler = GraphicalReportHandler::new_themed(GraphicalTheme::none());
     let mut sink = MemorySink::new(alloc, 1000, 7, Vec::new(alloc))?;
-    handler.render_report(alloc, &mut sink, diagnostic)?;
+    plain().render_report(alloc, &mut sink, diagnostic)?;
     Ok(sink.received() == text.as_bytes())
 }
 
@@ -64,9 +120,40 @@ fn diagnostics_in_boxes_are_sent_in_order(rt: HostRuntime) -> Result<(), Fail> {
     diagnostics.push(Box::new(alloc, oops(alloc)?.with_source_code(rows(alloc)?))?)?;
     diagnostics.push(Box::new(alloc, oops(alloc)?.with_source_code(rows(alloc)?))?)?;
     assert!(rt; are_sent(alloc, &diagnostics, TWICE)?);
-    let handler = GraphicalReportHandler::new_themed(GraphicalTheme::none());
-    let count = handler.render_reports_until(alloc, &diagnostics, &mut KeepsNone)?;
+    let count = plain().render_reports_until(alloc, &diagnostics, &mut KeepsNone)?;
     assert_eq!(rt; count, 1);
+    let mut failing = MemorySink::new(alloc, 1000, 7, Vec::from_array(alloc, [0])?)?;
+    let answer = plain().render_reports(alloc, &mut failing, &diagnostics);
+    assert!(rt; answer == Err(RenderError::SinkFault) && failing.received().is_empty());
+    Ok(())
+}
+
+#[test]
+fn another_source_between_takes_nothing_from_the_others(rt: HostRuntime) -> Result<(), Fail> {
+    let alloc = rt.alloc();
+    let label = LabeledSpan::new(None, 1, 1);
+    let between = OxcDiagnostic::error(alloc, "b")?.with_label(alloc, label)?;
+    let source = TextSource::new(String::from_str(alloc, "\tx")?);
+    let mut diagnostics: Vec<Error> = Vec::new(alloc);
+    diagnostics.push(Box::new(alloc, oops(alloc)?.with_source_code(rows(alloc)?))?)?;
+    diagnostics.push(Box::new(alloc, between.with_source_code(source))?)?;
+    diagnostics.push(Box::new(alloc, oops(alloc)?.with_source_code(rows(alloc)?))?)?;
+    let mut text = String::from_str(alloc, ONCE)?;
+    text.push_str(BETWEEN)?;
+    text.push_str(ONCE)?;
+    assert!(rt; are_sent(alloc, &diagnostics, text.as_str())?);
+    Ok(())
+}
+
+#[test]
+fn what_can_t_be_drawn_is_not_sent(rt: HostRuntime) -> Result<(), Fail> {
+    let alloc = rt.alloc();
+    let outside = RenderError::LabelOutside {
+        report: 0,
+        label: 0,
+    };
+    assert!(rt; refusal(alloc, "\tlet x", 5, 4)? == Some(outside));
+    assert!(rt; refusal(alloc, "\tlet x", 5, 1)? == None);
     Ok(())
 }
 

@@ -1,13 +1,14 @@
 //! Diagnostics that are drawn by the trait [`Diagnostic`] alone, and lists of them.
-ghost use Rattle.std.specs.Prelude.{◌≡◌, ◌++◌, ◌≤◌, [], ℕ, Bool, List, All, Ok, IfErr, IfOk, IsErrOf, IsOk, MatchResult, OnErr, OnOk, map, string_bytes};
-ghost use Rattle.std.specs.Io.KnownBytes.{Appends};
-ghost use Rattle.oxc_protocol.specs.Faults.{Rose};
-ghost use Rattle.oxc_protocol.specs.Parts.{Parts};
+ghost use Rattle.std.specs.Prelude.{◌≡◌, [], ℕ, Bool, List, All, Ok, IfErr, IfOk, IsOk, OnErr};
+ghost use Rattle.std.specs.Prelude.{OnOk, map, string_bytes};
+ghost use Rattle.textwrap.specs.Appends.{Appends};
 ghost use Rattle.oxc_span.specs.Views.{text_bytes};
+ghost use Rattle.oxc_protocol.specs.Parts.{Parts};
 ghost use Rattle.oxc_handlers.specs.Keeping.{KeepsAtError, KeepsPart, KeepsUntil};
-ghost use Rattle.oxc_handlers.specs.Refusals.{IsFaultless, IsRefusal};
+ghost use Rattle.oxc_handlers.specs.Refusals.{IsFaultless, IsJudged, IsRefusal};
 ghost use Rattle.oxc_handlers.specs.Report.{view_parts, without_url};
-ghost use Rattle.oxc_handlers.specs.Reports.{IsListRefusal, IsSendRefusal, LeavesText, text_of, texts_of};
+ghost use Rattle.oxc_handlers.specs.Reports.{AreJudged, IsListRefusal, IsSendJudged, Sends};
+ghost use Rattle.oxc_handlers.specs.Reports.{text_of, texts_of};
 ghost use Rattle.oxc_handlers.specs.Scanners.{ReadsRoundIfThere};
 
 use crate::handler::GraphicalReportHandler;
@@ -27,7 +28,8 @@ pub trait Keep {
 }
 
 impl GraphicalReportHandler {
-    /// Sends the report of a diagnostic to a sink. The whole text is built before its first byte goes out.
+    /// Sends the report of a diagnostic to a sink. The whole text is built before its first byte
+    /// goes out.
     ///
     /// # Errors
     ///
@@ -39,35 +41,34 @@ impl GraphicalReportHandler {
         sink: &mut K,
         diagnostic: &dyn Diagnostic,
     ) -> Result<(), RenderError>
-        ensures sent { OnOk result (Appends (K.received sink.old) (K.received sink.new) (text_of self.now (parts diagnostic.now))) }
-        ensures cause { MatchResult result (λ _. IsFaultless (parts diagnostic.now)) (IsSendRefusal (IsFaultless (parts diagnostic.now)) (IsRefusal 0 (parts diagnostic.now))) }
-        ensures left { IfErr result (LeavesText (K.received sink.old) (K.received sink.new) (text_of self.now (parts diagnostic.now))) }
-        ensures fault { IsErrOf result RenderError.SinkFault → Rose (K.faults sink.old) (K.faults sink.new) }
-        ensures later { K.faults sink.old ≤ K.faults sink.new }
+        ensures sends { Sends K.received K.faults sink.old sink.new
+            (text_of self.now (parts diagnostic.now)) result }
+        ensures cause { IsSendJudged (IsFaultless (parts diagnostic.now))
+            (IsRefusal 0 (parts diagnostic.now)) result }
     {
         let text = self.text_of(alloc, diagnostic)?;
         write_all(sink, text.as_bytes())?;
         Ok(())
     }
 
-    /// Sends the reports of diagnostics to a sink, one after another, by one scanner for all that have the same source.
-    /// The whole text is built before its first byte goes out.
+    /// Sends the reports of diagnostics to a sink, one after another, by one scanner for all that
+    /// have the same source. The whole text is built before its first byte goes out.
     ///
     /// # Errors
     ///
-    /// Those of [`render_view`](GraphicalReportHandler::render_view) for the first diagnostic that can't be drawn, with its
-    /// place in the list, and nothing was written; or [`RenderError::SinkFault`], and the sink took a first part of the text.
+    /// Those of [`render_view`](GraphicalReportHandler::render_view) for the first diagnostic that
+    /// can't be drawn, with its place in the list, and nothing was written; or
+    /// [`RenderError::SinkFault`], and the sink took a first part of the text.
     pub fn render_reports<K: Sink>(
         &self,
         alloc: Global,
         sink: &mut K,
         diagnostics: &[Error],
     ) -> Result<(), RenderError>
-        ensures sent { OnOk result (Appends (K.received sink.old) (K.received sink.new) (texts_of self.now (map parts diagnostics.now))) }
-        ensures cause { MatchResult result (λ _. All IsFaultless (map parts diagnostics.now)) (IsSendRefusal (All IsFaultless (map parts diagnostics.now)) (IsListRefusal (map parts diagnostics.now))) }
-        ensures left { IfErr result (LeavesText (K.received sink.old) (K.received sink.new) (texts_of self.now (map parts diagnostics.now))) }
-        ensures fault { IsErrOf result RenderError.SinkFault → Rose (K.faults sink.old) (K.faults sink.new) }
-        ensures later { K.faults sink.old ≤ K.faults sink.new }
+        ensures sends { Sends K.received K.faults sink.old sink.new
+            (texts_of self.now (map parts diagnostics.now)) result }
+        ensures cause { IsSendJudged (All IsFaultless (map parts diagnostics.now))
+            (IsListRefusal (map parts diagnostics.now)) result }
         ensures empty { diagnostics.now ≡ [] → IsOk result × (sink.new ≡ sink.old) }
     {
         if diagnostics.is_empty() {
@@ -78,23 +79,27 @@ impl GraphicalReportHandler {
         Ok(())
     }
 
-    /// Hands the reports of diagnostics on in order, each as a text of its own, and stops after the first that is not kept;
-    /// answers how many it handed on. One scanner serves all that have the same source.
+    /// Hands the reports of diagnostics on in order, each as a text of its own, and stops after the
+    /// first that is not kept; answers how many it handed on. One scanner serves all that have the
+    /// same source.
     ///
     /// # Errors
     ///
-    /// Those of [`render_view`](GraphicalReportHandler::render_view) for the first diagnostic of the whole list that can't be
-    /// drawn, with its place in the list, and nothing was handed on; or [`RenderError::OutOfMemory`], and a first part of the
-    /// texts was handed on, all of which were kept.
+    /// Those of [`render_view`](GraphicalReportHandler::render_view) for the first diagnostic of
+    /// the whole list that can't be drawn, with its place in the list, and nothing was handed on;
+    /// or [`RenderError::OutOfMemory`], and a first part of the texts was handed on, all of which
+    /// were kept.
     pub fn render_reports_until<K: Keep>(
         &self,
         alloc: Global,
         diagnostics: &[Error],
         keep: &mut K,
     ) -> Result<usize, RenderError>
-        ensures handed { IfOk result (λ n. KeepsUntil K.keeps self.now keep.old (map parts diagnostics.now) n keep.new) }
-        ensures cause { MatchResult result (λ _. All IsFaultless (map parts diagnostics.now)) (IsListRefusal (map parts diagnostics.now)) }
-        ensures left { IfErr result (λ error. KeepsAtError K.keeps self.now keep.old (map parts diagnostics.now) error keep.new) }
+        ensures handed { IfOk result (λ n. KeepsUntil K.keeps self.now
+            keep.old (map parts diagnostics.now) n keep.new) }
+        ensures cause { AreJudged (map parts diagnostics.now) result }
+        ensures left { IfErr result (λ error. KeepsAtError K.keeps self.now
+            keep.old (map parts diagnostics.now) error keep.new) }
         ensures empty { diagnostics.now ≡ [] → (result ≡ Ok 0) × (keep.new ≡ keep.old) }
     {
         if diagnostics.is_empty() {
@@ -118,8 +123,10 @@ impl GraphicalReportHandler {
     ) -> Result<usize, AllocError>
         requires codes { map text_bytes codes.now ≡ map (λ e. (parts e).code) diagnostics.now }
         requires faultless { All IsFaultless (map parts diagnostics.now) }
-        ensures handed { IfOk result (λ n. KeepsUntil K.keeps self.now keep.old (map parts diagnostics.now) n keep.new) }
-        ensures left { OnErr result (KeepsPart K.keeps self.now keep.old (map parts diagnostics.now) keep.new) }
+        ensures handed { IfOk result (λ n. KeepsUntil K.keeps self.now
+            keep.old (map parts diagnostics.now) n keep.new) }
+        ensures left { OnErr result (KeepsPart K.keeps self.now
+            keep.old (map parts diagnostics.now) keep.new) }
     {
         let mut scanner = None;
         let mut count = 0;
@@ -146,7 +153,8 @@ impl GraphicalReportHandler {
         requires code { text_bytes code.now ≡ (parts diagnostic.now).code }
         requires faultless { IsFaultless (parts diagnostic.now) }
         requires round { ReadsRoundIfThere scanner.old }
-        ensures handed { IfOk result (λ kept. K.keeps keep.old (parts diagnostic.now) (text_of self.now (parts diagnostic.now)) kept keep.new) }
+        ensures handed { IfOk result (λ kept. K.keeps keep.old (parts diagnostic.now)
+            (text_of self.now (parts diagnostic.now)) kept keep.new) }
         ensures still { OnErr result (keep.new ≡ keep.old) }
         ensures round { ReadsRoundIfThere scanner.new }
     {
@@ -163,19 +171,21 @@ impl GraphicalReportHandler {
         alloc: Global,
         diagnostic: &dyn Diagnostic,
     ) -> Result<String, RenderError>
-        ensures text { IfOk result (λ text. string_bytes text ≡ text_of self.now (parts diagnostic.now)) }
-        ensures cause { MatchResult result (λ _. IsFaultless (parts diagnostic.now)) (IsRefusal 0 (parts diagnostic.now)) }
+        ensures text { IfOk result (λ text. string_bytes text
+            ≡ text_of self.now (parts diagnostic.now)) }
+        ensures cause { IsJudged (parts diagnostic.now) result }
     {
         let code = diagnostic.code(alloc)?;
-        let view = view_of(diagnostic, &code);
+        let view = DiagnosticView::of(diagnostic, code.as_deref());
         let mut scanner = None;
         self.render_view(alloc, &view, &mut scanner)
     }
 
     /// The texts of diagnostics, one after another.
     fn texts_of(&self, alloc: Global, diagnostics: &[Error]) -> Result<String, RenderError>
-        ensures text { IfOk result (λ text. string_bytes text ≡ texts_of self.now (map parts diagnostics.now)) }
-        ensures cause { MatchResult result (λ _. All IsFaultless (map parts diagnostics.now)) (IsListRefusal (map parts diagnostics.now)) }
+        ensures text { IfOk result (λ text.
+            string_bytes text ≡ texts_of self.now (map parts diagnostics.now)) }
+        ensures cause { AreJudged (map parts diagnostics.now) result }
     {
         let codes = codes_of(alloc, diagnostics)?;
         let mut out = String::new(alloc);
@@ -192,8 +202,9 @@ impl GraphicalReportHandler {
         codes: &'a [Option<String>],
     ) -> Result<(), RenderError>
         requires { map text_bytes codes.now ≡ map (λ e. (parts e).code) diagnostics.now }
-        ensures text { OnOk result (string_bytes out.new ≡ string_bytes out.old ++ texts_of self.now (map parts diagnostics.now)) }
-        ensures cause { MatchResult result (λ _. All IsFaultless (map parts diagnostics.now)) (IsListRefusal (map parts diagnostics.now)) }
+        ensures text { OnOk result
+            (Appends out.old out.new (texts_of self.now (map parts diagnostics.now))) }
+        ensures cause { AreJudged (map parts diagnostics.now) result }
     {
         let mut scanner = None;
         let mut report = 0;
@@ -219,8 +230,9 @@ impl GraphicalReportHandler {
     ) -> Result<(), RenderError>
         requires code { text_bytes code.now ≡ (parts diagnostic.now).code }
         requires round { ReadsRoundIfThere scanner.old }
-        ensures text { OnOk result (string_bytes out.new ≡ string_bytes out.old ++ text_of self.now (parts diagnostic.now)) }
-        ensures cause { MatchResult result (λ _. IsFaultless (parts diagnostic.now)) (IsRefusal 0 (parts diagnostic.now)) }
+        ensures text { OnOk result
+            (Appends out.old out.new (text_of self.now (parts diagnostic.now))) }
+        ensures cause { IsJudged (parts diagnostic.now) result }
         ensures round { ReadsRoundIfThere scanner.new }
     {
         let view = view_of_box(diagnostic, code);
@@ -238,7 +250,7 @@ fn judge_all<'a>(
     codes: &'a [Option<String>],
 ) -> Result<(), RenderError>
     requires { map text_bytes codes.now ≡ map (λ e. (parts e).code) diagnostics.now }
-    ensures { MatchResult result (λ _. All IsFaultless (map parts diagnostics.now)) (IsListRefusal (map parts diagnostics.now)) }
+    ensures { AreJudged (map parts diagnostics.now) result }
 {
     let mut scanner = None;
     let mut report = 0;
@@ -262,27 +274,11 @@ fn judge_box<'a>(
 ) -> Result<(), RenderError>
     requires code { text_bytes code.now ≡ (parts diagnostic.now).code }
     requires round { ReadsRoundIfThere scanner.old }
-    ensures cause { MatchResult result (λ _. IsFaultless (parts diagnostic.now)) (IsRefusal 0 (parts diagnostic.now)) }
+    ensures cause { IsJudged (parts diagnostic.now) result }
     ensures round { ReadsRoundIfThere scanner.new }
 {
     let view = view_of_box(diagnostic, code);
     judge(alloc, &view, scanner)
-}
-
-/// What is drawn of a diagnostic, whose code is at hand.
-fn view_of<'a>(diagnostic: &'a dyn Diagnostic, code: &'a Option<String>) -> DiagnosticView<'a>
-    requires { text_bytes code.now ≡ (parts diagnostic.now).code }
-    ensures { view_parts result ≡ without_url (parts diagnostic.now) }
-{
-    DiagnosticView {
-        message: diagnostic.message(),
-        code: code.as_deref(),
-        severity: diagnostic.severity(),
-        help: diagnostic.help(),
-        note: diagnostic.note(),
-        source: diagnostic.source_code(),
-        labels: diagnostic.labels(),
-    }
 }
 
 /// What is drawn of a diagnostic in a box, whose code is at hand.
@@ -290,7 +286,7 @@ fn view_of_box<'a>(diagnostic: &'a Error, code: &'a Option<String>) -> Diagnosti
     requires { text_bytes code.now ≡ (parts diagnostic.now).code }
     ensures { view_parts result ≡ without_url (parts diagnostic.now) }
 {
-    view_of(&**diagnostic, code)
+    DiagnosticView::of(&**diagnostic, code.as_deref())
 }
 
 /// Hands on the text of a diagnostic in a box.
@@ -309,7 +305,8 @@ fn code_of(alloc: Global, diagnostic: &Error) -> Result<Option<String>, AllocErr
 
 /// The codes of diagnostics.
 fn codes_of(alloc: Global, diagnostics: &[Error]) -> Result<Vec<Option<String>>, AllocError>
-    ensures { IfOk result (λ codes. map text_bytes codes.items ≡ map (λ e. (parts e).code) diagnostics.now) }
+    ensures { IfOk result (λ codes.
+        map text_bytes codes.items ≡ map (λ e. (parts e).code) diagnostics.now) }
 {
     let mut codes = Vec::new(alloc);
     for diagnostic in diagnostics {

@@ -1,5 +1,6 @@
 //! Runs of one character, and numbers, behind a text.
-ghost use Rattle.std.specs.Prelude.{◌≡◌, ◌++◌, ◌≤◌, IfSome, OnOk, string_bytes, encode_utf8, decimal};
+ghost use Rattle.std.specs.Prelude.{◌≡◌, ◌≤◌, IfSome, OnOk, encode_utf8, decimal};
+ghost use Rattle.textwrap.specs.Appends.{Appends};
 ghost use Rattle.oxc_handlers.specs.Cells.{repeated};
 ghost use Rattle.oxc_handlers.specs.Theme.{styled};
 
@@ -12,7 +13,7 @@ const BLOCK: usize = 128;
 
 /// Appends a character some times over.
 pub(crate) fn write_repeated_char(out: &mut String, c: char, count: usize) -> Result<(), AllocError>
-    ensures { OnOk result (string_bytes out.new ≡ string_bytes out.old ++ repeated count (encode_utf8 c)) }
+    ensures { OnOk result (Appends out.old out.new (repeated count (encode_utf8 c))) }
 {
     if count == 0 {
         return Ok(());
@@ -25,12 +26,13 @@ pub(crate) fn write_repeated_char(out: &mut String, c: char, count: usize) -> Re
 }
 
 /// A block of spaces.
-const SPACES: &str =
-    "                                                                                                                                ";
+const SPACES: &str = "\
+    \x20                                                               \
+    \x20                                                               ";
 
 /// Appends so many spaces.
 pub(crate) fn write_spaces(out: &mut String, count: usize) -> Result<(), AllocError>
-    ensures { OnOk result (string_bytes out.new ≡ string_bytes out.old ++ repeated count (encode_utf8 0x20)) }
+    ensures { OnOk result (Appends out.old out.new (repeated count (encode_utf8 0x20))) }
 {
     if count < BLOCK {
         out.push_str(front_of(SPACES, ' ', count))?;
@@ -41,7 +43,7 @@ pub(crate) fn write_spaces(out: &mut String, count: usize) -> Result<(), AllocEr
 
 /// Appends a character some times over, in blocks where there is one of it.
 fn write_run(out: &mut String, c: char, count: usize) -> Result<(), AllocError>
-    ensures { OnOk result (string_bytes out.new ≡ string_bytes out.old ++ repeated count (encode_utf8 c)) }
+    ensures { OnOk result (Appends out.old out.new (repeated count (encode_utf8 c))) }
 {
     match block_of(c) {
         Some(block) => write_blocks(out, c, block, count),
@@ -54,24 +56,24 @@ fn block_of(c: char) -> Option<&'static str>
     ensures { IfSome result (λ block. block.now ≡ repeated BLOCK (encode_utf8 c)) }
 {
     match c {
-        ' ' => Some(
-            "                                                                                                                                ",
-        ),
+        ' ' => Some(SPACES),
         '─' => Some(
-            "────────────────────────────────────────────────────────────────────────────────────────────────────────────────────────────────",
+            "────────────────────────────────────────────────────────────────\
+             ────────────────────────────────────────────────────────────────",
         ),
         '^' => Some(
-            "^^^^^^^^^^^^^^^^^^^^^^^^^^^^^^^^^^^^^^^^^^^^^^^^^^^^^^^^^^^^^^^^^^^^^^^^^^^^^^^^^^^^^^^^^^^^^^^^^^^^^^^^^^^^^^^^^^^^^^^^^^^^^^^^",
+            "^^^^^^^^^^^^^^^^^^^^^^^^^^^^^^^^^^^^^^^^^^^^^^^^^^^^^^^^^^^^^^^^\
+             ^^^^^^^^^^^^^^^^^^^^^^^^^^^^^^^^^^^^^^^^^^^^^^^^^^^^^^^^^^^^^^^^",
         ),
         _ => None,
     }
 }
 
 /// Appends a character some times over, in blocks as far as they go.
-#[tactic(auto, using(crate::proofs::CellsLemmas::block_more, crate::proofs::CellsLemmas::blocks_end, crate::proofs::CellsLemmas::blocks_none))]
+#[tactic(auto, using(crate::proofs::CellsLemmas::blocks_one_by_one))]
 fn write_blocks(out: &mut String, c: char, block: &str, count: usize) -> Result<(), AllocError>
     requires { block.now ≡ repeated BLOCK (encode_utf8 c) }
-    ensures { OnOk result (string_bytes out.new ≡ string_bytes out.old ++ repeated count (encode_utf8 c)) }
+    ensures { OnOk result (Appends out.old out.new (repeated count (encode_utf8 c))) }
 {
     for _i in 0..count / BLOCK {
         out.push_str(block)?;
@@ -90,9 +92,9 @@ fn front_of(block: &str, c: char, count: usize) -> &str
 }
 
 /// Appends a character some times over, one by one.
-#[tactic(auto, using(crate::proofs::CellsLemmas::written_none, crate::proofs::CellsLemmas::written_more))]
+#[tactic(auto, using(crate::proofs::CellsLemmas::chars_one_by_one))]
 fn write_chars(out: &mut String, c: char, count: usize) -> Result<(), AllocError>
-    ensures { OnOk result (string_bytes out.new ≡ string_bytes out.old ++ repeated count (encode_utf8 c)) }
+    ensures { OnOk result (Appends out.old out.new (repeated count (encode_utf8 c))) }
 {
     for _i in 0..count {
         out.push(c)?;
@@ -108,7 +110,8 @@ pub(crate) fn write_styled_run(
     c: char,
     count: usize,
 ) -> Result<(), AllocError>
-    ensures { OnOk result (string_bytes out.new ≡ string_bytes out.old ++ styled style (repeated count (encode_utf8 c))) }
+    ensures { OnOk result
+        (Appends out.old out.new (styled style (repeated count (encode_utf8 c)))) }
 {
     style.begin(out)?;
     write_repeated_char(out, c, count)?;
@@ -118,7 +121,7 @@ pub(crate) fn write_styled_run(
 
 /// Appends a number.
 pub(crate) fn write_number(out: &mut String, number: usize) -> Result<(), AllocError>
-    ensures { OnOk result (string_bytes out.new ≡ string_bytes out.old ++ decimal number) }
+    ensures { OnOk result (Appends out.old out.new (decimal number)) }
 {
     let mut buffer = Buffer::new();
     out.push_str(buffer.format(number))?;

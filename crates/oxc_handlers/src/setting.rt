@@ -37,8 +37,8 @@ impl<'a> Model for Setting<'a> {
 }
 
 impl<'a> Setting<'a> {
-    /// The setting of a report, of whose labels the places in label order are given. What depends on a snippet is still to be
-    /// set: there are no bars, and numbers of one digit.
+    /// The setting of a report, of whose labels the places in label order are given. What depends
+    /// on a snippet is still to be set: there are no bars, and numbers of one digit.
     pub(crate) fn new(
         theme: GraphicalTheme,
         labels: &'a [LabeledSpan],
@@ -59,7 +59,7 @@ impl<'a> Setting<'a> {
     }
 
     /// The text of a label.
-    #[tactic(auto, unfolding(crate::specs::Setting::text_at), using(crate::proofs::SettingLemmas::get_or_map, crate::proofs::SettingLemmas::get_past_map))]
+    #[tactic(auto, unfolding(crate::specs::Setting::text_at), using(crate::proofs::SettingLemmas::at_mapped))]
     pub(crate) fn text_at(&self, label: usize) -> Option<&'a str>
         ensures { option_copied result ≡ text_at self.now.labels label }
     {
@@ -73,7 +73,7 @@ impl<'a> Setting<'a> {
     }
 
     /// Whether a label is empty.
-    #[tactic(auto, unfolding(crate::specs::Setting::is_empty_at), using(crate::proofs::SettingLemmas::get_or_map, crate::proofs::SettingLemmas::get_past_map))]
+    #[tactic(auto, unfolding(crate::specs::Setting::is_empty_at), using(crate::proofs::SettingLemmas::at_mapped))]
     pub(crate) fn is_empty_at(&self, label: usize) -> bool
         ensures { result ≡ is_empty_at self.now.labels label }
     {

@@ -1,10 +1,12 @@
 //! Drawn snippets: a head, the lines of each row, and a close.
-ghost use Rattle.std.specs.Prelude.{◌≡◌, ◌++◌, ◌<◌, ◌≤◌, ◌^◌, All, OnOk, length, map, string_bytes, decimal};
+ghost use Rattle.std.specs.Prelude.{◌≡◌, ◌<◌, ◌≤◌, ◌^◌, All, OnOk, length, map, decimal};
 ghost use Rattle.std.specs.List.{flat_map};
 ghost use Rattle.std.specs.Option.{option_copied};
+ghost use Rattle.textwrap.specs.Appends.{Appends};
 ghost use Rattle.oxc_plan.specs.Plan.{row_plan_view, snippet_view};
 ghost use Rattle.oxc_handlers.specs.RowLines.{IsRow, row_line, row_lines};
-ghost use Rattle.oxc_handlers.specs.Snippet.{IsSnippet, close, drawn_snippet, head, head_text, location, number_width};
+ghost use Rattle.oxc_handlers.specs.Snippet.{IsSnippetIn, close, drawn_all, drawn_one, head};
+ghost use Rattle.oxc_handlers.specs.Snippet.{head_text, location, number_width};
 
 use crate::gutter::{render_line_gutter, write_linum};
 use crate::label::{render_multi_line_ends, render_single_line_highlights};
@@ -15,32 +17,37 @@ use itoa::Buffer;
 use oxc_plan::{RowPlan, SnippetPlan};
 use std::alloc::AllocError;
 
-/// Appends snippets one after another. Of the setting, what depends on the snippet is made anew for each.
+/// Appends snippets one after another. Of the setting, what depends on the snippet is made anew for
+/// each.
 pub(crate) fn render_snippets(
     out: &mut String,
     setting: &Setting<'_>,
     name: Option<&str>,
     snippets: &[SnippetPlan<'_>],
 ) -> Result<(), AllocError>
-    requires { All (IsSnippet setting.now.theme setting.now.tab setting.now.labels) (map snippet_view snippets.now) }
-    ensures { OnOk result (string_bytes out.new ≡ string_bytes out.old ++ flat_map (drawn_snippet setting.now.theme setting.now.tab setting.now.labels (option_copied name.entry)) (map snippet_view snippets.now)) }
+    requires { All (IsSnippetIn setting.now) (map snippet_view snippets.now) }
+    ensures { OnOk result
+        (Appends out.old out.new (drawn_all setting.now (option_copied name.entry)
+        (map snippet_view snippets.now))) }
 {
     for snippet in snippets {
-        render_context(out, setting, name, snippet)?;
+        render_snippet(out, setting, name, snippet)?;
     }
     Ok(())
 }
 
 /// Appends a snippet.
 #[tactic(auto, unfolding(crate::specs::Snippet::drawn_snippet))]
-fn render_context(
+fn render_snippet(
     out: &mut String,
     setting: &Setting<'_>,
     name: Option<&str>,
     snippet: &SnippetPlan<'_>,
 ) -> Result<(), AllocError>
-    requires { IsSnippet setting.now.theme setting.now.tab setting.now.labels (snippet_view snippet.now) }
-    ensures { OnOk result (string_bytes out.new ≡ string_bytes out.old ++ drawn_snippet setting.now.theme setting.now.tab setting.now.labels (option_copied name.entry) (snippet_view snippet.now)) }
+    requires { IsSnippetIn setting.now (snippet_view snippet.now) }
+    ensures { OnOk result
+        (Appends out.old out.new (drawn_one setting.now (option_copied name.entry)
+        (snippet_view snippet.now))) }
 {
     let setting = Setting {
         gutter: snippet.gutter,
@@ -81,7 +88,9 @@ fn write_head(
     snippet: &SnippetPlan<'_>,
 ) -> Result<(), AllocError>
     requires { setting.now.digits < 2 ^ 62 }
-    ensures { OnOk result (string_bytes out.new ≡ string_bytes out.old ++ head setting.now (snippet_view snippet.now) (option_copied name.entry)) }
+    ensures { OnOk result
+        (Appends out.old out.new (head setting.now (snippet_view snippet.now)
+        (option_copied name.entry))) }
 {
     write_spaces(out, setting.digits + 2)?;
     out.push(setting.theme.characters.ltop)?;
@@ -98,7 +107,9 @@ fn write_head_text(
     name: Option<&str>,
     snippet: &SnippetPlan<'_>,
 ) -> Result<(), AllocError>
-    ensures { OnOk result (string_bytes out.new ≡ string_bytes out.old ++ head_text setting.now (snippet_view snippet.now) (option_copied name.entry)) }
+    ensures { OnOk result
+        (Appends out.old out.new (head_text setting.now (snippet_view snippet.now)
+        (option_copied name.entry))) }
 {
     match name {
         Some(name) => {
@@ -122,7 +133,7 @@ fn write_head_text(
 /// Appends the row and the column to which a head points.
 #[tactic(auto, unfolding(crate::specs::Snippet::location))]
 fn write_location(out: &mut String, snippet: &SnippetPlan<'_>) -> Result<(), AllocError>
-    ensures { OnOk result (string_bytes out.new ≡ string_bytes out.old ++ location (snippet_view snippet.now)) }
+    ensures { OnOk result (Appends out.old out.new (location (snippet_view snippet.now))) }
 {
     write_number(out, snippet.head_line)?;
     out.push(':')?;
@@ -136,7 +147,8 @@ fn render_rows(
     rows: &[RowPlan<'_>],
 ) -> Result<(), AllocError>
     requires { All (IsRow setting.now) (map row_plan_view rows.now) }
-    ensures { OnOk result (string_bytes out.new ≡ string_bytes out.old ++ flat_map (row_lines setting.now) (map row_plan_view rows.now)) }
+    ensures { OnOk result
+        (Appends out.old out.new (flat_map (row_lines setting.now) (map row_plan_view rows.now))) }
 {
     for row in rows {
         render_row(out, setting, row)?;
@@ -148,7 +160,8 @@ fn render_rows(
 #[tactic(auto, unfolding(crate::specs::RowLines::row_lines))]
 fn render_row(out: &mut String, setting: &Setting<'_>, row: &RowPlan<'_>) -> Result<(), AllocError>
     requires { IsRow setting.now (row_plan_view row.now) }
-    ensures { OnOk result (string_bytes out.new ≡ string_bytes out.old ++ row_lines setting.now (row_plan_view row.now)) }
+    ensures { OnOk result
+        (Appends out.old out.new (row_lines setting.now (row_plan_view row.now))) }
 {
     render_line(out, setting, row)?;
     render_single_line_highlights(out, setting, row)?;
@@ -159,7 +172,7 @@ fn render_row(out: &mut String, setting: &Setting<'_>, row: &RowPlan<'_>) -> Res
 #[tactic(auto, unfolding(crate::specs::RowLines::row_line))]
 fn render_line(out: &mut String, setting: &Setting<'_>, row: &RowPlan<'_>) -> Result<(), AllocError>
     requires { IsRow setting.now (row_plan_view row.now) }
-    ensures { OnOk result (string_bytes out.new ≡ string_bytes out.old ++ row_line setting.now (row_plan_view row.now)) }
+    ensures { OnOk result (Appends out.old out.new (row_line setting.now (row_plan_view row.now))) }
 {
     write_linum(out, setting, row.row.number)?;
     render_line_gutter(out, setting, &row.bars)?;
@@ -171,7 +184,7 @@ fn render_line(out: &mut String, setting: &Setting<'_>, row: &RowPlan<'_>) -> Re
 #[tactic(auto, unfolding(crate::specs::Snippet::close))]
 fn write_close(out: &mut String, setting: &Setting<'_>) -> Result<(), AllocError>
     requires { setting.now.digits < 2 ^ 62 }
-    ensures { OnOk result (string_bytes out.new ≡ string_bytes out.old ++ close setting.now) }
+    ensures { OnOk result (Appends out.old out.new (close setting.now)) }
 {
     write_spaces(out, setting.digits + 2)?;
     out.push(setting.theme.characters.lbot)?;

@@ -1,6 +1,7 @@
-// Drawn reports by example, and that memory suffices for them. What is expected was worked out by hand.
-ghost use Rattle.std.specs.Prelude.{◌≡◌, ◌<◌, ◌+◌, ◌^◌, IfOk, MatchResult, length, string_bytes};
-ghost use Rattle.oxc_handlers.specs.Refusals.{IsFaultless, IsRefusal};
+// Drawn reports by example, and that memory suffices for them. What is expected was worked out by
+// hand.
+ghost use Rattle.std.specs.Prelude.{◌≡◌, ◌<◌, ◌+◌, ◌^◌, IfOk, length, string_bytes};
+ghost use Rattle.oxc_handlers.specs.Refusals.{IsJudged};
 ghost use Rattle.oxc_handlers.specs.Report.{drawn, plan_of, view_parts};
 ghost use Rattle.oxc_handlers.specs.Scanners.{ReadsRoundIfThere};
 ghost use Rattle.oxc_handlers.specs.Theme.{unicode_theme};
@@ -82,8 +83,9 @@ fn is_refused(
 
 /// A diagnostic for a terminal of 120 columns.
 fn for_terminal(alloc: Global, view: &DiagnosticView<'_>) -> Result<String, RenderError>
-    ensures text { IfOk result (λ text. string_bytes text ≡ drawn unicode_theme 120 (plan_of 4 (view_parts view.now))) }
-    ensures cause { MatchResult result (λ _. IsFaultless (view_parts view.now)) (IsRefusal 0 (view_parts view.now)) }
+    ensures text { IfOk result (λ text. string_bytes text
+        ≡ drawn unicode_theme 120 (plan_of 4 (view_parts view.now))) }
+    ensures cause { IsJudged (view_parts view.now) result }
 {
     let handler = GraphicalReportHandler::new_themed(GraphicalTheme::unicode()).with_width(120);
     let mut scanner = None;
@@ -96,13 +98,29 @@ fn plain() -> GraphicalReportHandler {
 
 const ROWS: &[u8] = b"foo\nbar\nbaz";
 
-const MARKED: &str =
-    "\n  x Oops\n   ,-[a.js:2:1]\n 1 | foo\n 2 | bar\n   : ^|^\n   :  `-- here\n 3 | baz\n   `----\n";
+const MARKED: &str = "
+  x Oops
+   ,-[a.js:2:1]
+ 1 | foo
+ 2 | bar
+   : ^|^
+   :  `-- here
+ 3 | baz
+   `----
+";
 
-const LAST: &str =
-    "\n  x Oops\n   ,-[a.js:3:1]\n 2 | bar\n 3 | baz\n   : |\n   : `-- here\n   `----\n";
+const LAST: &str = "
+  x Oops
+   ,-[a.js:3:1]
+ 2 | bar
+ 3 | baz
+   : |
+   : `-- here
+   `----
+";
 
-/// Whether a label of a source is drawn as a text by a scanner, which keeps the starts of three rows then.
+/// Whether a label of a source is drawn as a text by a scanner, which keeps the starts of three
+/// rows then.
 fn is_drawn_by<'a>(
     alloc: Global,
     scanner: &mut Option<SpanScanner<'a>>,
@@ -187,8 +205,20 @@ fn is_warning_drawn(alloc: Global, labels: &[LabeledSpan]) -> Result<bool, Rende
     Ok(text.as_str() == WARNING)
 }
 
-const WARNING: &str =
-    "\n  ! eslint(no-undef): 'c' is not defined.\n   ,-[src/app.js:3:10]\n 2 | \n 3 | function f(b) {\n   :          |\n   :          `-- in this function\n 4 |     return a + c;\n   :                |\n   :                `-- not found\n 5 | }\n   `----\n  help: Declare it or import it.\n";
+const WARNING: &str = "
+  ! eslint(no-undef): 'c' is not defined.
+   ,-[src/app.js:3:10]
+ 2 |\u{20}
+ 3 | function f(b) {
+   :          |
+   :          `-- in this function
+ 4 |     return a + c;
+   :                |
+   :                `-- not found
+ 5 | }
+   `----
+  help: Declare it or import it.
+";
 
 #[test]
 fn a_report_has_title_snippet_and_help(rt: HostRuntime) -> Result<(), Fail> {
@@ -198,6 +228,46 @@ fn a_report_has_title_snippet_and_help(rt: HostRuntime) -> Result<(), Fail> {
         label(alloc, 33, 1, "in this function")?,
     ];
     assert!(rt; is_warning_drawn(alloc, &labels)?);
+    Ok(())
+}
+
+const FIRST_PAGE: &str = "
+  x eslint(no-undef): 'c' is not
+  | defined
+   ,-[a.js:1:1]
+ 1 | ,-> foo
+ 2 | |   bar
+   : |   ^|^
+   : |    `-- here
+ 3 | |-> baz
+   : `---- block
+   `----
+  help: declare it
+";
+
+/// Whether the report is drawn that the head of `lib.rt` shows.
+fn is_first_page_drawn(alloc: Global, labels: &[LabeledSpan]) -> Result<bool, RenderError> {
+    let view = DiagnosticView {
+        message: "'c' is not defined",
+        code: Some("eslint(no-undef)"),
+        severity: None,
+        help: Some("declare it"),
+        note: None,
+        source: Some(SourceRef::new(ROWS, Some("a.js"))),
+        labels,
+    };
+    let mut scanner = None;
+    let text = plain()
+        .with_width(36)
+        .render_view(alloc, &view, &mut scanner)?;
+    Ok(text.as_str() == FIRST_PAGE)
+}
+
+#[test]
+fn the_first_page_shows_a_report(rt: HostRuntime) -> Result<(), Fail> {
+    let alloc = rt.alloc();
+    let labels = [label(alloc, 0, 11, "block")?, label(alloc, 4, 3, "here")?];
+    assert!(rt; is_first_page_drawn(alloc, &labels)?);
     Ok(())
 }
 
@@ -211,8 +281,16 @@ fn labels_over_rows_have_a_gutter(rt: HostRuntime) -> Result<(), Fail> {
         source: b"a {\n  b\n}\n",
         labels: &labels,
     };
-    let text =
-        "\n  x m\n   ,-[b.js:1:3]\n 1 | ,-> a {\n 2 | |     b\n 3 | |-> }\n   : `--| block\n   :    | here\n   `----\n";
+    let text = "
+  x m
+   ,-[b.js:1:3]
+ 1 | ,-> a {
+ 2 | |     b
+ 3 | |-> }
+   : `--| block
+   :    | here
+   `----
+";
     assert!(rt; is_drawn(alloc, &plain(), &block, text)?);
     let labels = [LabeledSpan::new(None, 0, 3), label(alloc, 0, 3, "z")?];
     let two = Case {
@@ -221,13 +299,41 @@ fn labels_over_rows_have_a_gutter(rt: HostRuntime) -> Result<(), Fail> {
         source: b"a\nb\n",
         labels: &labels,
     };
-    let text = "\n  x m\n   ,-[m:1:1]\n 1 | ,--> a\n 2 | `--> b\n   : `----- z\n   `----\n";
+    let text = "
+  x m
+   ,-[m:1:1]
+ 1 | ,--> a
+ 2 | `--> b
+   : `----- z
+   `----
+";
     assert!(rt; is_drawn(alloc, &plain(), &two, text)?);
     Ok(())
 }
 
-const COLORED: &str =
-    "\n  \u{1b}[38;2;225;80;80;1m×\u{1b}[0m \u{1b}[38;2;225;80;80;1mm\u{1b}[0m\n   ╭─[\u{1b}[38;2;92;157;255;1mb.js\u{1b}[0m:1:3]\n \u{1b}[2m1\u{1b}[0m │ \u{1b}[38;2;246;87;248m╭\u{1b}[0m\u{1b}[38;2;246;87;248m─\u{1b}[0m\u{1b}[38;2;246;87;248m▶\u{1b}[0m a {\n \u{1b}[2m2\u{1b}[0m │ \u{1b}[38;2;246;87;248m│\u{1b}[0m     b\n \u{1b}[2m3\u{1b}[0m │ \u{1b}[38;2;246;87;248m├\u{1b}[0m\u{1b}[38;2;246;87;248m─\u{1b}[0m\u{1b}[38;2;246;87;248m▶\u{1b}[0m }\n   · \u{1b}[38;2;246;87;248m╰\u{1b}[0m\u{1b}[38;2;246;87;248m───\u{1b}[0m\u{1b}[38;2;246;87;248m─\u{1b}[0m \u{1b}[38;2;246;87;248mblock\u{1b}[0m\n   ╰────\n";
+const COLORED: &str = "
+  \u{1b}[38;2;225;80;80;1m×\u{1b}[0m \u{1b}[38;2;225;80;80;1mm\u{1b}[0m
+   ╭─[\u{1b}[38;2;92;157;255;1mb.js\u{1b}[0m:1:3]
+ \u{1b}[2m1\u{1b}[0m │ \
+    \u{1b}[38;2;246;87;248m╭\u{1b}[0m\u{1b}[38;2;246;87;248m─\u{1b}[0m\u{1b}[38;2;246;87;248m▶\u{1b}[0m a {
+ \u{1b}[2m2\u{1b}[0m │ \u{1b}[38;2;246;87;248m│\u{1b}[0m     b
+ \u{1b}[2m3\u{1b}[0m │ \
+    \u{1b}[38;2;246;87;248m├\u{1b}[0m\u{1b}[38;2;246;87;248m─\u{1b}[0m\u{1b}[38;2;246;87;248m▶\u{1b}[0m }
+   · \u{1b}[38;2;246;87;248m╰\u{1b}[0m\u{1b}[38;2;246;87;248m───\u{1b}[0m\u{1b}[38;2;246;87;248m─\u{1b}[0m \
+    \u{1b}[38;2;246;87;248mblock\u{1b}[0m
+   ╰────
+";
+
+const COLORED_MARKS: &str = "
+  \u{1b}[38;2;225;80;80;1m×\u{1b}[0m \u{1b}[38;2;225;80;80;1mOops\u{1b}[0m
+   ╭─[\u{1b}[38;2;92;157;255;1ma.js\u{1b}[0m:2:1]
+ \u{1b}[2m1\u{1b}[0m │ foo
+ \u{1b}[2m2\u{1b}[0m │ bar
+   · \u{1b}[38;2;246;87;248m─┬─\u{1b}[0m
+   ·  \u{1b}[38;2;246;87;248m╰── \u{1b}[38;2;246;87;248mhere\u{1b}[0m\u{1b}[0m
+ \u{1b}[2m3\u{1b}[0m │ baz
+   ╰────
+";
 
 #[test]
 fn a_theme_gives_characters_and_colors(rt: HostRuntime) -> Result<(), Fail> {
@@ -239,10 +345,20 @@ fn a_theme_gives_characters_and_colors(rt: HostRuntime) -> Result<(), Fail> {
         source: ROWS,
         labels: &labels,
     };
-    let text =
-        "\n  × Oops\n   ╭─[a.js:2:1]\n 1 │ foo\n 2 │ bar\n   · ─┬─\n   ·  ╰── here\n 3 │ baz\n   ╰────\n";
+    let text = "
+  × Oops
+   ╭─[a.js:2:1]
+ 1 │ foo
+ 2 │ bar
+   · ─┬─
+   ·  ╰── here
+ 3 │ baz
+   ╰────
+";
     let boxes = plain().with_theme(GraphicalTheme::unicode_nocolor());
     assert!(rt; is_drawn(alloc, &boxes, &here, text)?);
+    let colors = plain().with_theme(GraphicalTheme::unicode());
+    assert!(rt; is_drawn(alloc, &colors, &here, COLORED_MARKS)?);
     let labels = [label(alloc, 2, 7, "block")?];
     let block = Case {
         message: "m",
@@ -250,7 +366,6 @@ fn a_theme_gives_characters_and_colors(rt: HostRuntime) -> Result<(), Fail> {
         source: b"a {\n  b\n}\n",
         labels: &labels,
     };
-    let colors = plain().with_theme(GraphicalTheme::unicode());
     assert!(rt; is_drawn(alloc, &colors, &block, COLORED)?);
     let text = "\n  \u{1b}[38;2;225;80;80;1m×\u{1b}[0m \u{1b}[38;2;225;80;80;1mm\u{1b}[0m\n";
     assert!(rt; is_on_terminal(alloc, "m", text)?);
@@ -276,10 +391,22 @@ fn tabs_and_the_width_are_those_of_the_handler(rt: HostRuntime) -> Result<(), Fa
         source: b"\tlet x",
         labels: &labels,
     };
-    let text = "\n  x m\n   ,----\n 1 |     let x\n   :         ^\n   `----\n";
+    let text = "
+  x m
+   ,----
+ 1 |     let x
+   :         ^
+   `----
+";
     assert!(rt; is_drawn(alloc, &plain(), &case, text)?);
     let two = plain().with_tabs(TabWidth::new(2).unwrap_or_default());
-    let text = "\n  x m\n   ,----\n 1 |   let x\n   :       ^\n   `----\n";
+    let text = "
+  x m
+   ,----
+ 1 |   let x
+   :       ^
+   `----
+";
     assert!(rt; is_drawn(alloc, &two, &case, text)?);
     let title = Case {
         message: "ab",

@@ -1,6 +1,9 @@
 //! The characters and the styles of a drawing.
-ghost use Rattle.std.specs.Prelude.{◌≡◌, ◌++◌, OnOk, OnErr, string_bytes};
-ghost use Rattle.oxc_handlers.specs.Theme.{ascii_characters, box_characters, none_theme, plain_styles, prefix_of, reset_of, rgb_styles, styled, unicode_nocolor_theme, unicode_theme};
+ghost use Rattle.std.specs.Prelude.{◌≡◌, OnOk, OnErr, string_bytes};
+ghost use Rattle.textwrap.specs.Appends.{Appends};
+ghost use Rattle.oxc_handlers.specs.Theme.{ascii_characters, box_characters, none_theme};
+ghost use Rattle.oxc_handlers.specs.Theme.{plain_styles, prefix_of, reset_of, rgb_styles, styled};
+ghost use Rattle.oxc_handlers.specs.Theme.{unicode_nocolor_theme, unicode_theme};
 
 use std::alloc::AllocError;
 
@@ -51,7 +54,8 @@ impl GraphicalTheme {
     /// Want of memory. The text is as it was then.
     #[tactic(auto, unfolding(crate::specs::Theme::styled))]
     pub fn write_warning(&self, out: &mut String, value: &str) -> Result<(), AllocError>
-        ensures ok { OnOk result (string_bytes out.new ≡ string_bytes out.old ++ styled self.now.styles.warning value.now) }
+        ensures ok { OnOk result
+            (Appends out.old out.new (styled self.now.styles.warning value.now)) }
         ensures err { OnErr result (string_bytes out.new ≡ string_bytes out.old) }
     {
         let prefix = self.styles.warning.prefix();
@@ -108,7 +112,7 @@ impl Style {
 
     /// Appends what begins this style.
     pub(crate) fn begin(self, out: &mut String) -> Result<(), AllocError>
-        ensures { OnOk result (string_bytes out.new ≡ string_bytes out.old ++ prefix_of self) }
+        ensures { OnOk result (Appends out.old out.new (prefix_of self)) }
     {
         match self {
             Style::Plain => Ok(()),
@@ -118,7 +122,7 @@ impl Style {
 
     /// Appends what ends this style.
     pub(crate) fn end(self, out: &mut String) -> Result<(), AllocError>
-        ensures { OnOk result (string_bytes out.new ≡ string_bytes out.old ++ reset_of self) }
+        ensures { OnOk result (Appends out.old out.new (reset_of self)) }
     {
         match self {
             Style::Plain => Ok(()),
@@ -129,7 +133,7 @@ impl Style {
     /// Appends a text in this style.
     #[tactic(auto, unfolding(crate::specs::Theme::styled))]
     pub(crate) fn write(self, out: &mut String, value: &str) -> Result<(), AllocError>
-        ensures { OnOk result (string_bytes out.new ≡ string_bytes out.old ++ styled self value.now) }
+        ensures { OnOk result (Appends out.old out.new (styled self value.now)) }
     {
         self.begin(out)?;
         out.push_str(value)?;

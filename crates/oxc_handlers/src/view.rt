@@ -2,7 +2,7 @@
 ghost use Rattle.std.specs.Prelude.{◌≡◌};
 ghost use Rattle.oxc_handlers.specs.Refusals.{error_at};
 
-use oxc_protocol::{Failed, LabeledSpan, Severity, SourceRef};
+use oxc_protocol::{Diagnostic, Failed, LabeledSpan, Severity, SourceRef};
 use std::alloc::AllocError;
 use thiserror::Error;
 
@@ -23,6 +23,27 @@ pub struct DiagnosticView<'a> {
     pub source: Option<SourceRef<'a>>,
     /// The places that it points to, in the order in which they were given.
     pub labels: &'a [LabeledSpan],
+}
+
+impl<'a> DiagnosticView<'a> {
+    ghost use Rattle.std.specs.Option.{option_copied};
+    ghost use Rattle.oxc_handlers.specs.Report.{view_parts, without_url};
+
+    /// What is drawn of a diagnostic, whose code is at hand as a text.
+    pub fn of(diagnostic: &'a dyn Diagnostic, code: Option<&'a str>) -> Self
+        requires { option_copied code ≡ (parts diagnostic.now).code }
+        ensures { view_parts result ≡ without_url (parts diagnostic.now) }
+    {
+        DiagnosticView {
+            message: diagnostic.message(),
+            code,
+            severity: diagnostic.severity(),
+            help: diagnostic.help(),
+            note: diagnostic.note(),
+            source: diagnostic.source_code(),
+            labels: diagnostic.labels(),
+        }
+    }
 }
 
 /// Why reports were not drawn, or not written.

@@ -1,14 +1,17 @@
 //! Texts inside a JSON string.
-ghost use Rattle.std.specs.Prelude.{◌≡◌, ◌++◌, ◌<◌, OnOk, IsTrue, string_bytes};
+ghost use Rattle.std.specs.Prelude.{◌≡◌, ◌<◌, OnOk, IsTrue};
+ghost use Rattle.textwrap.specs.Appends.{Appends};
 ghost use Rattle.std.specs.List.{position};
 ghost use Rattle.std.specs.Char.{digit_char};
-ghost use Rattle.oxc_handlers.specs.JsonEscape.{ComesBack, escape, escape_byte, hex_escape, IsFirstEscape, needs_escape as is_escaped};
+ghost use Rattle.oxc_handlers.specs.JsonEscape.{ComesBack, escape, escape_byte, hex_escape};
+ghost use Rattle.oxc_handlers.specs.JsonEscape.{IsFirstEscape, needs_escape as is_escaped};
 
 use std::alloc::AllocError;
 
-/// Appends a text as it stands inside a JSON string. Runs without an escape are appended as they are.
+/// Appends a text as it stands inside a JSON string. Runs without an escape are appended as they
+/// are.
 pub fn push_escaped(out: &mut String, text: &str) -> Result<(), AllocError>
-    ensures { OnOk result (string_bytes out.new ≡ string_bytes out.old ++ escape text.now) }
+    ensures { OnOk result (Appends out.old out.new (escape text.now)) }
 {
     let mut rest = text;
     while let Some(at) = first_escaped(rest) {
@@ -48,7 +51,7 @@ fn needs_escape(byte: u8) -> bool
 #[tactic(auto, unfolding(crate::specs::JsonEscape::escape_byte))]
 fn push_escape(out: &mut String, byte: u8) -> Result<(), AllocError>
     requires { IsTrue (is_escaped byte) }
-    ensures { OnOk result (string_bytes out.new ≡ string_bytes out.old ++ escape_byte byte) }
+    ensures { OnOk result (Appends out.old out.new (escape_byte byte)) }
 {
     match byte {
         b'"' => out.push_str("\\\""),
@@ -66,7 +69,7 @@ fn push_escape(out: &mut String, byte: u8) -> Result<(), AllocError>
 #[tactic(auto, unfolding(crate::specs::JsonEscape::hex_escape))]
 fn push_hex(out: &mut String, byte: u8) -> Result<(), AllocError>
     requires { byte < 0x20 }
-    ensures { OnOk result (string_bytes out.new ≡ string_bytes out.old ++ hex_escape byte) }
+    ensures { OnOk result (Appends out.old out.new (hex_escape byte)) }
 {
     out.push_str("\\u00")?;
     out.push(hex_digit(byte / 16))?;

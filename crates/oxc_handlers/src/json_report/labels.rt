@@ -1,11 +1,14 @@
 //! The labels of a report as JSON.
-ghost use Rattle.std.specs.Prelude.{◌≡◌, ◌++◌, ◌<◌, ◌^◌, OnOk, string_bytes, All};
+ghost use Rattle.std.specs.Prelude.{◌≡◌, ◌<◌, ◌^◌, OnOk, All};
+ghost use Rattle.textwrap.specs.Appends.{Appends};
 ghost use Rattle.std.specs.List.{flat_map};
-ghost use Rattle.oxc_handlers.specs.JsonText.{label_list, label_object, label_place, labels_member, later_label, place_members, span_object};
+ghost use Rattle.oxc_handlers.specs.JsonText.{label_list, label_object, label_place, labels_member};
+ghost use Rattle.oxc_handlers.specs.JsonText.{later_label, place_members, span_object};
 ghost use Rattle.oxc_handlers.specs.JsonRange.{IsInRange};
 
-use crate::json_report::members::{push_key, push_number, push_number_member, push_optional};
+use crate::json_report::members::{push_key, push_number_member, push_optional};
 use crate::json_report::places::{Place, Places};
+use crate::runs::write_number;
 use oxc_protocol::LabeledSpan;
 use std::alloc::AllocError;
 
@@ -16,7 +19,7 @@ pub fn push_labels_member(
     places: &mut Places<'_>,
     labels: &[LabeledSpan],
 ) -> Result<(), AllocError>
-    ensures text { OnOk result (string_bytes out.new ≡ string_bytes out.old ++ labels_member places.old labels.now) }
+    ensures text { OnOk result (Appends out.old out.new (labels_member places.old labels.now)) }
     ensures range { OnOk result (All (IsInRange places.old) labels.now) }
     ensures same { places.new ≡ places.old }
 {
@@ -33,7 +36,7 @@ fn push_labels(
     places: &mut Places<'_>,
     labels: &[LabeledSpan],
 ) -> Result<(), AllocError>
-    ensures text { OnOk result (string_bytes out.new ≡ string_bytes out.old ++ label_list places.old labels.now) }
+    ensures text { OnOk result (Appends out.old out.new (label_list places.old labels.now)) }
     ensures range { OnOk result (All (IsInRange places.old) labels.now) }
     ensures same { places.new ≡ places.old }
 {
@@ -49,7 +52,8 @@ fn push_later_labels(
     places: &mut Places<'_>,
     labels: &[LabeledSpan],
 ) -> Result<(), AllocError>
-    ensures text { OnOk result (string_bytes out.new ≡ string_bytes out.old ++ flat_map (later_label places.old) labels.now) }
+    ensures text { OnOk result
+        (Appends out.old out.new (flat_map (later_label places.old) labels.now)) }
     ensures range { OnOk result (All (IsInRange places.old) labels.now) }
     ensures same { places.new ≡ places.old }
 {
@@ -65,7 +69,7 @@ fn push_later_label(
     places: &mut Places<'_>,
     label: &LabeledSpan,
 ) -> Result<(), AllocError>
-    ensures text { OnOk result (string_bytes out.new ≡ string_bytes out.old ++ later_label places.old label.now) }
+    ensures text { OnOk result (Appends out.old out.new (later_label places.old label.now)) }
     ensures range { OnOk result (IsInRange places.old label.now) }
     ensures same { places.new ≡ places.old }
 {
@@ -79,7 +83,7 @@ fn push_label(
     places: &mut Places<'_>,
     label: &LabeledSpan,
 ) -> Result<(), AllocError>
-    ensures text { OnOk result (string_bytes out.new ≡ string_bytes out.old ++ label_object places.old label.now) }
+    ensures text { OnOk result (Appends out.old out.new (label_object places.old label.now)) }
     ensures range { OnOk result (IsInRange places.old label.now) }
     ensures same { places.new ≡ places.old }
 {
@@ -94,7 +98,7 @@ fn push_label(
 // Appends the bytes that a label covers, and its place.
 #[tactic(auto, unfolding(crate::specs::JsonText::span_object))]
 fn push_span(out: &mut String, label: &LabeledSpan, place: Option<Place>) -> Result<(), AllocError>
-    ensures text { OnOk result (string_bytes out.new ≡ string_bytes out.old ++ span_object place label.now) }
+    ensures text { OnOk result (Appends out.old out.new (span_object place label.now)) }
     ensures range { OnOk result ((label.now.offset < 2 ^ 64) × (label.now.len < 2 ^ 64)) }
 {
     out.push_str("{")?;
@@ -106,13 +110,13 @@ fn push_span(out: &mut String, label: &LabeledSpan, place: Option<Place>) -> Res
 
 #[tactic(auto, unfolding(crate::specs::JsonText::place_members))]
 fn push_place(out: &mut String, place: Option<Place>) -> Result<(), AllocError>
-    ensures { OnOk result (string_bytes out.new ≡ string_bytes out.old ++ place_members place) }
+    ensures { OnOk result (Appends out.old out.new (place_members place)) }
 {
     match place {
         Some(place) => {
             push_number_member(out, "line", place.line)?;
             push_key(out, "column")?;
-            push_number(out, place.column)
+            write_number(out, place.column)
         }
         None => {
             push_key(out, "line")?;

@@ -54,7 +54,8 @@ impl<'a> Places<'a> {
     #[tactic(auto, using(crate::proofs::JsonPlaceLemmas::column_read))]
     pub fn find(&mut self, label: &LabeledSpan) -> Result<Option<Place>, AllocError>
         ensures place { IfOk result (λ found. found ≡ label_place self.old label.now) }
-        ensures small { IfOk result (λ found. IfSome found (λ place. (place.line < 2 ^ 64) × (place.column < 2 ^ 64))) }
+        ensures small { IfOk result
+            (λ found. IfSome found (λ place. (place.line < 2 ^ 64) × (place.column < 2 ^ 64))) }
         ensures same { self.new ≡ self.old }
     {
         let Some(scanner) = &mut self.scanner else {

@@ -7,6 +7,5 @@ use Rattle.oxc_handlers.proofs.handler.GraphicalReportHandler.render_planned_sni
 
 pub render_snippets-requires : goal.render_snippets-requires
 render_snippets-requires c =
-    let few : length c.args.view.now.labels.now < 2 ^ 63 = omega (arith, c.in_ok-order.ensures.len, c.in_ok-order.order.small) in
     subst (λ (s : SettingView). All (IsSnippet s.theme s.tab s.labels) (map snippet_view c.args.snippets.now)) (sym c.new-setting.ensures)
-    (drawable_snippets c.self.inside.theme c.self.inside.tabs (in_order c.args.view.now.labels.now) (length c.args.view.now.labels.now) (map snippet_view c.args.snippets.now) few c.requires.drawable)
+    (drawable_snippets c.self.inside.theme c.self.inside.tabs (in_order c.args.view.now.labels.now) (length c.args.view.now.labels.now) (map snippet_view c.args.snippets.now) c.requires.few c.requires.drawable)

@@ -4,7 +4,7 @@ use Rattle.oxc_handlers.proofs.handler.GraphicalReportHandler.text_of.Goals as g
 
 pub returns-clause-text : goal.returns-clause-text
 returns-clause-text g c =
-    subst (λ drawn. IfOk c.render_view.result (λ text. string_bytes text ≡ drawn)) (text_of_view c.args.self.now _ _ c.view_of-view.ensures) c.render_view.ensures.text
+    subst (λ drawn. IfOk c.render_view.result (λ text. string_bytes text ≡ drawn)) (text_of_view c.args.self.now _ _ c.of-view.ensures) c.render_view.ensures.text
 
 pub returns-clause-cause : goal.returns-clause-cause
-returns-clause-cause g c = cause_of_view c.render_view.result _ _ c.view_of-view.ensures c.render_view.ensures.cause
+returns-clause-cause g c = cause_of_view c.render_view.result _ _ c.of-view.ensures c.render_view.ensures.cause

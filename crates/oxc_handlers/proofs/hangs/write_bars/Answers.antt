@@ -3,7 +3,7 @@ use Rattle.std.proofs.lemmas.Bool.Decides.{nat_tests}
 use Rattle.oxc_plan.specs.declared.marks.MarkCells.{MarkCells}
 use Rattle.oxc_handlers.proofs.MarksLemmas.{ordered_more}
 use Rattle.oxc_handlers.proofs.HangsLemmas.{bars_more, ordered_from}
-use Rattle.oxc_handlers.proofs.marks.write_bars.Goals as goal
+use Rattle.oxc_handlers.proofs.hangs.write_bars.Goals as goal
 
 pub overflow_add-from : goal.overflow_add-from
 overflow_add-from c =

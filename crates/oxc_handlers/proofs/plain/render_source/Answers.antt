@@ -2,7 +2,7 @@ use Rattle.std.proofs.Common.{◌≡◌, IfOk, ap, string_bytes, subst, ◌∙�
 use Rattle.oxc_handlers.specs.Handler.{Handler}
 use Rattle.oxc_handlers.specs.Report.{drawn, plan_of, view_parts}
 use Rattle.oxc_handlers.proofs.ReportsLemmas.{cause_of_view, text_of_view}
-use Rattle.oxc_handlers.proofs.rendering.render_source.Goals as goal
+use Rattle.oxc_handlers.proofs.plain.render_source.Goals as goal
 
 pub returns-clause-text : goal.returns-clause-text
 returns-clause-text c =

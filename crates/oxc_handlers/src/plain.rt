@@ -1,9 +1,9 @@
 //! Diagnostics as texts without colors, for messages and logs.
-ghost use Rattle.std.specs.Prelude.{◌≡◌, IfOk, MatchResult, None, Some, string_bytes};
+ghost use Rattle.std.specs.Prelude.{◌≡◌, IfOk, None, Some, string_bytes};
 ghost use Rattle.oxc_span.specs.Views.{text_bytes};
 ghost use Rattle.oxc_protocol.specs.Parts.{parts_with};
 ghost use Rattle.oxc_protocol.specs.SourceViews.{ref_view};
-ghost use Rattle.oxc_handlers.specs.Refusals.{IsFaultless, IsRefusal};
+ghost use Rattle.oxc_handlers.specs.Refusals.{IsJudged};
 ghost use Rattle.oxc_handlers.specs.Report.{view_parts, without_url};
 ghost use Rattle.oxc_handlers.specs.Reports.{plain_handler, text_of};
 
@@ -13,7 +13,8 @@ use crate::view::{DiagnosticView, RenderError};
 use oxc_protocol::{Diagnostic, OxcDiagnostic, SourceCode, SourceRef};
 use std::alloc::Global;
 
-/// The handler of texts: ASCII without colors, filled to 80 columns, with tab stops at multiples of 4.
+/// The handler of texts: ASCII without colors, filled to 80 columns, with tab stops at multiples of
+/// 4.
 fn plain_handler() -> GraphicalReportHandler
     ensures { result ≡ plain_handler }
 {
@@ -26,8 +27,9 @@ fn plain_handler() -> GraphicalReportHandler
 ///
 /// Those of [`GraphicalReportHandler::render_view`].
 pub fn render(alloc: Global, diagnostic: &dyn Diagnostic) -> Result<String, RenderError>
-    ensures text { IfOk result (λ text. string_bytes text ≡ text_of plain_handler (parts diagnostic.now)) }
-    ensures cause { MatchResult result (λ _. IsFaultless (parts diagnostic.now)) (IsRefusal 0 (parts diagnostic.now)) }
+    ensures text { IfOk result (λ text.
+        string_bytes text ≡ text_of plain_handler (parts diagnostic.now)) }
+    ensures cause { IsJudged (parts diagnostic.now) result }
 {
     plain_handler().text_of(alloc, diagnostic)
 }
@@ -42,8 +44,9 @@ pub fn render_with_source_code<T: SourceCode>(
     diagnostic: OxcDiagnostic,
     source_code: T,
 ) -> Result<String, RenderError>
-    ensures text { IfOk result (λ text. string_bytes text ≡ text_of plain_handler (parts_with diagnostic (Some (T.source source_code)))) }
-    ensures cause { MatchResult result (λ _. IsFaultless (parts_with diagnostic (Some (T.source source_code)))) (IsRefusal 0 (parts_with diagnostic (Some (T.source source_code)))) }
+    ensures text { IfOk result (λ text. string_bytes text
+        ≡ text_of plain_handler (parts_with diagnostic (Some (T.source source_code)))) }
+    ensures cause { IsJudged (parts_with diagnostic (Some (T.source source_code))) result }
 {
     let code = diagnostic.code(alloc)?;
     let source = SourceRef::new(source_code.bytes(), source_code.name());
@@ -58,8 +61,9 @@ fn render_source<'a>(
     source: &SourceRef<'a>,
 ) -> Result<String, RenderError>
     requires { text_bytes code.now ≡ (parts_with diagnostic.now None).code }
-    ensures text { IfOk result (λ text. string_bytes text ≡ text_of plain_handler (parts_with diagnostic.now (Some (ref_view source.now)))) }
-    ensures cause { MatchResult result (λ _. IsFaultless (parts_with diagnostic.now (Some (ref_view source.now)))) (IsRefusal 0 (parts_with diagnostic.now (Some (ref_view source.now)))) }
+    ensures text { IfOk result (λ text. string_bytes text
+        ≡ text_of plain_handler (parts_with diagnostic.now (Some (ref_view source.now)))) }
+    ensures cause { IsJudged (parts_with diagnostic.now (Some (ref_view source.now))) result }
 {
     let view = view_with(diagnostic, code, source);
     let mut scanner = None;
@@ -73,7 +77,8 @@ fn view_with<'a>(
     source: &SourceRef<'a>,
 ) -> DiagnosticView<'a>
     requires { text_bytes code.now ≡ (parts_with diagnostic.now None).code }
-    ensures { view_parts result ≡ without_url (parts_with diagnostic.now (Some (ref_view source.now))) }
+    ensures { view_parts result
+        ≡ without_url (parts_with diagnostic.now (Some (ref_view source.now))) }
 {
     DiagnosticView {
         message: diagnostic.message(),

@@ -1,6 +1,6 @@
 use Rattle.std.proofs.Common.{lit<}
 use Rattle.oxc_handlers.proofs.LinesLemmas.{first_cut, uncut_lines}
-use Rattle.oxc_handlers.proofs.span.first_line.Goals as goal
+use Rattle.oxc_handlers.proofs.text_lines.first_line.Goals as goal
 
 pub returns-in-Some-clause-lines : goal.returns-in-Some-clause-lines
 returns-in-Some-clause-lines c =

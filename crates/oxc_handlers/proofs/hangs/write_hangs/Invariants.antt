@@ -2,7 +2,7 @@ use Rattle.std.proofs.Common.{◌≡◌, ◌≤◌, ◌++◌, string_bytes, take
 use Rattle.std.specs.List.{flat_map}
 use Rattle.oxc_plan.specs.Plan.{row_plan_view}
 use Rattle.oxc_handlers.specs.RowLines.{hang_lines}
-use Rattle.oxc_handlers.proofs.label.write_hangs.Given as goal
+use Rattle.oxc_handlers.proofs.hangs.write_hangs.Given as goal
 
 abbrev pub invariant-loop-left : goal.invariant-loop-left
 invariant-loop-left l = record {

@@ -3,7 +3,7 @@ use Rattle.std.specs.Option.{option_copied}
 use Rattle.oxc_plan.specs.Plan.{row_plan_view}
 use Rattle.oxc_handlers.specs.RowLines.{hang_line}
 use Rattle.oxc_handlers.proofs.LinesLemmas.{line_more, line_none, lines_all}
-use Rattle.oxc_handlers.proofs.label.write_label_text.Goals as goal
+use Rattle.oxc_handlers.proofs.hangs.write_label_text.Goals as goal
 
 pub loop-rest-preserved : goal.loop-rest-preserved
 loop-rest-preserved c =

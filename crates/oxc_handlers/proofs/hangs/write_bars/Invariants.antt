@@ -1,7 +1,7 @@
 use Rattle.std.proofs.Common.{◌≡◌, ◌++◌, string_bytes, drop}
 use Rattle.oxc_handlers.specs.Marks.{AreOrdered}
 use Rattle.oxc_handlers.proofs.HangsLemmas.{bars_to}
-use Rattle.oxc_handlers.proofs.marks.write_bars.Given as goal
+use Rattle.oxc_handlers.proofs.hangs.write_bars.Given as goal
 
 abbrev pub invariant-loop-mark : goal.invariant-loop-mark
 invariant-loop-mark l = record {

@@ -26,7 +26,8 @@ pub(crate) fn first_mode(text: &str) -> LabelRenderMode
 
 /// The first line of a text, and what stands behind its LF.
 pub(crate) fn first_line(text: &str) -> (&str, Option<&str>)
-    ensures lines { lines_of text.now ≡ result.0.now ∷ option_map_or lines_of (option_copied result.1) [] }
+    ensures lines { lines_of text.now ≡ result.0.now ∷ option_map_or lines_of
+        (option_copied result.1) [] }
     ensures less { IfSome result.1 (λ rest. length rest.now < length text.now) }
 {
     match text.split_once('\n') {

@@ -4,7 +4,7 @@ use Rattle.std.specs.Option.{option_copied, option_map_or}
 use Rattle.oxc_plan.specs.Plan.{row_plan_view}
 use Rattle.oxc_handlers.specs.RowLines.{hang_line, modes_from}
 use Rattle.oxc_handlers.proofs.LinesLemmas.{lines_left}
-use Rattle.oxc_handlers.proofs.label.write_label_text.Given as goal
+use Rattle.oxc_handlers.proofs.hangs.write_label_text.Given as goal
 
 -- the lines that are left are written next
 abbrev pub invariant-loop-rest : goal.invariant-loop-rest

@@ -1,6 +1,6 @@
 use Rattle.std.proofs.Common.{lit<}
 use Rattle.oxc_handlers.proofs.LinesLemmas.{first_cut, uncut_lines, several, alone}
-use Rattle.oxc_handlers.proofs.span.first_mode.Goals as goal
+use Rattle.oxc_handlers.proofs.text_lines.first_mode.Goals as goal
 
 pub returns-in-Some : goal.returns-in-Some
 returns-in-Some c =

@@ -1,0 +1,7 @@
+use Rattle.oxc_plan.specs.Plan.{in_order}
+use Rattle.oxc_handlers.specs.Places.{drawn_by_theme}
+use Rattle.oxc_handlers.proofs.UnderLemmas.{places_below}
+use Rattle.oxc_handlers.proofs.laws.gutter_under_by_places.Goals as goal
+
+pub returns : goal.returns
+returns c = places_below (drawn_by_theme c.args._theme.now (in_order c.args._labels.now) c.args._width) c.args._bars.now
