@@ -387,7 +387,7 @@ pub(crate) fn judge<'a>(
 }
 
 /// The place of the first label that ends past a source of so many bytes.
-fn first_outside(labels: &[LabeledSpan], len: usize) -> Option<usize>
+pub(crate) fn first_outside(labels: &[LabeledSpan], len: usize) -> Option<usize>
     ensures { result ≡ first_outside len labels.now }
 {
     labels

@@ -6,6 +6,7 @@ ghost use Rattle.oxc_handlers.specs.Report.{drawn, plan_of, view_parts};
 ghost use Rattle.oxc_handlers.specs.Scanners.{ReadsRoundIfThere};
 ghost use Rattle.oxc_handlers.specs.Theme.{unicode_theme};
 
+use crate::report::first_outside;
 use crate::{DiagnosticView, GraphicalReportHandler, GraphicalTheme, RenderError};
 use oxc_plan::TabWidth;
 use oxc_protocol::{LabeledSpan, Severity, SourceRef};
@@ -185,6 +186,37 @@ fn a_scanner_that_reads_the_source_is_used_again(rt: HostRuntime) -> Result<(), 
         labels: &second,
     };
     assert!(rt; are_drawn_in_turn(alloc, &marked, &last)?);
+    Ok(())
+}
+
+/// Whether labels of a source are drawn behind a text, by a scanner of that source.
+fn are_pushed(alloc: Global, labels: &[LabeledSpan]) -> Result<bool, AllocError> {
+    let view = DiagnosticView {
+        message: "Oops",
+        code: None,
+        severity: None,
+        help: None,
+        note: None,
+        source: Some(SourceRef::new(ROWS, Some("a.js"))),
+        labels,
+    };
+    let mut scanner = SpanScanner::new(alloc, ROWS, 1, 1);
+    let Ok(_) = scanner.text() else {
+        return Ok(false);
+    };
+    let None = first_outside(labels, ROWS.len()) else {
+        return Ok(false);
+    };
+    let mut text = String::from_str(alloc, "first")?;
+    plain().push_view_with_scanner(alloc, &mut text, &view, &mut scanner)?;
+    Ok(text.as_str().strip_prefix("first") == Some(MARKED))
+}
+
+#[test]
+fn a_report_is_drawn_behind_a_text(rt: HostRuntime) -> Result<(), Fail> {
+    let alloc = rt.alloc();
+    let labels = [label(alloc, 4, 3, "here")?];
+    assert!(rt; are_pushed(alloc, &labels)?);
     Ok(())
 }
 
