@@ -80,7 +80,7 @@ abbrev pub all_without : List (List ℕ) → Members → Members
 all_without [] ms = ms
 all_without (name ∷ names) ms = all_without names (without name ms)
 
-either_false : (a b : Bool) → (a || b) ≡ false → (a ≡ false) × (b ≡ false)
+pub either_false : (a b : Bool) → (a || b) ≡ false → (a ≡ false) × (b ≡ false)
 either_false true b unlike = absurd (true≢false unlike)
 either_false false b unlike = (refl, unlike)
 

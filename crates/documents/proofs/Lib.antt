@@ -4,3 +4,5 @@ pub mod KindLemmas
 pub mod GeneratedLemmas
 pub mod PlacesLemmas
 pub mod FormLemmas
+pub mod WrittenLemmas
+pub mod PlainLemmas

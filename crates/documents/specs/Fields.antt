@@ -1,8 +1,11 @@
--- What was found under the keys of a report that say something.
-use Rattle.std.specs.Prelude.{[], ◌&&◌, Bool, true, Option, option_map, option_and_then, unwrap_or}
+-- What was found under the keys of an object, and of a report that says something.
+use Rattle.std.specs.Prelude.{◌≡◌, ℕ, List, [], ◌&&◌, Bool, true, String, Option, option_map, option_and_then, unwrap_or}
+use Rattle.std.specs.declared.alloc.Global.{Global}
 use Rattle.std.specs.Option.{is_some}
 use Rattle.serde_json.specs.Data.{Data}
-use Rattle.serde_json.specs.View.{view}
+use Rattle.serde_json.specs.Find.{get_member}
+use Rattle.serde_json.specs.View.{view, members_view}
+use Rattle.serde_json.specs.declared.value.Value.{Value}
 use Rattle.oxc_protocol.specs.Parts.{OxcParts}
 use Rattle.oxc_protocol.specs.declared.protocol.Severity.TheVariants.{Error}
 use Rattle.documents.specs.Kinds.{is_allowed, text, some_text, severity}
@@ -11,6 +14,10 @@ use Rattle.documents.specs.declared.fields.SaidFields.{SaidFields}
 
 abbrev pub found : Found → Option Data
 found it = option_map view it.value
+
+-- what was found is what stands under the key, if anything does
+abbrev pub Finds : List (String Global × Value) → List ℕ → Found → Type 0
+Finds entries key it = found it ≡ get_member key (members_view entries)
 
 -- each key allows what was found, and there is no other key
 abbrev pub are_said : SaidFields → Bool

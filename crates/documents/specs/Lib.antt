@@ -5,3 +5,4 @@ pub mod Document
 pub mod Fields
 pub mod Views
 pub mod Generated
+pub mod Written

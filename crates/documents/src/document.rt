@@ -1,5 +1,6 @@
 // The document: source files, and reports on them.
-ghost use Rattle.std.specs.Prelude.{◌≡◌, ◌<◌, ◌^◌, [], is_some, length, map, nat_lt, string_bytes, option_and_then, option_map, unwrap_or, IfOk, IfSome};
+ghost use Rattle.std.specs.Prelude.{◌≡◌, ◌<◌, ◌^◌, [], is_some, length, map, nat_lt, string_bytes};
+ghost use Rattle.std.specs.Prelude.{option_and_then, option_map, unwrap_or, IfOk, IfSome};
 ghost use Rattle.codespan.specs.Texts.{Fits};
 ghost use Rattle.serde_json.specs.View.{view, items_view, members_view};
 ghost use Rattle.serde_json.specs.Data.{object};
@@ -7,7 +8,9 @@ ghost use Rattle.oxc_protocol.specs.Views.{inner_parts};
 ghost use Rattle.render_files.specs.Given.{given_label, given_report};
 ghost use Rattle.documents.specs.declared.document.Version.TheVariants.{One, Two};
 ghost use Rattle.documents.specs.Kinds.{all_of, is_allowed, only_if};
-ghost use Rattle.documents.specs.Document.{document_of, file, file_number, files_in, form_of, label, label_by_rows, label_by_bytes, labels, report, reports_in, version_in};
+ghost use Rattle.documents.specs.Document.{document_of, file, file_number, files_in, form_of};
+ghost use Rattle.documents.specs.Document.{label, label_by_rows, label_by_bytes, labels, report};
+ghost use Rattle.documents.specs.Document.{reports_in, version_in};
 ghost use Rattle.documents.specs.Fields.{are_said, said};
 ghost use Rattle.documents.specs.Views.{document_view, named_text};
 
@@ -87,7 +90,8 @@ fn read_form(alloc: Global, value: Value) -> Result<Option<Document>, AllocError
 // The version, which may be left out.
 fn read_version(found: &Option<Value>) -> Option<Version>
     ensures allowed { is_some result ≡ is_allowed version_in (option_map view found.now) }
-    ensures value { IfSome result (λ it. it ≡ unwrap_or (option_and_then version_in (option_map view found.now)) One) }
+    ensures value { IfSome result
+        (λ it. it ≡ unwrap_or (option_and_then version_in (option_map view found.now)) One) }
 {
     match found {
         Some(value) => match whole(1, 2, value)? {
@@ -99,7 +103,8 @@ fn read_version(found: &Option<Value>) -> Option<Version>
 }
 
 fn found_files(alloc: Global, found: Option<Value>) -> Result<Option<Files<String>>, AllocError>
-    ensures { IfOk result (λ it. option_map (λ files. files) it ≡ option_and_then files_in (option_map view found)) }
+    ensures { IfOk result (λ it. option_map (λ files. files) it ≡ option_and_then files_in
+        (option_map view found)) }
 {
     match found {
         Some(Value::Array(values)) => read_files(alloc, values),
@@ -112,7 +117,8 @@ fn found_reports(
     version: Version,
     found: Option<Value>,
 ) -> Result<Option<Vec<FileReport>>, AllocError>
-    ensures { IfOk result (λ it. option_map (λ list. map given_report list.items) it ≡ option_and_then (reports_in version) (option_map view found)) }
+    ensures { IfOk result (λ it. option_map (λ list. map given_report list.items) it
+        ≡ option_and_then (reports_in version) (option_map view found)) }
 {
     match found {
         Some(Value::Array(values)) => read_reports(alloc, version, values),
@@ -123,7 +129,9 @@ fn found_reports(
 // The files of a document, which are fewer than a database could not hold.
 #[tactic(auto, using(crate::proofs::KindLemmas::too_many, crate::proofs::KindLemmas::few_enough))]
 fn read_files(alloc: Global, values: Vec<Value>) -> Result<Option<Files<String>>, AllocError>
-    ensures { IfOk result (λ it. option_map (λ files. files) it ≡ option_and_then (only_if (λ list. nat_lt (length list) (2 ^ 32))) (all_of file (items_view values.items))) }
+    ensures { IfOk result (λ it. option_map (λ files. files) it
+        ≡ option_and_then (only_if (λ list. nat_lt (length list) (2 ^ 32)))
+        (all_of file (items_view values.items))) }
 {
     if values.len() > u32::MAX as usize {
         return Ok(None);
@@ -133,7 +141,8 @@ fn read_files(alloc: Global, values: Vec<Value>) -> Result<Option<Files<String>>
 
 fn add_files(alloc: Global, values: Vec<Value>) -> Result<Option<Files<String>>, AllocError>
     requires { length values.items < 2 ^ 32 }
-    ensures { IfOk result (λ it. option_map (λ files. files) it ≡ all_of file (items_view values.items)) }
+    ensures { IfOk result (λ it. option_map (λ files. files) it
+        ≡ all_of file (items_view values.items)) }
 {
     let mut files = Files::new(alloc);
     for value in values {
@@ -169,7 +178,8 @@ fn read_file(value: Value) -> Option<(String, String)>
 
 #[tactic(auto, unfolding(crate::specs::Document::label_by_rows))]
 fn label_by_rows(members: Map<String, Value>) -> Option<PlaceLabel>
-    ensures { option_map given_label result ≡ label_by_rows (object (members_view members.entries)) }
+    ensures { option_map given_label result ≡ label_by_rows
+        (object (members_view members.entries)) }
 {
     let fields = row_fields(members);
     let start = place(&fields.start.value?)?;
@@ -188,7 +198,8 @@ fn label_by_rows(members: Map<String, Value>) -> Option<PlaceLabel>
 
 #[tactic(auto, unfolding(crate::specs::Document::label_by_bytes))]
 fn label_by_bytes(members: Map<String, Value>) -> Option<PlaceLabel>
-    ensures { option_map given_label result ≡ label_by_bytes (object (members_view members.entries)) }
+    ensures { option_map given_label result ≡ label_by_bytes
+        (object (members_view members.entries)) }
 {
     let fields = byte_fields(members);
     let (start, end) = bytes_pair(&fields.bytes.value?)?;
@@ -216,7 +227,8 @@ fn read_label(version: Version, value: Value) -> Option<PlaceLabel>
 }
 
 fn label_in(version: Version, members: Map<String, Value>) -> Option<PlaceLabel>
-    ensures { option_map given_label result ≡ label version (object (members_view members.entries)) }
+    ensures { option_map given_label result ≡ label version
+        (object (members_view members.entries)) }
 {
     match version {
         Version::One => label_by_rows(members),
@@ -240,7 +252,8 @@ fn read_labels(
     version: Version,
     values: Vec<Value>,
 ) -> Result<Option<Vec<PlaceLabel>>, AllocError>
-    ensures { IfOk result (λ it. option_map (λ labels. map given_label labels.items) it ≡ all_of (label version) (items_view values.items)) }
+    ensures { IfOk result (λ it. option_map (λ labels. map given_label labels.items) it
+        ≡ all_of (label version) (items_view values.items)) }
 {
     let mut labels = Vec::with_capacity(alloc, values.len())?;
     for value in values {
@@ -258,8 +271,11 @@ fn optional_labels(
     version: Version,
     found: Option<Value>,
 ) -> Result<Option<Vec<PlaceLabel>>, AllocError>
-    ensures allowed { IfOk result (λ it. is_some it ≡ is_allowed (labels version) (option_map view found)) }
-    ensures value { IfOk result (λ it. IfSome it (λ list. map given_label list.items ≡ unwrap_or (option_and_then (labels version) (option_map view found)) [])) }
+    ensures allowed { IfOk result (λ it. is_some it ≡ is_allowed (labels version)
+        (option_map view found)) }
+    ensures value { IfOk result
+        (λ it. IfSome it (λ list. map given_label list.items
+        ≡ unwrap_or (option_and_then (labels version) (option_map view found)) [])) }
 {
     match found {
         Some(Value::Array(values)) => read_labels(alloc, version, values),
@@ -347,7 +363,8 @@ fn read_reports(
     version: Version,
     values: Vec<Value>,
 ) -> Result<Option<Vec<FileReport>>, AllocError>
-    ensures { IfOk result (λ it. option_map (λ reports. map given_report reports.items) it ≡ all_of (report version) (items_view values.items)) }
+    ensures { IfOk result (λ it. option_map (λ reports. map given_report reports.items) it
+        ≡ all_of (report version) (items_view values.items)) }
 {
     let mut reports = Vec::with_capacity(alloc, values.len())?;
     for value in values {

@@ -1,5 +1,5 @@
 // What no clause says: that ample memory suffices, and single inputs beside the definitions.
-use crate::{Document, generate, read_document};
+use crate::{Document, generate, read_document, write_document};
 use oxc_protocol::{Diagnostic, Severity};
 use render_files::{LabelPlace, ReportError, place_labels};
 use std::alloc::{AllocError, Global};
@@ -83,7 +83,10 @@ fn a_report_is_of_the_form_or_not(rt: HostRuntime) -> Result<(), Fail> {
     let reports = [
         ("", true),
         (
-            ",\"severity\":\"advice\",\"scope\":\"s\",\"number\":\"1\",\"help\":\"\",\"note\":\"\",\"url\":\"\",\"labels\":[]",
+            concat!(
+                ",\"severity\":\"advice\",\"scope\":\"s\",\"number\":\"1\",\"help\":\"\",",
+                "\"note\":\"\",\"url\":\"\",\"labels\":[]",
+            ),
             true,
         ),
         (",\"severity\":\"fatal\"", false),
@@ -153,7 +156,10 @@ fn refusal(alloc: Global, input: &str) -> Result<Option<ReportError>, AllocError
 // An input of the version with one file of this source, and one report with this label.
 fn labelled(alloc: Global, version: u32, source: &str, label: &str) -> Result<String, AllocError> {
     format!(in alloc;
-        "{{\"version\":{version},\"files\":[{{\"name\":\"a\",\"source\":\"{source}\"}}],\"reports\":[{{\"file\":0,\"message\":\"m\",\"labels\":[{{{label}}}]}}]}}"
+        concat!(
+            "{{\"version\":{version},\"files\":[{{\"name\":\"a\",\"source\":\"{source}\"}}],",
+            "\"reports\":[{{\"file\":0,\"message\":\"m\",\"labels\":[{{{label}}}]}}]}}",
+        )
     )
 }
 
@@ -192,11 +198,17 @@ fn a_label_is_refused_by_its_places(rt: HostRuntime) -> Result<(), Fail> {
     Ok(())
 }
 
-const TWO_FAULTS: &str =
-    "{\"files\":[{\"name\":\"a\",\"source\":\"ab\"}],\"reports\":[{\"file\":0,\"message\":\"m\",\"labels\":[{\"start\":[1,99],\"end\":[1,99]}]},{\"file\":5,\"message\":\"m\"}]}";
+const TWO_FAULTS: &str = concat!(
+    "{\"files\":[{\"name\":\"a\",\"source\":\"ab\"}],",
+    "\"reports\":[{\"file\":0,\"message\":\"m\",\"labels\":[{\"start\":[1,99],",
+    "\"end\":[1,99]}]},{\"file\":5,\"message\":\"m\"}]}",
+);
 
-const NO_FILE: &str =
-    "{\"files\":[{\"name\":\"a\",\"source\":\"ab\"}],\"reports\":[{\"file\":7,\"message\":\"m\",\"labels\":[{\"start\":[9,9],\"end\":[9,9]}]}]}";
+const NO_FILE: &str = concat!(
+    "{\"files\":[{\"name\":\"a\",\"source\":\"ab\"}],",
+    "\"reports\":[{\"file\":7,\"message\":\"m\",\"labels\":[{\"start\":[9,9],",
+    "\"end\":[9,9]}]}]}",
+);
 
 #[test]
 fn the_first_fault_decides(rt: HostRuntime) -> Result<(), Fail> {
@@ -232,8 +244,13 @@ fn says_all(document: &Document) -> bool {
 
 #[test]
 fn a_document_says_what_stands_in_it(rt: HostRuntime) -> Result<(), Fail> {
-    let input =
-        "{\"version\":2,\"files\":[{\"name\":\"a\",\"source\":\"é\"}],\"reports\":[{\"file\":0,\"message\":\"x\",\"message\":\"m\",\"severity\":\"warning\",\"scope\":\"s\",\"number\":\"1\",\"help\":\"h\",\"note\":\"n\",\"url\":\"u\",\"labels\":[{\"bytes\":[0,2],\"text\":\"t\",\"primary\":true}]}]}";
+    let input = concat!(
+        "{\"version\":2,\"files\":[{\"name\":\"a\",\"source\":\"é\"}],",
+        "\"reports\":[{\"file\":0,\"message\":\"x\",\"message\":\"m\",",
+        "\"severity\":\"warning\",\"scope\":\"s\",\"number\":\"1\",\"help\":\"h\",",
+        "\"note\":\"n\",\"url\":\"u\",\"labels\":[{\"bytes\":[0,2],\"text\":\"t\",",
+        "\"primary\":true}]}]}",
+    );
     let says = match read_document(rt.alloc(), input.as_bytes())? {
         Some(document) => says_all(&document),
         None => false,
@@ -244,10 +261,47 @@ fn a_document_says_what_stands_in_it(rt: HostRuntime) -> Result<(), Fail> {
 
 #[test]
 fn a_document_of_any_size_is_made(rt: HostRuntime) -> Result<(), Fail> {
-    let one =
-        "{\"files\":[{\"name\":\"gen\",\"source\":\"r1\\n\"}],\"reports\":[{\"file\":0,\"labels\":[{\"end\":[1,2],\"start\":[1,1],\"text\":\"t\"}],\"message\":\"m1\"}]}";
+    let one = concat!(
+        "{\"files\":[{\"name\":\"gen\",\"source\":\"r1\\n\"}],",
+        "\"reports\":[{\"file\":0,\"labels\":[{\"end\":[1,2],\"start\":[1,1],",
+        "\"text\":\"t\"}],\"message\":\"m1\"}]}",
+    );
     assert!(rt; generate(rt.alloc(), 1)?.as_slice() == one.as_bytes());
     assert_eq!(rt; generate(rt.alloc(), 0)?.len(), 51);
     assert_eq!(rt; generate(rt.alloc(), 5000)?.len(), 460_622);
+    Ok(())
+}
+
+// Documents in the form in which they are written.
+const WRITTEN: [&str; 4] = [
+    "{\"files\":[],\"reports\":[]}",
+    concat!(
+        "{\"files\":[{\"name\":\"a\",\"source\":\"x\\ny\"}],",
+        "\"reports\":[{\"file\":0,\"message\":\"m\"}]}",
+    ),
+    concat!(
+        "{\"files\":[{\"name\":\"a\",\"source\":\"\"}],\"reports\":[{\"file\":0,\"help\":\"h\",",
+        "\"labels\":[{\"end\":[1,2],\"primary\":true,\"start\":[1,1],\"text\":\"t\"}],",
+        "\"message\":\"m\",\"note\":\"n\",\"number\":\"1\",\"scope\":\"s\",",
+        "\"severity\":\"advice\",\"url\":\"u\"}]}",
+    ),
+    concat!(
+        "{\"files\":[{\"name\":\"a\",\"source\":\"\"}],\"reports\":[{\"file\":0,",
+        "\"labels\":[{\"bytes\":[0,1]},{\"end\":[1,1],\"start\":[1,1]}],\"message\":\"m\"}],",
+        "\"version\":2}",
+    ),
+];
+
+#[test]
+fn what_was_written_is_written_again(rt: HostRuntime) -> Result<(), Fail> {
+    for text in WRITTEN {
+        let same = match read_document(rt.alloc(), text.as_bytes())? {
+            Some(document) => {
+                write_document(rt.alloc(), &document.files, &document.reports)?.as_str() == text
+            }
+            None => false,
+        };
+        assert!(rt; same, "{text}");
+    }
     Ok(())
 }

@@ -2,10 +2,11 @@
 ghost use Rattle.std.specs.Prelude.{◌≡◌, [], codes, is_some, option_map};
 ghost use Rattle.serde_json.specs.View.{view, members_view};
 ghost use Rattle.serde_json.specs.Find.{get_member};
+ghost use Rattle.documents.specs.Fields.{Finds};
 ghost use Rattle.documents.specs.Kinds.{only_keys, without};
 ghost use Rattle.documents.specs.declared.document.Version.{Version};
-ghost use Rattle.documents.specs.declared.document.Version.{Version};
-ghost use Rattle.documents.specs.Document.{byte_keys, document_keys, file_keys, report_keys, row_keys};
+ghost use Rattle.documents.specs.Document.{byte_keys, document_keys, file_keys, report_keys};
+ghost use Rattle.documents.specs.Document.{row_keys};
 
 use serde_json::{Map, Value};
 
@@ -24,8 +25,8 @@ pub(crate) struct FileFields {
 }
 
 pub(crate) fn file_fields(mut members: Map<String, Value>) -> FileFields
-    ensures name { option_map view result.name.value ≡ get_member (codes "name") (members_view members.entries) }
-    ensures source { option_map view result.source.value ≡ get_member (codes "source") (members_view members.entries) }
+    ensures name { Finds members.entries (codes "name") result.name }
+    ensures source { Finds members.entries (codes "source") result.source }
     ensures all { result.are_all ≡ only_keys file_keys (members_view members.entries) }
 {
     FileFields {
@@ -46,10 +47,10 @@ pub(crate) struct RowFields {
 }
 
 pub(crate) fn row_fields(mut members: Map<String, Value>) -> RowFields
-    ensures start { option_map view result.start.value ≡ get_member (codes "start") (members_view members.entries) }
-    ensures end { option_map view result.end.value ≡ get_member (codes "end") (members_view members.entries) }
-    ensures text { option_map view result.text.value ≡ get_member (codes "text") (members_view members.entries) }
-    ensures primary { option_map view result.primary.value ≡ get_member (codes "primary") (members_view members.entries) }
+    ensures start { Finds members.entries (codes "start") result.start }
+    ensures end { Finds members.entries (codes "end") result.end }
+    ensures text { Finds members.entries (codes "text") result.text }
+    ensures primary { Finds members.entries (codes "primary") result.primary }
     ensures all { result.are_all ≡ only_keys row_keys (members_view members.entries) }
 {
     RowFields {
@@ -71,9 +72,9 @@ pub(crate) struct ByteFields {
 }
 
 pub(crate) fn byte_fields(mut members: Map<String, Value>) -> ByteFields
-    ensures bytes { option_map view result.bytes.value ≡ get_member (codes "bytes") (members_view members.entries) }
-    ensures text { option_map view result.text.value ≡ get_member (codes "text") (members_view members.entries) }
-    ensures primary { option_map view result.primary.value ≡ get_member (codes "primary") (members_view members.entries) }
+    ensures bytes { Finds members.entries (codes "bytes") result.bytes }
+    ensures text { Finds members.entries (codes "text") result.text }
+    ensures primary { Finds members.entries (codes "primary") result.primary }
     ensures all { result.are_all ≡ only_keys byte_keys (members_view members.entries) }
 {
     ByteFields {
@@ -92,7 +93,8 @@ pub(crate) struct ReportFields {
     pub(crate) said: SaidFields,
 }
 
-/// What stands under the keys by which a report says something, and whether the report has no other key.
+/// What stands under the keys by which a report says something, and whether the report has no other
+/// key.
 #[derive(Drop)]
 pub(crate) struct SaidFields {
     pub(crate) message: Found,
@@ -106,16 +108,17 @@ pub(crate) struct SaidFields {
 }
 
 pub(crate) fn report_fields(mut members: Map<String, Value>) -> ReportFields
-    ensures file { option_map view result.file.value ≡ get_member (codes "file") (members_view members.entries) }
-    ensures labels { option_map view result.labels.value ≡ get_member (codes "labels") (members_view members.entries) }
-    ensures message { option_map view result.said.message.value ≡ get_member (codes "message") (members_view members.entries) }
-    ensures severity { option_map view result.said.severity.value ≡ get_member (codes "severity") (members_view members.entries) }
-    ensures scope { option_map view result.said.scope.value ≡ get_member (codes "scope") (members_view members.entries) }
-    ensures number { option_map view result.said.number.value ≡ get_member (codes "number") (members_view members.entries) }
-    ensures help { option_map view result.said.help.value ≡ get_member (codes "help") (members_view members.entries) }
-    ensures note { option_map view result.said.note.value ≡ get_member (codes "note") (members_view members.entries) }
-    ensures url { option_map view result.said.url.value ≡ get_member (codes "url") (members_view members.entries) }
-    ensures all { (version : Version) → result.said.are_all ≡ only_keys (report_keys version) (members_view members.entries) }
+    ensures file { Finds members.entries (codes "file") result.file }
+    ensures labels { Finds members.entries (codes "labels") result.labels }
+    ensures message { Finds members.entries (codes "message") result.said.message }
+    ensures severity { Finds members.entries (codes "severity") result.said.severity }
+    ensures scope { Finds members.entries (codes "scope") result.said.scope }
+    ensures number { Finds members.entries (codes "number") result.said.number }
+    ensures help { Finds members.entries (codes "help") result.said.help }
+    ensures note { Finds members.entries (codes "note") result.said.note }
+    ensures url { Finds members.entries (codes "url") result.said.url }
+    ensures all { (version : Version) → result.said.are_all ≡ only_keys (report_keys version)
+        (members_view members.entries) }
 {
     ReportFields {
         file: take(&mut members, "file"),
@@ -143,10 +146,11 @@ pub(crate) struct DocumentFields {
 }
 
 pub(crate) fn document_fields(mut members: Map<String, Value>) -> DocumentFields
-    ensures version { option_map view result.version.value ≡ get_member (codes "version") (members_view members.entries) }
-    ensures files { option_map view result.files.value ≡ get_member (codes "files") (members_view members.entries) }
-    ensures reports { option_map view result.reports.value ≡ get_member (codes "reports") (members_view members.entries) }
-    ensures all { (version : Version) → result.are_all ≡ only_keys (document_keys version) (members_view members.entries) }
+    ensures version { Finds members.entries (codes "version") result.version }
+    ensures files { Finds members.entries (codes "files") result.files }
+    ensures reports { Finds members.entries (codes "reports") result.reports }
+    ensures all { (version : Version) → result.are_all ≡ only_keys (document_keys version)
+        (members_view members.entries) }
 {
     DocumentFields {
         version: take(&mut members, "version"),
@@ -165,8 +169,10 @@ pub(crate) fn has_key(members: &Map<String, Value>, key: &str) -> bool
 
 // Takes out what stands under the key.
 fn take(members: &mut Map<String, Value>, key: &str) -> Found
-    ensures value { option_map view result.value ≡ get_member key.now (members_view members.old.entries) }
-    ensures left { members_view members.new.entries ≡ without key.now (members_view members.old.entries) }
+    ensures value { option_map view result.value
+        ≡ get_member key.now (members_view members.old.entries) }
+    ensures left { members_view members.new.entries
+        ≡ without key.now (members_view members.old.entries) }
 {
     Found {
         value: members.remove(key),

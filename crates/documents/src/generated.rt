@@ -1,25 +1,29 @@
 // A document of any size, for measuring.
-ghost use Rattle.std.specs.Prelude.{◌≡◌, ◌++◌, ◌≤◌, Some, None, IfOk, IfSome, OnOk, map, string_bytes};
+ghost use Rattle.std.specs.Prelude.{◌≡◌, ◌++◌, ◌≤◌, Some, None, IfOk, IfSome, OnOk, map};
+ghost use Rattle.std.specs.Prelude.{string_bytes};
 ghost use Rattle.serde_json.specs.View.{view, items_of};
 ghost use Rattle.serde_json.specs.Data.{array};
 ghost use Rattle.render_files.specs.Refusal.{refusal_of};
 ghost use Rattle.documents.specs.Document.{document_of};
-ghost use Rattle.documents.specs.Generated.{document_made, front_of, generated, generated_value, report_value, reports_value, row_of, source_of};
+ghost use Rattle.documents.specs.Generated.{document_made, front_of, generated, generated_value};
+ghost use Rattle.documents.specs.Generated.{report_value, reports_value, row_of, source_of};
 
 use itoa::Buffer;
 use serde_json::{Value, json};
 use std::alloc::{AllocError, Global};
 
-/// A document without spaces of one file with so many rows, and of as many reports, one on each row.
+/// A document without spaces of one file with so many rows, and of as many reports, one on each
+/// row.
 ///
-/// A row is `r` and its number from 1 on, or, where 4 divides the number, a tab, `日` and the number. Its
-/// report's message is `m` and the number, and its one label, `t`, goes from the row's first column to the
-/// second. None of them is refused.
+/// A row is `r` and its number from 1 on, or, where 4 divides the number, a tab, `日` and the
+/// number. Its report's message is `m` and the number, and its one label, `t`, goes from the row's
+/// first column to the second. None of them is refused.
 pub fn generate(alloc: Global, count: u32) -> Result<Vec<u8>, AllocError>
     requires { count ≤ 5000 }
     ensures bytes { IfOk result (λ bytes. bytes.items ≡ generated count) }
     ensures document { IfOk result (λ bytes. document_of bytes.items ≡ Some (document_made count)) }
-    ensures accepted { IfOk result (λ bytes. IfSome (document_of bytes.items) (λ document. refusal_of document.files document.reports ≡ None)) }
+    ensures accepted { IfOk result (λ bytes. IfSome (document_of bytes.items)
+        (λ document. refusal_of document.files document.reports ≡ None)) }
 {
     Ok(generated_text(alloc, count)?.into_bytes())
 }
@@ -28,7 +32,8 @@ pub fn generate(alloc: Global, count: u32) -> Result<Vec<u8>, AllocError>
 fn generated_text(alloc: Global, count: u32) -> Result<String, AllocError>
     requires { count ≤ 5000 }
     ensures bytes { IfOk result (λ text. string_bytes text ≡ generated count) }
-    ensures document { IfOk result (λ text. document_of (string_bytes text) ≡ Some (document_made count)) }
+    ensures document { IfOk result (λ text. document_of (string_bytes text)
+        ≡ Some (document_made count)) }
 {
     let document = generated_document(alloc, count)?;
     let text = document.to_string(alloc)?;

@@ -1,5 +1,6 @@
 // A source in memory, which fails at the calls that it was told.
-ghost use Rattle.std.specs.Prelude.{◌≡◌, ◌<◌, ◌≤◌, ◌↔◌, length, take, drop, min, Some, IfOk, IsErr, OnErr};
+ghost use Rattle.std.specs.Prelude.{◌≡◌, ◌<◌, ◌≤◌, ◌↔◌, length, take, drop, min, Some, IfOk, IsErr};
+ghost use Rattle.std.specs.Prelude.{OnErr};
 ghost use Rattle.std.specs.Io.{ReadsAtMost};
 ghost use Rattle.std.specs.Io.KnownBytes.{ReadConsumes};
 ghost use Rattle.oxc_protocol.specs.Faults.{HasCause, next_count};
@@ -27,7 +28,13 @@ pub struct MemorySource {
 impl Model for MemorySource {
     ghost Value = { SourceState };
 
-    ghost view = { λ s. record { left = drop s.at s.bytes.items; most = s.most; failing = s.failing.items; calls = s.calls; faults = s.faults } };
+    ghost view = { λ s. record {
+      left = drop s.at s.bytes.items;
+      most = s.most;
+      failing = s.failing.items;
+      calls = s.calls;
+      faults = s.faults;
+    } };
 
     ghost invariant = { λ s. (0 < s.most) × (s.at ≤ length s.bytes.items) };
 }
@@ -36,7 +43,8 @@ impl MemorySource {
     /// A source of these bytes.
     pub fn new(bytes: Vec<u8>, most: usize, failing: Vec<u64>) -> MemorySource
         requires { 0 < most }
-        ensures { result ≡ record { left = bytes.items; most = most; failing = failing.items; calls = 0; faults = 0 } }
+        ensures { result ≡ record
+            { left = bytes.items; most = most; failing = failing.items; calls = 0; faults = 0 } }
     {
         MemorySource {
             bytes,
@@ -72,8 +80,11 @@ impl Source for MemorySource {
         ensures refused { IsErr result ↔ Refuses self.old }
         ensures given { IfOk result (λ n. n ≡ given self.old buf.old) }
         ensures front { IfOk result (λ n. take n buf.new ≡ take n self.old.left) }
-        ensures failed { OnErr result (self.new ≡ record self.old { calls = next_count self.old.calls; faults = next_count self.old.faults }) }
-        ensures done { IfOk result (λ n. self.new ≡ record self.old { left = drop n self.old.left; calls = next_count self.old.calls }) }
+        ensures failed { OnErr result (self.new
+            ≡ record self.old
+            { calls = next_count self.old.calls; faults = next_count self.old.faults }) }
+        ensures done { IfOk result (λ n. self.new
+            ≡ record self.old { left = drop n self.old.left; calls = next_count self.old.calls }) }
 
         // The clauses of `Source`.
         ensures bound { ReadsAtMost result buf.new }

@@ -18,8 +18,9 @@ pub trait Source {
     /// How often the device failed: a number that never falls, and stops at its type's end.
     ghost faults: { Self → ℕ };
 
-    /// Puts the next bytes at the front of `buf` and answers how many; 0 for a `buf` that isn't empty
-    /// means the end. `Failed` comes only where the count of faults rose, and nothing was taken.
+    /// Puts the next bytes at the front of `buf` and answers how many; 0 for a `buf` that isn't
+    /// empty means the end. `Failed` comes only where the count of faults rose, and nothing was
+    /// taken.
     fn read(&mut self, buf: &mut [u8]) -> Result<usize, Failed>
         ensures bound { ReadsAtMost result buf.new }
         ensures bytes { ReadConsumes (left self.old) (left self.new) result buf.new }

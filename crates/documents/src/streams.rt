@@ -1,5 +1,6 @@
 // The standard streams as a source and sinks. What they give and take isn't told: this is the edge
-// that is trusted to hand the bytes on. A reader that tells its bytes, as one over memory, tells them here too.
+// that is trusted to hand the bytes on. A reader that tells its bytes, as one over memory, tells
+// them here too.
 ghost use Rattle.std.specs.Prelude.{◌≡◌, None};
 
 use crate::source::Source;
@@ -31,17 +32,16 @@ impl<R: Read> Source for ReaderSource<R> {
 
     ghost faults = { λ s. s.faults };
 
-    /// A read that was interrupted is counted and made again.
+    /// A read that was interrupted is counted and made again; any other failure is counted, and
+    /// ends it.
     fn read(&mut self, buf: &mut [u8]) -> Result<usize, Failed> {
         for _ in 0..u64::MAX {
             match self.reader.read(buf) {
                 Ok(count) => return Ok(count),
-                Err(e) => {
+                Err(e) if e.kind() == ErrorKind::Interrupted => {
                     self.faults = self.faults.saturating_add(1);
-                    if e.kind() != ErrorKind::Interrupted {
-                        break;
-                    }
                 }
+                Err(_) => break,
             }
         }
         self.faults = self.faults.saturating_add(1);
@@ -77,8 +77,8 @@ impl<W: Write> Sink for WriterSink<W> {
 
     ghost faults = { λ s. s.faults };
 
-    /// A write that was interrupted is counted and made again. A write that takes nothing of a piece
-    /// that isn't empty fails, and so does one whose flush is refused.
+    /// A write that was interrupted is counted and made again. A write that takes nothing of a
+    /// piece that isn't empty fails, and so does one whose flush is refused.
     fn write(&mut self, bytes: &[u8]) -> Result<usize, Failed> {
         for _ in 0..u64::MAX {
             match self.writer.write(bytes) {

@@ -1,9 +1,14 @@
 // Single values of a document, by their kinds. Texts are moved out of the JSON values.
-ghost use Rattle.std.specs.Prelude.{◌≡◌, ◌^◌, ◌-◌, is_some, IfSome, option_map, option_and_then, string_bytes};
+ghost use Rattle.std.specs.Prelude.{◌≡◌, ◌^◌, ◌-◌, is_some, IfSome, option_map, option_and_then};
+ghost use Rattle.std.specs.Prelude.{string_bytes};
 ghost use Rattle.oxc_span.specs.Views.{text_bytes};
 ghost use Rattle.codespan.specs.Texts.{Fits};
 ghost use Rattle.serde_json.specs.View.{view, items_view};
-ghost use Rattle.documents.specs.Kinds.{bytes_pair as two_numbers, is_allowed, pair_in, place as row_and_column, severity as severity_in, severity_named as severity_of_name, some_text as filled_text, source as short_text, text as text_in, truth as truth_in, whole as whole_in};
+ghost use Rattle.documents.specs.Kinds.{bytes_pair as two_numbers, is_allowed, pair_in};
+ghost use Rattle.documents.specs.Kinds.{place as row_and_column, severity as severity_in};
+ghost use Rattle.documents.specs.Kinds.{severity_named as severity_of_name};
+ghost use Rattle.documents.specs.Kinds.{some_text as filled_text, source as short_text};
+ghost use Rattle.documents.specs.Kinds.{text as text_in, truth as truth_in, whole as whole_in};
 
 use oxc_protocol::Severity;
 use serde_json::Value;
@@ -43,7 +48,8 @@ pub(crate) fn source(value: Value) -> Option<String>
 /// A text that may be left out: `None` where something else stands there.
 pub(crate) fn optional_text(found: Option<Value>) -> Option<Option<String>>
     ensures allowed { is_some result ≡ is_allowed text_in (option_map view found) }
-    ensures value { IfSome result (λ it. text_bytes it ≡ option_and_then text_in (option_map view found)) }
+    ensures value { IfSome result (λ it. text_bytes it
+        ≡ option_and_then text_in (option_map view found)) }
 {
     match found {
         Some(value) => Some(Some(text(value)?)),
@@ -54,7 +60,8 @@ pub(crate) fn optional_text(found: Option<Value>) -> Option<Option<String>>
 /// A text that may be left out and isn't empty.
 pub(crate) fn optional_some_text(found: Option<Value>) -> Option<Option<String>>
     ensures allowed { is_some result ≡ is_allowed filled_text (option_map view found) }
-    ensures value { IfSome result (λ it. text_bytes it ≡ option_and_then filled_text (option_map view found)) }
+    ensures value { IfSome result (λ it. text_bytes it ≡ option_and_then filled_text
+        (option_map view found)) }
 {
     match found {
         Some(value) => Some(Some(some_text(value)?)),
@@ -65,7 +72,8 @@ pub(crate) fn optional_some_text(found: Option<Value>) -> Option<Option<String>>
 /// A truth value that may be left out.
 pub(crate) fn optional_truth(found: &Option<Value>) -> Option<Option<bool>>
     ensures allowed { is_some result ≡ is_allowed truth_in (option_map view found.now) }
-    ensures value { IfSome result (λ it. it ≡ option_and_then truth_in (option_map view found.now)) }
+    ensures value { IfSome result (λ it. it ≡ option_and_then truth_in
+        (option_map view found.now)) }
 {
     match found {
         Some(value) => Some(Some(value.as_bool()?)),
@@ -76,7 +84,8 @@ pub(crate) fn optional_truth(found: &Option<Value>) -> Option<Option<bool>>
 /// How grave a report is, which may be left out.
 pub(crate) fn optional_severity(found: &Option<Value>) -> Option<Option<Severity>>
     ensures allowed { is_some result ≡ is_allowed severity_in (option_map view found.now) }
-    ensures value { IfSome result (λ it. it ≡ option_and_then severity_in (option_map view found.now)) }
+    ensures value { IfSome result (λ it. it ≡ option_and_then severity_in
+        (option_map view found.now)) }
 {
     match found {
         Some(value) => Some(Some(severity_named(value.as_str()?)?)),
@@ -116,7 +125,8 @@ pub(crate) fn place(value: &Value) -> Option<SourceLocation>
 
 #[tactic(auto, using(crate::proofs::KindLemmas::no_pair))]
 fn place_of(values: &[Value]) -> Option<SourceLocation>
-    ensures { result ≡ option_map (λ pair. record { row = pair.0; column = pair.1 }) (pair_in (whole_in 1 (2 ^ 32 - 1)) (items_view values.now)) }
+    ensures { result ≡ option_map (λ pair. record { row = pair.0; column = pair.1 })
+        (pair_in (whole_in 1 (2 ^ 32 - 1)) (items_view values.now)) }
 {
     match values {
         [row, column] => Some(SourceLocation {
