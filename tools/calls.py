@@ -58,7 +58,7 @@ def public_items(text):
                 in_trait = line.startswith("pub trait")
             elif line.startswith("}"):
                 place, traits = None, False
-        begin = re.match(r"( *)(pub )?(?:const |final |unsafe )*fn (\w+)", line)
+        begin = re.match(r'( *)(pub )?(?:const |final |unsafe |extern "C" )*fn (\w+)', line)
         if begin and (begin.group(2) or (place and begin.group(1) and not traits and in_trait)):
             head, clauses, end = [], [], at
             while end < len(lines):
@@ -116,7 +116,8 @@ def table():
                 asked = "; ".join(f"`{escape(c)}`" for c in conditions(clauses))
                 result = result_of(head)
                 stated = ", ".join(f"`{n}`" for n in clause_names(clauses))
-                memory = "yes" if TAKES.search(result) else ""
+                exported_alloc = "extern" in head and "alloc: Global" in head
+                memory = "yes" if TAKES.search(result) or exported_alloc else ""
                 rows.append(f"| `{call}` | {asked} | {refusals(result)} | {stated} | {memory} |")
         if rows:
             out += [f"## `{crate}`", "", "| Call | Conditions | Other answers | Named clauses | Takes memory |", "|---|---|---|---|---|", *rows, ""]

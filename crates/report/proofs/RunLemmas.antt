@@ -6,7 +6,7 @@ use Rattle.report.specs.Run.{Device, Means, Shows, TookWhole, limit}
 use Rattle.report.specs.declared.ending.Ending.{Ending}
 use Rattle.report.specs.declared.ending.Ending.TheVariants.{Done, Refused, Usage, NoDocument, ReadFault, SinkFault, OutOfMemory, InputTooLong}
 use Rattle.report.specs.declared.words.Command.TheVariants.{Draw}
-use Rattle.report.specs.declared.top.Look.{Look}
+use Rattle.report.specs.declared.look.Look.{Look}
 use Rattle.report.proofs.TrueLemmas.{true_to_source}
 
 whole_of : {P : List ℕ → Type 0} (input : Device) (bytes : List ℕ) → Consumes input.before input.now bytes → IsAtEnd input.now → length bytes ≤ limit → P bytes → TookWhole input P

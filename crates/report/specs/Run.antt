@@ -1,5 +1,5 @@
 -- What the end of a run means.
-use Rattle.std.specs.Prelude.{◌≡◌, ⊤, ℕ, ◌<◌, ◌≤◌, List, length, map, All, IsTrue, Bool, true, false, nat_lt, if◌then◌else◌, Option, Some, None, option_map, unwrap_or}
+use Rattle.std.specs.Prelude.{◌≡◌, ◌≢◌, ⊤, ℕ, ◌<◌, ◌≤◌, List, length, map, All, IsTrue, Bool, true, false, nat_lt, if◌then◌else◌, Option, Some, None, option_map, unwrap_or}
 use Rattle.std.specs.Io.KnownBytes.{Appends, Keeps, Consumes, IsAtEnd}
 use Rattle.oxc_protocol.specs.Faults.{Rose}
 use Rattle.oxc_protocol.specs.Parts.{Parts}
@@ -20,7 +20,7 @@ use Rattle.documents.specs.Generated.{generated}
 use Rattle.report.specs.declared.ending.Ending.{Ending}
 use Rattle.report.specs.declared.ending.Ending.TheVariants.{Done, Refused, Usage, NoDocument, ReadFault, SinkFault, OutOfMemory, InputTooLong}
 use Rattle.report.specs.declared.words.Command.{Command}
-use Rattle.report.specs.declared.top.Look.{Look}
+use Rattle.report.specs.declared.look.Look.{Look}
 use Rattle.report.specs.declared.words.Command.TheVariants.{Draw, Make}
 use Rattle.report.specs.declared.status.Status.{Status}
 use Rattle.report.specs.declared.status.Status.TheVariants as status
@@ -126,6 +126,10 @@ Means InputTooLong command input out = IsTrue (reads command) × TookTooMuch inp
 -- a status is that of an ending, of which `err` heard
 abbrev pub Ends : Status → Option Command → Device → Device → Device → Type 0
 Ends result command input out err = (how : Ending) × (result ≡ status_of how) × Means how command input out × Hears err how
+
+-- with every status but those of what is written the output is as it was
+abbrev pub IsUntouched : {O : Type 0} → Status → O → O → Type 0
+IsUntouched result old new = result ≢ status.Done → result ≢ status.SinkFault → new ≡ old
 
 -- ---- which ending comes
 

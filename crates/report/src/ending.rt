@@ -1,6 +1,9 @@
 // How a run ended, and the line on `err` that says so. A line takes no memory.
 ghost use Rattle.std.specs.Prelude.{◌≡◌, ◌≤◌, length};
-ghost use Rattle.report.specs.Ending.{IsTold, label_line as labelled, line_of, status_of, no_position as unplaced, plain_line as plainly, refusal_line as refused_line, report_line as reported, reversed_line as reversed};
+ghost use Rattle.report.specs.Ending.{IsTold, label_line as labelled, line_of, status_of};
+ghost use Rattle.report.specs.Ending.{no_position as unplaced, plain_line as plainly};
+ghost use Rattle.report.specs.Ending.{refusal_line as refused_line, report_line as reported};
+ghost use Rattle.report.specs.Ending.{reversed_line as reversed};
 
 use crate::status::Status;
 use arrayvec::ArrayString;
@@ -52,7 +55,8 @@ impl Ending {
 
 /// Writes the line that says how a run ended. A sink that fails receives a first part of it.
 pub(crate) fn say<E: Sink>(err: &mut E, ending: Ending)
-    ensures { IsTold (E.received err.old) (E.received err.new) (E.faults err.old) (E.faults err.new) (line_of ending) }
+    ensures { IsTold (E.received err.old) (E.received err.new) (E.faults err.old)
+        (E.faults err.new) (line_of ending) }
 {
     let line = line(ending);
     let _said = write_all(err, line.as_str().as_bytes());

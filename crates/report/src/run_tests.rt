@@ -1,4 +1,8 @@
-// What no clause says: that ample memory suffices, that no empty piece is written or read, and the bytes of whole runs.
+// What no clause says: that ample memory suffices, that no empty piece is written or read, and the
+// bytes of whole runs.
+mod drawings;
+
+use crate::run_tests::drawings::DRAWN;
 use crate::{Status, run};
 use documents::MemorySource;
 use oxc_protocol::MemorySink;
@@ -13,7 +17,8 @@ struct Answer {
     err: Vec<u8>,
 }
 
-// The devices of a run: the most bytes of a read and of a write to `out` and `err`, and the calls that fail.
+// The devices of a run: the most bytes of a read and of a write to `out` and `err`, and the calls
+// that fail.
 #[derive(Clone, Copy)]
 struct Devices<'a> {
     read_most: usize,
@@ -89,111 +94,6 @@ fn answers(
     )
 }
 
-// Documents, and their drawings.
-const DRAWN: [(&str, &str); 26] = [
-    (
-        "{\"files\":[{\"name\":\"a.js\",\"source\":\"foo\\nbar\\nbaz\"}],\"reports\":[{\"file\":0,\"message\":\"Oops\",\"labels\":[{\"start\":[2,1],\"end\":[2,4],\"text\":\"here\"}]}]}",
-        "\n  x Oops\n   ,-[a.js:2:1]\n 1 | foo\n 2 | bar\n   : ^|^\n   :  `-- here\n 3 | baz\n   `----\n",
-    ),
-    ("{\"files\":[],\"reports\":[]}", ""),
-    (
-        "{\"files\":[{\"name\":\"e\",\"source\":\"\"}],\"reports\":[{\"file\":0,\"message\":\"m\",\"labels\":[{\"start\":[1,1],\"end\":[1,1]}]}]}",
-        "\n  x m\n   ,-[e:1:1]\n   `----\n",
-    ),
-    (
-        "{\"files\":[{\"name\":\"a\",\"source\":\"ab\"}],\"reports\":[{\"file\":0,\"message\":\"m\",\"labels\":[{\"start\":[1,3],\"end\":[1,3],\"text\":\"t\"}]}]}",
-        "\n  x m\n   ,-[a:1:3]\n 1 | ab\n   `----\n",
-    ),
-    (
-        "{\"files\":[{\"name\":\"b.js\",\"source\":\"a {\\n  b\\n}\\n\"}],\"reports\":[{\"file\":0,\"message\":\"m\",\"labels\":[{\"start\":[1,3],\"end\":[3,2],\"text\":\"block\"}]}]}",
-        "\n  x m\n   ,-[b.js:1:3]\n 1 | ,-> a {\n 2 | |     b\n 3 | |-> }\n   : `---- block\n   `----\n",
-    ),
-    (
-        "{\"files\":[{\"name\":\"b.js\",\"source\":\"a {\\n  b\\n}\\n\"}],\"reports\":[{\"file\":0,\"message\":\"m\",\"labels\":[{\"start\":[1,3],\"end\":[3,2],\"text\":\"block\\nhere\"}]}]}",
-        "\n  x m\n   ,-[b.js:1:3]\n 1 | ,-> a {\n 2 | |     b\n 3 | |-> }\n   : `--| block\n   :    | here\n   `----\n",
-    ),
-    (
-        "{\"files\":[{\"name\":\"f\",\"source\":\"a\\nb\\nc\\nd\\n\"}],\"reports\":[{\"file\":0,\"message\":\"m\",\"labels\":[{\"start\":[1,1],\"end\":[2,1]}]}]}",
-        "\n  x m\n   ,-[f:1:1]\n 1 | a\n   : ^^\n 2 | b\n 3 | c\n   `----\n",
-    ),
-    (
-        "{\"files\":[{\"name\":\"t\",\"source\":\"é\\txyz\"}],\"reports\":[{\"file\":0,\"message\":\"m\",\"labels\":[{\"start\":[1,5],\"end\":[1,6]}]}]}",
-        "\n  x m\n   ,-[t:1:6]\n 1 | é   xyz\n   :       ^\n   `----\n",
-    ),
-    (
-        "{\"files\":[{\"name\":\"w\",\"source\":\"日本 x\"}],\"reports\":[{\"file\":0,\"message\":\"m\",\"labels\":[{\"start\":[1,2],\"end\":[1,3],\"text\":\"w\"}]}]}",
-        "\n  x m\n   ,-[w:1:4]\n 1 | 日本 x\n   :   ^|\n   :    `-- w\n   `----\n",
-    ),
-    (
-        "{\"files\":[{\"name\":\"s\",\"source\":\"abcdef\"}],\"reports\":[{\"file\":0,\"message\":\"m\",\"labels\":[{\"start\":[1,1],\"end\":[1,5],\"text\":\"A\"},{\"start\":[1,3],\"end\":[1,7],\"text\":\"B\"}]}]}",
-        "\n  x m\n   ,-[s:1:1]\n 1 | abcdef\n   : ^^|^^|\n   :   |  `-- B\n   :   `-- A\n   `----\n",
-    ),
-    (
-        "{\"files\":[{\"name\":\"t\",\"source\":\"a\\nb\\nc\\nd\\ne\\nf\\ng\\nh\\ni\\nj\\n\"}],\"reports\":[{\"file\":0,\"message\":\"m\",\"labels\":[{\"start\":[1,1],\"end\":[1,2]},{\"start\":[4,1],\"end\":[4,2]}]}]}",
-        "\n  x m\n   ,-[t:1:1]\n 1 | a\n   : ^\n 2 | b\n 3 | c\n 4 | d\n   : ^\n 5 | e\n   `----\n",
-    ),
-    (
-        "{\"files\":[{\"name\":\"t\",\"source\":\"a\\nb\\nc\\nd\\ne\\nf\\ng\\nh\\ni\\nj\\n\"}],\"reports\":[{\"file\":0,\"message\":\"m\",\"labels\":[{\"start\":[1,1],\"end\":[1,2]},{\"start\":[5,1],\"end\":[5,2]}]}]}",
-        "\n  x m\n   ,-[t:1:1]\n 1 | a\n   : ^\n 2 | b\n   `----\n   ,-[t:5:1]\n 4 | d\n 5 | e\n   : ^\n 6 | f\n   `----\n",
-    ),
-    (
-        "{\"files\":[{\"name\":\"c\",\"source\":\"ab\\r\\ncd\"}],\"reports\":[{\"file\":0,\"message\":\"m\",\"labels\":[{\"start\":[1,4],\"end\":[1,4]}]}]}",
-        "\n  x m\n   ,-[c:1:3]\n 1 | ab\n   :    ^\n 2 | cd\n   `----\n",
-    ),
-    (
-        "{\"files\":[{\"name\":\"r\",\"source\":\"a\\rb\\nc\"}],\"reports\":[{\"file\":0,\"message\":\"m\",\"labels\":[{\"start\":[2,1],\"end\":[2,2]}]}]}",
-        "\n  x m\n   ,-[r:2:1]\n 1 | a\rb\n   :   ^\n 2 | c\n   `----\n",
-    ),
-    (
-        "{\"files\":[{\"name\":\"u\",\"source\":\"\u{feff}ab\"}],\"reports\":[{\"file\":0,\"message\":\"m\",\"labels\":[{\"start\":[1,1],\"end\":[1,2]}]}]}",
-        "\n  x m\n   ,-[u:1:4]\n 1 | \u{feff}ab\n   : ^\n   `----\n",
-    ),
-    (
-        "{\"files\":[{\"name\":\"m\",\"source\":\"a\\nb\\n\"}],\"reports\":[{\"file\":0,\"message\":\"m\",\"labels\":[{\"start\":[1,1],\"end\":[2,2]},{\"start\":[1,1],\"end\":[2,2],\"text\":\"z\"}]}]}",
-        "\n  x m\n   ,-[m:1:1]\n 1 | ,--> a\n 2 | `--> b\n   : `----- z\n   `----\n",
-    ),
-    (
-        "{\"files\":[{\"name\":\"z\",\"source\":\"\\u001b[31mab\\tc\"}],\"reports\":[{\"file\":0,\"message\":\"m\",\"labels\":[{\"start\":[1,9],\"end\":[1,10]}]}]}",
-        "\n  x m\n   ,-[z:1:9]\n 1 | \u{1b}[31mab  c\n   :     ^\n   `----\n",
-    ),
-    (
-        "{\"files\":[{\"name\":\"q\",\"source\":\"abcd\"}],\"reports\":[{\"file\":0,\"message\":\"m\",\"labels\":[{\"start\":[1,2],\"end\":[1,3],\"text\":\"k\"},{\"start\":[1,2],\"end\":[1,3],\"text\":\"k\"}]}]}",
-        "\n  x m\n   ,-[q:1:2]\n 1 | abcd\n   :  ||\n   :  `-- k\n   :  `-- k\n   `----\n",
-    ),
-    (
-        "{\"files\":[{\"name\":\"e\",\"source\":\"e\u{301}x\"}],\"reports\":[{\"file\":0,\"message\":\"m\",\"labels\":[{\"start\":[1,2],\"end\":[1,3]}]}]}",
-        "\n  x m\n   ,-[e:1:2]\n 1 | e\u{301}x\n   :  ^\n   `----\n",
-    ),
-    (
-        "{\"files\":[{\"name\":\"c\",\"source\":\"\\u0007\u{85}x\"}],\"reports\":[{\"file\":0,\"message\":\"m\",\"labels\":[{\"start\":[1,3],\"end\":[1,4]}]}]}",
-        "\n  x m\n   ,-[c:1:4]\n 1 | \u{7}\u{85}x\n   :   ^\n   `----\n",
-    ),
-    (
-        "{\"files\":[{\"name\":\"k\",\"source\":\"a\\rb\"}],\"reports\":[{\"file\":0,\"message\":\"m\",\"labels\":[{\"start\":[1,1],\"end\":[2,2]}]}]}",
-        "\n  x m\n   ,-[k:1:1]\n 1 | a\rb\n   : ^^^\n   `----\n",
-    ),
-    (
-        "{\"files\":[{\"name\":\"k\",\"source\":\"a\\r\"}],\"reports\":[{\"file\":0,\"message\":\"m\",\"labels\":[{\"start\":[1,1],\"end\":[1,2]}]}]}",
-        "\n  x m\n   ,-[k:1:1]\n 0 | a\r\n   : ^\n   `----\n",
-    ),
-    (
-        "{\"version\":2,\"files\":[{\"name\":\"a.js\",\"source\":\"foo\\nbar\\nbaz\"}],\"reports\":[{\"file\":0,\"message\":\"Oops\",\"labels\":[{\"bytes\":[4,7],\"text\":\"here\"}]}]}",
-        "\n  x Oops\n   ,-[a.js:2:1]\n 1 | foo\n 2 | bar\n   : ^|^\n   :  `-- here\n 3 | baz\n   `----\n",
-    ),
-    (
-        "{\"files\":[{\"name\":\"a.js\",\"source\":\"foo\\nbar\\nbaz\"}],\"reports\":[{\"file\":0,\"message\":\"Oops\",\"labels\":[{\"start\":[2,1],\"end\":[2,4],\"text\":\"here\"}]}],\"version\":2}",
-        "\n  x Oops\n   ,-[a.js:2:1]\n 1 | foo\n 2 | bar\n   : ^|^\n   :  `-- here\n 3 | baz\n   `----\n",
-    ),
-    (
-        "{\"files\":[{\"name\":\"a.js\",\"source\":\"foo\\nbar\\nbaz\"}],\"reports\":[{\"file\":0,\"message\":\"Oops\",\"labels\":[{\"start\":[2,1],\"end\":[2,4],\"text\":\"here\"}],\"help\":\"\"}]}",
-        "\n  x Oops\n   ,-[a.js:2:1]\n 1 | foo\n 2 | bar\n   : ^|^\n   :  `-- here\n 3 | baz\n   `----\n  help: \n",
-    ),
-    (
-        "{\"files\":[{\"name\":\"src/app.js\",\"source\":\"import { a } from \\\"x\\\";\\n\\nfunction f(b) {\\n\\treturn a + c;\\n}\\n\"}],\"reports\":[{\"file\":0,\"message\":\"'c' is not defined.\",\"severity\":\"warning\",\"scope\":\"eslint\",\"number\":\"no-undef\",\"help\":\"Declare it or import it.\",\"labels\":[{\"start\":[4,13],\"end\":[4,14],\"text\":\"not found\"},{\"start\":[3,10],\"end\":[3,11],\"text\":\"in this function\"}]}]}",
-        "\n  ! eslint(no-undef): 'c' is not defined.\n   ,-[src/app.js:3:10]\n 2 | \n 3 | function f(b) {\n   :          |\n   :          `-- in this function\n 4 |     return a + c;\n   :                |\n   :                `-- not found\n 5 | }\n   `----\n  help: Declare it or import it.\n",
-    ),
-];
-
 #[test]
 fn documents_are_drawn(rt: HostRuntime) -> Result<(), Fail> {
     for (input, want) in DRAWN {
@@ -215,33 +115,99 @@ fn documents_are_drawn(rt: HostRuntime) -> Result<(), Fail> {
 const SETTINGS: [(&str, &str, &str); 9] = [
     (
         "--width 0",
-        "{\"files\":[{\"name\":\"a\",\"source\":\"ab\"}],\"reports\":[{\"file\":0,\"message\":\"ab\"}]}",
-        "\n  x a\n  | b\n",
+        concat!(
+            "{\"files\":[{\"name\":\"a\",\"source\":\"ab\"}],",
+            "\"reports\":[{\"file\":0,\"message\":\"ab\"}]}",
+        ),
+        concat!("\n", "  x a\n", "  | b\n",),
     ),
     (
         "--theme unicode_nocolor",
-        "{\"files\":[{\"name\":\"a.js\",\"source\":\"foo\\nbar\\nbaz\"}],\"reports\":[{\"file\":0,\"message\":\"Oops\",\"labels\":[{\"start\":[2,1],\"end\":[2,4],\"text\":\"here\"}]}]}",
-        "\n  × Oops\n   ╭─[a.js:2:1]\n 1 │ foo\n 2 │ bar\n   · ─┬─\n   ·  ╰── here\n 3 │ baz\n   ╰────\n",
+        concat!(
+            "{\"files\":[{\"name\":\"a.js\",\"source\":\"foo\\nbar\\nbaz\"}],",
+            "\"reports\":[{\"file\":0,\"message\":\"Oops\",\"labels\":[{\"start\":[2,1],",
+            "\"end\":[2,4],\"text\":\"here\"}]}]}",
+        ),
+        concat!(
+            "\n",
+            "  × Oops\n",
+            "   ╭─[a.js:2:1]\n",
+            " 1 │ foo\n",
+            " 2 │ bar\n",
+            "   · ─┬─\n",
+            "   ·  ╰── here\n",
+            " 3 │ baz\n",
+            "   ╰────\n",
+        ),
     ),
     (
         "--theme unicode",
-        "{\"files\":[{\"name\":\"b.js\",\"source\":\"a {\\n  b\\n}\\n\"}],\"reports\":[{\"file\":0,\"message\":\"m\",\"labels\":[{\"start\":[1,3],\"end\":[3,2],\"text\":\"block\"}]}]}",
-        "\n  \u{1b}[38;2;225;80;80;1m×\u{1b}[0m \u{1b}[38;2;225;80;80;1mm\u{1b}[0m\n   ╭─[\u{1b}[38;2;92;157;255;1mb.js\u{1b}[0m:1:3]\n \u{1b}[2m1\u{1b}[0m │ \u{1b}[38;2;246;87;248m╭\u{1b}[0m\u{1b}[38;2;246;87;248m─\u{1b}[0m\u{1b}[38;2;246;87;248m▶\u{1b}[0m a {\n \u{1b}[2m2\u{1b}[0m │ \u{1b}[38;2;246;87;248m│\u{1b}[0m     b\n \u{1b}[2m3\u{1b}[0m │ \u{1b}[38;2;246;87;248m├\u{1b}[0m\u{1b}[38;2;246;87;248m─\u{1b}[0m\u{1b}[38;2;246;87;248m▶\u{1b}[0m }\n   · \u{1b}[38;2;246;87;248m╰\u{1b}[0m\u{1b}[38;2;246;87;248m───\u{1b}[0m\u{1b}[38;2;246;87;248m─\u{1b}[0m \u{1b}[38;2;246;87;248mblock\u{1b}[0m\n   ╰────\n",
+        concat!(
+            "{\"files\":[{\"name\":\"b.js\",\"source\":\"a {\\n  b\\n}\\n\"}],",
+            "\"reports\":[{\"file\":0,\"message\":\"m\",\"labels\":[{\"start\":[1,3],",
+            "\"end\":[3,2],\"text\":\"block\"}]}]}",
+        ),
+        concat!(
+            "\n",
+            "  \u{1b}[38;2;225;80;80;1m×\u{1b}[0m \u{1b}[38;2;225;80;80;1mm\u{1b}[0m\n",
+            "   ╭─[\u{1b}[38;2;92;157;255;1mb.js\u{1b}[0m:1:3]\n",
+            " \u{1b}[2m1\u{1b}[0m │ ",
+            "\u{1b}[38;2;246;87;248m╭\u{1b}[0m\u{1b}[38;2;246;87;248m─\u{1b}[0m\u{1b}[38;2;24",
+            "6;87;248m▶\u{1b}[0m a {\n",
+            " \u{1b}[2m2\u{1b}[0m │ \u{1b}[38;2;246;87;248m│\u{1b}[0m     b\n",
+            " \u{1b}[2m3\u{1b}[0m │ ",
+            "\u{1b}[38;2;246;87;248m├\u{1b}[0m\u{1b}[38;2;246;87;248m─\u{1b}[0m\u{1b}[38;2;24",
+            "6;87;248m▶\u{1b}[0m }\n",
+            "   · ",
+            "\u{1b}[38;2;246;87;248m╰\u{1b}[0m\u{1b}[38;2;246;87;248m───\u{1b}[0m\u{1b}[38;2;",
+            "246;87;248m─\u{1b}[0m \u{1b}[38;2;246;87;248mblock\u{1b}[0m\n",
+            "   ╰────\n",
+        ),
     ),
     (
         "--tabs 16",
-        "{\"files\":[{\"name\":\"t\",\"source\":\"é\\txyz\"}],\"reports\":[{\"file\":0,\"message\":\"m\",\"labels\":[{\"start\":[1,5],\"end\":[1,6]}]}]}",
-        "\n  x m\n   ,-[t:1:6]\n 1 | é               xyz\n   :                   ^\n   `----\n",
+        concat!(
+            "{\"files\":[{\"name\":\"t\",\"source\":\"é\\txyz\"}],",
+            "\"reports\":[{\"file\":0,\"message\":\"m\",\"labels\":[{\"start\":[1,5],",
+            "\"end\":[1,6]}]}]}",
+        ),
+        concat!(
+            "\n",
+            "  x m\n",
+            "   ,-[t:1:6]\n",
+            " 1 | é               xyz\n",
+            "   :                   ^\n",
+            "   `----\n",
+        ),
     ),
     (
         "--tabs 1",
-        "{\"files\":[{\"name\":\"a\",\"source\":\"a\\tb\"}],\"reports\":[{\"file\":0,\"message\":\"m\",\"labels\":[{\"start\":[1,3],\"end\":[1,4]}]}]}",
-        "\n  x m\n   ,-[a:1:3]\n 1 | a b\n   :   ^\n   `----\n",
+        concat!(
+            "{\"files\":[{\"name\":\"a\",\"source\":\"a\\tb\"}],",
+            "\"reports\":[{\"file\":0,\"message\":\"m\",\"labels\":[{\"start\":[1,3],",
+            "\"end\":[1,4]}]}]}",
+        ),
+        concat!(
+            "\n",
+            "  x m\n",
+            "   ,-[a:1:3]\n",
+            " 1 | a b\n",
+            "   :   ^\n",
+            "   `----\n",
+        ),
     ),
     (
         "--json",
-        "{\"files\":[{\"name\":\"a.js\",\"source\":\"foo\\nbar\\nbaz\"}],\"reports\":[{\"file\":0,\"message\":\"Oops\",\"labels\":[{\"start\":[2,1],\"end\":[2,4],\"text\":\"here\"}]}]}",
-        "{\"message\": \"Oops\",\"severity\": \"error\",\"filename\": \"a.js\",\"labels\": [{\"label\": \"here\",\"span\": {\"offset\": 4,\"length\": 3,\"line\": 2,\"column\": 1}}]}\n",
+        concat!(
+            "{\"files\":[{\"name\":\"a.js\",\"source\":\"foo\\nbar\\nbaz\"}],",
+            "\"reports\":[{\"file\":0,\"message\":\"Oops\",\"labels\":[{\"start\":[2,1],",
+            "\"end\":[2,4],\"text\":\"here\"}]}]}",
+        ),
+        concat!(
+            "{\"message\": \"Oops\",\"severity\": \"error\",\"filename\": \"a.js\",",
+            "\"labels\": [{\"label\": \"here\",\"span\": {\"offset\": 4,\"length\": 3,",
+            "\"line\": 2,\"column\": 1}}]}\n",
+        ),
     ),
     ("--make 0", "", "0 reports, 0 bytes, 0 lines\n"),
     ("--make 1", "", "1 reports, 58 bytes, 7 lines\n"),
@@ -269,37 +235,58 @@ fn words_settle_what_is_written(rt: HostRuntime) -> Result<(), Fail> {
 const REFUSED: [(&str, &str, Status, &str); 16] = [
     (
         "",
-        "{\"files\":[{\"name\":\"a\",\"source\":\"ab\"}],\"reports\":[{\"file\":0,\"message\":\"m\",\"labels\":[{\"start\":[1,99],\"end\":[1,99]}]},{\"file\":5,\"message\":\"m\"}]}",
+        concat!(
+            "{\"files\":[{\"name\":\"a\",\"source\":\"ab\"}],",
+            "\"reports\":[{\"file\":0,\"message\":\"m\",\"labels\":[{\"start\":[1,99],",
+            "\"end\":[1,99]}]},{\"file\":5,\"message\":\"m\"}]}",
+        ),
         Status::Refused,
         "report: report 0: label 0: start is no position\n",
     ),
     (
         "",
-        "{\"files\":[{\"name\":\"a\",\"source\":\"ab\"}],\"reports\":[{\"file\":0,\"message\":\"m\",\"labels\":[{\"start\":[1,3],\"end\":[1,1]}]}]}",
+        concat!(
+            "{\"files\":[{\"name\":\"a\",\"source\":\"ab\"}],",
+            "\"reports\":[{\"file\":0,\"message\":\"m\",\"labels\":[{\"start\":[1,3],",
+            "\"end\":[1,1]}]}]}",
+        ),
         Status::Refused,
         "report: report 0: label 0: end 0 before start 2\n",
     ),
     (
         "",
-        "{\"files\":[{\"name\":\"a\",\"source\":\"ab\"}],\"reports\":[{\"file\":7,\"message\":\"m\",\"labels\":[{\"start\":[9,9],\"end\":[9,9]}]}]}",
+        concat!(
+            "{\"files\":[{\"name\":\"a\",\"source\":\"ab\"}],",
+            "\"reports\":[{\"file\":7,\"message\":\"m\",\"labels\":[{\"start\":[9,9],",
+            "\"end\":[9,9]}]}]}",
+        ),
         Status::Refused,
         "report: report 0: unknown file\n",
     ),
     (
         "",
-        "{\"version\":2,\"files\":[{\"name\":\"a\",\"source\":\"é\"}],\"reports\":[{\"file\":0,\"message\":\"m\",\"labels\":[{\"bytes\":[1,2]}]}]}",
+        concat!(
+            "{\"version\":2,\"files\":[{\"name\":\"a\",\"source\":\"é\"}],",
+            "\"reports\":[{\"file\":0,\"message\":\"m\",\"labels\":[{\"bytes\":[1,2]}]}]}",
+        ),
         Status::Refused,
         "report: report 0: label 0: start is no position\n",
     ),
     (
         "",
-        "{\"version\":2,\"files\":[{\"name\":\"a\",\"source\":\"abcd\"}],\"reports\":[{\"file\":0,\"message\":\"m\",\"labels\":[{\"bytes\":[3,2]}]}]}",
+        concat!(
+            "{\"version\":2,\"files\":[{\"name\":\"a\",\"source\":\"abcd\"}],",
+            "\"reports\":[{\"file\":0,\"message\":\"m\",\"labels\":[{\"bytes\":[3,2]}]}]}",
+        ),
         Status::Refused,
         "report: report 0: label 0: end 2 before start 3\n",
     ),
     (
         "",
-        "{\"version\":2,\"files\":[{\"name\":\"u\",\"source\":\"\u{feff}ab\"}],\"reports\":[{\"file\":0,\"message\":\"m\",\"labels\":[{\"bytes\":[0,1]}]}]}",
+        concat!(
+            "{\"version\":2,\"files\":[{\"name\":\"u\",\"source\":\"\u{feff}ab\"}],",
+            "\"reports\":[{\"file\":0,\"message\":\"m\",\"labels\":[{\"bytes\":[0,1]}]}]}",
+        ),
         Status::Refused,
         "report: report 0: label 0: end is no position\n",
     ),
@@ -312,49 +299,81 @@ const REFUSED: [(&str, &str, Status, &str); 16] = [
     ("", "", Status::NoDocument, "report: input is no document\n"),
     (
         "",
-        "{\"files\":[{\"name\":\"a\",\"source\":\"ab\"}],\"reports\":[{\"file\":0,\"message\":\"m\",\"labels\":[{\"start\":[0,1],\"end\":[1,2]}]}]}",
+        concat!(
+            "{\"files\":[{\"name\":\"a\",\"source\":\"ab\"}],",
+            "\"reports\":[{\"file\":0,\"message\":\"m\",\"labels\":[{\"start\":[0,1],",
+            "\"end\":[1,2]}]}]}",
+        ),
         Status::NoDocument,
         "report: input is no document\n",
     ),
     (
         "",
-        "{\"files\":[{\"name\":\"a\",\"source\":\"ab\"}],\"reports\":[{\"file\":0,\"message\":\"m\",\"labels\":[{\"start\":[1,1],\"end\":[1,2],\"more\":1}]}]}",
+        concat!(
+            "{\"files\":[{\"name\":\"a\",\"source\":\"ab\"}],",
+            "\"reports\":[{\"file\":0,\"message\":\"m\",\"labels\":[{\"start\":[1,1],",
+            "\"end\":[1,2],\"more\":1}]}]}",
+        ),
         Status::NoDocument,
         "report: input is no document\n",
     ),
     (
         "",
-        "{\"files\":[{\"name\":\"a.js\",\"source\":\"foo\\nbar\\nbaz\"}],\"reports\":[{\"file\":0,\"message\":\"Oops\",\"labels\":[{\"bytes\":[4,7],\"text\":\"here\"}]}]}",
+        concat!(
+            "{\"files\":[{\"name\":\"a.js\",\"source\":\"foo\\nbar\\nbaz\"}],",
+            "\"reports\":[{\"file\":0,\"message\":\"Oops\",\"labels\":[{\"bytes\":[4,7],",
+            "\"text\":\"here\"}]}]}",
+        ),
         Status::NoDocument,
         "report: input is no document\n",
     ),
     (
         "",
-        "{\"version\":2,\"files\":[{\"name\":\"a.js\",\"source\":\"foo\\nbar\\nbaz\"}],\"reports\":[{\"file\":0,\"message\":\"Oops\",\"labels\":[{\"bytes\":[4,7],\"text\":\"here\",\"start\":[2,1],\"end\":[2,4]}]}]}",
+        concat!(
+            "{\"version\":2,\"files\":[{\"name\":\"a.js\",\"source\":\"foo\\nbar\\nbaz\"}],",
+            "\"reports\":[{\"file\":0,\"message\":\"Oops\",\"labels\":[{\"bytes\":[4,7],",
+            "\"text\":\"here\",\"start\":[2,1],\"end\":[2,4]}]}]}",
+        ),
         Status::NoDocument,
         "report: input is no document\n",
     ),
     (
         "",
-        "{\"version\":3,\"files\":[{\"name\":\"a.js\",\"source\":\"foo\\nbar\\nbaz\"}],\"reports\":[{\"file\":0,\"message\":\"Oops\",\"labels\":[{\"bytes\":[4,7],\"text\":\"here\"}]}]}",
+        concat!(
+            "{\"version\":3,\"files\":[{\"name\":\"a.js\",\"source\":\"foo\\nbar\\nbaz\"}],",
+            "\"reports\":[{\"file\":0,\"message\":\"Oops\",\"labels\":[{\"bytes\":[4,7],",
+            "\"text\":\"here\"}]}]}",
+        ),
         Status::NoDocument,
         "report: input is no document\n",
     ),
     (
         "--width 080",
-        "{\"files\":[{\"name\":\"a.js\",\"source\":\"foo\\nbar\\nbaz\"}],\"reports\":[{\"file\":0,\"message\":\"Oops\",\"labels\":[{\"start\":[2,1],\"end\":[2,4],\"text\":\"here\"}]}]}",
+        concat!(
+            "{\"files\":[{\"name\":\"a.js\",\"source\":\"foo\\nbar\\nbaz\"}],",
+            "\"reports\":[{\"file\":0,\"message\":\"Oops\",\"labels\":[{\"start\":[2,1],",
+            "\"end\":[2,4],\"text\":\"here\"}]}]}",
+        ),
         Status::Usage,
         "report: bad arguments\n",
     ),
     (
         "--make 5001",
-        "{\"files\":[{\"name\":\"a.js\",\"source\":\"foo\\nbar\\nbaz\"}],\"reports\":[{\"file\":0,\"message\":\"Oops\",\"labels\":[{\"start\":[2,1],\"end\":[2,4],\"text\":\"here\"}]}]}",
+        concat!(
+            "{\"files\":[{\"name\":\"a.js\",\"source\":\"foo\\nbar\\nbaz\"}],",
+            "\"reports\":[{\"file\":0,\"message\":\"Oops\",\"labels\":[{\"start\":[2,1],",
+            "\"end\":[2,4],\"text\":\"here\"}]}]}",
+        ),
         Status::Usage,
         "report: bad arguments\n",
     ),
     (
         "--tabs 17",
-        "{\"files\":[{\"name\":\"a.js\",\"source\":\"foo\\nbar\\nbaz\"}],\"reports\":[{\"file\":0,\"message\":\"Oops\",\"labels\":[{\"start\":[2,1],\"end\":[2,4],\"text\":\"here\"}]}]}",
+        concat!(
+            "{\"files\":[{\"name\":\"a.js\",\"source\":\"foo\\nbar\\nbaz\"}],",
+            "\"reports\":[{\"file\":0,\"message\":\"Oops\",\"labels\":[{\"start\":[2,1],",
+            "\"end\":[2,4],\"text\":\"here\"}]}]}",
+        ),
         Status::Usage,
         "report: bad arguments\n",
     ),

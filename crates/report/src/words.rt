@@ -1,7 +1,12 @@
 // The words of the command line.
-ghost use Rattle.std.specs.Prelude.{◌≡◌, ◌<◌, ◌≤◌, IfSome, length, map, option_and_then, string_bytes};
+ghost use Rattle.std.specs.Prelude.{◌≡◌, ◌<◌, ◌≤◌, IfSome, length, map, option_and_then};
+ghost use Rattle.std.specs.Prelude.{string_bytes};
 ghost use Rattle.std.specs.List.{list_all};
-ghost use Rattle.report.specs.Words.{begins_well as may_begin, command_of, drawing_with, IsFew, is_digit as is_code_of_digit, made_by as count_made_by, number as number_of, number_in as number_between, setting_of as setting_named, settings, settings_with, theme_named as theme_of_name};
+ghost use Rattle.report.specs.Words.{begins_well as may_begin, command_of, drawing_with, IsFew};
+ghost use Rattle.report.specs.Words.{is_digit as is_code_of_digit, made_by as count_made_by};
+ghost use Rattle.report.specs.Words.{number as number_of, number_in as number_between};
+ghost use Rattle.report.specs.Words.{setting_of as setting_named, settings, settings_with};
+ghost use Rattle.report.specs.Words.{theme_named as theme_of_name};
 ghost use Rattle.report.specs.Settled.{begun_with, drawing_of, settled, with_setting};
 
 use oxc_plan::TabWidth;
@@ -58,9 +63,9 @@ pub(crate) struct Settings {
 
 /// The command that the words are, or none where they are none.
 ///
-/// They are `--make` and a number of at most 5,000, or any order of `--theme` with the name of a theme,
-/// `--width` with a number, `--tabs` with a number from 1 to 16, and `--json`, each at most once. A number
-/// is one to nine digits, of which the first isn't 0 unless it is the only one.
+/// They are `--make` and a number of at most 5,000, or any order of `--theme` with the name of a
+/// theme, `--width` with a number, `--tabs` with a number from 1 to 16, and `--json`, each at most
+/// once. A number is one to nine digits, of which the first isn't 0 unless it is the only one.
 #[tactic(auto, unfolding(crate::specs::Words::command_of))]
 pub fn read_words(words: &[String]) -> Option<Command>
     ensures value { result ≡ command_of (map string_bytes words.now) }

@@ -63,7 +63,7 @@ items_of (boolean b) = []
 items_of (number text) = []
 items_of (string text) = []
 items_of (array items) = list_of items
-items_of (object members) = []
+items_of (object _) = []
 
 unfoldable pub list_at : List ℕ → Option Json → List Json
 list_at key it = unwrap_or (option_map items_of (under key it)) []

@@ -1,0 +1,66 @@
+-- What a caller's arguments mean: files and reports on them, or why they mean nothing.
+use Rattle.std.specs.Prelude.{ℕ, ◌&&◌, nat_le, nat_lt, List, map, Option, Some, None, option_map, if◌then◌else◌}
+use Rattle.std.specs.Option.{option_or}
+use Rattle.codespan.specs.Texts.{NamedText}
+use Rattle.report_arrays.specs.declared.shapes.File.{File}
+use Rattle.report_arrays.specs.declared.shapes.Report.{Report}
+use Rattle.report_arrays.specs.declared.shapes.Label.{Label}
+use Rattle.report_arrays.specs.Wrong.{wrong_of}
+use Rattle.render_files.specs.Given.{GivenReport}
+use Rattle.girzohal_c.specs.Values.{named, report as report_of}
+use Rattle.girzohal_c.specs.declared.shapes.Look.{Look}
+use Rattle.girzohal_c.specs.declared.drawing.Argument.{Argument}
+use Rattle.girzohal_c.specs.declared.drawing.Argument.TheVariants.{InArrays, InLook}
+
+-- files and reports on them; or the first argument that is wrong; or bytes that are no document
+pub data Meaning : Type 0 where
+  means : List NamedText → List GivenReport → Meaning
+  is_wrong : Argument → Meaning
+  no_document : Meaning
+
+-- the arrays that a caller hands over
+pub record Arrays : Type 0 where
+  pub texts : List ℕ
+  pub files : List File
+  pub reports : List Report
+  pub labels : List Label
+
+abbrev pub arrays : List ℕ → List File → List Report → List Label → Arrays
+arrays texts files reports labels = record {
+  texts = texts;
+  files = files;
+  reports = reports;
+  labels = labels;
+}
+
+-- the first of the look's numbers that is wrong, by its field: a theme that isn't there, tab stops that
+-- aren't 1 to 16 columns apart, or a form that isn't there
+abbrev pub wrong_look : Look → Option ℕ
+wrong_look look =
+    if nat_lt look.theme 3
+    then (if nat_le 1 look.tabs && nat_le look.tabs 16
+    then (if nat_lt look.form 2 then None else Some 2)
+    else Some 1)
+    else Some 0
+
+-- the first argument that is wrong: the arrays, then the look
+unfoldable pub wrong : Arrays → Look → Option Argument
+wrong it look =
+    option_or (option_map InArrays (wrong_of it.texts it.files it.reports it.labels))
+    (option_map InLook (wrong_look look))
+
+-- the files and the reports that the arrays say
+abbrev pub files_in : Arrays → List NamedText
+files_in it = map (named it.texts) it.files
+
+abbrev pub reports_in : Arrays → List GivenReport
+reports_in it = map (report_of it.texts it.labels) it.reports
+
+-- what is meant where no argument is wrong
+abbrev pub judged : Option Argument → Meaning → Meaning
+judged None meant = meant
+judged (Some argument) meant = is_wrong argument
+
+-- what the arrays mean, under a look
+abbrev pub meaning : Arrays → Look → Meaning
+meaning it look = judged (wrong it look) (means (files_in it) (reports_in it))

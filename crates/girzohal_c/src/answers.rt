@@ -1,0 +1,125 @@
+// What a call leaves in the answer and in the buffer.
+ghost use Rattle.std.specs.Prelude.{◌≡◌, ◌⊎◌, length};
+ghost use Rattle.girzohal_c.specs.Answers.{needs, no_answer as none_of};
+ghost use Rattle.girzohal_c.specs.Answers.{refused_answer as refused_of, wrong_answer as wrong_of};
+ghost use Rattle.girzohal_c.specs.Replies.{Gives, Tells, reply};
+
+use crate::drawing::{Argument, Fault};
+use crate::shapes::Answer;
+use render_files::ReportError;
+use report_arrays::Wrong;
+
+/// Replies with a text, or with why there is none, and gives the status.
+pub(crate) fn reply_with(made: Result<String, Fault>, out: &mut [u8], answer: &mut Answer) -> u32
+    ensures told { Tells made (reply result answer.new out.old out.new) }
+    ensures kept { (result ≡ 0) ⊎ (out.new ≡ out.old) }
+{
+    match made {
+        Ok(text) => give_text(text.as_bytes(), out, answer),
+        Err(Fault::IsWrong(argument)) => {
+            *answer = wrong_answer(argument);
+            2
+        }
+        Err(Fault::IsNoDocument) => {
+            *answer = no_answer();
+            3
+        }
+        Err(Fault::IsRefused(why)) => {
+            *answer = refused_answer(why);
+            1
+        }
+        Err(Fault::WantsMemory) => {
+            *answer = no_answer();
+            6
+        }
+    }
+}
+
+/// Writes a text to the beginning of a buffer, if it fits, and tells its length.
+fn give_text(text: &[u8], out: &mut [u8], answer: &mut Answer) -> u32
+    ensures given { Gives text.now (reply result answer.new out.old out.new) }
+    ensures kept { (result ≡ 0) ⊎ (out.new ≡ out.old) }
+{
+    *answer = Answer {
+        needed: text.len(),
+        ..no_answer()
+    };
+    if text.len() > out.len() {
+        return 10;
+    }
+    let part = &mut out[..text.len()];
+    part.copy_from_slice(text);
+    0
+}
+
+/// An answer that says nothing beside the status.
+fn no_answer() -> Answer
+    ensures { result ≡ none_of }
+{
+    Answer {
+        needed: 0,
+        array: 0,
+        index: 0,
+        report: 0,
+        label: 0,
+        cause: 0,
+        first: 0,
+        second: 0,
+    }
+}
+
+/// Which argument is wrong.
+fn wrong_answer(argument: Argument) -> Answer
+    ensures { result ≡ wrong_of argument }
+{
+    let (array, index) = match argument {
+        Argument::InArrays(Wrong::InTexts) => (0, 0),
+        Argument::InArrays(Wrong::InFile(index)) => (1, index),
+        Argument::InArrays(Wrong::InReport(index)) => (2, index),
+        Argument::InArrays(Wrong::InLabel(index)) => (3, index),
+        Argument::InLook(field) => (4, field),
+    };
+    Answer {
+        array,
+        index,
+        ..no_answer()
+    }
+}
+
+/// Why a report is refused.
+fn refused_answer(why: ReportError) -> Answer
+    ensures { result ≡ refused_of why }
+{
+    let none = no_answer();
+    match why {
+        ReportError::UnknownFile { report } => Answer {
+            cause: 1,
+            report,
+            ..none
+        },
+        ReportError::PositionOutside {
+            report,
+            label,
+            at_end,
+        } => Answer {
+            cause: if at_end { 3 } else { 2 },
+            report,
+            label,
+            ..none
+        },
+        ReportError::LabelReversed {
+            report,
+            label,
+            start,
+            end,
+        } => Answer {
+            cause: 4,
+            report,
+            label,
+            first: start as u64,
+            second: end as u64,
+            ..none
+        },
+        ReportError::SinkFault | ReportError::OutOfMemory => none,
+    }
+}

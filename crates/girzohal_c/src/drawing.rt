@@ -1,0 +1,97 @@
+// The text of what the arguments mean, or why there is none.
+ghost use Rattle.std.specs.Prelude.{map};
+ghost use Rattle.render_files.specs.Given.{given_report};
+ghost use Rattle.girzohal_c.specs.Values.{named, report as report_of};
+ghost use Rattle.girzohal_c.specs.Meaning.{arrays, meaning};
+ghost use Rattle.girzohal_c.specs.Replies.{IsTextOf, Makes};
+
+use crate::shapes::Look;
+use crate::style::{Form, Style, style_of};
+use crate::values::{files_of, reports_of};
+use codespan::Files;
+use render_files::{FileReport, ReportError, files_json, files_text};
+use report_arrays::{File, Label, Report, Wrong, read_texts};
+use std::alloc::Global;
+
+/// An argument that is wrong.
+#[derive(Clone, Copy, Debug, PartialEq, Eq)]
+pub(crate) enum Argument {
+    /// The texts, or an element of the arrays.
+    InArrays(Wrong),
+    /// A field of the look, from 0.
+    InLook(usize),
+}
+
+/// Why there is no text.
+#[derive(Clone, Copy, Debug, PartialEq, Eq)]
+pub(crate) enum Fault {
+    /// An argument is wrong.
+    IsWrong(Argument),
+    /// The bytes are no document.
+    IsNoDocument,
+    /// A report is refused.
+    IsRefused(ReportError),
+    /// There was no memory.
+    WantsMemory,
+}
+
+/// The text of what the arrays mean. Every argument is judged before memory is asked for.
+#[tactic(auto, unfolding(crate::specs::Meaning::wrong))]
+pub(crate) fn draw_arrays(
+    alloc: Global,
+    texts: &[u8],
+    files: &[File],
+    reports: &[Report],
+    labels: &[Label],
+    look: &Look,
+) -> Result<String, Fault>
+    ensures { let it = arrays texts.now files.now reports.now labels.now in
+        Makes look.now (meaning it look.now) result }
+{
+    let text = match read_texts(texts, files, reports, labels) {
+        Ok(text) => text,
+        Err(wrong) => return Err(Fault::IsWrong(Argument::InArrays(wrong))),
+    };
+    let style = match style_of(look) {
+        Ok(style) => style,
+        Err(field) => return Err(Fault::IsWrong(Argument::InLook(field))),
+    };
+    match draw_right(alloc, text, files, reports, labels, &style) {
+        Ok(text) => Ok(text),
+        Err(ReportError::OutOfMemory) => Err(Fault::WantsMemory),
+        Err(why) => Err(Fault::IsRefused(why)),
+    }
+}
+
+/// The text of what arrays say of which none is wrong.
+fn draw_right(
+    alloc: Global,
+    texts: &str,
+    files: &[File],
+    reports: &[Report],
+    labels: &[Label],
+    style: &Style,
+) -> Result<String, ReportError>
+    ensures { IsTextOf style.now.form style.now.handler (map (named texts.now) files.now)
+        (map (report_of texts.now labels.now) reports.now) result }
+{
+    let files = files_of(alloc, texts, files)?;
+    let reports = reports_of(alloc, texts, reports, labels)?;
+    draw(alloc, style, &files, &reports)
+}
+
+/// The text of reports.
+fn draw(
+    alloc: Global,
+    style: &Style,
+    files: &Files<String>,
+    reports: &[FileReport],
+) -> Result<String, ReportError>
+    ensures { IsTextOf style.now.form style.now.handler files.now
+        (map given_report reports.now) result }
+{
+    match style.form {
+        Form::Drawing => files_text(alloc, &style.handler, files, reports),
+        Form::Json => files_json(alloc, files, reports),
+    }
+}

@@ -1,0 +1,65 @@
+//! Drawings of diagnostics for callers in C.
+//!
+//! Every argument is tested here, so the calls ask nothing of their caller but what C's slices owe.
+//! No pointer is kept, and nothing has to be freed.
+//!
+//! Data goes through the modules in this order:
+//!
+//! - `shapes`: the look and the answer, as C lays them out;
+//! - `style`: what a look says, or which of its numbers is wrong;
+//! - `values`: what the elements of the arrays say, as files of a database and reports on them;
+//! - `drawing`: the text of what the arguments mean, or why there is none;
+//! - `answers`: the status, the answer and the buffer.
+#![tactic(auto)]
+
+ghost use Rattle.std.specs.Prelude.{◌≡◌, ◌⊎◌};
+ghost use Rattle.girzohal_c.specs.Meaning.{arrays, meaning};
+ghost use Rattle.girzohal_c.specs.Replies.{RepliesTo, reply};
+
+mod answers;
+mod drawing;
+mod shapes;
+mod style;
+mod values;
+
+use crate::answers::reply_with;
+use crate::drawing::draw_arrays;
+pub use crate::shapes::{Answer, Look};
+use report_arrays::{File, Label, Report};
+use std::alloc::Global;
+
+/// Writes reports that stand in plain arrays into the caller's buffer, and gives the status.
+///
+/// 0: the text was written; 1: a report is refused; 2: an argument is wrong; 6: memory is wanting;
+/// 10: the buffer is too small. With every status but 0 the buffer is as it was, and past the text
+/// it always is.
+#[unsafe(no_mangle)]
+#[tactic(auto, using(crate::proofs::Replying::tells_replies))]
+pub extern "C" fn girzohal_draw(
+    alloc: Global,
+    texts: &[u8],
+    files: &[File],
+    reports: &[Report],
+    labels: &[Label],
+    look: &Look,
+    out: &mut [u8],
+    answer: &mut Answer,
+) -> u32
+    ensures replies { let it = arrays texts.now files.now reports.now labels.now in
+        RepliesTo look.now (meaning it look.now) (reply result answer.new out.old out.new) }
+    ensures kept { (result ≡ 0) ⊎ (out.new ≡ out.old) }
+{
+    reply_with(
+        draw_arrays(alloc, texts, files, reports, labels, look),
+        out,
+        answer,
+    )
+}
+
+/// The version of the library: major, minor and patch, a byte each, as in 0x000100 for 0.1.0.
+#[unsafe(no_mangle)]
+pub extern "C" fn girzohal_version() -> u32
+    ensures { result ≡ 256 }
+{
+    0x000100
+}

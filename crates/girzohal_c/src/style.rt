@@ -1,0 +1,72 @@
+// What a look says, or which of its numbers is wrong.
+ghost use Rattle.std.specs.Prelude.{◌≡◌, Some, None, MatchResult};
+ghost use Rattle.girzohal_c.specs.Meaning.{wrong_look};
+ghost use Rattle.girzohal_c.specs.Replies.{theme_of as theme_by, handler_of as handler_by};
+ghost use Rattle.girzohal_c.specs.Replies.{form_of as form_by, IsStyleOf};
+
+use crate::shapes::Look;
+use oxc_handlers::{GraphicalReportHandler, GraphicalTheme};
+use oxc_plan::TabWidth;
+
+/// What reports are written as.
+#[derive(Clone, Copy, Debug, PartialEq, Eq)]
+pub(crate) enum Form {
+    /// Each is drawn.
+    Drawing,
+    /// Each is a line of JSON.
+    Json,
+}
+
+/// How reports are written.
+#[derive(Drop)]
+pub(crate) struct Style {
+    pub(crate) handler: GraphicalReportHandler,
+    pub(crate) form: Form,
+}
+
+/// The style that a look asks for.
+///
+/// # Errors
+///
+/// The first field of the look that is wrong, from 0.
+pub(crate) fn style_of(look: &Look) -> Result<Style, usize>
+    ensures { MatchResult result
+        (λ style. IsStyleOf look.now style × (wrong_look look.now ≡ None))
+        (λ at. wrong_look look.now ≡ Some at) }
+{
+    if look.theme > 2 {
+        return Err(0);
+    }
+    let Some(tabs) = TabWidth::new(look.tabs as usize) else {
+        return Err(1);
+    };
+    if look.form > 1 {
+        return Err(2);
+    }
+    let handler = GraphicalReportHandler::new_themed(theme_of(look.theme))
+        .with_width(look.width)
+        .with_tabs(tabs);
+    Ok(Style {
+        handler,
+        form: form_of(look.form),
+    })
+}
+
+fn theme_of(number: u32) -> GraphicalTheme
+    ensures { result ≡ theme_by number }
+{
+    match number {
+        0 => GraphicalTheme::unicode(),
+        1 => GraphicalTheme::unicode_nocolor(),
+        _ => GraphicalTheme::none(),
+    }
+}
+
+fn form_of(number: u32) -> Form
+    ensures { result ≡ form_by number }
+{
+    match number {
+        0 => Form::Drawing,
+        _ => Form::Json,
+    }
+}

@@ -1,0 +1,135 @@
+//! Texts that can't drive a terminal.
+#![tactic(auto)]
+
+ghost use Rattle.std.specs.Prelude.{◌≡◌, IfOk, string_bytes};
+ghost use Rattle.harmless.specs.Harmless.{HasNoHarm, KeepsPlaces, harmless as harmless_text};
+ghost use Rattle.harmless.specs.Harmless.{harmless_char as harmless_of};
+ghost use Rattle.harmless.specs.Harmless.{harmless_source as source_text, is_between};
+ghost use Rattle.harmless.specs.Harmless.{is_high_control, is_layout as layout_of, is_low_control};
+ghost use Rattle.harmless.specs.Harmless.{source_char as source_of, turns_direction};
+
+use std::alloc::{AllocError, Global};
+use std::iter::once;
+
+#[cfg(test)]
+mod tests;
+
+/// What a text is for.
+#[derive(Clone, Copy, Debug, PartialEq, Eq)]
+pub enum Kind {
+    /// A message, a label, help or a note: it may have lines and tabs.
+    Prose,
+    /// A name, a code or a link: it has one line.
+    Name,
+}
+
+/// The character that stands for one in a harmless text: another of as many bytes for a control
+/// character, but for those that its kind may have, and for one that turns the direction of
+/// writing, and otherwise the same.
+#[tactic(auto, unfolding(crate::specs::Harmless::harmless_char))]
+pub fn harmless_char(kind: Kind, c: char) -> char
+    ensures { result ≡ harmless_of kind c }
+{
+    if is_layout(kind, c) {
+        c
+    } else if is_low_control(c) {
+        '?'
+    } else if is_high_control(c) {
+        '\u{BF}'
+    } else if turns_direction(c) {
+        '\u{FFFD}'
+    } else {
+        c
+    }
+}
+
+/// Whether a text of a kind may have a control character.
+fn is_layout(kind: Kind, c: char) -> bool
+    ensures { result ≡ layout_of kind c }
+{
+    match kind {
+        Kind::Prose => c == '\t' || c == '\n',
+        Kind::Name => false,
+    }
+}
+
+/// Whether a character is a control character of ASCII.
+fn is_low_control(c: char) -> bool
+    ensures { result ≡ is_low_control c }
+{
+    c < ' ' || c == '\u{7F}'
+}
+
+/// Whether a character is a control character past ASCII.
+fn is_high_control(c: char) -> bool
+    ensures { result ≡ is_high_control c }
+{
+    is_between('\u{80}', '\u{9F}', c)
+}
+
+/// Whether a character turns the direction of writing.
+fn turns_direction(c: char) -> bool
+    ensures { result ≡ turns_direction c }
+{
+    is_between('\u{202A}', '\u{202E}', c) || is_between('\u{2066}', '\u{2069}', c)
+}
+
+fn is_between(first: char, last: char, c: char) -> bool
+    ensures { result ≡ is_between first last c }
+{
+    first <= c && c <= last
+}
+
+/// A text whose characters are each replaced by its harmless one. It is as long, with every place
+/// where it was.
+#[tactic(auto, using(crate::proofs::HarmlessLemmas::keeps_places, crate::proofs::HarmlessLemmas::has_no_harm))]
+pub fn harmless(alloc: Global, kind: Kind, text: &str) -> Result<String, AllocError>
+    ensures text { IfOk result (λ out. string_bytes out ≡ harmless_text kind text.now) }
+    ensures places { IfOk result (λ out. KeepsPlaces text.now (string_bytes out)) }
+    ensures tame { IfOk result (λ out. HasNoHarm kind (string_bytes out)) }
+{
+    replaced(alloc, kind, text)
+}
+
+/// The same, known by its text alone.
+#[tactic(auto, unfolding(crate::specs::Harmless::harmless))]
+fn replaced(alloc: Global, kind: Kind, text: &str) -> Result<String, AllocError>
+    ensures { IfOk result (λ out. string_bytes out ≡ harmless_text kind text.now) }
+{
+    text.chars().map(|c| harmless_char(kind, c)).collect(alloc)
+}
+
+/// A source that can't drive a terminal: as harmless prose, but that a CR before an LF stays, and
+/// another is an LF, which ends a row where the CR ended one.
+#[tactic(auto, using(crate::proofs::SourceLemmas::source_keeps_places))]
+pub fn harmless_source(alloc: Global, text: &str) -> Result<String, AllocError>
+    ensures text { IfOk result (λ out. string_bytes out ≡ source_text text.now) }
+    ensures places { IfOk result (λ out. KeepsPlaces text.now (string_bytes out)) }
+{
+    settled(alloc, text)
+}
+
+/// The same, known by its text alone.
+#[tactic(auto, unfolding(crate::specs::Harmless::harmless_source))]
+fn settled(alloc: Global, text: &str) -> Result<String, AllocError>
+    ensures { IfOk result (λ out. string_bytes out ≡ source_text text.now) }
+{
+    let next = text.chars().skip(1).chain(once('\0'));
+    text.chars()
+        .zip(next)
+        .map(|pair| source_char(pair.0, pair.1))
+        .collect(alloc)
+}
+
+/// The character that stands for one before another in a source.
+fn source_char(c: char, next: char) -> char
+    ensures { result ≡ source_of c next }
+{
+    if c != '\r' {
+        harmless_char(Kind::Prose, c)
+    } else if next == '\n' {
+        '\r'
+    } else {
+        '\n'
+    }
+}

@@ -1,0 +1,5 @@
+pub mod BytesLemmas
+pub mod PartLemmas
+pub mod PlaceLemmas
+pub mod LeastLemmas
+pub mod ToolsLemmas

@@ -1,0 +1,10 @@
+pub mod Bytes
+pub mod Level
+pub mod Part
+pub mod Name
+pub mod Place
+pub mod Said
+pub mod Shape
+pub mod Parse
+pub mod Least
+pub mod Tools

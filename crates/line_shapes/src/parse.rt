@@ -1,0 +1,264 @@
+//! Shapes read from their texts.
+ghost use Rattle.std.specs.Prelude.{◌≡◌, Ok, map};
+ghost use Rattle.line_shapes.specs.Parse.{Gives, GivesShape, finished, inside, item_among};
+ghost use Rattle.line_shapes.specs.Parse.{item_named as item_named_so, out_of_braces};
+ghost use Rattle.line_shapes.specs.Parse.{put as put_item, put_found, reading, reads as reads_text};
+ghost use Rattle.line_shapes.specs.Parse.{same as same_bytes, shape_of, start, step as step_of};
+ghost use Rattle.line_shapes.specs.Parse.{with_part};
+
+use crate::name::NameKind;
+use crate::part::{Figure, Part};
+use crate::shape::Shape;
+use std::alloc::Global;
+
+/// Why a text is no shape.
+#[derive(Clone, Copy, Debug, PartialEq, Eq)]
+pub enum ShapeError {
+    /// A brace is not closed.
+    Unclosed,
+    /// What stands in braces is no part.
+    Unknown,
+    /// There are two names.
+    TwoNames,
+    /// There is no name.
+    NoName,
+    /// Something stands behind the message.
+    BehindMessage,
+    OutOfMemory,
+}
+
+/// A shape that owns its parts.
+#[derive(Debug, Drop)]
+pub struct OwnShape {
+    pub lead: Vec<Part>,
+    pub kind: NameKind,
+    pub after: Vec<Part>,
+}
+
+impl OwnShape {
+    /// The shape.
+    pub fn shape(&self) -> Shape<'_>
+        ensures lead { result.lead.now ≡ self.now.lead.items }
+        ensures kind { result.kind ≡ self.now.kind }
+        ensures after { result.after.now ≡ self.now.after.items }
+    {
+        Shape {
+            lead: self.lead.as_slice(),
+            kind: self.kind,
+            after: self.after.as_slice(),
+        }
+    }
+}
+
+/// What stands in a shape.
+#[derive(Clone, Copy, Debug, PartialEq, Eq)]
+pub enum Item {
+    One(Part),
+    Name(NameKind),
+}
+
+/// What may stand in braces.
+pub const ITEMS: [(&[u8], Item); 15] = [
+    (b"line", Item::One(Part::Decimal(Figure::Line))),
+    (b"column", Item::One(Part::Decimal(Figure::Column))),
+    (b"endline", Item::One(Part::Decimal(Figure::EndLine))),
+    (b"endcolumn", Item::One(Part::Decimal(Figure::EndColumn))),
+    (b"level", Item::One(Part::Level)),
+    (b"letter", Item::One(Part::Letter)),
+    (b"small", Item::One(Part::Small)),
+    (b"number", Item::One(Part::Number)),
+    (b"rule", Item::One(Part::Rule)),
+    (b"cop", Item::One(Part::Cop)),
+    (b"program", Item::One(Part::Program)),
+    (b"~", Item::One(Part::AnyBlanks)),
+    (b"message", Item::One(Part::Message)),
+    (b"name", Item::Name(NameKind::Any)),
+    (b"word", Item::Name(NameKind::OneWord)),
+];
+
+/// How far a text is read.
+#[derive(Debug, Drop)]
+pub struct Reader {
+    lead: Vec<Part>,
+    kind: Option<NameKind>,
+    after: Vec<Part>,
+    /// The message was read.
+    ended: bool,
+    /// A run of blanks was begun.
+    blank: bool,
+    /// What stands behind the brace that is open.
+    open: Option<Vec<u8>>,
+}
+
+/// Reads a shape.
+///
+/// # Errors
+///
+/// The first thing that is wrong with it, and want of memory.
+pub fn parse(alloc: Global, text: &str) -> Result<OwnShape, ShapeError>
+    ensures { GivesShape result (shape_of text.now) }
+{
+    finish(read(alloc, text.as_bytes())?)
+}
+
+/// Reads a text.
+fn read(alloc: Global, mut text: &[u8]) -> Result<Reader, ShapeError>
+    ensures { Gives result (reads_text text.entry.now start) }
+{
+    let mut reader = Reader {
+        lead: Vec::new(alloc),
+        kind: None,
+        after: Vec::new(alloc),
+        ended: false,
+        blank: false,
+        open: None,
+    };
+    while let [byte, rest @ ..] = text {
+        reader = step(alloc, reader, *byte)?;
+        text = rest;
+    }
+    Ok(reader)
+}
+
+/// Reads a byte.
+fn step(alloc: Global, mut reader: Reader, byte: u8) -> Result<Reader, ShapeError>
+    ensures { Gives result (step_of byte (reading reader)) }
+{
+    match reader.open.take() {
+        Some(name) => in_braces(reader, name, byte),
+        None => outside(alloc, reader, byte),
+    }
+}
+
+/// Reads a byte in braces.
+fn in_braces(mut reader: Reader, mut name: Vec<u8>, byte: u8) -> Result<Reader, ShapeError>
+    ensures { Gives result (inside byte name.items (reading reader)) }
+{
+    if byte == b'}' {
+        return put_named(reader, name.as_slice());
+    }
+    if name.push(byte).is_err() {
+        return Err(ShapeError::OutOfMemory);
+    }
+    reader.open = Some(name);
+    Ok(reader)
+}
+
+/// Reads a byte outside of braces.
+fn outside(alloc: Global, mut reader: Reader, byte: u8) -> Result<Reader, ShapeError>
+    ensures { Gives result (out_of_braces byte (reading reader)) }
+{
+    if byte == b'{' {
+        reader.open = Some(Vec::new(alloc));
+        reader.blank = false;
+        return Ok(reader);
+    }
+    if byte == b' ' && reader.blank {
+        return Ok(reader);
+    }
+    put(
+        reader,
+        Item::One(if byte == b' ' {
+            Part::Blanks
+        } else {
+            Part::Byte(byte)
+        }),
+    )
+}
+
+/// Puts in what stands in braces.
+fn put_named(reader: Reader, name: &[u8]) -> Result<Reader, ShapeError>
+    ensures { Gives result (put_found (item_named_so name.now) (reading reader)) }
+{
+    match item_named(name) {
+        Some(item) => put(reader, item),
+        None => Err(ShapeError::Unknown),
+    }
+}
+
+/// What is named so.
+#[tactic(auto, unfolding(crate::specs::Parse::items))]
+fn item_named(name: &[u8]) -> Option<Item>
+    ensures { result ≡ item_named_so name.now }
+{
+    item_in(&ITEMS, name)
+}
+
+/// What is named so in a table.
+fn item_in(mut items: &[(&[u8], Item)], name: &[u8]) -> Option<Item>
+    ensures { result ≡ item_among (map (λ item. (item.0.now, item.1)) items.entry.now) name.now }
+{
+    while let [item, rest @ ..] = items {
+        if same(item.0, name) {
+            return Some(item.1);
+        }
+        items = rest;
+    }
+    None
+}
+
+/// Whether two texts are the same.
+pub fn same(mut text: &[u8], mut other: &[u8]) -> bool
+    ensures { result ≡ same_bytes text.entry.now other.entry.now }
+{
+    while let [byte, rest @ ..] = text {
+        match other {
+            [first, others @ ..] if *first == *byte => other = others,
+            _ => return false,
+        }
+        text = rest;
+    }
+    other.is_empty()
+}
+
+/// Puts an item behind those that were read.
+fn put(mut reader: Reader, item: Item) -> Result<Reader, ShapeError>
+    ensures { Gives result (put_item item (reading reader)) }
+{
+    if reader.ended {
+        return Err(ShapeError::BehindMessage);
+    }
+    match item {
+        Item::One(part) => put_part(reader, part),
+        Item::Name(_) if reader.kind.is_some() => Err(ShapeError::TwoNames),
+        Item::Name(kind) => {
+            reader.kind = Some(kind);
+            Ok(reader)
+        }
+    }
+}
+
+/// Puts a part behind those that were read.
+fn put_part(mut reader: Reader, part: Part) -> Result<Reader, ShapeError>
+    ensures { Gives result (Ok (with_part part (reading reader))) }
+{
+    reader.ended = matches!(part, Part::Message);
+    reader.blank = matches!(part, Part::Blanks);
+    let pushed = match reader.kind {
+        Some(_) => reader.after.push(part),
+        None => reader.lead.push(part),
+    };
+    match pushed {
+        Ok(()) => Ok(reader),
+        Err(_) => Err(ShapeError::OutOfMemory),
+    }
+}
+
+/// The shape, once all is read.
+fn finish(reader: Reader) -> Result<OwnShape, ShapeError>
+    ensures { GivesShape result (finished (reading reader)) }
+{
+    let Reader {
+        lead,
+        kind,
+        after,
+        ended: _,
+        blank: _,
+        open,
+    } = reader;
+    match (open, kind) {
+        (Some(_), _) => Err(ShapeError::Unclosed),
+        (None, None) => Err(ShapeError::NoName),
+        (None, Some(kind)) => Ok(OwnShape { lead, kind, after }),
+    }
+}

@@ -1,0 +1,279 @@
+//! The parts of a shape, and what they find in a text.
+ghost use Rattle.std.specs.Prelude.{◌≡◌, ◌≤◌, length, slice_index, option_map};
+ghost use Rattle.line_shapes.specs.declared.part.Part.TheVariants.{Decimal, Level, Program};
+ghost use Rattle.line_shapes.specs.Part.{before as seen_before, behind as seen_behind, byte_taken};
+ghost use Rattle.line_shapes.specs.Part.{fit as fits_there, begins_with_byte, is_program_start};
+ghost use Rattle.line_shapes.specs.Part.{may_begin, message_taken, seen, taken as taken_by};
+ghost use Rattle.line_shapes.specs.Part.{with_code, with_letter};
+
+use crate::bytes::{Kind, capitals_and_digits, cop_len, is_in, is_letter, number_at, run, run_of};
+use crate::level::{Severity, letter_severity, level_at, small_severity};
+
+/// A part of a shape. Each ends in one place at most.
+#[derive(Clone, Copy, Debug, PartialEq, Eq)]
+pub enum Part {
+    /// This byte.
+    Byte(u8),
+    /// One or more blanks.
+    Blanks,
+    /// Blanks or none.
+    AnyBlanks,
+    /// A decimal number without a sign or a leading zero.
+    Decimal(Figure),
+    /// A level word.
+    Level,
+    /// One of E F W N C R I.
+    Letter,
+    /// One of e w i.
+    Small,
+    /// One to six capital letters and one to six digits.
+    Number,
+    /// No blank, bracket, brace, colon or comma.
+    Rule,
+    /// Words joined by `/`.
+    Cop,
+    /// A letter or `/`, then letters, digits and `_.+-/`.
+    Program,
+    /// The rest, which is not empty and begins with no blank.
+    Message,
+}
+
+/// What a number counts.
+#[derive(Clone, Copy, Debug, PartialEq, Eq)]
+pub enum Figure {
+    Line,
+    Column,
+    EndLine,
+    EndColumn,
+}
+
+/// What the parts of a shape found in a text.
+#[derive(Clone, Copy, Debug, Drop)]
+pub struct Found<'a> {
+    /// The text behind the parts so far.
+    pub rest: &'a [u8],
+    pub line: Option<u32>,
+    pub column: Option<u32>,
+    pub end_line: Option<u32>,
+    pub end_column: Option<u32>,
+    /// How grave the level word is.
+    pub severity: Option<Severity>,
+    /// How grave a letter says that it is.
+    pub initial: Option<Severity>,
+    /// The level word belongs to what was said before.
+    pub aside: bool,
+    pub code: Option<&'a [u8]>,
+    /// The code is a number.
+    pub numbered: bool,
+    pub message: Option<&'a [u8]>,
+}
+
+impl<'a> Found<'a> {
+    /// Nothing yet.
+    pub fn before(text: &'a [u8]) -> Found<'a>
+        ensures { seen result ≡ seen_before text.now }
+    {
+        Found {
+            rest: text,
+            line: None,
+            column: None,
+            end_line: None,
+            end_column: None,
+            severity: None,
+            initial: None,
+            aside: false,
+            code: None,
+            numbered: false,
+            message: None,
+        }
+    }
+}
+
+/// What is found once the parts of a shape were taken one after another, or none where one doesn't
+/// fit.
+#[inline(always)]
+#[tactic(auto, using(crate::proofs::PartLemmas::not_begun))]
+pub fn fit<'a>(parts: &[Part], found: Found<'a>) -> Option<Found<'a>>
+    ensures { option_map seen result ≡ fits_there parts.now (seen found.entry) }
+{
+    if begins(parts, found.rest) {
+        fit_all(parts, found)
+    } else {
+        None
+    }
+}
+
+/// Whether the first part may stand at the beginning of a text, by its first byte.
+fn begins(parts: &[Part], text: &[u8]) -> bool
+    ensures { result ≡ may_begin parts.now text.now }
+{
+    match parts {
+        [Part::Byte(byte), ..] => is_first(text, *byte),
+        [Part::Blanks, ..] => is_in(Kind::Blank, first_of(text)),
+        _ => true,
+    }
+}
+
+fn is_first(text: &[u8], byte: u8) -> bool
+    ensures { result ≡ begins_with_byte byte text.now }
+{
+    match text {
+        [first, ..] => *first == byte,
+        [] => false,
+    }
+}
+
+/// The same as `fit`, part by part.
+#[inline(never)]
+fn fit_all<'a>(mut parts: &[Part], mut found: Found<'a>) -> Option<Found<'a>>
+    ensures { option_map seen result ≡ fits_there parts.entry.now (seen found.entry) }
+{
+    while let [part, rest @ ..] = parts {
+        found = taken(*part, found)?;
+        parts = rest;
+    }
+    Some(found)
+}
+
+/// What is found once a part was taken.
+fn taken<'a>(part: Part, found: Found<'a>) -> Option<Found<'a>>
+    ensures { option_map seen result ≡ taken_by part (seen found.entry) }
+{
+    let text = found.rest;
+    match part {
+        Part::Byte(byte) => this_byte(found, byte),
+        Part::Blanks => Some(behind(found, run_of(Kind::Blank, text)?)),
+        Part::AnyBlanks => Some(behind(found, run(Kind::Blank, text))),
+        Part::Decimal(figure) => counted(found, figure),
+        Part::Level => level(found),
+        Part::Letter => Some(graded(found, letter_severity(first_of(text))?)),
+        Part::Small => Some(graded(found, small_severity(first_of(text))?)),
+        Part::Number => Some(coded(found, capitals_and_digits(text)?, true)),
+        Part::Rule => Some(coded(found, run_of(Kind::InRule, text)?, false)),
+        Part::Cop => Some(coded(found, cop_len(text)?, false)),
+        Part::Program => program(found),
+        Part::Message => message(found),
+    }
+}
+
+/// The first byte of a text, or NUL.
+fn first_of(text: &[u8]) -> u8
+    ensures value { result ≡ slice_index text.now 0 }
+    ensures some { ¬ (result ≡ 0) → 1 ≤ length text.now }
+{
+    match text {
+        [first, ..] => *first,
+        [] => 0,
+    }
+}
+
+/// What was found, with the text behind so many more bytes.
+fn behind<'a>(found: Found<'a>, count: usize) -> Found<'a>
+    requires { count ≤ length found.rest.now }
+    ensures { seen result ≡ seen_behind count (seen found.entry) }
+{
+    Found {
+        rest: &found.rest[count..],
+        ..found
+    }
+}
+
+fn this_byte<'a>(found: Found<'a>, byte: u8) -> Option<Found<'a>>
+    ensures { option_map seen result ≡ byte_taken byte found.entry.rest.now (seen found.entry) }
+{
+    match found.rest {
+        [first, rest @ ..] if *first == byte => Some(Found { rest, ..found }),
+        _ => None,
+    }
+}
+
+fn counted<'a>(found: Found<'a>, figure: Figure) -> Option<Found<'a>>
+    ensures { option_map seen result ≡ taken_by (Decimal figure) (seen found.entry) }
+{
+    let (count, value) = number_at(found.rest)?;
+    let found = behind(found, count);
+    Some(match figure {
+        Figure::Line => Found {
+            line: Some(value),
+            ..found
+        },
+        Figure::Column => Found {
+            column: Some(value),
+            ..found
+        },
+        Figure::EndLine => Found {
+            end_line: Some(value),
+            ..found
+        },
+        Figure::EndColumn => Found {
+            end_column: Some(value),
+            ..found
+        },
+    })
+}
+
+fn level<'a>(found: Found<'a>) -> Option<Found<'a>>
+    ensures { option_map seen result ≡ taken_by Level (seen found.entry) }
+{
+    let level = level_at(found.rest)?;
+    Some(Found {
+        rest: &found.rest[level.length..],
+        severity: Some(level.severity),
+        aside: level.aside,
+        ..found
+    })
+}
+
+fn graded<'a>(found: Found<'a>, severity: Severity) -> Found<'a>
+    requires { 1 ≤ length found.rest.now }
+    ensures { seen result ≡ with_letter severity (seen found.entry) }
+{
+    Found {
+        rest: &found.rest[1..],
+        initial: Some(severity),
+        ..found
+    }
+}
+
+fn coded<'a>(found: Found<'a>, count: usize, numbered: bool) -> Found<'a>
+    requires { count ≤ length found.rest.now }
+    ensures { seen result ≡ with_code numbered count (seen found.entry) }
+{
+    let (code, rest) = found.rest.split_at(count);
+    Found {
+        rest,
+        code: Some(code),
+        numbered,
+        ..found
+    }
+}
+
+fn program<'a>(found: Found<'a>) -> Option<Found<'a>>
+    ensures { option_map seen result ≡ taken_by Program (seen found.entry) }
+{
+    if begins_program(first_of(found.rest)) {
+        Some(behind(found, run(Kind::InProgram, found.rest)))
+    } else {
+        None
+    }
+}
+
+/// Whether a program's name may begin with a byte.
+fn begins_program(byte: u8) -> bool
+    ensures { result ≡ is_program_start byte }
+{
+    is_letter(byte) || byte == b'/'
+}
+
+fn message<'a>(found: Found<'a>) -> Option<Found<'a>>
+    ensures { option_map seen result ≡ message_taken found.entry.rest.now (seen found.entry) }
+{
+    match found.rest {
+        [first, ..] if !is_in(Kind::Blank, *first) => Some(Found {
+            rest: &[],
+            message: Some(found.rest),
+            ..found
+        }),
+        _ => None,
+    }
+}

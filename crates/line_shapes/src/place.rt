@@ -1,0 +1,193 @@
+//! Where a finding is: a lead, a name, and what stands behind it.
+ghost use Rattle.std.specs.Prelude.{◌≡◌, ◌≤◌, ◌<◌, nat_le, if◌then◌else◌, false};
+ghost use Rattle.std.specs.Prelude.{Some, None, option_map, length, take, slice_index, map};
+ghost use Rattle.line_shapes.specs.Part.{seen};
+ghost use Rattle.line_shapes.specs.Name.{first_fault as fault_first, is_angle as begins_angle};
+ghost use Rattle.line_shapes.specs.Least.{IsLeastPlace};
+ghost use Rattle.line_shapes.specs.Place.{IsNextMark, may_follow, may_name as may_be_name};
+ghost use Rattle.line_shapes.specs.Place.{found_at as found_behind};
+ghost use Rattle.line_shapes.specs.Place.{first_fit as fits_first, in_lead as place_in_lead};
+ghost use Rattle.line_shapes.specs.Place.{in_leads as place_in_leads, place as place_there};
+ghost use Rattle.line_shapes.specs.Place.{in_angles as angled_place, placed};
+
+use crate::bytes::{Kind, is_in};
+use crate::name::{NameKind, angle_len, begins_name, ends_name, first_fault, is_angle};
+use crate::part::{Found, Part, fit};
+use crate::tables::{AFTERS, LEADS};
+use memchr::memchr3;
+
+/// A name, and what was found round it.
+#[derive(Clone, Copy, Debug, Drop)]
+pub struct Placed<'a> {
+    pub name: &'a [u8],
+    pub found: Found<'a>,
+}
+
+/// The place of a line.
+#[tactic(auto, unfolding(crate::specs::Place::leads))]
+pub fn place(line: &[u8]) -> Option<Placed<'_>>
+    ensures place { option_map placed result ≡ place_there line.now }
+    ensures least { IsLeastPlace line.now (option_map placed result) }
+{
+    in_leads(&LEADS, line)
+}
+
+/// The place behind the first of these leads that has any.
+fn in_leads<'a>(mut leads: &[(&str, &[Part], NameKind)], line: &'a [u8]) -> Option<Placed<'a>>
+    ensures { option_map placed result
+        ≡ place_in_leads (map (λ lead. (lead.1.now, lead.2)) leads.entry.now) line.now }
+{
+    while let [lead, rest @ ..] = leads {
+        if let Some(begun) = fit(lead.1, Found::before(line)) {
+            if let Some(placed) = in_lead(begun, lead.2) {
+                return Some(placed);
+            }
+        }
+        leads = rest;
+    }
+    None
+}
+
+/// The place behind a lead that has the shortest name.
+#[tactic(auto, using(crate::proofs::PlaceLemmas::angled_lead))]
+fn in_lead<'a>(begun: Found<'a>, kind: NameKind) -> Option<Placed<'a>>
+    ensures { option_map placed result ≡ place_in_lead kind (seen begun.entry) }
+{
+    if is_angle(begun.rest) {
+        in_angles(begun)
+    } else {
+        in_text(begun, kind)
+    }
+}
+
+/// The same of a name in angles, of which there is one at most.
+#[tactic(auto, unfolding(crate::specs::Place::afters, crate::specs::Place::in_angles))]
+fn in_angles<'a>(begun: Found<'a>) -> Option<Placed<'a>>
+    ensures { option_map placed result ≡ angled_place (seen begun.entry) }
+{
+    let count = angle_len(begun.rest);
+    if 1 <= count && count < begun.rest.len() {
+        let (name, rest) = begun.rest.split_at(count);
+        let found = first_fit(&AFTERS, Found { rest, ..begun })?;
+        Some(Placed { name, found })
+    } else {
+        None
+    }
+}
+
+/// The same of a text that begins with no angle.
+fn in_text<'a>(begun: Found<'a>, kind: NameKind) -> Option<Placed<'a>>
+    requires { begins_angle begun.rest.now ≡ false }
+    ensures { option_map placed result ≡ place_in_lead kind (seen begun.entry) }
+{
+    let text = begun.rest;
+    let mut at = 1;
+    while let Some(end) = next_mark(text, at) {
+        if let Some(found) = at_end(begun, end, kind) {
+            return within(text, end, kind, found);
+        }
+        at = end + 1;
+    }
+    None
+}
+
+/// The place whose name ends here, where all before it goes on a name. Where it doesn't, no longer
+/// text does.
+fn within<'a>(text: &'a [u8], end: usize, kind: NameKind, found: Found<'a>) -> Option<Placed<'a>>
+    requires { end ≤ length text.now }
+    ensures { option_map placed result
+        ≡ (if nat_le end (fault_first kind text.entry.now)
+        then Some (record { name = take end text.entry.now; found = seen found.entry })
+        else None) }
+{
+    if end <= first_fault(text, kind) {
+        Some(Placed {
+            name: &text[..end],
+            found,
+        })
+    } else {
+        None
+    }
+}
+
+/// What is found behind a name that may end here.
+#[tactic(auto, using(crate::proofs::PlaceLemmas::not_followed))]
+fn at_end<'a>(begun: Found<'a>, end: usize, kind: NameKind) -> Option<Found<'a>>
+    requires { end < length begun.rest.now }
+    ensures { option_map seen result ≡ found_behind kind (seen begun.entry) end }
+{
+    if is_followed(&begun.rest[end..]) {
+        found_at(begun, end, kind)
+    } else {
+        None
+    }
+}
+
+/// The same, of any end.
+#[tactic(auto, using(crate::proofs::PlaceLemmas::found_so), unfolding(crate::specs::Place::found_at, crate::specs::Place::afters))]
+fn found_at<'a>(begun: Found<'a>, end: usize, kind: NameKind) -> Option<Found<'a>>
+    requires { end < length begun.rest.now }
+    ensures { option_map seen result ≡ found_behind kind (seen begun.entry) end }
+{
+    let found = first_fit(
+        &AFTERS,
+        Found {
+            rest: &begun.rest[end..],
+            ..begun
+        },
+    )?;
+    if may_name(begun.rest, end, kind) {
+        Some(found)
+    } else {
+        None
+    }
+}
+
+/// Whether a name may begin as a text does, and end here.
+fn may_name(text: &[u8], end: usize, kind: NameKind) -> bool
+    requires { end ≤ length text.now }
+    ensures { result ≡ may_be_name kind text.now end }
+{
+    begins_name(text, kind) && ends_name(&text[..end])
+}
+
+/// Whether a digit, a blank or an opening bracket stands behind the first byte.
+fn is_followed(text: &[u8]) -> bool
+    ensures { result ≡ may_follow (slice_index text.now 1) }
+{
+    match text {
+        [_, second, ..] => is_in(Kind::Digit, *second)
+            || is_in(Kind::Blank, *second)
+            || *second == b'('
+            || *second == b'[',
+        _ => false,
+    }
+}
+
+/// The first place from here on of a byte with which what stands behind a name begins.
+fn next_mark(text: &[u8], from: usize) -> Option<usize>
+    ensures { IsNextMark text.now from result }
+{
+    if from < text.len() {
+        match memchr3(b':', b'(', b'[', &text[from..]) {
+            Some(at) => Some(from + at),
+            None => None,
+        }
+    } else {
+        None
+    }
+}
+
+/// What the first of these shapes that fits finds.
+pub fn first_fit<'a>(mut shapes: &[(&str, &[Part])], found: Found<'a>) -> Option<Found<'a>>
+    ensures { option_map seen result
+        ≡ fits_first (map (λ shape. shape.1.now) shapes.entry.now) (seen found.entry) }
+{
+    while let [shape, rest @ ..] = shapes {
+        if let Some(found) = fit(shape.1, found) {
+            return Some(found);
+        }
+        shapes = rest;
+    }
+    None
+}

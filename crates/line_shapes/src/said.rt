@@ -1,0 +1,423 @@
+//! What a finding says: how grave it is, its code and its message.
+ghost use Rattle.std.specs.Prelude.{◌≡◌, ◌≤◌, option_map, unwrap_or};
+ghost use Rattle.std.specs.Prelude.{map, length, slice_index, Some, None, [], IsTrue, not, ◌==◌};
+ghost use Rattle.std.specs.List.{list_all, list_any, prefix_len};
+ghost use Rattle.std.specs.Option.{option_or, option_copied};
+ghost use Rattle.line_shapes.specs.Bytes.{is_in as belongs};
+ghost use Rattle.line_shapes.specs.declared.bytes.Kind.TheVariants.{Joint};
+ghost use Rattle.line_shapes.specs.Part.{seen};
+ghost use Rattle.line_shapes.specs.Said.{bare_code as code_alone, closed as closed_there};
+ghost use Rattle.line_shapes.specs.Said.{code_behind as code_there};
+ghost use Rattle.line_shapes.specs.Said.{code_severity as severity_of_code};
+ghost use Rattle.line_shapes.specs.Said.{coded as coded_words, error_alone as error_by, finally};
+ghost use Rattle.line_shapes.specs.Said.{first_severity as severity_first};
+ghost use Rattle.line_shapes.specs.Said.{first_whole as whole_first};
+ghost use Rattle.line_shapes.specs.Said.{in_parentheses as code_in_parentheses, is_alone, is_boxed};
+ghost use Rattle.line_shapes.specs.Said.{is_code as looks_as_code, is_code_byte};
+ghost use Rattle.line_shapes.specs.Said.{is_joined as looks_joined};
+ghost use Rattle.line_shapes.specs.Said.{is_number as looks_as_number, leveled as leveled_by};
+ghost use Rattle.line_shapes.specs.Said.{letter_severity as severity_of_letter, level_behind};
+ghost use Rattle.line_shapes.specs.Said.{leveled_parts, meant as meant_by};
+ghost use Rattle.line_shapes.specs.Said.{names_error as tells_error};
+ghost use Rattle.line_shapes.specs.Said.{number_severity as severity_of_number};
+ghost use Rattle.line_shapes.specs.Said.{opened as opened_there, said as said_there};
+ghost use Rattle.line_shapes.specs.Said.{set_apart as apart, tells as tells_severity};
+ghost use Rattle.line_shapes.specs.Said.{uncoded as uncoded_words, unmarked as without_at};
+ghost use Rattle.line_shapes.specs.Said.{whole as fits_whole, with_code as with_code_there};
+ghost use Rattle.line_shapes.specs.Said.{word_severity as severity_of_word, words, text_parts};
+
+use crate::bytes::{
+    Kind, before_last, begins_with, capitals_and_digits, end_run, is_in, is_letter, run, trimmed,
+};
+use crate::level::{Severity, level_at};
+use crate::part::{Found, Part, fit};
+use crate::tables::{Manner, RESTS};
+
+/// What a finding says.
+#[derive(Clone, Copy, Debug, Drop)]
+pub struct Statement<'a> {
+    pub severity: Severity,
+    /// It belongs to what was said before.
+    pub aside: bool,
+    pub code: Option<&'a [u8]>,
+    pub message: &'a [u8],
+}
+
+/// How grave a message is known to be, and whether its code may be any in parentheses.
+#[derive(Clone, Copy, Debug, Drop)]
+struct Leveled<'a> {
+    severity: Option<Severity>,
+    boxed: bool,
+    message: &'a [u8],
+}
+
+/// What is found behind a place, of the first rest that is the whole text.
+#[tactic(auto, unfolding(crate::specs::Said::rests))]
+pub fn said<'a>(found: Found<'a>) -> Option<(Found<'a>, Manner)>
+    ensures { option_map (λ it. (seen it.0, it.1)) result ≡ said_there (seen found.entry) }
+{
+    first_whole(&RESTS, found)
+}
+
+/// What the first of these rests finds that is the whole text.
+fn first_whole<'a>(
+    mut rests: &[(&str, &[Part], Manner)],
+    found: Found<'a>,
+) -> Option<(Found<'a>, Manner)>
+    ensures { option_map (λ it. (seen it.0, it.1)) result
+        ≡ whole_first (map (λ rest. (rest.1.now, rest.2)) rests.entry.now) (seen found.entry) }
+{
+    while let [rest, others @ ..] = rests {
+        if let Some(found) = whole(rest.1, found) {
+            return Some((found, rest.2));
+        }
+        rests = others;
+    }
+    None
+}
+
+/// What a shape finds that is the whole text.
+pub fn whole<'a>(shape: &[Part], found: Found<'a>) -> Option<Found<'a>>
+    ensures { option_map seen result ≡ fits_whole shape.now (seen found.entry) }
+{
+    let found = fit(shape, found)?;
+    if found.rest.is_empty() {
+        Some(found)
+    } else {
+        None
+    }
+}
+
+/// What a finding says of which these parts were found.
+pub fn meant<'a>(found: Found<'a>, manner: Manner) -> Statement<'a>
+    ensures { words result ≡ meant_by manner (seen found.entry) }
+{
+    let message = trimmed(message_of(found));
+    match found.code {
+        Some(code) => coded(found, code, message, manner),
+        None => uncoded(found, message, manner),
+    }
+}
+
+/// The message, or the empty text.
+fn message_of<'a>(found: Found<'a>) -> &'a [u8]
+    ensures { result.now ≡ unwrap_or (seen found.entry).message [] }
+{
+    match found.message {
+        Some(message) => message,
+        None => &[],
+    }
+}
+
+/// How grave the level word, the letter or the stars say that it is.
+fn first_severity(found: Found<'_>, manner: Manner) -> Option<Severity>
+    ensures { result ≡ severity_first manner (seen found.entry) }
+{
+    match (found.severity, found.initial, manner) {
+        (Some(severity), _, _) => Some(severity),
+        (None, Some(severity), _) => Some(severity),
+        (None, None, Manner::Stars) => Some(Severity::Error),
+        _ => None,
+    }
+}
+
+/// What it says where a code stands before the message.
+fn coded<'a>(found: Found<'a>, code: &'a [u8], message: &'a [u8], manner: Manner) -> Statement<'a>
+    ensures { words result ≡ coded_words manner
+        (seen found.entry) code.entry.now message.entry.now }
+{
+    let first = first_severity(found, manner);
+    Statement {
+        severity: graded(first, number_severity(code, found.numbered, manner)),
+        aside: found.aside,
+        code: Some(code),
+        message,
+    }
+}
+
+/// The first severity that there is, else warning.
+fn graded(first: Option<Severity>, second: Option<Severity>) -> Severity
+    ensures { result ≡ unwrap_or (option_or first second) Severity.Warning }
+{
+    first.or(second).unwrap_or(Severity::Warning)
+}
+
+/// What it says where none does: a level and a code may stand behind the message.
+fn uncoded<'a>(found: Found<'a>, message: &'a [u8], manner: Manner) -> Statement<'a>
+    ensures { words result ≡ uncoded_words manner (seen found.entry) message.entry.now }
+{
+    let first = first_severity(found, manner);
+    let leveled = take_level(first, matches!(manner, Manner::Boxed), message);
+    with_code(
+        leveled,
+        found.aside,
+        matches!(manner, Manner::Alone),
+        code_behind(leveled.message, leveled.boxed),
+    )
+}
+
+/// A message without the level in brackets behind it, where no other level was found.
+fn take_level<'a>(first: Option<Severity>, boxed: bool, message: &'a [u8]) -> Leveled<'a>
+    ensures { leveled_parts result ≡ leveled_by first boxed message.entry.now }
+{
+    let plain = Leveled {
+        severity: first,
+        boxed,
+        message,
+    };
+    match first {
+        Some(_) => plain,
+        None => match closed(message, Kind::InBrackets, b'[', b']') {
+            Some((front, word)) => match word_severity(word) {
+                Some(severity) => Leveled {
+                    severity: Some(severity),
+                    boxed: true,
+                    message: front,
+                },
+                None => plain,
+            },
+            None => plain,
+        },
+    }
+}
+
+/// How grave a text is that is a level word.
+fn word_severity(text: &[u8]) -> Option<Severity>
+    ensures { result ≡ severity_of_word text.now }
+{
+    let level = level_at(text)?;
+    if level.length == text.len() {
+        Some(level.severity)
+    } else {
+        None
+    }
+}
+
+/// What it says, with the code behind the message, if there is one.
+fn with_code<'a>(
+    leveled: Leveled<'a>,
+    aside: bool,
+    alone: bool,
+    behind: Option<(&'a [u8], &'a [u8])>,
+) -> Statement<'a>
+    ensures { words result
+        ≡ with_code_there (leveled_parts leveled.entry) aside alone
+        (option_map text_parts behind.entry) }
+{
+    match behind {
+        Some((front, code)) => Statement {
+            severity: last_severity(leveled.severity.or(code_severity(code)), alone, front),
+            aside,
+            code: Some(bare_code(code)),
+            message: front,
+        },
+        None => Statement {
+            severity: last_severity(leveled.severity, alone, leveled.message),
+            aside,
+            code: None,
+            message: leveled.message,
+        },
+    }
+}
+
+/// A severity, or error where a message alone names one, else warning.
+fn last_severity(severity: Option<Severity>, alone: bool, message: &[u8]) -> Severity
+    ensures { result ≡ finally severity alone message.now }
+{
+    match severity {
+        Some(severity) => severity,
+        None if alone && names_error(message) => Severity::Error,
+        None => Severity::Warning,
+    }
+}
+
+/// Whether what stands before the first colon ends in `error`.
+fn names_error(message: &[u8]) -> bool
+    ensures { result ≡ tells_error message.now }
+{
+    let count = before_colon(message);
+    count < message.len() && ends_in_error(trimmed(&message[..count]))
+}
+
+/// How many bytes stand before the first colon.
+fn before_colon(message: &[u8]) -> usize
+    ensures value { result ≡ prefix_len (λ byte. not (byte == 0x3A)) message.now }
+    ensures within { result ≤ length message.now }
+{
+    message.iter().take_while(|byte| **byte != b':').count()
+}
+
+fn ends_in_error(text: &[u8]) -> bool
+    ensures { result ≡ error_by text.now }
+{
+    text.ends_with(b"error") || text.ends_with(b"Error")
+}
+
+/// How grave a number with one letter is.
+fn number_severity(code: &[u8], numbered: bool, manner: Manner) -> Option<Severity>
+    ensures { result ≡ severity_of_number manner numbered code.now }
+{
+    if numbered && !is_letter(byte_at(code, 1)) {
+        letter_severity(byte_at(code, 0), matches!(manner, Manner::Colon))
+    } else {
+        None
+    }
+}
+
+/// How grave the letter of a number is.
+fn letter_severity(letter: u8, colon: bool) -> Option<Severity>
+    ensures { result ≡ severity_of_letter colon letter }
+{
+    match letter {
+        b'E' | b'F' => Some(Severity::Error),
+        b'C' | b'R' | b'I' if colon => Some(Severity::Advice),
+        _ => None,
+    }
+}
+
+/// The byte at a place, or NUL.
+fn byte_at(text: &[u8], at: usize) -> u8
+    ensures { result ≡ slice_index text.now at }
+{
+    if at < text.len() { text[at] } else { 0 }
+}
+
+/// Whether a code begins with this, with more behind.
+fn tells(front: &[u8], code: &[u8]) -> bool
+    ensures value { result ≡ tells_severity front.now code.now }
+    ensures within { IsTrue result → length front.now ≤ length code.now }
+{
+    begins_with(code, front) && front.len() < code.len()
+}
+
+/// How grave a code says that it is.
+fn code_severity(code: &[u8]) -> Option<Severity>
+    ensures { result ≡ severity_of_code code.now }
+{
+    if tells(b"error/", code) {
+        Some(Severity::Error)
+    } else if tells(b"warning/", code) {
+        Some(Severity::Warning)
+    } else {
+        None
+    }
+}
+
+/// A code without that.
+fn bare_code(code: &[u8]) -> &[u8]
+    ensures { result.now ≡ code_alone code.now }
+{
+    if tells(b"error/", code) {
+        &code[6..]
+    } else if tells(b"warning/", code) {
+        &code[8..]
+    } else {
+        code
+    }
+}
+
+/// The message without the code that stands behind it, and the code.
+fn code_behind(text: &[u8], boxed: bool) -> Option<(&[u8], &[u8])>
+    ensures { option_map text_parts result ≡ code_there boxed text.now }
+{
+    match closed(text, Kind::InBrackets, b'[', b']') {
+        Some(parts) => Some(parts),
+        None => in_parentheses(text, boxed),
+    }
+}
+
+/// The same of a code in parentheses.
+fn in_parentheses(text: &[u8], boxed: bool) -> Option<(&[u8], &[u8])>
+    ensures { option_map text_parts result ≡ code_in_parentheses boxed text.now }
+{
+    let (front, code) = closed(text, Kind::InParentheses, b'(', b')')?;
+    if boxed || is_code(code) {
+        Some((front, code))
+    } else {
+        None
+    }
+}
+
+/// Whether what stands in parentheses looks as a code.
+fn is_code(code: &[u8]) -> bool
+    ensures { result ≡ looks_as_code code.now }
+{
+    is_joined(unmarked(code)) || is_number(code)
+}
+
+/// A code without an `@` at its beginning.
+fn unmarked(code: &[u8]) -> &[u8]
+    ensures { result.now ≡ without_at code.now }
+{
+    match code {
+        [b'@', rest @ ..] => rest,
+        _ => code,
+    }
+}
+
+/// Whether a text is words of small letters, digits and `_`, with `-`, `_`, `/` or `:` between
+/// them.
+fn is_joined(code: &[u8]) -> bool
+    ensures { result ≡ looks_joined code.now }
+{
+    match code {
+        [first, middle @ .., last] => {
+            is_in(Kind::InCode, *first)
+                && is_in(Kind::InCode, *last)
+                && are_coded(middle)
+                && has_joint(middle)
+        }
+        _ => false,
+    }
+}
+
+fn are_coded(code: &[u8]) -> bool
+    ensures { result ≡ list_all is_code_byte code.now }
+{
+    code.iter().all(|byte| is_in(Kind::InCode, *byte) || is_in(Kind::Joint, *byte))
+}
+
+fn has_joint(code: &[u8]) -> bool
+    ensures { result ≡ list_any (belongs Joint) code.now }
+{
+    code.iter().any(|byte| is_in(Kind::Joint, *byte))
+}
+
+fn is_number(code: &[u8]) -> bool
+    ensures { result ≡ looks_as_number code.now }
+{
+    match capitals_and_digits(code) {
+        Some(count) => count == code.len(),
+        None => false,
+    }
+}
+
+/// A last part in brackets, without the blanks before it, and what stands before those.
+fn closed(text: &[u8], kind: Kind, opening: u8, closing: u8) -> Option<(&[u8], &[u8])>
+    requires opening { 1 ≤ opening }
+    requires closing { 1 ≤ closing }
+    ensures { option_map text_parts result ≡ closed_there kind opening closing text.now }
+{
+    opened(before_last(text, closing)?, kind, opening)
+}
+
+/// The same without the closing bracket.
+fn opened(inner: &[u8], kind: Kind, opening: u8) -> Option<(&[u8], &[u8])>
+    requires { 1 ≤ opening }
+    ensures { option_map text_parts result ≡ opened_there kind opening inner.now }
+{
+    let (front, code) = inner.split_at(inner.len() - end_run(kind, inner));
+    set_apart(before_last(front, opening)?, code)
+}
+
+/// A code, and what stands before the blanks before it.
+fn set_apart<'a>(front: &'a [u8], code: &'a [u8]) -> Option<(&'a [u8], &'a [u8])>
+    ensures { option_map text_parts result ≡ apart code.entry.now front.entry.now }
+{
+    let kept = trimmed(front);
+    if !code.is_empty() && kept.len() < front.len() && !kept.is_empty() {
+        Some((kept, code))
+    } else {
+        None
+    }
+}

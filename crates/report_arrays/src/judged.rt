@@ -1,0 +1,132 @@
+// The first of the arrays' elements that is wrong.
+ghost use Rattle.std.specs.Prelude.{◌≡◌, Some, None, MatchResult, length, not};
+ghost use Rattle.std.specs.Str.{is_utf8};
+ghost use Rattle.std.specs.List.{position};
+ghost use Rattle.report_arrays.specs.Labels.{has_labels};
+ghost use Rattle.report_arrays.specs.Wrong.{is_file, has_texts, is_report, is_label, wrong_file};
+ghost use Rattle.report_arrays.specs.Wrong.{wrong_report, wrong_label, wrong_in, wrong_of};
+
+use crate::labels::has_labels;
+use crate::shapes::{File, Label, Report};
+use crate::texts::{is_filled, is_optional, is_short_text, is_text};
+use simdutf8::compat::from_utf8;
+
+/// The first argument that is wrong. The arrays are judged in this order, each by its elements'
+/// order.
+#[derive(Clone, Copy, Debug, PartialEq, Eq)]
+pub enum Wrong {
+    /// The texts are no UTF-8.
+    InTexts,
+    /// A file whose name is no text, or whose source is none of fewer than `u32::MAX` bytes. More
+    /// than `u32::MAX` files are wrong as a whole, before any of them is looked at: the place is
+    /// `usize::MAX`.
+    InFile(usize),
+    /// A report on a file that isn't there, of an unknown severity, without a message, with a text
+    /// that is none, with an empty scope or number, or with labels outside their list.
+    InReport(usize),
+    /// A label with a range that is neither a text nor the one that stands for none.
+    InLabel(usize),
+}
+
+/// The texts, if no argument is wrong.
+///
+/// # Errors
+///
+/// The first argument that is wrong: the texts, then the files, the reports and the labels, whether
+/// a report names them or not. Where a label stands in its file's source isn't judged here.
+#[tactic(auto, using(crate::proofs::Utf8::is_text, crate::proofs::Utf8::is_no_text))]
+pub fn read_texts<'a>(
+    texts: &'a [u8],
+    files: &[File],
+    reports: &[Report],
+    labels: &[Label],
+) -> Result<&'a str, Wrong>
+    ensures { let wrong = wrong_of texts.now files.now reports.now labels.now in
+        MatchResult result
+        (λ text. (text.now ≡ texts.now) × (wrong ≡ None))
+        (λ first. wrong ≡ Some first) }
+{
+    match from_utf8(texts) {
+        Ok(text) => match first_wrong(text, files, reports, labels) {
+            None => Ok(text),
+            Some(wrong) => Err(wrong),
+        },
+        Err(_) => Err(Wrong::InTexts),
+    }
+}
+
+#[tactic(auto, unfolding(crate::specs::Wrong::wrong_in))]
+fn first_wrong(texts: &str, files: &[File], reports: &[Report], labels: &[Label]) -> Option<Wrong>
+    ensures { result ≡ wrong_in texts.now files.now reports.now labels.now }
+{
+    if let Some(at) = wrong_file(texts, files) {
+        return Some(Wrong::InFile(at));
+    }
+    if let Some(at) = wrong_report(texts, files.len(), labels.len(), reports) {
+        return Some(Wrong::InReport(at));
+    }
+    match wrong_label(texts, labels) {
+        Some(at) => Some(Wrong::InLabel(at)),
+        None => None,
+    }
+}
+
+/// More than `u32::MAX` files are wrong as a whole: the last have no number.
+fn wrong_file(texts: &str, files: &[File]) -> Option<usize>
+    ensures { result ≡ wrong_file texts.now files.now }
+{
+    if files.len() > u32::MAX as usize {
+        Some(usize::MAX)
+    } else {
+        first_wrong_file(texts, files)
+    }
+}
+
+fn first_wrong_file(texts: &str, files: &[File]) -> Option<usize>
+    ensures { result ≡ position (λ file. not (is_file texts.now file)) files.now }
+{
+    files.iter().position(|file| !is_file(texts, file))
+}
+
+fn wrong_report(texts: &str, files: usize, labels: usize, reports: &[Report]) -> Option<usize>
+    ensures { result ≡ wrong_report texts.now files labels reports.now }
+{
+    reports
+        .iter()
+        .position(|report| !is_report(texts, files, labels, report))
+}
+
+fn wrong_label(texts: &str, labels: &[Label]) -> Option<usize>
+    ensures { result ≡ wrong_label texts.now labels.now }
+{
+    labels
+        .iter()
+        .position(|label| !is_optional(texts, label.text))
+}
+
+fn is_file(texts: &str, file: &File) -> bool
+    ensures { result ≡ is_file texts.now file.now }
+{
+    is_text(texts, file.name) && is_short_text(texts, file.source)
+}
+
+#[tactic(auto, unfolding(crate::specs::Wrong::is_report))]
+fn is_report(texts: &str, files: usize, labels: usize, report: &Report) -> bool
+    ensures { result ≡ is_report texts.now files labels report.now }
+{
+    (report.file as usize) < files
+        && report.severity < 3
+        && has_texts(texts, report)
+        && has_labels(labels, report)
+}
+
+fn has_texts(texts: &str, report: &Report) -> bool
+    ensures { result ≡ has_texts texts.now report.now }
+{
+    is_text(texts, report.message)
+        && is_filled(texts, report.scope)
+        && is_filled(texts, report.number)
+        && is_optional(texts, report.help)
+        && is_optional(texts, report.note)
+        && is_optional(texts, report.url)
+}

@@ -1,0 +1,6 @@
+pub mod Marks
+pub mod Columns
+pub mod Speaks
+pub mod Lines
+pub mod Paint
+pub mod Details

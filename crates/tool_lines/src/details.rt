@@ -1,0 +1,307 @@
+//! What the lines behind a finding add to it.
+ghost use Rattle.std.specs.Prelude.{◌≡◌, ◌-◌, ◌++◌, if◌then◌else◌, [], Some, None, IfOk, IfSome};
+ghost use Rattle.std.specs.Prelude.{◌<◌, ◌≤◌, ◌==◌, not, length, map, take, drop, option_to_list};
+ghost use Rattle.std.specs.Prelude.{slice_index};
+ghost use Rattle.std.specs.List.{filter_map, prefix_len};
+ghost use Rattle.std.specs.Option.{option_copied};
+ghost use Rattle.tool_lines.specs.Details.{behind_from, caret_at as caret_there};
+ghost use Rattle.tool_lines.specs.Details.{caret_from, caret_in, first_marks as first_marks_of};
+ghost use Rattle.tool_lines.specs.Details.{detail as detail_there, details_of};
+ghost use Rattle.tool_lines.specs.Details.{first_caret as caret_of};
+ghost use Rattle.tool_lines.specs.Details.{inline_by, inline_details as inline_details_of};
+ghost use Rattle.tool_lines.specs.Details.{is_bare as is_bare_line, marks_from, note_of as note_in};
+ghost use Rattle.tool_lines.specs.Details.{is_small as small_letter, note_text as text_of_note};
+ghost use Rattle.tool_lines.specs.Details.{plain_text as text_of_plain};
+ghost use Rattle.tool_lines.specs.Details.{symbol_text as text_of_symbol};
+ghost use Rattle.tool_lines.specs.Details.{unequalled as without_equals, unled as without_lead};
+
+use crate::lines::Sort;
+use crate::marks::{are_marks, gutter};
+use line_shapes::bytes::{Kind, run, trimmed};
+use std::alloc::{AllocError, Global};
+
+/// Which lines add something, and what.
+#[derive(Clone, Copy, Debug, PartialEq, Eq)]
+pub enum Way {
+    /// Each that is more than a gutter: its text.
+    Plain,
+    /// Each of two spaces and a small letter: its text.
+    Symbol,
+    /// Each that is a note or a help: what it says.
+    Noted,
+}
+
+/// What the lines behind the first one of a piece add to its finding.
+///
+/// # Errors
+///
+/// Want of memory.
+pub fn details<'a>(
+    alloc: Global,
+    sort: Sort,
+    lines: &[&'a [u8]],
+) -> Result<Vec<&'a [u8]>, AllocError>
+    ensures { IfOk result (λ texts.
+        map (λ text. text.now) texts.items
+        ≡ details_of sort (map (λ line. line.now) lines.now)) }
+{
+    match sort {
+        Sort::Inline => inline_details(alloc, lines),
+        Sort::Announced => match lines {
+            [_, rest @ ..] => collect(Vec::new(alloc), Way::Noted, rest),
+            [] => Ok(Vec::new(alloc)),
+        },
+        Sort::Kept | Sort::Heading | Sort::Below => Ok(Vec::new(alloc)),
+    }
+}
+
+/// The same of a trail: what stands before the row that is marked, and the symbols behind the last
+/// marks; or all of it.
+fn inline_details<'a>(alloc: Global, lines: &[&'a [u8]]) -> Result<Vec<&'a [u8]>, AllocError>
+    ensures { IfOk result (λ texts.
+        map (λ text. text.now) texts.items
+        ≡ inline_details_of (map (λ line. line.now) lines.now)) }
+{
+    match marks_at(lines) {
+        Some(at) => around(alloc, lines, at),
+        None => collect(Vec::new(alloc), Way::Plain, lines),
+    }
+}
+
+/// The same where marks stand here.
+#[tactic(auto, using(crate::proofs::DetailsLemmas::both_parts))]
+fn around<'a>(alloc: Global, lines: &[&'a [u8]], at: usize) -> Result<Vec<&'a [u8]>, AllocError>
+    requires { at ≤ length lines.now }
+    ensures { IfOk result (λ texts.
+        map (λ text. text.now) texts.items
+        ≡ inline_by (map (λ line. line.now) lines.now) (Some at)) }
+{
+    let texts = collect(Vec::new(alloc), Way::Plain, before(lines, at))?;
+    let all = collect(texts, Way::Symbol, behind_marks(lines))?;
+    Ok(all)
+}
+
+/// Where the first marks stand.
+fn marks_at(mut lines: &[&[u8]]) -> Option<usize>
+    ensures value { result ≡ marks_from 0 (map (λ line. line.now) lines.entry.now) }
+    ensures within { IfSome result (λ at. at < length lines.entry.now) }
+{
+    let mut count = 0;
+    while let [line, rest @ ..] = lines {
+        if are_marks(line) {
+            return Some(count);
+        }
+        count += 1;
+        lines = rest;
+    }
+    None
+}
+
+/// The lines before the one above this.
+#[tactic(auto, using(crate::proofs::DetailsLemmas::taken_map))]
+fn before<'l, 'a>(lines: &'l [&'a [u8]], at: usize) -> &'l [&'a [u8]]
+    requires { at ≤ length lines.now }
+    ensures { map (λ line. line.now) result.now ≡ take (at - 1) (map (λ line. line.now) lines.now) }
+{
+    lines.split_at(at.saturating_sub(1)).0
+}
+
+/// The lines behind the last marks.
+fn behind_marks<'l, 'a>(mut lines: &'l [&'a [u8]]) -> &'l [&'a [u8]]
+    ensures { map (λ line. line.now) result.now
+        ≡ behind_from [] (map (λ line. line.now) lines.entry.now) }
+{
+    let mut behind: &[&[u8]] = &[];
+    while let [line, rest @ ..] = lines {
+        behind = newer(are_marks(line), rest, behind);
+        lines = rest;
+    }
+    behind
+}
+
+fn newer<'l, 'a>(marks: bool, rest: &'l [&'a [u8]], behind: &'l [&'a [u8]]) -> &'l [&'a [u8]]
+    ensures { result.now ≡ (if marks then rest.entry.now else behind.entry.now) }
+{
+    if marks { rest } else { behind }
+}
+
+/// Puts what each of these lines adds behind some texts.
+#[tactic(auto, using(crate::proofs::DetailsLemmas::kept_step, crate::proofs::DetailsLemmas::kept_end))]
+fn collect<'a>(
+    mut texts: Vec<&'a [u8]>,
+    way: Way,
+    mut lines: &[&'a [u8]],
+) -> Result<Vec<&'a [u8]>, AllocError>
+    ensures { IfOk result (λ all.
+        map (λ text. text.now) all.items
+        ≡ map (λ text. text.now) texts.entry.items
+        ++ filter_map (detail_there way) (map (λ line. line.now) lines.entry.now)) }
+{
+    while let [line, rest @ ..] = lines {
+        texts = kept(texts, detail(way, line))?;
+        lines = rest;
+    }
+    Ok(texts)
+}
+
+/// Puts a text behind others, if there is one.
+fn kept<'a>(mut texts: Vec<&'a [u8]>, text: Option<&'a [u8]>) -> Result<Vec<&'a [u8]>, AllocError>
+    ensures { IfOk result (λ all.
+        map (λ text. text.now) all.items
+        ≡ map (λ text. text.now) texts.entry.items
+        ++ option_to_list (option_copied text.entry)) }
+{
+    match text {
+        Some(text) => {
+            texts.push(text)?;
+            Ok(texts)
+        }
+        None => Ok(texts),
+    }
+}
+
+/// What a line adds.
+#[tactic(auto, unfolding(crate::specs::Details::detail))]
+fn detail(way: Way, line: &[u8]) -> Option<&[u8]>
+    ensures { option_copied result ≡ detail_there way line.now }
+{
+    match way {
+        Way::Plain => plain_text(line),
+        Way::Symbol => symbol_text(line),
+        Way::Noted => note_text(line),
+    }
+}
+
+fn plain_text(line: &[u8]) -> Option<&[u8]>
+    ensures { option_copied result ≡ text_of_plain line.now }
+{
+    let text = trimmed(unled(line));
+    if text.is_empty() || is_bare(line) {
+        None
+    } else {
+        Some(text)
+    }
+}
+
+/// Whether a line is a gutter and no more.
+fn is_bare(line: &[u8]) -> bool
+    ensures { result ≡ is_bare_line line.now }
+{
+    match gutter(line) {
+        Some(end) => unled(line.split_at(end).1).is_empty(),
+        None => false,
+    }
+}
+
+fn symbol_text(line: &[u8]) -> Option<&[u8]>
+    ensures { option_copied result ≡ text_of_symbol line.now }
+{
+    match line {
+        [b' ', b' ', third, ..] if is_small(*third) => Some(trimmed(unled(line))),
+        _ => None,
+    }
+}
+
+fn is_small(byte: u8) -> bool
+    ensures { result ≡ small_letter byte }
+{
+    b'a' <= byte && byte <= b'z'
+}
+
+fn note_text(line: &[u8]) -> Option<&[u8]>
+    ensures { option_copied result ≡ text_of_note line.now }
+{
+    note_of(unequalled(line))
+}
+
+/// A line without blanks and `= ` at its beginning.
+fn unequalled(line: &[u8]) -> &[u8]
+    ensures { result.now ≡ without_equals line.now }
+{
+    match unled(line) {
+        [b'=', b' ', rest @ ..] => rest,
+        _ => line,
+    }
+}
+
+/// What stands behind `note: ` or `help: `.
+fn note_of(text: &[u8]) -> Option<&[u8]>
+    ensures { option_copied result ≡ note_in text.now }
+{
+    match text {
+        [b'n', b'o', b't', b'e', b':', b' ', rest @ ..] => Some(rest),
+        [b'h', b'e', b'l', b'p', b':', b' ', rest @ ..] => Some(rest),
+        _ => None,
+    }
+}
+
+/// A text without the blanks at its beginning.
+fn unled(text: &[u8]) -> &[u8]
+    ensures { result.now ≡ without_lead text.now }
+{
+    text.split_at(run(Kind::Blank, text)).1
+}
+
+/// The column of the first `^` below the row that a trail shows, from 0, in characters: where
+/// neither the row nor its marks have a gutter.
+pub fn caret(sort: Sort, lines: &[&[u8]]) -> Option<usize>
+    ensures { result ≡ caret_there sort (map (λ line. line.now) lines.now) }
+{
+    match sort {
+        Sort::Inline => caret_below(lines),
+        Sort::Kept | Sort::Heading | Sort::Below | Sort::Announced => None,
+    }
+}
+
+/// The same of the lines of a trail, of which the first is no marks.
+fn caret_below(lines: &[&[u8]]) -> Option<usize>
+    ensures { result ≡ caret_of (map (λ line. line.now) lines.now) }
+{
+    match lines {
+        [first, ..] if !are_marks(first) => caret_among(lines),
+        _ => None,
+    }
+}
+
+/// The same of lines.
+fn caret_among(mut lines: &[&[u8]]) -> Option<usize>
+    ensures { result ≡ caret_from (map (λ line. line.now) lines.entry.now) }
+{
+    while let [row, rest @ ..] = lines {
+        if let Some(marks) = first_marks(rest) {
+            return caret_under(row, marks);
+        }
+        lines = rest;
+    }
+    None
+}
+
+/// The first of these lines, if it is marks.
+fn first_marks<'a>(lines: &[&'a [u8]]) -> Option<&'a [u8]>
+    ensures { option_copied result ≡ first_marks_of (map (λ line. line.now) lines.now) }
+{
+    match lines {
+        [first, ..] if are_marks(first) => Some(first),
+        _ => None,
+    }
+}
+
+/// The column of the first `^` of marks below a row.
+fn caret_under(row: &[u8], marks: &[u8]) -> Option<usize>
+    ensures { result ≡ caret_in row.now marks.now }
+{
+    let column = before_caret(marks);
+    if column < marks.len() && gutter(marks).is_none() && gutter(row).is_none() {
+        Some(column)
+    } else {
+        None
+    }
+}
+
+/// How many bytes stand before the first `^`. In marks without a gutter each byte is a character.
+fn before_caret(marks: &[u8]) -> usize
+    ensures value { result ≡ prefix_len (λ byte. not (byte == 0x5E)) marks.now }
+    ensures within { result ≤ length marks.now }
+{
+    marks.iter().take_while(|byte| **byte != b'^').count()
+}

@@ -1,0 +1,528 @@
+//! What begins at a line, and the pieces of a text: runs of its lines.
+ghost use Rattle.std.specs.Prelude.{◌≡◌, ◌≤◌, ◌+◌, ◌∷◌, ◌++◌, [], drop, Some, None, IfOk};
+ghost use Rattle.std.specs.Prelude.{option_map, option_and_then, map, length};
+ghost use Rattle.std.specs.Option.{option_copied, is_some};
+ghost use Rattle.line_shapes.specs.Part.{seen};
+ghost use Rattle.line_shapes.specs.Place.{placed as placed_parts};
+ghost use Rattle.line_shapes.specs.Shape.{shape_parts};
+ghost use Rattle.tool_lines.specs.Lines.{ArePieces, lines_behind, lines_left, lines_of as lines_in};
+ghost use Rattle.tool_lines.specs.Lines.{announced as announced_there};
+ghost use Rattle.tool_lines.specs.Lines.{announced_by as announced_pair};
+ghost use Rattle.tool_lines.specs.Lines.{announced_len as announced_length, bare as bare_there};
+ghost use Rattle.tool_lines.specs.Lines.{behind as behind_there, below as below_there};
+ghost use Rattle.tool_lines.specs.Lines.{below_at as below_name, begun as begun_there, begun_parts};
+ghost use Rattle.tool_lines.specs.Lines.{coded_below as coded_there, finding_from, finding_parts};
+ghost use Rattle.tool_lines.specs.Lines.{head, in_brackets, is_ruled as stands_ruled, is_tag};
+ghost use Rattle.tool_lines.specs.Lines.{in_trail as trails, inline as inline_there};
+ghost use Rattle.tool_lines.specs.Lines.{is_heading as heads, name_behind, next_is_marks};
+ghost use Rattle.tool_lines.specs.Lines.{may_trail as may_trail_there};
+ghost use Rattle.tool_lines.specs.Lines.{piece as piece_there, piece_parts, runs};
+ghost use Rattle.tool_lines.specs.Lines.{spoken as spoken_there, tagged, text_below};
+ghost use Rattle.tool_lines.specs.Lines.{told as told_by};
+ghost use Rattle.tool_lines.specs.Lines.{trail_len as trail_length, uncoloned as without_colon};
+ghost use Rattle.tool_lines.specs.Lines.{whole_among as whole_in, without_cr as without_last_cr};
+
+use crate::columns::with_column;
+use crate::marks::{are_marks, begins_blank, is_numbered, is_text};
+use crate::speaks::speaks;
+use line_shapes::bytes::{Kind, before_last, end_run};
+use line_shapes::name::NameKind;
+use line_shapes::part::{Found, Part};
+use line_shapes::place::{Placed, place};
+use line_shapes::said::{Statement, meant, said, whole};
+use line_shapes::shape::{Shape, first_own, named};
+use line_shapes::tables::{ANNOUNCED, ARROW, ARROW_PLACE, BARE, Manner, UNDER};
+use memchr::memchr;
+use std::alloc::{AllocError, Global};
+
+/// A finding: where it is, and what its lines say as far as it is read from the line where it
+/// begins and the next one.
+#[derive(Clone, Copy, Debug, Drop)]
+pub struct Finding<'a> {
+    pub place: Placed<'a>,
+    pub says: Statement<'a>,
+}
+
+/// What begins at a line.
+#[derive(Clone, Copy, Debug, PartialEq, Eq)]
+pub enum Sort {
+    /// Nothing: the line is kept as it is.
+    Kept,
+    /// The name for the lines below it.
+    Heading,
+    /// A finding below a heading.
+    Below,
+    /// A finding whose place stands on the next line.
+    Announced,
+    /// A finding whose place stands before it.
+    Inline,
+}
+
+/// What begins at a line, with its finding.
+#[derive(Clone, Copy, Debug, Drop)]
+pub struct Begun<'a> {
+    pub sort: Sort,
+    pub finding: Option<Finding<'a>>,
+}
+
+/// A piece: so many lines.
+#[derive(Clone, Copy, Debug, Drop)]
+pub struct Piece<'a> {
+    pub lines: usize,
+    pub begun: Begun<'a>,
+}
+
+/// The pieces of a text. `shapes` are shapes of a tool's or the user's own, which go before all
+/// others.
+///
+/// # Errors
+///
+/// Want of memory. Nothing is refused.
+#[tactic(auto, using(crate::proofs::LinesLemmas::joined_runs))]
+pub fn read_lines<'a>(
+    alloc: Global,
+    text: &'a [u8],
+    shapes: &[Shape<'_>],
+) -> Result<Vec<Piece<'a>>, AllocError>
+    ensures pieces { IfOk result (λ pieces.
+        ArePieces (map shape_parts shapes.now) None (lines_in text.entry.now)
+        (map piece_parts pieces.items)) }
+    ensures joined { IfOk result (λ pieces.
+        runs (map piece_parts pieces.items) (lines_in text.entry.now)
+        ≡ lines_in text.entry.now) }
+{
+    let lines = lines_of(alloc, text)?;
+    pieces_of(alloc, lines.as_slice(), shapes)
+}
+
+/// The lines of a text, which LF ends. A CR before it is dropped.
+///
+/// # Errors
+///
+/// Want of memory.
+pub fn lines_of<'a>(alloc: Global, text: &'a [u8]) -> Result<Vec<&'a [u8]>, AllocError>
+    ensures { IfOk result (λ lines. map (λ line. line.now) lines.items ≡ lines_in text.entry.now) }
+{
+    let mut lines = Vec::new(alloc);
+    let mut left = Some(text);
+    while let Some(rest) = left {
+        let (line, more) = first_line(rest);
+        lines.push(line)?;
+        left = more;
+    }
+    Ok(lines)
+}
+
+/// The first line, and the text behind its LF.
+#[tactic(auto, using(crate::proofs::LinesLemmas::line_cut, crate::proofs::LinesLemmas::line_last))]
+fn first_line(text: &[u8]) -> (&[u8], Option<&[u8]>)
+    ensures lines { lines_in text.now ≡ result.0.now ∷ lines_behind (option_copied result.1) }
+    ensures shorter { lines_left (option_copied result.1) ≤ length text.now }
+{
+    match memchr(b'\n', text) {
+        Some(at) => (without_cr(&text[..at]), Some(&text[at + 1..])),
+        None => (without_cr(text), None),
+    }
+}
+
+/// A line without a CR at its end.
+pub fn without_cr(line: &[u8]) -> &[u8]
+    ensures { result.now ≡ without_last_cr line.now }
+{
+    match before_last(line, b'\r') {
+        Some(line) => line,
+        None => line,
+    }
+}
+
+/// The pieces of these lines.
+///
+/// # Errors
+///
+/// Want of memory.
+pub fn pieces_of<'a>(
+    alloc: Global,
+    lines: &[&'a [u8]],
+    shapes: &[Shape<'_>],
+) -> Result<Vec<Piece<'a>>, AllocError>
+    ensures { IfOk result (λ pieces.
+        ArePieces (map shape_parts shapes.now) None (map (λ line. line.now) lines.now)
+        (map piece_parts pieces.items)) }
+{
+    let mut pieces = Vec::new(alloc);
+    let mut rest = lines;
+    let mut name = None;
+    while !rest.is_empty() {
+        let piece = next_piece(shapes, name, rest);
+        name = next_name(name, piece.begun.sort, rest);
+        pieces.push(piece)?;
+        rest = after(rest, piece.lines);
+    }
+    Ok(pieces)
+}
+
+/// All but so many of the first lines.
+pub fn after<'l, 'a>(lines: &'l [&'a [u8]], count: usize) -> &'l [&'a [u8]]
+    requires { count ≤ length lines.now }
+    ensures lines { result.now ≡ drop count lines.now }
+    ensures len { length result.now + count ≡ length lines.now }
+{
+    lines.split_at(count).1
+}
+
+/// The name for the lines behind a piece.
+fn next_name<'a>(name: Option<&'a [u8]>, sort: Sort, lines: &[&'a [u8]]) -> Option<&'a [u8]>
+    ensures { option_copied result
+        ≡ name_behind sort (option_copied name.entry) (map (λ line. line.now) lines.now) }
+{
+    match sort {
+        Sort::Heading => match lines {
+            [first, ..] => Some(first),
+            [] => None,
+        },
+        Sort::Below => name,
+        Sort::Kept | Sort::Announced | Sort::Inline => None,
+    }
+}
+
+/// The piece that begins with the first of these lines. `name` is that of the heading above.
+fn next_piece<'a>(shapes: &[Shape<'_>], name: Option<&'a [u8]>, lines: &[&'a [u8]]) -> Piece<'a>
+    requires { 1 ≤ length lines.now }
+    ensures piece { piece_parts result
+        ≡ piece_there (map shape_parts shapes.now) (option_copied name.entry)
+        (map (λ line. line.now) lines.now) }
+    ensures some { 1 ≤ result.lines }
+    ensures within { result.lines ≤ length lines.now }
+{
+    match lines {
+        [first, rest @ ..] => {
+            if let Some(finding) = below_at(name, first) {
+                return Piece {
+                    lines: 1,
+                    begun: Begun {
+                        sort: Sort::Below,
+                        finding: Some(finding),
+                    },
+                };
+            }
+            let begun = what_begins(shapes, first, first_of(rest));
+            Piece {
+                lines: 1 + behind(shapes, begun.sort, rest),
+                begun,
+            }
+        }
+        [] => unreachable!(),
+    }
+}
+
+/// The first of these lines.
+fn first_of<'a>(lines: &[&'a [u8]]) -> Option<&'a [u8]>
+    ensures { option_copied result ≡ head (map (λ line. line.now) lines.now) }
+{
+    match lines {
+        [first, ..] => Some(first),
+        [] => None,
+    }
+}
+
+/// How many lines belong to what begins on the line before.
+fn behind(shapes: &[Shape<'_>], sort: Sort, lines: &[&[u8]]) -> usize
+    ensures value { result
+        ≡ behind_there (map shape_parts shapes.now) sort (map (λ line. line.now) lines.now) }
+    ensures within { result ≤ length lines.now }
+{
+    match sort {
+        Sort::Kept | Sort::Heading | Sort::Below => 0,
+        Sort::Announced => match lines {
+            [_, rest @ ..] => 1 + announced_len(rest),
+            [] => 0,
+        },
+        Sort::Inline => trail_len(shapes, lines),
+    }
+}
+
+/// How many lines trail a finding.
+fn trail_len(shapes: &[Shape<'_>], mut lines: &[&[u8]]) -> usize
+    ensures value { result
+        ≡ trail_length (map shape_parts shapes.now) (map (λ line. line.now) lines.entry.now) }
+    ensures within { result ≤ length lines.entry.now }
+{
+    let mut count = 0;
+    while let [first, rest @ ..] = lines {
+        if !in_trail(shapes, first, first_of(rest)) {
+            return count;
+        }
+        count += 1;
+        lines = rest;
+    }
+    count
+}
+
+/// How many lines there are before an empty one, or one whose place stands below.
+fn announced_len(mut lines: &[&[u8]]) -> usize
+    ensures value { result ≡ announced_length (map (λ line. line.now) lines.entry.now) }
+    ensures within { result ≤ length lines.entry.now }
+{
+    let mut count = 0;
+    while let [first, rest @ ..] = lines {
+        if first.is_empty() || announced(first, first_of(rest)).is_some() {
+            return count;
+        }
+        count += 1;
+        lines = rest;
+    }
+    count
+}
+
+/// Whether a line, which has this one behind it, trails what stands before it.
+pub fn in_trail(shapes: &[Shape<'_>], line: &[u8], next: Option<&[u8]>) -> bool
+    ensures { result ≡ trails (map shape_parts shapes.now) line.now (option_copied next.entry) }
+{
+    may_trail(line, next) && matches!(what_begins(shapes, line, next).sort, Sort::Kept)
+}
+
+/// Whether it looks so.
+fn may_trail(line: &[u8], next: Option<&[u8]>) -> bool
+    ensures { result ≡ may_trail_there line.now (option_copied next.entry) }
+{
+    begins_blank(line)
+        || is_numbered(line)
+        || are_marks(line)
+        || !line.is_empty() && is_before_marks(next)
+}
+
+fn is_before_marks(next: Option<&[u8]>) -> bool
+    ensures { result ≡ next_is_marks (option_copied next.entry) }
+{
+    match next {
+        Some(next) => are_marks(next),
+        None => false,
+    }
+}
+
+/// What begins at a line that has this one behind it.
+#[tactic(auto, unfolding(crate::specs::Lines::begun))]
+pub fn what_begins<'a>(shapes: &[Shape<'_>], line: &'a [u8], next: Option<&'a [u8]>) -> Begun<'a>
+    ensures { begun_parts result
+        ≡ begun_there (map shape_parts shapes.now) line.entry.now (option_copied next.entry) }
+{
+    if let Some(finding) = announced(line, next) {
+        return Begun {
+            sort: Sort::Announced,
+            finding: Some(finding),
+        };
+    }
+    if is_heading(line, next) {
+        return Begun {
+            sort: Sort::Heading,
+            finding: None,
+        };
+    }
+    match inline(shapes, line, next) {
+        Some(finding) => Begun {
+            sort: Sort::Inline,
+            finding: Some(finding),
+        },
+        None => Begun {
+            sort: Sort::Kept,
+            finding: None,
+        },
+    }
+}
+
+/// The finding of a line whose place stands on the next one.
+pub fn announced<'a>(line: &'a [u8], next: Option<&'a [u8]>) -> Option<Finding<'a>>
+    ensures { option_map finding_parts result ≡ announced_there line.entry.now
+        (option_copied next.entry) }
+{
+    match next {
+        Some(next) => announced_by(line, next),
+        None => None,
+    }
+}
+
+/// The same of two lines.
+#[tactic(auto, unfolding(crate::specs::Lines::announced_by))]
+fn announced_by<'a>(line: &'a [u8], next: &'a [u8]) -> Option<Finding<'a>>
+    ensures { option_map finding_parts result ≡ announced_pair line.entry.now next.entry.now }
+{
+    let place = named(&ARROW, NameKind::Any, &ARROW_PLACE, uncoloned(next))?;
+    let found = whole_among(&ANNOUNCED, Found::before(line))?;
+    Some(Finding {
+        place,
+        says: meant(found, Manner::Plain),
+    })
+}
+
+/// A line without a colon at its end.
+fn uncoloned(line: &[u8]) -> &[u8]
+    ensures { result.now ≡ without_colon line.now }
+{
+    match before_last(line, b':') {
+        Some(line) => line,
+        None => line,
+    }
+}
+
+/// What the first of these shapes finds that is the whole text.
+fn whole_among<'a>(mut shapes: &[(&str, &[Part])], found: Found<'a>) -> Option<Found<'a>>
+    ensures { option_map seen result
+        ≡ whole_in (map (λ shape. shape.1.now) shapes.entry.now) (seen found.entry) }
+{
+    while let [shape, rest @ ..] = shapes {
+        if let Some(found) = whole(shape.1, found) {
+            return Some(found);
+        }
+        shapes = rest;
+    }
+    None
+}
+
+/// Whether a line is a name for the lines below it.
+fn is_heading(line: &[u8], next: Option<&[u8]>) -> bool
+    ensures { result ≡ heads line.now (option_copied next.entry) }
+{
+    match next {
+        Some(next) => !line.is_empty() && !begins_blank(line) && below(next).is_some(),
+        None => false,
+    }
+}
+
+/// What is found in a line below a heading.
+#[tactic(auto, unfolding(crate::specs::Lines::below))]
+fn below(line: &[u8]) -> Option<Found<'_>>
+    ensures { option_map seen result ≡ below_there line.now }
+{
+    whole(&UNDER, Found::before(line))
+}
+
+/// The finding in a line, if there is a heading above and it fits.
+pub fn below_at<'a>(name: Option<&'a [u8]>, line: &'a [u8]) -> Option<Finding<'a>>
+    ensures { option_map finding_parts result
+        ≡ below_name (option_copied name.entry) line.entry.now }
+{
+    let name = name?;
+    let found = below(line)?;
+    Some(Finding {
+        place: Placed { name, found },
+        says: with_column(meant(found, Manner::Plain)),
+    })
+}
+
+/// The finding whose place stands in a line before what it says.
+fn inline<'a>(shapes: &[Shape<'_>], line: &'a [u8], next: Option<&[u8]>) -> Option<Finding<'a>>
+    ensures { option_map finding_parts result
+        ≡ inline_there (map shape_parts shapes.now) line.entry.now (option_copied next.entry) }
+{
+    match first_own(shapes, line) {
+        Some(place) => Some(Finding {
+            place,
+            says: meant(place.found, Manner::Plain),
+        }),
+        None => told(place(line)?, line, is_above_text(next)),
+    }
+}
+
+fn is_above_text(next: Option<&[u8]>) -> bool
+    ensures { result ≡ text_below (option_copied next.entry) }
+{
+    match next {
+        Some(next) => is_text(next),
+        None => false,
+    }
+}
+
+/// The finding of a line with a place; `below` says that more stands below.
+fn told<'a>(place: Placed<'a>, line: &[u8], below: bool) -> Option<Finding<'a>>
+    ensures { option_map finding_parts result ≡ told_by below line.now (placed_parts place.entry) }
+{
+    if below {
+        if let Some(finding) = bare(place) {
+            return Some(finding);
+        }
+        if let Some(finding) = coded_below(place) {
+            return Some(finding);
+        }
+    }
+    spoken(place, line)
+}
+
+/// The same where its message stands below, behind a level, a code or both.
+#[tactic(auto, unfolding(crate::specs::Lines::bare))]
+fn bare<'a>(place: Placed<'a>) -> Option<Finding<'a>>
+    ensures { option_map finding_parts result ≡ bare_there (placed_parts place.entry) }
+{
+    let found = whole_among(&BARE, place.found)?;
+    Some(finding_of(place.name, found, Manner::Plain))
+}
+
+fn finding_of<'a>(name: &'a [u8], found: Found<'a>, manner: Manner) -> Finding<'a>
+    ensures { finding_parts result ≡ finding_from name.entry.now (seen found.entry) manner }
+{
+    Finding {
+        place: Placed { name, found },
+        says: meant(found, manner),
+    }
+}
+
+/// The same where it stands below a level, a code, and another code in brackets.
+#[tactic(auto, unfolding(crate::specs::Lines::coded_below))]
+fn coded_below<'a>(place: Placed<'a>) -> Option<Finding<'a>>
+    ensures { option_map finding_parts result ≡ coded_there (placed_parts place.entry) }
+{
+    let (found, manner) = said(place.found)?;
+    if is_ruled(manner) && is_tagged(found) {
+        let untold = Found {
+            message: None,
+            ..found
+        };
+        Some(finding_of(place.name, untold, Manner::Plain))
+    } else {
+        None
+    }
+}
+
+/// Whether a message is a code in brackets.
+fn is_tagged(found: Found<'_>) -> bool
+    ensures { result ≡ tagged (seen found.entry) }
+{
+    match found.message {
+        Some(message) => is_code_in_brackets(message),
+        None => false,
+    }
+}
+
+fn is_code_in_brackets(text: &[u8]) -> bool
+    ensures { result ≡ is_tag text.now }
+{
+    match text {
+        [first, inner @ .., last] => *first == b'[' && *last == b']' && is_code(inner),
+        _ => false,
+    }
+}
+
+/// Whether a text is not empty, and has no blank and no bracket.
+fn is_code(text: &[u8]) -> bool
+    ensures { result ≡ in_brackets text.now }
+{
+    !text.is_empty() && end_run(Kind::InBrackets, text) == text.len()
+}
+
+fn is_ruled(manner: Manner) -> bool
+    ensures { result ≡ stands_ruled manner }
+{
+    matches!(manner, Manner::Ruled)
+}
+
+/// The same where it stands behind the place.
+#[tactic(auto, unfolding(crate::specs::Lines::spoken))]
+fn spoken<'a>(place: Placed<'a>, line: &[u8]) -> Option<Finding<'a>>
+    ensures { option_map finding_parts result ≡ spoken_there line.now (placed_parts place.entry) }
+{
+    let (found, manner) = said(place.found)?;
+    if speaks(line, place, found, manner) {
+        Some(finding_of(place.name, found, manner))
+    } else {
+        None
+    }
+}

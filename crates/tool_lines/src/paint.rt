@@ -1,0 +1,157 @@
+//! Texts without the colors and links that tools write to terminals.
+ghost use Rattle.std.specs.Prelude.{◌≡◌, ◌≤◌, ◌<◌, ◌+◌, ◌^◌, ◌++◌, ◌==◌};
+ghost use Rattle.std.specs.Prelude.{Some, not, IfOk, length, count_by};
+ghost use Rattle.std.specs.List.{prefix_len};
+ghost use Rattle.memchr.specs.Find.{IsFirstByte, is_byte};
+ghost use Rattle.tool_lines.specs.Paint.{color_end as color_ends, color_len as color_length};
+ghost use Rattle.tool_lines.specs.Paint.{ends_color as ends_a_color, ends_link as ends_a_link};
+ghost use Rattle.tool_lines.specs.Paint.{is_color_byte as stands_in_color, link_end as link_ends};
+ghost use Rattle.tool_lines.specs.Paint.{link_len as link_length, paint_len as paint_length};
+ghost use Rattle.tool_lines.specs.Paint.{unpainted};
+
+use line_shapes::bytes::{Kind, is_in};
+use memchr::memchr;
+use std::alloc::{AllocError, Global};
+
+/// A text without its paint: colors, which are ESC `[`, digits and `;`, and `m` or `K`; and what
+/// opens and closes links, ESC `]8;` up to BEL or ESC `\`. It has as many LF as before.
+///
+/// # Errors
+///
+/// Want of memory.
+#[tactic(auto, using(crate::proofs::PaintLemmas::plain_end))]
+pub fn without_paint(alloc: Global, text: &[u8]) -> Result<Vec<u8>, AllocError>
+    ensures { IfOk result (λ plain. plain.items ≡ unpainted text.now) }
+{
+    let mut plain = Vec::new(alloc);
+    let mut rest = text;
+    while let Some(at) = memchr(b'\x1B', rest) {
+        rest = past(&mut plain, rest, at)?;
+    }
+    plain.extend_from_slice(rest)?;
+    Ok(plain)
+}
+
+/// Keeps what stands before the first ESC, and goes past the paint that begins with it, or past it.
+fn past<'a>(plain: &mut Vec<u8>, text: &'a [u8], at: usize) -> Result<&'a [u8], AllocError>
+    requires { IsFirstByte (is_byte 0x1B) text.now (Some at) }
+    ensures left { IfOk result (λ rest. plain.new.items ++ unpainted rest.now
+        ≡ plain.old.items ++ unpainted text.now) }
+    ensures shorter { IfOk result (λ rest. length rest.now < length text.now) }
+{
+    let (front, more) = text.split_at(at);
+    plain.extend_from_slice(front)?;
+    let rest = keep_or_skip(plain, more)?;
+    Ok(rest)
+}
+
+/// The text behind the paint that a text begins with. Where there is none, the first byte is kept.
+fn keep_or_skip<'a>(plain: &mut Vec<u8>, text: &'a [u8]) -> Result<&'a [u8], AllocError>
+    requires { 1 ≤ length text.now }
+    ensures left { IfOk result (λ rest. plain.new.items ++ unpainted rest.now
+        ≡ plain.old.items ++ unpainted text.now) }
+    ensures shorter { IfOk result (λ rest. length rest.now < length text.now) }
+{
+    let count = paint_len(text);
+    if count > 0 {
+        return Ok(text.split_at(count).1);
+    }
+    match text {
+        [first, rest @ ..] => {
+            plain.push(*first)?;
+            Ok(rest)
+        }
+        [] => Ok(text),
+    }
+}
+
+/// How many bytes the color or the link takes that a text begins with, or 0.
+fn paint_len(text: &[u8]) -> usize
+    ensures value { result ≡ paint_length text.now }
+    ensures within { result ≤ length text.now }
+{
+    match text {
+        [b'\x1B', b'[', rest @ ..] => color_len(rest),
+        [b'\x1B', b']', b'8', b';', rest @ ..] => link_len(rest),
+        _ => 0,
+    }
+}
+
+/// The same of a color, behind its first two bytes.
+fn color_len(rest: &[u8]) -> usize
+    requires { length rest.now < 2 ^ 63 }
+    ensures value { result ≡ color_length rest.now }
+    ensures within { result ≤ length rest.now + 2 }
+{
+    color_end(color_run(rest), rest)
+}
+
+fn color_run(rest: &[u8]) -> usize
+    ensures value { result ≡ prefix_len stands_in_color rest.now }
+    ensures within { result ≤ length rest.now }
+{
+    rest.iter().take_while(|byte| is_color_byte(**byte)).count()
+}
+
+/// How long the color is, where its last byte stands here.
+fn color_end(count: usize, rest: &[u8]) -> usize
+    requires small { length rest.now < 2 ^ 63 }
+    requires here { count ≤ length rest.now }
+    ensures value { result ≡ color_ends count rest.now }
+    ensures within { result ≤ length rest.now + 2 }
+{
+    if count < rest.len() && is_color_end(rest[count]) {
+        count + 3
+    } else {
+        0
+    }
+}
+
+fn is_color_end(byte: u8) -> bool
+    ensures { result ≡ ends_a_color byte }
+{
+    byte == b'm' || byte == b'K'
+}
+
+fn is_color_byte(byte: u8) -> bool
+    ensures { result ≡ stands_in_color byte }
+{
+    is_in(Kind::Digit, byte) || byte == b';'
+}
+
+/// The same of a link, behind its first four bytes.
+fn link_len(rest: &[u8]) -> usize
+    requires { length rest.now < 2 ^ 63 }
+    ensures value { result ≡ link_length rest.now }
+    ensures within { result ≤ length rest.now + 4 }
+{
+    let count = link_run(rest);
+    link_end(count, rest.split_at(count).1)
+}
+
+fn link_run(rest: &[u8]) -> usize
+    ensures value { result ≡ prefix_len (λ byte. not (ends_a_link byte)) rest.now }
+    ensures within { result ≤ length rest.now }
+{
+    rest.iter().take_while(|byte| !ends_link(**byte)).count()
+}
+
+/// How long the link is, where this ends it.
+fn link_end(count: usize, rest: &[u8]) -> usize
+    requires { count + length rest.now < 2 ^ 63 }
+    ensures value { result ≡ link_ends count rest.now }
+    ensures within { result ≤ count + length rest.now + 4 }
+{
+    match rest {
+        [0x07, ..] => count + 5,
+        [0x1B, b'\\', ..] => count + 6,
+        _ => 0,
+    }
+}
+
+/// Whether a byte ends a link, or stands in none.
+fn ends_link(byte: u8) -> bool
+    ensures { result ≡ ends_a_link byte }
+{
+    byte == 0x07 || byte == 0x1B || byte == b'\n'
+}
