@@ -3,7 +3,8 @@
 
 - Each link of a .md file leads to a file that is there, and to a heading of it where it names one.
 - Each row of docs/PROMISES.md names a file, a call in it, clauses of that call, and definitions that stand in specs/.
-- Each function of a Rattle example on a page of a crate stands in that crate's sources, but for layout.
+- Each function under "A caller" on a page of a crate stands in that crate's sources, but for layout, and so is proved.
+  (An example under another heading only shows how a call looks.)
 It prints what isn't so, and a last line; the status is 1 where something isn't."""
 import glob
 import os
@@ -80,7 +81,8 @@ def wrong_examples(page):
     for path in glob.glob(os.path.join(crate, "src", "**", "*.rt"), recursive=True):
         for name, bodies in functions(read(path)).items():
             known.setdefault(name, set()).update(bodies)
-    for block in re.findall(r"^```rust\n(.*?)^```", read(page), re.S | re.M):
+    caller = re.search(r"^## A caller$(.*?)(?=^## |\Z)", read(page), re.S | re.M)
+    for block in re.findall(r"^```rust\n(.*?)^```", caller.group(1) if caller else "", re.S | re.M):
         for name, bodies in functions(block).items():
             if ".." in re.sub(r"\.\.=?\w|\w\.\.|\[\.\.", "", "".join(bodies)):
                 continue
