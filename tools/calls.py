@@ -8,7 +8,7 @@ import re
 import sys
 
 TOP = os.path.dirname(os.path.dirname(os.path.abspath(__file__)))
-TAKES = re.compile(r"AllocError|AllocFailed|AddError|ReportError|RenderError|EditError|ProblemError|OutOfMemory|Reading\b|Status\b")
+TAKES = re.compile(r"AllocError|AllocFailed|AddError|ReportError|RenderError|EditError|ProblemError|LogError|ReportFault|ShapeError|OutOfMemory|Reading\b|Status\b")
 
 
 def crates():
