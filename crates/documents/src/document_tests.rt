@@ -159,7 +159,10 @@ fn labelled(alloc: Global, version: u32, source: &str, label: &str) -> Result<St
         concat!(
             "{{\"version\":{version},\"files\":[{{\"name\":\"a\",\"source\":\"{source}\"}}],",
             "\"reports\":[{{\"file\":0,\"message\":\"m\",\"labels\":[{{{label}}}]}}]}}",
-        )
+        ),
+        version = version,
+        source = source,
+        label = label,
     )
 }
 

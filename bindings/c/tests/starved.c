@@ -1,0 +1,79 @@
+/* Each request for memory fails in turn: the answer is want of memory with the buffer as it was, or 0 with the right
+ * drawing, where the want was bridged. Nothing is left behind. Link with --wrap=malloc,--wrap=realloc,--wrap=calloc. */
+#include "check.h"
+#include "examples.h"
+
+#include <stdlib.h>
+
+static long left = -1, asked, live;
+void *__real_malloc(size_t size);
+void *__real_calloc(size_t count, size_t size);
+void *__real_realloc(void *old, size_t size);
+void __real_free(void *old);
+
+static int fails(void) {
+    asked++;
+    return left >= 0 && left-- == 0;
+}
+
+void *__wrap_malloc(size_t size) {
+    void *made = fails() ? NULL : __real_malloc(size);
+    live += made != NULL;
+    return made;
+}
+
+void *__wrap_calloc(size_t count, size_t size) {
+    void *made = fails() ? NULL : __real_calloc(count, size);
+    live += made != NULL;
+    return made;
+}
+
+void *__wrap_realloc(void *old, size_t size) {
+    void *made = fails() ? NULL : __real_realloc(old, size);
+    live += made != NULL && old == NULL;
+    return made;
+}
+
+void __wrap_free(void *old) {
+    live -= old != NULL;
+    __real_free(old);
+}
+
+static const girzohal_look looks[] = {{GIRZOHAL_NONE, 4, GIRZOHAL_DRAWING, 80}, {GIRZOHAL_NONE, 4, GIRZOHAL_JSON, 80}};
+static uint8_t out[8192], right[8192], before[8192];
+
+static uint32_t call(const example *e, const girzohal_look *look, girzohal_answer *answer) {
+    return girzohal_draw((const uint8_t *)e->texts, e->texts_len, e->files, e->files_len, e->reports, e->reports_len,
+                         e->labels, e->labels_len, look, out, sizeof out, answer);
+}
+
+static void starve(const example *e, const girzohal_look *look) {
+    girzohal_answer answer;
+    long wants = 0, bridged = 0;
+    left = -1;
+    asked = 0;
+    int holds = call(e, look, &answer) == GIRZOHAL_DONE && live == 0;
+    size_t needed = answer.needed;
+    long all = asked;
+    memcpy(right, out, sizeof out);
+    for (long at = 0; holds && at < all; at++) {
+        memcpy(out, before, sizeof out);
+        left = at;
+        uint32_t status = call(e, look, &answer);
+        left = -1;
+        int starved = status == GIRZOHAL_OUT_OF_MEMORY && answer.needed == 0 && memcmp(out, before, sizeof out) == 0;
+        int drew = status == GIRZOHAL_DONE && answer.needed == needed && memcmp(out, right, needed) == 0
+            && memcmp(out + needed, before, sizeof out - needed) == 0;
+        holds = (starved || drew) && live == 0;
+        wants += starved;
+        bridged += drew;
+    }
+    check(e->name, look->form == GIRZOHAL_JSON ? "JSON" : "a drawing", holds && wants > 0 && wants + bridged == all);
+}
+
+int main(void) {
+    memset(before, 0xAA, sizeof before);
+    for (size_t at = 0; at < COUNT(examples); at++)
+        for (size_t look = 0; look < COUNT(looks); look++) starve(&examples[at], &looks[look]);
+    return told("starved");
+}

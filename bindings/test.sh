@@ -1,0 +1,165 @@
+#!/bin/sh
+# Builds the library by both compilers, compares what they answer on the examples, and tries it from C, C++, Rust,
+# Python and Node, as far as this machine has them. The last line is 'N passed, M failed'; the status is 0 where M is 0.
+#
+# usage: sh bindings/test.sh [-v]     (-v shows what the parts say, also where they pass)
+cd "$(dirname "$0")" || exit 1
+top=$(cd .. && pwd)
+out=$PWD/out
+# a part is a function that `part` calls
+# shellcheck disable=SC2317
+crate=$top/crates/girzohal_c
+verbose=$1
+passed=0
+failed=0
+skipped=
+
+has() { command -v "$1" >/dev/null 2>&1; }
+
+# part NAME COMMAND..: runs a part, and shows what it says where it fails
+part() {
+    name=$1
+    shift
+    if "$@" >"$out/said" 2>&1; then
+        passed=$((passed + 1))
+        echo "passed: $name"
+        [ "$verbose" = -v ] && sed 's/^/    /' "$out/said"
+    else
+        failed=$((failed + 1))
+        echo "FAILED: $name"
+        tail -40 "$out/said" | sed 's/^/    /'
+    fi
+    return 0
+}
+
+skip() {
+    skipped="$skipped $1"
+    echo "skipped: $1: there is no $2"
+}
+
+finish() {
+    [ -n "$skipped" ] && echo "skipped:$skipped"
+    echo "$passed passed, $failed failed"
+    [ "$failed" -eq 0 ]
+    exit
+}
+
+# build COMPILER WORDS..: the archive of one compiler, kept in out/COMPILER
+build() {
+    compiler=$1
+    shift
+    mkdir -p "$out/$compiler" && (cd "$crate" && rt lib "$@") &&
+        cp "$crate/out/libgirzohal_c.a" "$out/$compiler/libgirzohal_c.a"
+}
+
+make_c() {
+    compiler=$1
+    shift
+    make -s -C c BUILD="$out/$compiler" ARCHIVE="$out/$compiler/libgirzohal_c.a" "$@"
+}
+
+# every example, drawn and as JSON, in every theme, by the archive of one compiler
+answers() {
+    ${CC:-cc} -O2 -std=c99 -Ic -o "$out/$1/answers" c/tests/answers.c "$out/$1/libgirzohal.a" && "$out/$1/answers" >"$out/$1/answers.txt"
+}
+
+compare() { cmp "$out/llvm/answers.txt" "$out/rattle/answers.txt" && test -s "$out/llvm/answers.txt"; }
+
+# what `make install` leaves, used by a program that stands elsewhere
+installed() {
+    rm -rf "$out/prefix" && make_c llvm install PREFIX="$out/prefix" || return 1
+    flags="-I$out/prefix/include -L$out/prefix/lib -lgirzohal"
+    has pkg-config && flags=$(PKG_CONFIG_PATH=$out/prefix/lib/pkgconfig pkg-config --cflags --libs girzohal)
+    cp c/example.c "$out/elsewhere.c"
+    # shellcheck disable=SC2086
+    (cd "$out" && ${CC:-cc} -O2 -o elsewhere elsewhere.c $flags) || return 1
+    LD_LIBRARY_PATH=$out/prefix/lib "$out/elsewhere" | cmp - c/example.txt || return 1
+    ${CC:-cc} -O2 -I"$out/prefix/include" -o "$out/elsewhere" "$out/elsewhere.c" "$out/prefix/lib/libgirzohal.a" || return 1
+    "$out/elsewhere" | cmp - c/example.txt
+}
+
+# the archive with requests for memory that can be made to fail
+starved() {
+    mkdir -p "$out/starved" && objcopy --redefine-sym malloc=girzohal_starving_malloc \
+        --redefine-sym calloc=girzohal_starving_calloc --redefine-sym realloc=girzohal_starving_realloc \
+        "$out/llvm/libgirzohal.a" "$out/starved/libgirzohal.a" || return 1
+    ${CC:-cc} -O2 -fPIC -c c/tests/starving.c -o "$out/starved/starving.o" || return 1
+    ar r "$out/starved/libgirzohal.a" "$out/starved/starving.o" || return 1
+    ${CC:-cc} -shared -o "$out/starved/libgirzohal.so" -Wl,--whole-archive "$out/starved/libgirzohal.a" -Wl,--no-whole-archive
+}
+
+valgrind_calls() { valgrind -q --leak-check=full --error-exitcode=9 "$out/llvm/calls"; }
+
+sanitized() {
+    ${CC:-cc} -O1 -g -fsanitize=address,undefined -fno-sanitize-recover=all -std=c99 -Ic -pthread -D_POSIX_C_SOURCE=200809L \
+        -DVERSION="\"$(cat "$top/VERSION")\"" -o "$out/llvm/sanitized" c/tests/calls.c "$out/llvm/libgirzohal.a" &&
+        "$out/llvm/sanitized"
+}
+
+versions() {
+    version=$(cat "$top/VERSION")
+    grep -q "^version = \"$version\"$" rust/Cargo.toml && grep -q "\"version\": \"$version\"" node/package.json
+}
+
+rust() { (cd rust && GIRZOHAL_LIB=$1 CARGO_TARGET_DIR=$out/rust cargo test --offline --quiet $2); }
+
+python() { (cd python && GIRZOHAL_LIBRARY=$1 PYTHONDONTWRITEBYTECODE=1 python3 -m unittest -q); }
+
+node_module() {
+    ${CC:-cc} -O2 -Wall -Wextra -fPIC -shared -Ic -I"$1" -o "$out/llvm/girzohal.node" node/girzohal_node.c "$out/llvm/libgirzohal.a" &&
+        (cd node && GIRZOHAL_NODE=$out/llvm/girzohal.node node --test)
+}
+
+mkdir -p "$out" || exit 1
+if ! has rt; then
+    skip everything rt
+    failed=1
+    finish
+fi
+part "the archive by LLVM" build llvm
+part "the archive by Rattle's own compiler" build rattle --backend rattle
+part "one version everywhere" versions
+has python3 && part "the tables of examples are new" python3 examples.py --check
+
+if has "${CC:-cc}" && has make; then
+    part "libraries for C" make_c llvm all
+    part "an archive for C by Rattle's own compiler" make_c rattle all
+    part "answers on the examples, by LLVM" answers llvm
+    part "answers on the examples, by Rattle's own compiler" answers rattle
+    part "both compilers answer alike" compare
+    if has "${CXX:-c++}"; then
+        part "C and C++" make_c llvm test
+        part "C and C++ by Rattle's own compiler" make_c rattle test
+    else
+        skip "C and C++" "${CXX:-c++}"
+    fi
+    part "make install" installed
+    if has valgrind; then part "valgrind" valgrind_calls; else skip valgrind valgrind; fi
+    part "address and undefined behavior sanitizers" sanitized
+    has objcopy && part "an archive that starves" starved
+else
+    skip "C and C++" "${CC:-cc} or make"
+fi
+
+if has cargo && has "${CC:-cc}"; then
+    part "Rust" rust "$out/llvm"
+    part "Rust without memory" rust "$out/starved" "--features starved --test starved"
+else
+    skip Rust cargo
+fi
+
+if has python3; then
+    part "Python" python "$out/llvm/libgirzohal.so"
+    part "Python without memory" python "$out/starved/libgirzohal.so"
+else
+    skip Python python3
+fi
+
+headers=
+has node && headers=$(node -p 'require("path").resolve(process.execPath, "../../include/node")')
+if [ -n "$headers" ] && [ -f "$headers/node_api.h" ]; then
+    part "Node" node_module "$headers"
+else
+    skip Node "node with its headers"
+fi
+finish
