@@ -168,9 +168,11 @@ impl<Source: SourceText> Files<Source> {
 
     /// Adds a file at the end. Its handle is the number of files that were there before it.
     ///
-    /// Where the source has `u32::MAX` bytes or more it answers `SourceTooLong`; else where
-    /// `u32::MAX` files are held, `TooManyFiles`; else it may answer `OutOfMemory`. A refusal
-    /// leaves the database as it was.
+    /// # Errors
+    ///
+    /// `SourceTooLong`, where the source has `u32::MAX` bytes or more; else `TooManyFiles`, where
+    /// `u32::MAX` files are held; else it may be `OutOfMemory`. With each of them the database is
+    /// as it was.
     pub fn add(&mut self, name: String, source: Source) -> Result<FileId, AddError>
         ensures added { IfOk result (λ id. (id ≡ length self.old)
             × (self.new ≡ self.old ++ record
@@ -197,9 +199,12 @@ impl<Source: SourceText> Files<Source> {
 
     /// Puts another source in the place of the file's. Its name stays, and so do all other files.
     ///
-    /// Places and spans of the old source may not be places of the new one. Where the source has
-    /// `u32::MAX` bytes or more it answers `SourceTooLong`; else it may answer `OutOfMemory`. A
-    /// refusal leaves the database as it was.
+    /// Places and spans of the old source may not be places of the new one.
+    ///
+    /// # Errors
+    ///
+    /// `SourceTooLong`, where the source has `u32::MAX` bytes or more; else it may be
+    /// `OutOfMemory`. With both the database is as it was.
     pub fn update(&mut self, file_id: FileId, source: Source) -> Result<(), AddError>
         requires { file_id < length self.old }
         ensures updated { OnOk result (self.new ≡ with_text self.old file_id (Source.text source)) }
@@ -234,10 +239,12 @@ impl<Source: SourceText> Files<Source> {
         self.get(file_id).name()
     }
 
-    /// The span of a line, with its line feed. Lines end at line feeds alone.
+    /// The span of a line, with its line feed. Lines end at line feeds alone, and count from 0.
     ///
-    /// It refuses exactly the lines that the source doesn't have: with `LineTooLarge`, where the
-    /// first of them is named by the number after it.
+    /// # Errors
+    ///
+    /// `LineTooLarge`, exactly for the lines that the source doesn't have; the first of them is
+    /// named by the number after it.
     pub fn line_span(&self, file_id: FileId, line_index: LineIndex) -> Result<Span, Error>
         requires { file_id < length self.now }
         ensures line { MatchResult result
@@ -257,10 +264,12 @@ impl<Source: SourceText> Files<Source> {
         self.get(file_id).line_index(byte_index)
     }
 
-    /// The line of a place and its column in characters, both from 0.
+    /// The line of a place, in bytes from 0, and its column in characters, both from 0.
     ///
-    /// It refuses exactly the places past the end, with `IndexTooLarge`, and those inside a
-    /// character, with `InvalidCharBoundary`.
+    /// # Errors
+    ///
+    /// `IndexTooLarge`, exactly for the places past the end; `InvalidCharBoundary`, exactly for
+    /// those inside a character.
     pub fn location(&self, file_id: FileId, byte_index: ByteIndex) -> Result<Location, Error>
         requires { file_id < length self.now }
         ensures { MatchResult result
@@ -288,11 +297,13 @@ impl<Source: SourceText> Files<Source> {
         self.get(file_id).source_span()
     }
 
-    /// The text of a span.
+    /// The text of a span, which is in bytes from 0.
     ///
-    /// It refuses exactly the spans that go past the end, with `IndexTooLarge`, and of the others
-    /// those of which an end is inside a character, with `InvalidCharBoundary`. The start is named
-    /// before the end.
+    /// # Errors
+    ///
+    /// `IndexTooLarge`, exactly for the spans that go past the end; of the others
+    /// `InvalidCharBoundary`, exactly where an end is inside a character. The start is named before
+    /// the end.
     pub fn source_slice(&self, file_id: FileId, span: Span) -> Result<&str, Error>
         requires { file_id < length self.now }
         ensures { MatchResult result

@@ -97,7 +97,9 @@ pub trait Files {
 /// The text of a line, its break included, in any database. The line counts from 0 and is at most
 /// `u32::MAX`.
 ///
-/// It refuses what `line_range` refuses, and else only where the database refuses the file.
+/// # Errors
+///
+/// What `line_range` refuses, and else only where the database refuses the file.
 pub fn line_text<F: Files>(files: &F, id: F::FileId, line_index: usize) -> Result<&str, Error>
     requires held { IsTrue (F.holds files.now id) }
     requires small { line_index ≤ u32.MAX }

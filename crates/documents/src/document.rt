@@ -49,6 +49,10 @@ pub(crate) enum Version {
 /// `docs/DOCUMENT.md` states.
 ///
 /// Texts are moved out of the JSON value that was read.
+///
+/// # Errors
+///
+/// Want of memory, which says nothing of whether the bytes are a document.
 pub fn read_document(alloc: Global, bytes: &[u8]) -> Result<Option<Document>, AllocError>
     ensures { IfOk result (λ it. option_map document_view it ≡ document_of bytes.now) }
 {

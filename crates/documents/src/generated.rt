@@ -18,6 +18,10 @@ use std::alloc::{AllocError, Global};
 /// A row is `r` and its number from 1 on, or, where 4 divides the number, a tab, `日` and the
 /// number. Its report's message is `m` and the number, and its one label, `t`, goes from the row's
 /// first column to the second. None of them is refused.
+///
+/// # Errors
+///
+/// Want of memory.
 pub fn generate(alloc: Global, count: u32) -> Result<Vec<u8>, AllocError>
     requires { count ≤ 5000 }
     ensures bytes { IfOk result (λ bytes. bytes.items ≡ generated count) }

@@ -31,6 +31,10 @@ use std::alloc::{AllocError, Global};
 ///
 /// Each label stands in it as it is given, by rows and columns or by bytes; where one is by bytes,
 /// the document is of version 2. What would say no more than its default is left out.
+///
+/// # Errors
+///
+/// Want of memory.
 pub fn write_document(
     alloc: Global,
     files: &Files<String>,

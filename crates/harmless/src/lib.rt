@@ -82,6 +82,10 @@ fn is_between(first: char, last: char, c: char) -> bool
 
 /// A text whose characters are each replaced by its harmless one. It is as long, with every place
 /// where it was.
+///
+/// # Errors
+///
+/// Want of memory.
 #[tactic(auto, using(crate::proofs::HarmlessLemmas::keeps_places, crate::proofs::HarmlessLemmas::has_no_harm))]
 pub fn harmless(alloc: Global, kind: Kind, text: &str) -> Result<String, AllocError>
     ensures text { IfOk result (λ out. string_bytes out ≡ harmless_text kind text.now) }
@@ -101,6 +105,10 @@ fn replaced(alloc: Global, kind: Kind, text: &str) -> Result<String, AllocError>
 
 /// A source that can't drive a terminal: as harmless prose, but that a CR before an LF stays, and
 /// another is an LF, which ends a row where the CR ended one.
+///
+/// # Errors
+///
+/// Want of memory.
 #[tactic(auto, using(crate::proofs::SourceLemmas::source_keeps_places))]
 pub fn harmless_source(alloc: Global, text: &str) -> Result<String, AllocError>
     ensures text { IfOk result (λ out. string_bytes out ≡ source_text text.now) }

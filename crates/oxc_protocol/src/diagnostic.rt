@@ -87,6 +87,10 @@ impl OxcDiagnostic {
     ghost use Rattle.std.specs.Borrow.{sem};
 
     /// An error with this message and no other part.
+    ///
+    /// # Errors
+    ///
+    /// Want of memory.
     pub fn error(alloc: Global, message: &str) -> Result<Self, AllocError>
         ensures { IfOk result (λ it. it ≡ bare_diagnostic Error message.now) }
     {
@@ -94,6 +98,10 @@ impl OxcDiagnostic {
     }
 
     /// A warning with this message and no other part.
+    ///
+    /// # Errors
+    ///
+    /// Want of memory.
     pub fn warn(alloc: Global, message: &str) -> Result<Self, AllocError>
         ensures { IfOk result (λ it. it ≡ bare_diagnostic Warning message.now) }
     {
@@ -118,6 +126,10 @@ impl OxcDiagnostic {
 
     /// Gives the code's scope and its number, neither of them empty. A part that is there already
     /// stays.
+    ///
+    /// # Errors
+    ///
+    /// Want of memory; the diagnostic is given up.
     pub fn with_error_code(
         self,
         alloc: Global,
@@ -135,6 +147,10 @@ impl OxcDiagnostic {
     }
 
     /// Gives the code's scope, which is not empty. A scope that is there already stays.
+    ///
+    /// # Errors
+    ///
+    /// Want of memory; the diagnostic is given up.
     pub fn with_error_code_scope(
         mut self,
         alloc: Global,
@@ -152,6 +168,10 @@ impl OxcDiagnostic {
     }
 
     /// Gives the code's number, which is not empty. A number that is there already stays.
+    ///
+    /// # Errors
+    ///
+    /// Want of memory; the diagnostic is given up.
     pub fn with_error_code_num(mut self, alloc: Global, code_num: &str) -> Result<Self, AllocError>
         requires { 0 < length code_num.now }
         ensures { IfOk result (λ it. it ≡ record self {
@@ -189,6 +209,10 @@ impl OxcDiagnostic {
     }
 
     /// Sets the help: what the reader can do about it.
+    ///
+    /// # Errors
+    ///
+    /// Want of memory; the diagnostic is given up.
     pub fn with_help(mut self, alloc: Global, help: &str) -> Result<Self, AllocError>
         ensures { IfOk result (λ it. it ≡ record self { help = Some help.now }) }
     {
@@ -197,6 +221,10 @@ impl OxcDiagnostic {
     }
 
     /// Sets the note: what the reader should know besides.
+    ///
+    /// # Errors
+    ///
+    /// Want of memory; the diagnostic is given up.
     pub fn with_note(mut self, alloc: Global, note: &str) -> Result<Self, AllocError>
         ensures { IfOk result (λ it. it ≡ record self { note = Some note.now }) }
     {
@@ -205,6 +233,10 @@ impl OxcDiagnostic {
     }
 
     /// Sets one label in place of all that are there. [`OxcDiagnostic::and_label`] appends one.
+    ///
+    /// # Errors
+    ///
+    /// Want of memory; the diagnostic is given up.
     pub fn with_label(mut self, alloc: Global, label: LabeledSpan) -> Result<Self, AllocError>
         ensures { IfOk result (λ it. it ≡ record self { labels = label ∷ [] }) }
     {
@@ -216,6 +248,10 @@ impl OxcDiagnostic {
 
     /// Sets these labels in place of all that are there. [`OxcDiagnostic::and_labels`] appends
     /// them.
+    ///
+    /// # Errors
+    ///
+    /// Want of memory; the diagnostic is given up.
     pub fn with_labels(
         mut self,
         _alloc: Global,
@@ -228,6 +264,10 @@ impl OxcDiagnostic {
     }
 
     /// Appends one label.
+    ///
+    /// # Errors
+    ///
+    /// Want of memory; the diagnostic is given up.
     pub fn and_label(mut self, label: LabeledSpan) -> Result<Self, AllocError>
         ensures { IfOk result (λ it. it ≡ record self { labels = self.labels ++ label ∷ [] }) }
     {
@@ -236,6 +276,10 @@ impl OxcDiagnostic {
     }
 
     /// Appends these labels, in their order.
+    ///
+    /// # Errors
+    ///
+    /// Want of memory; the diagnostic is given up.
     pub fn and_labels(mut self, labels: Vec<LabeledSpan>) -> Result<Self, AllocError>
         ensures { IfOk result (λ it. it ≡ record self { labels = self.labels ++ labels.items }) }
     {
@@ -245,6 +289,10 @@ impl OxcDiagnostic {
     }
 
     /// Sets where more about it is written.
+    ///
+    /// # Errors
+    ///
+    /// Want of memory; the diagnostic is given up.
     pub fn with_url(mut self, alloc: Global, url: &str) -> Result<Self, AllocError>
         ensures { IfOk result (λ it. it ≡ record self { url = Some url.now }) }
     {
@@ -285,6 +333,10 @@ impl OxcDiagnostic {
     }
 
     /// An equal diagnostic with texts and labels of its own.
+    ///
+    /// # Errors
+    ///
+    /// Want of memory.
     pub fn try_clone(&self, alloc: Global) -> Result<Self, AllocError>
         ensures { IfOk result (λ copy. copy ≡ self.now) }
     {

@@ -46,6 +46,10 @@ impl Diagnostics {
     }
 
     /// A list of one diagnostic.
+    ///
+    /// # Errors
+    ///
+    /// Want of memory.
     pub fn from_one(alloc: Global, diagnostic: OxcDiagnostic) -> Result<Self, AllocError>
         ensures { IfOk result (λ list. list ≡ diagnostic ∷ []) }
     {
@@ -108,7 +112,11 @@ impl Diagnostics {
         }
     }
 
-    /// Appends a diagnostic. Where there is no memory, the list stays as it was.
+    /// Appends a diagnostic.
+    ///
+    /// # Errors
+    ///
+    /// Want of memory: the list is as it was.
     pub fn push(&mut self, diagnostic: OxcDiagnostic) -> Result<(), AllocError>
         ensures ok { OnOk result (self.new ≡ self.old ++ diagnostic ∷ []) }
         ensures err { OnErr result (self.new ≡ self.old) }
@@ -117,8 +125,11 @@ impl Diagnostics {
         Ok(())
     }
 
-    /// Appends all these diagnostics, in their order. Where there is no memory, the list stays as
-    /// it was.
+    /// Appends all these diagnostics, in their order.
+    ///
+    /// # Errors
+    ///
+    /// Want of memory: the list is as it was.
     pub fn extend(&mut self, diagnostics: Vec<OxcDiagnostic>) -> Result<(), AllocError>
         ensures ok { OnOk result (self.new ≡ self.old ++ diagnostics.items) }
         ensures err { OnErr result (self.new ≡ self.old) }
@@ -129,6 +140,10 @@ impl Diagnostics {
     }
 
     /// An equal list with diagnostics of its own.
+    ///
+    /// # Errors
+    ///
+    /// Want of memory.
     pub fn try_clone(&self, alloc: Global) -> Result<Self, AllocError>
         ensures { IfOk result (λ copy. copy ≡ self.now) }
     {

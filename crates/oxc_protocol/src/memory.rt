@@ -44,6 +44,10 @@ impl Model for MemorySink {
 
 impl MemorySink {
     /// Takes the memory for `room` bytes; no later call takes any.
+    ///
+    /// # Errors
+    ///
+    /// Want of memory.
     pub fn new(
         alloc: Global,
         room: usize,

@@ -28,7 +28,9 @@ pub trait Sink {
 
 /// Writes all of `bytes`, and never an empty piece.
 ///
-/// After `Failed` the sink took a first part of them.
+/// # Errors
+///
+/// `Failed`, where a call of the sink failed: it took a first part of the bytes.
 pub fn write_all<K: Sink>(sink: &mut K, bytes: &[u8]) -> Result<(), Failed>
     ensures whole { OnOk result (Appends (K.received sink.old) (K.received sink.new) bytes.now) }
     ensures part { OnErr result (AppendsPrefix (K.received sink.old)

@@ -103,6 +103,10 @@ impl LabeledSpan {
     }
 
     /// An equal label with a text of its own.
+    ///
+    /// # Errors
+    ///
+    /// Want of memory.
     pub fn try_clone(&self, alloc: Global) -> Result<Self, AllocError>
         ensures { IfOk result (λ copy. copy ≡ self.now) }
     {

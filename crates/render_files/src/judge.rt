@@ -16,11 +16,14 @@ use oxc_span::LabeledSpan;
 use std::alloc::{AllocError, Global};
 use std::ops::Range;
 
-/// Gives the labels of each report their offsets in its file's source, report by report.
+/// Gives the labels of each report their offsets in its file's source, report by report. A file's
+/// line index is made once for all reports, and only where a label names a row and a column of the
+/// file.
+///
+/// # Errors
 ///
 /// The first report that has a fault decides, as [`ReportError`] says. `OutOfMemory` may come
-/// before any other error, and `SinkFault` never comes. A file's line index is made once for all
-/// reports, and only where a label names a row and a column of the file.
+/// before any other error, and `SinkFault` never comes.
 #[tactic(auto, unfolding(crate::specs::Refusal::refusal_of))]
 pub fn place_labels(
     alloc: Global,

@@ -13,6 +13,10 @@ use std::alloc::{AllocError, Global};
 
 /// A text with arguments in it: `{0}`, `{1}`.. are replaced by the arguments, those past the last
 /// stay as they are, and doubled braces become one.
+///
+/// # Errors
+///
+/// Want of memory.
 pub fn filled(alloc: Global, text: &str, arguments: &[String]) -> Result<String, AllocError>
     ensures { IfOk result (λ it. string_bytes it
         ≡ filled_from (map string_bytes arguments.now) 0 text.now) }

@@ -38,6 +38,11 @@ impl From<AllocError> for LogError {
 }
 
 /// The log that the bytes are.
+///
+/// # Errors
+///
+/// [`LogError`]: the bytes are no JSON, or the first fault in reading order and what was wanted
+/// there; want of memory may come in place of either.
 #[tactic(auto, unfolding(crate::specs::Answer::answer_to))]
 pub fn read_log(alloc: Global, bytes: &[u8]) -> Result<Log, LogError>
     ensures { MatchResult result

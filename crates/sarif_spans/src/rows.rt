@@ -16,6 +16,10 @@ pub struct Row {
 
 /// The rows of a text. A row ends at each place where one of the breaks stands, the first of them
 /// that does; an empty break stands nowhere.
+///
+/// # Errors
+///
+/// Want of memory.
 #[tactic(auto, unfolding(crate::specs::Rows::rows_in))]
 pub fn rows_of(alloc: Global, text: &str, breaks: &[&str]) -> Result<Vec<Row>, AllocError>
     ensures rows { IfOk result (λ rows. rows.items

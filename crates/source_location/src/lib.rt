@@ -242,8 +242,11 @@ impl SourceFileBuilder {
         self.index = Some(index);
     }
 
-    /// The file, whose index is made here if none was handed in. For want of memory the parts are
-    /// given up.
+    /// The file, whose index is made here if none was handed in.
+    ///
+    /// # Errors
+    ///
+    /// Want of memory; the parts are given up.
     pub fn finish(self, alloc: Global) -> Result<SourceFile, AllocError>
         ensures { IfOk result (λ file. file ≡ self) }
     {
@@ -328,6 +331,10 @@ impl SourceFile {
     }
 
     /// A second file with the same name and text.
+    ///
+    /// # Errors
+    ///
+    /// Want of memory.
     pub fn try_clone(&self, alloc: Global) -> Result<SourceFile, AllocError>
         ensures { IfOk result (λ file. file ≡ self.now) }
     {

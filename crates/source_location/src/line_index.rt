@@ -60,6 +60,10 @@ impl Model for LineIndex {
 
 impl LineIndex {
     /// Builds the index of a text that fits, in one pass over it.
+    ///
+    /// # Errors
+    ///
+    /// Want of memory.
     pub fn from_source_text(alloc: Global, text: &str) -> Result<LineIndex, AllocError>
         requires { Fits text.now }
         ensures { IfOk result (λ index. index ≡ index_of text.now) }
@@ -84,6 +88,10 @@ impl LineIndex {
     }
 
     /// A second index of the same text.
+    ///
+    /// # Errors
+    ///
+    /// Want of memory.
     pub fn try_clone(&self, alloc: Global) -> Result<LineIndex, AllocError>
         ensures { IfOk result (λ index. index ≡ self.now) }
     {
@@ -406,8 +414,11 @@ impl OneIndexed {
         }
     }
 
-    /// One more than a number that counts from 0; a number above `u32::MAX` comes back as the
-    /// error.
+    /// One more than a number that counts from 0; `u32::MAX` stays as it is.
+    ///
+    /// # Errors
+    ///
+    /// The number itself, exactly where it is above `u32::MAX`.
     pub fn try_from_zero_indexed(value: usize) -> Result<Self, usize>
         ensures ok { IfOk result (λ n. n ≡ min (value + 1) (2 ^ 32 - 1)) }
         ensures refused { IsErr result ↔ (2 ^ 32 ≤ value) }

@@ -22,6 +22,10 @@ use std::alloc::{AllocError, Global};
 /// into longest pieces that fit. A line takes pieces, with the spaces between them, as long as they
 /// fit behind its indent, and one in any case; spaces at its end are dropped. Lines are joined by
 /// LF.
+///
+/// # Errors
+///
+/// Want of memory.
 #[tactic(auto, using(crate::proofs::FilledLemmas::filled_is))]
 pub fn fill(alloc: Global, text: &str, options: &Options<'_>) -> Result<String, AllocError>
     ensures relation { IfOk result
@@ -37,6 +41,10 @@ pub fn fill(alloc: Global, text: &str, options: &Options<'_>) -> Result<String, 
 }
 
 /// Appends a text that is filled to the options' width, as [`fill`] gives it.
+///
+/// # Errors
+///
+/// Want of memory; the text may then end in a first part of the filled one.
 pub fn fill_onto(
     alloc: Global,
     out: &mut String,

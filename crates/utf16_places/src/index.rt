@@ -57,7 +57,11 @@ impl Model for Utf16Index {
 
 impl Utf16Index {
     /// Builds the index of a text that fits (`source_location::fits` tests it), in one pass over
-    /// it. It fails for want of memory alone.
+    /// it.
+    ///
+    /// # Errors
+    ///
+    /// Want of memory.
     pub fn new(alloc: Global, text: &str) -> Result<Utf16Index, AllocError>
         requires { Fits text.now }
         ensures { IfOk result (λ index. IsIndexOf index text.now) }
