@@ -7,11 +7,11 @@ use Rattle.std.proofs.lemmas.Str.{encodes-chars}
 use lib.Utf8.{encode, encodes}
 use Rattle.bytecount.specs.Counts.{begins_char, char_count}
 
-char_count-append : (xs ys : List ℕ) → char_count (xs ++ ys) ≡ char_count xs + char_count ys
+pub char_count-append : (xs ys : List ℕ) → char_count (xs ++ ys) ≡ char_count xs + char_count ys
 unfolding char_count
 char_count-append xs ys = sum_by-append (λ byte. cond (begins_char byte) 1 0) xs ys
 
-char_count-nil : char_count [] ≡ 0
+pub char_count-nil : char_count [] ≡ 0
 unfolding char_count
 char_count-nil = refl
 
@@ -20,7 +20,7 @@ char_count-encode : (c : ℕ) → char_count (encode c) ≡ 1
 unfolding char_count encode
 char_count-encode c = grind (arith, nat_tests)
 
-char_count-encodes : (cs : List ℕ) → char_count (encodes cs) ≡ length cs
+pub char_count-encodes : (cs : List ℕ) → char_count (encodes cs) ≡ length cs
 char_count-encodes [] = char_count-nil
 char_count-encodes (c ∷ cs) = omega (arith, char_count-append (encode c) (encodes cs), char_count-encode c, char_count-encodes cs)
 

@@ -11,18 +11,7 @@ use Rattle.std.proofs.lemmas.List.Kept.{IsStrictlyIncreasing-filter}
 use Rattle.std.proofs.lemmas.Str.{IsCharBoundary-start, IsCharBoundary-after_ascii}
 use Rattle.codespan_reporting.specs.Lines.{AreLineStarts}
 use Rattle.codespan.specs.Lines.{line_feeds, line_starts_lf}
-
--- the numbers of a range rise
-range_rises : (a n : ℕ) → IsStrictlyIncreasing (range_with_len a n)
-range_rises a n k h =
-    let size = length-range_with_len a n in
-    omega (arith, get_or-range_with_len a n k 0 (omega (arith, size)), get_or-range_with_len a n (k + 1) 0 (omega (arith, size)))
-
--- a range holds nothing past its end
-range_within : (n : ℕ) → All (λ at. at < n) (range_with_len 0 n)
-range_within n k d h =
-    let size = length-range_with_len 0 n in
-    omega (arith, get_or-range_with_len 0 n k d (omega (arith, size)))
+use Rattle.base_lemmas.proofs.Ranges.{range_rises, range_within}
 
 pub feeds_rise : (text : List ℕ) → IsStrictlyIncreasing (line_feeds text)
 unfolding line_feeds

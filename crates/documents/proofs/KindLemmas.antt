@@ -14,6 +14,7 @@ use Rattle.serde_json.specs.declared.value.Value.{Value}
 use Rattle.documents.specs.Kinds.{Key, all_of, only_if, only_keys, pair_in}
 use Rattle.documents.specs.Document.{document_of, form_of, file, row_keys, label_by_rows, label_by_bytes}
 use Rattle.documents.proofs.KeyLemmas.{skips}
+pub use Rattle.base_lemmas.proofs.Choices.{option_or-none as either_kind}
 
 -- a list that isn't of two values
 pub no_pair : {A : Type 0} (kind : Data → Option A) (values : List Value) → length values ≢ 2 → pair_in kind (items_view values) ≡ None
@@ -65,10 +66,6 @@ rows_refused ms there =
 pub bytes_refused : (ms : Members) → is_some (get_member (codes "bytes") ms) ≡ false → label_by_bytes (object ms) ≡ None
 unfolding label_by_bytes
 bytes_refused ms none = rw (not_there (get_member (codes "bytes") ms) none) refl
-
-pub either_kind : {A : Type 0} (found : Option A) → option_or found None ≡ found
-either_kind None = refl
-either_kind (Some x) = refl
 
 -- ---- files
 

@@ -34,16 +34,10 @@ use Rattle.documents.specs.Document.{Document, byte_keys, document_keys, documen
 use Rattle.documents.specs.Written.{FitsDocument, HavePlaces, IsLocation, IsPlace, allows, allows_labels, document_value, file_value, label_value, labels_value, location_value, place_members, primary_value, put_some, report_value, said_members, severity_value, text_value, two_numbers, version_value, whole_number}
 use Rattle.documents.proofs.KindLemmas.{document_read, either_kind, rows_refused}
 use Rattle.documents.proofs.PlainLemmas.{shallow}
-
-both_true : (a b : Bool) → (a && b) ≡ true → (a ≡ true) × (b ≡ true)
-both_true true b both = (refl, both)
-both_true false b both = absurd (true≢false (sym both))
+use Rattle.std.proofs.lemmas.Bool.{and_parts as both_true}
+use Rattle.base_lemmas.proofs.Choices.{if_same}
 
 -- ---- members with one more
-
-if_same : {A : Type 0} (b : Bool) (x : A) → (if b then x else x) ≡ x
-if_same true x = refl
-if_same false x = refl
 
 put_at : (b : Bool) (q k : List ℕ) (d : Data) (ms : Members) → bytes_eq q k ≡ b
     → get_member q (put k d ms) ≡ (if b then Some d else get_member q ms)

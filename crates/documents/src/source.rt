@@ -40,7 +40,7 @@ pub enum Reading {
     OutOfMemory,
 }
 
-/// Reads a source to its end, and stops once more than `limit` bytes were taken.
+/// Reads a source to its end, and stops once it has taken one byte more than `limit`.
 pub fn read_all<I: Source>(alloc: Global, input: &mut I, limit: usize) -> Reading
     ensures says { Says result (I.left input.old) (I.left input.new) limit }
     ensures cause { HasReadingCause (I.faults input.old) (I.faults input.new) result }
@@ -49,14 +49,16 @@ pub fn read_all<I: Source>(alloc: Global, input: &mut I, limit: usize) -> Readin
     let mut bytes: Vec<u8> = Vec::new(alloc);
     let mut chunk = [0u8; CHUNK];
     loop {
-        match input.read(&mut chunk) {
+        let room = (limit - bytes.len()).min(CHUNK - 1) + 1;
+        let piece = &mut chunk[..room];
+        match input.read(piece) {
             Err(Failed) => return Reading::Fault,
             Ok(0) => return Reading::Whole(bytes),
             Ok(count) => {
                 if count > limit - bytes.len() {
                     return Reading::TooLong;
                 }
-                if bytes.extend_from_slice(&chunk[..count]).is_err() {
+                if bytes.extend_from_slice(&piece[..count]).is_err() {
                     return Reading::OutOfMemory;
                 }
             }

@@ -7,14 +7,7 @@ use Rattle.oxc_windows.specs.Breaks.{breaks_of}
 use Rattle.oxc_windows.specs.Rows.{is_second_byte, settled, row_start, row_of, byte_column}
 use Rattle.oxc_windows.specs.Scan.{Scan, Contents, contents_read}
 use Rattle.oxc_windows.proofs.WindowLemmas.{window_of_inside, window_of_past}
-
-settled_low : (second : Bool) (offset start : ℕ) → (if second then offset - 1 else offset) - start ≤ offset
-settled_low true offset start = omega arith
-settled_low false offset start = omega arith
-
-byte_column_low : (len : ℕ) (list : List LineBreak) (offset : ℕ) → byte_column len list offset ≤ offset
-unfolding byte_column settled
-byte_column_low len list offset = settled_low (is_second_byte list offset) offset (row_start len list (row_of list offset))
+use Rattle.oxc_plan.proofs.DrawableLemmas.{column_le as byte_column_low}
 
 column_low : (bare : Bool) (column start : ℕ) → column ≤ start → (if bare then column else 0) ≤ start
 column_low true column start low = low

@@ -2,6 +2,7 @@
 use Rattle.std.proofs.Common.{◌≡◌, ℕ, Bool, true, false, not, ◌&&◌, List, [], ◌∷◌, ◌++◌, map, length, get_or, encode_utf8, eqb, refl, sym, ap, subst, ◌∙◌, arith, if◌then◌else◌}
 use Rattle.std.specs.List.{concat, flat_map, list_all}
 use Rattle.std.specs.Str.{IsUtf8, all_scalars, chars, encode_utf8_all}
+use Rattle.std.proofs.lemmas.Bool.{and_parts as both}
 use Rattle.std.proofs.lemmas.Bool.Decides.{nat_tests}
 use Rattle.std.proofs.lemmas.List.{map-append}
 use Rattle.std.proofs.lemmas.List.Elements.{All-from_get_or}
@@ -21,10 +22,6 @@ is_no_tab c = not (eqb c 9)
 
 abbrev pub HasNoTab : List ℕ → Type 0
 HasNoTab text = list_all is_no_tab text ≡ true
-
-both : (a b : Bool) → (a && b) ≡ true → (a ≡ true) × (b ≡ true)
-both true b e = (refl, e)
-both false b e = let no : false ≡ true = e in cc
 
 parts_without : (a b : List ℕ) → HasNoTab (a ++ b) → HasNoTab a × HasNoTab b
 parts_without a b none = both (list_all is_no_tab a) (list_all is_no_tab b) (sym (list_all-append is_no_tab a b) ∙ none)

@@ -9,7 +9,7 @@ use Rattle.oxc_plan.specs.declared.columns.Pen.{Pen}
 use Rattle.oxc_plan.specs.Columns.{drawn_char, drawn_from, drawn_text}
 use Rattle.oxc_plan.specs.Rows.{RowView}
 use Rattle.oxc_plan.specs.Width.{at_margin, led_text, moved, stays_in_escape}
-use Rattle.oxc_plan.proofs.AsciiLemmas.{columns_are_drawn, lone, take_ascii, walked, walked_ascii}
+use Rattle.oxc_plan.proofs.AsciiLemmas.{columns_are_drawn, drawn_walked as drawn_as_walked, lone, take_ascii, walked, walked_ascii}
 use Rattle.oxc_handlers.specs.Cells.{repeated}
 use Rattle.oxc_handlers.specs.Colors.{unstyled, unstyled_from}
 use Rattle.oxc_handlers.specs.ShownRows.{HasColumnsAsShown}
@@ -70,11 +70,6 @@ bytes_unstyled tab pen (c ∷ cs) low =
     let next = moved tab pen (lone c) in
     one_char tab pen.column pen.in_escape c (shown_from tab next (map lone cs)) (All-head (λ c. c < 128) c cs low)
     ∙ ap (λ l. drawn_char tab pen c ++ l) (bytes_unstyled tab next cs (All-tail (λ c. c < 128) c cs low))
-
-drawn_as_walked : (tab : ℕ) (pen : Pen) (ps : List (ℕ × ℕ)) → drawn_from tab pen ps ≡ walked tab (drawn_char tab) pen ps
-unfolding walked
-drawn_as_walked tab pen [] = refl
-drawn_as_walked tab pen (p ∷ ps) = ap (λ l. drawn_char tab pen p.1 ++ l) (drawn_as_walked tab (moved tab pen p) ps)
 
 drawn_bytes : (tab : ℕ) (text : List ℕ) → IsAscii text → drawn_text tab text ≡ drawn_from tab at_margin (map lone text)
 unfolding drawn_text

@@ -29,6 +29,7 @@ use Rattle.oxc_plan.specs.declared.columns.Pen.{Pen}
 use Rattle.oxc_plan.specs.Rows.{RowView}
 use Rattle.oxc_plan.specs.Width.{advance_of, is_control, with_lead, led, led_text, moved, at_margin, stays_in_escape, pen_after, text_width}
 use Rattle.oxc_plan.specs.Columns.{boundary_down, boundary_up, column_in, drawn_char, drawn_from, drawn_text, HasColumnsAsDrawn}
+use Rattle.oxc_plan.proofs.ClustersLemmas.{ends as breaks_at_end}
 
 abbrev stands_alone : ℕ → GraphemeClusterBreak → Bool
 stands_alone c Control = true
@@ -69,10 +70,6 @@ breaks_after : (last : ℕ) (before cs : List ℕ) → last < 128 → All (λ c.
 unfolding is_grapheme_break
 breaks_after last before [] l low no_cr = refl
 breaks_after last before (d ∷ cs) l low no_cr = ascii_breaks last d before (cs ++ []) l (All-head (λ c. c < 128) d cs low) (λ h. absurd (false≢true (sym no_cr ∙ h)))
-
-breaks_at_end : (last : ℕ) (before : List ℕ) → is_grapheme_break true (last ∷ before) [] ≡ true
-unfolding is_grapheme_break
-breaks_at_end last before = refl
 
 -- a cluster of one character of ASCII, and one of two, with its width
 abbrev single : ℕ → List ℕ
@@ -222,7 +219,7 @@ ascii_low text ascii = All-from_get_or (λ c. c < 128) text 0 (λ i h. ascii i)
 pub walked_ascii : (tab : ℕ) (char : Pen → ℕ → List ℕ) (pen : Pen) (text : List ℕ) → IsAscii text → walked tab char pen (led_text text) ≡ walked tab char pen (map lone text)
 walked_ascii tab char pen text ascii = (alike_text text (ascii_low text ascii) tab pen).1 char
 
-drawn_walked : (tab : ℕ) (pen : Pen) (ps : List (ℕ × ℕ)) → drawn_from tab pen ps ≡ walked tab (drawn_char tab) pen ps
+pub drawn_walked : (tab : ℕ) (pen : Pen) (ps : List (ℕ × ℕ)) → drawn_from tab pen ps ≡ walked tab (drawn_char tab) pen ps
 unfolding walked
 drawn_walked tab pen [] = refl
 drawn_walked tab pen (p ∷ ps) = ap (λ l. drawn_char tab pen p.1 ++ l) (drawn_walked tab (moved tab pen p) ps)

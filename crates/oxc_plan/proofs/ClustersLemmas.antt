@@ -33,7 +33,7 @@ no_middle : {A : Type 0} (xs : List A) (y : A) (ys : List A) → [] ≡ xs ++ y 
 no_middle xs y ys e = omega (arith, ap length e, length-append xs (y ∷ ys))
 
 -- the rule on boundaries looks at one character ahead
-ends : (c : ℕ) (before : List ℕ) → is_grapheme_break true (c ∷ before) [] ≡ true
+pub ends : (c : ℕ) (before : List ℕ) → is_grapheme_break true (c ∷ before) [] ≡ true
 unfolding is_grapheme_break
 ends c before = refl
 

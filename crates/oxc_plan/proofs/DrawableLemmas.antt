@@ -294,7 +294,7 @@ settled_le : (list : List LineBreak) (o : ℕ) → settled list o ≤ o
 unfolding settled
 settled_le list o = elim (cases_Bool (is_second_byte list o)) [ inl second ↦ rw second (omega arith) | inr other ↦ rw other (omega arith) ]
 
-column_le : (len : ℕ) (list : List LineBreak) (o : ℕ) → byte_column len list o ≤ o
+pub column_le : (len : ℕ) (list : List LineBreak) (o : ℕ) → byte_column len list o ≤ o
 unfolding byte_column
 column_le len list o = omega (arith, settled_le list o)
 

@@ -16,6 +16,8 @@ use Rattle.oxc_plan.specs.Meets.{is_one_row, one_row_labels}
 use Rattle.oxc_plan.specs.Plan.{Ordered, hang_of, hang_place, is_like, ordered_at, spans_of, start_in}
 use Rattle.oxc_plan.specs.declared.hangs.Hang.{Hang}
 use Rattle.oxc_plan.proofs.PlanLemmas.{one_rows_within}
+pub use Rattle.base_lemmas.proofs.Lists.{slice_range-rest as from_run}
+use Rattle.base_lemmas.proofs.Ranges.{range_rises}
 
 -- a search need not begin before the first that passes
 find_later : (p : ℕ → Bool) (xs : List ℕ) (n : ℕ) → n ≤ length xs → ((k : ℕ) → k < n → p (get_or xs k 0) ≡ false) → find p (drop n xs) ≡ find p xs
@@ -84,9 +86,6 @@ hang_in_run labels places run at le earlier =
     let same : hang_place labels (drop run places) at ≡ hang_place labels places at = ap (λ o. unwrap_or o at) (find_later p places run le (λ k lt. start_apart labels (get_or places k 0) at (earlier k lt))) in
     ap (λ n. cond (is_some (ordered_at labels at).text) (Some (record { label = at; at = n })) None) same
 
-pub from_run : (places : List ℕ) (run : ℕ) → slice_range places run (length places) ≡ drop run places
-from_run places run = take_all (length places - run) (drop run places) (omega (arith, length-drop run places))
-
 -- one text more, and one place without
 pub hang_more : (f : ℕ → Option Hang) (hangs : List Hang) (hang : Hang) (places : List ℕ) (i d : ℕ) → i < length places → f (get_or places i d) ≡ Some hang
     → hangs ≡ filter_map f (take i places) → hangs ++ hang ∷ [] ≡ filter_map f (take (i + 1) places)
@@ -105,11 +104,6 @@ hang_less f hangs places i d lt is so_far =
     none x is = rw is refl
 
 -- the one-row labels of a row ascend by their starts
-range_rises : (a n : ℕ) → IsStrictlyIncreasing (range_with_len a n)
-range_rises a n k within =
-    let short : k + 1 < n = omega (arith, within, length-range_with_len a n) in
-    omega (arith, get_or-range_with_len a n k 0 (omega (arith, short)), get_or-range_with_len a n (k + 1) 0 short)
-
 pub one_rows_ascend : (offset len : ℕ) (labels : List Ordered) → IsNonDecreasingBy (λ (s : Span). s.start) (spans_of labels) → IsNonDecreasingBy (start_in labels) (one_row_labels offset len (spans_of labels))
 unfolding one_row_labels
 one_rows_ascend offset len labels rising i j d le lt =

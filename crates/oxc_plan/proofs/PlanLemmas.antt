@@ -34,6 +34,7 @@ use Rattle.oxc_windows.proofs.BreaksLemmas.{breaks_valid}
 use Rattle.oxc_windows.proofs.WindowLemmas.{row_start_within}
 use Rattle.oxc_plan.specs.declared.rows.Row.{Row}
 use Rattle.oxc_plan.specs.Rows.{RowView, numbered, pieces, with_byte, row_of_piece, row_text, row_view, rows_in, rows_of, ends_at}
+pub use Rattle.base_lemmas.proofs.Ranges.{range_within as range_below}
 
 -- a search in a list of views
 pub find_map : {A B : Type 0} (v : A → B) (p : B → Bool) (xs : List A) → find p (map v xs) ≡ option_map v (find (λ x. p (v x)) xs)
@@ -113,11 +114,6 @@ unfolding in_order spans_in_order
 spans_ordered labels = map-map (λ l. l.span) (λ at. ordered_label (label_at labels at)) (label_order labels)
 
 -- what holds of the labels within a row: they are labels, and start in it
-pub range_below : (n : ℕ) → All (λ at. at < n) (range_with_len 0 n)
-range_below n k d lt =
-    let short : k < n = rw length-range_with_len at lt in
-    subst (λ m. m < n) (sym (get_or-range_with_len 0 n k d short)) (omega arith)
-
 test_starts : (b : Bool) (o s e m : ℕ) → (b && (leb o s && leb e m)) ≡ true → o ≤ s
 test_starts b o s e m said = grind (arith, nat_tests)
 

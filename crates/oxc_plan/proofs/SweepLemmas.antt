@@ -23,6 +23,7 @@ use Rattle.oxc_plan.specs.Rows.{RowView, numbered, pieces, row_of_piece, row_vie
 use Rattle.oxc_plan.specs.Sweep.{IsGroupAlone, MeetNoOthers, is_open}
 use Rattle.oxc_plan.proofs.GroupsLemmas.{begin_before, group_before, groups_apart, groups_hold, largest_end_reaches, largest_end_within}
 use Rattle.oxc_plan.proofs.PlanLemmas.{groups_within, rows_below}
+pub use Rattle.base_lemmas.proofs.Ranges.{range_with_len-append as range_split}
 
 -- a filter by two tests is by one after the other
 pub filter_both : {X : Type 0} (p q : X → Bool) (xs : List X) → filter (λ x. p x && q x) xs ≡ filter q (filter p xs)
@@ -54,17 +55,6 @@ filter_within p q so (x ∷ xs) =
 pub filter_none : {X : Type 0} (p : X → Bool) (xs : List X) → All (λ x. p x ≡ false) xs → filter p xs ≡ []
 filter_none p [] none = refl
 filter_none p (x ∷ xs) none = rw (All-head (λ y. p y ≡ false) x xs none) (filter_none p xs (All-tail (λ y. p y ≡ false) x xs none))
-
--- a range in two parts
-pub range_split : (a m n : ℕ) → range_with_len a (m + n) ≡ range_with_len a m ++ range_with_len (a + m) n
-range_split a zero n =
-    let here : a + 0 ≡ a = omega arith in
-    let all : 0 + n ≡ n = omega arith in
-    rw (here, all) refl
-range_split a (suc m) n =
-    let one : suc m + n ≡ suc (m + n) = omega arith in
-    let next : a + suc m ≡ a + 1 + m = omega arith in
-    rw (one, next) (ap (λ l. a ∷ l) (range_split (a + 1) m n))
 
 pub range_parts : (a b c : ℕ) → a ≤ b → b ≤ c → range_with_len a (c - a) ≡ range_with_len a (b - a) ++ range_with_len b (c - b)
 range_parts a b c first then =

@@ -4,6 +4,7 @@ use Rattle.std.proofs.lemmas.Bool.{cases_lt, and_parts, eqb-true, le-ltb}
 use Rattle.std.proofs.lemmas.Bool.Decides.{nat_tests}
 use Rattle.std.proofs.lemmas.List.{get_or-map, get_or_past, length-map}
 use Rattle.std.proofs.lemmas.List.Folds.{Any-from_list_any}
+use Rattle.std.proofs.Math.Dec.{eqb-suc-zero as not_zero}
 use Rattle.oxc_windows.specs.declared.breaks.LineBreak.{LineBreak}
 use Rattle.oxc_windows.specs.Breaks.{AreBreaks, IsBreakList}
 use Rattle.oxc_windows.specs.Rows.{row_of, row_start, settled, byte_column, is_second_byte}
@@ -47,9 +48,6 @@ end_some len list top known starts kept after end valid h low reached gathered =
     (started_splits list (end - 1) valid.ordered)
     (started_held len list top known starts kept (end - 1 + 1) valid h (omega (arith, low)) reached))
     ∙ start_held len list top known starts kept (started kept (end - 1 + 1) + after + 1) valid h gathered
-
-not_zero : (a : ℕ) → eqb (suc a) 0 ≡ false
-not_zero a = grind (arith, nat_tests)
 
 pub end_exact : (len : ℕ) (list : List LineBreak) (top known : ℕ) (starts : List ℕ) (kept : List LineBreak) (after end : ℕ) → IsBreakList len list
     → (h : Held len list top known starts kept) → h.begin ≤ end → (known < end - 1 + 1 → known ≡ len)

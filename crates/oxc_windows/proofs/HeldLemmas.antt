@@ -16,7 +16,7 @@ use Rattle.oxc_windows.specs.Rows.{is_second_byte}
 early : (from to at : ℕ) → at < from → leb from at && ltb at to ≡ false
 early from to at lt = grind (arith, nat_tests)
 
-late : (from to at : ℕ) → to ≤ at → leb from at && ltb at to ≡ false
+pub late : (from to at : ℕ) → to ≤ at → leb from at && ltb at to ≡ false
 late from to at le = grind (arith, nat_tests)
 
 between_from : (from to at : ℕ) → from ≤ at → leb from at && ltb at to ≡ false → to ≤ at

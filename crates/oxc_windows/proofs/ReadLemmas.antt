@@ -2,6 +2,7 @@
 use Rattle.std.proofs.Common.{◌≡◌, ℕ, ◌+◌, ◌-◌, ◌≤◌, Bool, true, false, List, length, eqb, min, Some, refl, sym, ap, ◌∙◌, arith, zero, suc, ⊎_elim, if◌then◌else◌}
 use Rattle.std.proofs.lemmas.Bool.{cases_lt}
 use Rattle.std.proofs.lemmas.Bool.Decides.{nat_tests}
+use Rattle.std.proofs.Math.Dec.{eqb-suc-zero as not_zero}
 use Rattle.oxc_span.specs.declared.span.Span.{Span}
 use Rattle.oxc_windows.specs.declared.breaks.LineBreak.{LineBreak}
 use Rattle.oxc_windows.specs.declared.window.Window.{Window}
@@ -12,9 +13,6 @@ use Rattle.oxc_windows.specs.Scan.{Scan, Contents, contents_of, contents_read}
 use Rattle.oxc_windows.proofs.RowsLemmas.{few_in_text, row_le}
 use Rattle.oxc_windows.proofs.WindowLemmas.{pair_within, row_start_before, row_start_within, window_of_inside, window_of_past}
 use Rattle.oxc_windows.proofs.MostLemmas.{end_low}
-
-not_zero : (a : ℕ) → eqb (suc a) 0 ≡ false
-not_zero a = grind (arith, nat_tests)
 
 same_inside : {A : Type 0} (a b : A) → Some a ≡ Some b → a ≡ b
 same_inside a b e = cc

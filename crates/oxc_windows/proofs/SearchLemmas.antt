@@ -18,6 +18,7 @@ use Rattle.std.proofs.lemmas.List.{reverse-append}
 use Rattle.std.proofs.lemmas.List.Folds.{list_any-append, Any-from_list_any}
 use Rattle.std.proofs.lemmas.List.Sums.{sum_by-append}
 use Rattle.oxc_windows.proofs.ListLemmas.{count_all, find_no}
+use Rattle.oxc_windows.proofs.HeldLemmas.{late}
 
 grow_step : (bytes : List ℕ) (P : List LineBreak → Type 0) (k : ℕ) → ((b : LineBreak) → b.start ≡ k → P (breaks_before bytes k) → P (breaks_before bytes k ++ b ∷ []))
     → (found : Option LineBreak) → break_at bytes k ≡ found → P (breaks_before bytes k) → P (breaks_before bytes (k + 1))
@@ -67,9 +68,6 @@ none_before bytes from to =
 pub none_more : (bytes : List ℕ) (from to at : ℕ) → break_at bytes at ≡ None → first_between (breaks_before bytes at) from to ≡ None → first_between (breaks_before bytes (at + 1)) from to ≡ None
 unfolding first_between
 none_more bytes from to at e none = rw (breaks_before_none bytes at e) none
-
-late : (from to at : ℕ) → to ≤ at → leb from at && ltb at to ≡ false
-late from to at le = grind (arith, nat_tests)
 
 inside : (from to at : ℕ) → from ≤ at → at < to → leb from at && ltb at to ≡ true
 inside from to at low high = grind (arith, nat_tests)

@@ -91,7 +91,7 @@ ends_test end o = ⊎_elim (λ lt. yes end o lt) (λ ge. no_end end o ge) (cases
     no_end : (end o : ℕ) → o ≤ end → leb (end + 1) o ≡ ltb end o
     no_end end o ge = grind (arith, nat_tests)
 
-count_ends : (kept : List LineBreak) (o : ℕ) → count_by (λ s. leb s o) (map (λ b. b.end + 1) kept) ≡ count_by (λ b. ltb b.end o) kept
+pub count_ends : (kept : List LineBreak) (o : ℕ) → count_by (λ s. leb s o) (map (λ b. b.end + 1) kept) ≡ count_by (λ b. ltb b.end o) kept
 count_ends [] o = refl
 count_ends (b ∷ kept) o =
     count_cons (λ s. leb s o) (b.end + 1) (map (λ b. b.end + 1) kept) ∙ ap (λ t. cond t 1 0 + count_by (λ s. leb s o) (map (λ b. b.end + 1) kept)) (ends_test b.end o)

@@ -96,7 +96,7 @@ fn reads_at_last(
     }
 }
 
-// `docs/refuse-allocations.sh` runs this with each of its allocations refused in turn.
+// `tools/refuse-allocations.sh` runs this with each of its allocations refused in turn.
 #[test]
 fn a_scanner_reads_on_after_want_of_memory(rt: HostRuntime) {
     let mut scanner = SpanScanner::new(rt.alloc(), FOUR_ROWS, 1, 1);

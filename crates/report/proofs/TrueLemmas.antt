@@ -1,5 +1,5 @@
 -- A report that isn't refused is drawn true to its source.
-use Rattle.std.proofs.Common.{◌≡◌, ℕ, List, [], ◌∷◌, map, All, None, slice_index_or}
+use Rattle.std.proofs.Common.{◌≡◌, ℕ, List, [], ◌∷◌, map, All, None, slice_index_or, refl}
 use Rattle.std.proofs.lemmas.List.Elements.{All-append, All-cons, All-map, All-nil}
 use Rattle.std.specs.List.{flat_map}
 use Rattle.codespan.specs.Texts.{NamedText, text_of}
@@ -11,9 +11,10 @@ use Rattle.oxc_plan.specs.Groups.{groups_in}
 use Rattle.oxc_plan.specs.Rows.{RowView}
 use Rattle.oxc_plan.proofs.MarksLemmas.{marks_are_exact}
 use Rattle.oxc_plan.proofs.TextsLemmas.{rows_once}
+use Rattle.oxc_handlers.specs.Report.{plan_of, snippets_in}
 use Rattle.render_files.specs.Given.{GivenReport}
 use Rattle.render_files.specs.Refusal.{refusal_of}
-use Rattle.render_files.specs.Shown.{placed_labels}
+use Rattle.render_files.specs.Shown.{placed_labels, view_of}
 use Rattle.render_files.proofs.Standing.{all_stand}
 use Rattle.report.specs.Run.{IsTrueToSource}
 
@@ -43,6 +44,12 @@ unfolding snippets_of snippet_of row_plans_of
 marks_exact tab source labels =
     all_rows (IsExact tab (in_order labels)) (snippet_of tab source (in_order labels)) (λ group. rows_exact tab (in_order labels) _) (groups_in source labels)
 
+-- ---- the plan that is drawn
+
+plan_is : (tab : ℕ) (files : List NamedText) (it : GivenReport) → (plan_of tab (view_of files it)).snippets ≡ snippets_of tab (text_of files it.file) (placed_labels files it)
+unfolding plan_of snippets_in
+plan_is tab files it = refl
+
 -- ---- all reports
 
 pub true_to_source : (tab : ℕ) (files : List NamedText) (reports : List GivenReport) → refusal_of files reports ≡ None → All (IsTrueToSource tab files) reports
@@ -50,6 +57,7 @@ true_to_source tab files reports accepted at other within =
     let it = slice_index_or reports at other in
     record {
       stands = all_stand files reports accepted at other within;
+      plan = plan_is tab files it;
       rows = rows_once tab (text_of files it.file) (placed_labels files it);
       marks = marks_exact tab (text_of files it.file) (placed_labels files it);
     }

@@ -1,5 +1,5 @@
 -- What the end of a run means.
-use Rattle.std.specs.Prelude.{◌≡◌, ◌≢◌, ⊤, ℕ, ◌<◌, ◌≤◌, List, length, map, All, IsTrue, Bool, true, false, nat_lt, if◌then◌else◌, Option, Some, None, option_map, unwrap_or}
+use Rattle.std.specs.Prelude.{◌≡◌, ◌≢◌, ⊤, ℕ, ◌+◌, ◌≤◌, List, length, map, All, IsTrue, Bool, true, false, nat_lt, if◌then◌else◌, Option, Some, None, option_map, unwrap_or}
 use Rattle.std.specs.Io.KnownBytes.{Appends, Keeps, Consumes, IsAtEnd}
 use Rattle.oxc_protocol.specs.Faults.{Rose}
 use Rattle.oxc_protocol.specs.Parts.{Parts}
@@ -8,11 +8,12 @@ use Rattle.oxc_span.specs.Label.{Label}
 use Rattle.oxc_plan.specs.Laws.{HaveRowsOnce, drawn_rows}
 use Rattle.oxc_plan.specs.Marks.{DoNotOverlap, marked_cells, row_cells}
 use Rattle.oxc_plan.specs.Plan.{in_order, snippets_of, spans_of}
+use Rattle.oxc_handlers.specs.Report.{plan_of}
 use Rattle.codespan.specs.Texts.{NamedText, text_of}
 use Rattle.render_files.specs.Given.{GivenReport}
 use Rattle.render_files.specs.Refusal.{refusal_of}
 use Rattle.render_files.specs.Rendered.{StandsInFile}
-use Rattle.render_files.specs.Shown.{placed_labels}
+use Rattle.render_files.specs.Shown.{placed_labels, view_of}
 use Rattle.documents.specs.Document.{Document, document_of}
 use Rattle.report.specs.Drawn.{measured, shown}
 use Rattle.report.specs.Ending.{IsTold, line_of, status_of}
@@ -60,11 +61,11 @@ pub record TookWhole (input : Device) (P : List ℕ → Type 0) : Type 0 where
   pub within : length bytes ≤ limit
   pub is : P bytes
 
--- more bytes than the limit were taken
+-- one byte more than the limit was taken, and no further
 pub record TookTooMuch (input : Device) : Type 0 where
   pub bytes : List ℕ
   pub taken : Consumes input.before input.now bytes
-  pub past : limit < length bytes
+  pub past : length bytes ≡ limit + 1
 
 -- ---- what a drawing promises of the source
 
@@ -74,10 +75,12 @@ AreExactlyMarked tabs source labels =
     All (λ plan. DoNotOverlap (row_cells tabs plan.row (spans_of (in_order labels))) → map marked_cells plan.marks ≡ row_cells tabs plan.row (spans_of (in_order labels)))
     (drawn_rows (snippets_of tabs source labels))
 
--- the labels of a report end within its source; in its plan, where CR stands only before LF, each row that a label meets
--- stands once, truly numbered; and labels of a row that don't overlap are marked in exactly their cells
+-- the labels of a report end within its source, and the plan that is drawn has the snippets of that source and these labels; in
+-- them, where CR stands only before LF, each row that a label meets stands once, truly numbered, and labels of a row that don't
+-- overlap are marked in exactly their cells
 pub record IsTrueToSource (tabs : ℕ) (files : List NamedText) (it : GivenReport) : Type 0 where
   pub stands : StandsInFile files it
+  pub plan : (plan_of tabs (view_of files it)).snippets ≡ snippets_of tabs (text_of files it.file) (placed_labels files it)
   pub rows : HaveRowsOnce tabs (text_of files it.file) (placed_labels files it)
   pub marks : AreExactlyMarked tabs (text_of files it.file) (placed_labels files it)
 

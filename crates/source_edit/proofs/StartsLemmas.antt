@@ -5,9 +5,10 @@ use Rattle.std.proofs.lemmas.Bool.Decides.{nat_tests}
 use Rattle.std.proofs.lemmas.List.{map-append, get_or_past, get_or_append_left, get_or-append-add, get_or-take, get_or-drop, length-append, length-take, length-drop, take_at, drop_at}
 use Rattle.std.proofs.lemmas.List.Elements.{filter-append}
 use Rattle.std.proofs.lemmas.List.Sums.{sum_by-append}
-use Rattle.source_location.specs.Breaks.{LineBreak, break_at, breaks_of}
+use Rattle.source_location.specs.Breaks.{LineBreak, break_at}
+use Rattle.oxc_windows.specs.Breaks.{breaks_before, breaks_of}
 use Rattle.source_location.specs.Rows.{line_starts}
-use Rattle.source_location.proofs.BreaksLemmas.{breaks_before, breaks_before_more, breaks_before_start}
+use Rattle.source_location.proofs.BreaksLemmas.{breaks_before_more, breaks_before_start}
 use Rattle.source_location.proofs.CutLemmas.{range_with_len-append}
 use Rattle.source_location.proofs.Counting.{range_with_len_push}
 use Rattle.source_edit.specs.Edits.{Change, edited}

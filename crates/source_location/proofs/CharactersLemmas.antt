@@ -7,37 +7,13 @@ use Rattle.std.proofs.lemmas.List.Sums.{sum_by-append, count_by_more_yes, count_
 use Rattle.std.proofs.lemmas.Str.{encodes-chars}
 use Rattle.std.proofs.Math.Seq.{take-add}
 use lib.Utf8.{encode, encodes}
-use Rattle.bytecount.specs.Counts.{begins_char, char_count as first_bytes}
-use Rattle.source_location.specs.Characters.{is_char_start, char_count}
+use Rattle.bytecount.specs.Counts.{begins_char, char_count}
+use Rattle.source_location.specs.Characters.{is_char_start}
+pub use Rattle.bytecount.proofs.CharsLemmas.{char_count-append, char_count-nil, char_count-encodes, char_count-chars}
 
 -- the crate that counts says in its own words which bytes begin a character
-begins_alike : (x : ℕ) → begins_char x ≡ is_char_start x
+pub begins_alike : (x : ℕ) → begins_char x ≡ is_char_start x
 begins_alike x = grind (arith, nat_tests)
-
-pub counted_alike : (bytes : List ℕ) → first_bytes bytes ≡ char_count bytes
-unfolding char_count first_bytes
-counted_alike bytes = ap (λ test. count_by test bytes) (λ i x. begins_alike x i)
-
-pub char_count-append : (xs ys : List ℕ) → char_count (xs ++ ys) ≡ char_count xs + char_count ys
-unfolding char_count
-char_count-append xs ys = sum_by-append (λ byte. cond (is_char_start byte) 1 0) xs ys
-
-pub char_count-nil : char_count [] ≡ 0
-unfolding char_count
-char_count-nil = refl
-
--- the bytes of a character have one first byte
-char_count-encode : (c : ℕ) → char_count (encode c) ≡ 1
-unfolding char_count encode
-char_count-encode c = grind (arith, nat_tests)
-
-pub char_count-encodes : (cs : List ℕ) → char_count (encodes cs) ≡ length cs
-char_count-encodes [] = char_count-nil
-char_count-encodes (c ∷ cs) = omega (arith, char_count-append (encode c) (encodes cs), char_count-encode c, char_count-encodes cs)
-
--- of a text it is the number of its characters
-pub char_count-chars : (bytes : List ℕ) → IsUtf8 bytes → char_count bytes ≡ length (chars bytes)
-char_count-chars bytes utf8 = ap char_count (sym (encodes-chars bytes utf8)) ∙ char_count-encodes (chars bytes)
 
 -- between two places
 pub char_count-between : (text : List ℕ) (from to : ℕ) → from ≤ to → char_count (take to text) ≡ char_count (take from text) + char_count (slice_range text from to)
@@ -54,7 +30,7 @@ pub char_count-lt : (text : List ℕ) (from to : ℕ) → IsCharBoundary text fr
 unfolding char_count
 char_count-lt text from to b lt within =
     let start : is_char_start (get_or text from 0) ≡ true = grind (arith, nat_tests, b.1) in
-    omega (arith, count_by_more_yes is_char_start text from 0 within start, char_count-le text (from + 1) to (omega arith))
+    omega (arith, count_by_more_yes begins_char text from 0 within (begins_alike (get_or text from 0) ∙ start), char_count-le text (from + 1) to (omega arith))
 
 -- none where the second place is not past the first
 pub char_count-none : (text : List ℕ) (from to : ℕ) → to ≤ from → char_count (slice_range text from to) ≡ 0
@@ -74,14 +50,14 @@ all_characters row at e = char_count-whole row at (omega arith)
 -- one byte more, where a character begins with it and where none does
 pub char_count_begun : (row : List ℕ) (at : ℕ) → at < length row → is_char_start (get_or row at 0) ≡ true → char_count (take (at + 1) row) ≡ char_count (take at row) + 1
 unfolding char_count
-char_count_begun row at h e = omega (arith, count_by_more_yes is_char_start row at 0 h e)
+char_count_begun row at h e = omega (arith, count_by_more_yes begins_char row at 0 h (begins_alike (get_or row at 0) ∙ e))
 
 pub char_count_within : (row : List ℕ) (at : ℕ) → at < length row → is_char_start (get_or row at 0) ≡ false → char_count (take (at + 1) row) ≡ char_count (take at row)
 unfolding char_count
-char_count_within row at h e = omega (arith, count_by_more_no is_char_start row at 0 h e)
+char_count_within row at h e = omega (arith, count_by_more_no begins_char row at 0 h (begins_alike (get_or row at 0) ∙ e))
 
 -- no more characters before an offset than bytes
 pub char_count-le-offset : (text : List ℕ) (from to : ℕ) → char_count (slice_range text from to) ≤ to
 unfolding char_count
 char_count-le-offset text from to =
-    omega (arith, count_by-le-length is_char_start (slice_range text from to), length-take (to - from) (drop from text))
+    omega (arith, count_by-le-length begins_char (slice_range text from to), length-take (to - from) (drop from text))

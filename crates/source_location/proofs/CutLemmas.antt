@@ -9,7 +9,9 @@ use Rattle.std.proofs.lemmas.List.Elements.{filter_map-append}
 use Rattle.source_location.specs.declared.newlines.LineEnding.{LineEnding}
 use Rattle.source_location.specs.declared.newlines.LineEnding.TheVariants.{Lf, Cr, CrLf}
 use Rattle.source_location.specs.Newlines.{ending_bytes}
-use Rattle.source_location.specs.Breaks.{LineBreak, break_with, break_at, breaks_of, moved}
+use Rattle.source_location.specs.Breaks.{LineBreak, break_with, break_at, moved}
+use Rattle.oxc_windows.specs.Breaks.{breaks_before, breaks_of}
+pub use Rattle.base_lemmas.proofs.Ranges.{range_with_len-append}
 
 -- the cut between two texts parts no CRLF
 abbrev pub PartsNone : List ℕ → List ℕ → Type 0
@@ -19,12 +21,6 @@ pub length-ending : (ending : LineEnding) → (1 ≤ length (ending_bytes ending
 length-ending Lf = (omega arith, omega arith)
 length-ending Cr = (omega arith, omega arith)
 length-ending CrLf = (omega arith, omega arith)
-
-pub range_with_len-append : (a n m : ℕ) → range_with_len a (n + m) ≡ range_with_len a n ++ range_with_len (a + n) m
-range_with_len-append a zero m = ap (λ k. range_with_len a k) (omega arith) ∙ ap (λ k. range_with_len k m) (omega arith)
-range_with_len-append a (suc n) m =
-    let one_more : suc n + m ≡ suc (n + m) = omega arith in
-    ap (λ k. range_with_len a k) one_more ∙ ap (λ l. a ∷ l) (range_with_len-append (a + 1) n m ∙ ap (λ k. range_with_len (a + 1) n ++ range_with_len k m) (omega arith))
 
 -- two functions that agree over a range give the same of it
 filter_map-same : {Y : Type 0} (f g : ℕ → Option Y) (a n : ℕ) → ((i : ℕ) → a ≤ i → i < a + n → f i ≡ g i) → filter_map f (range_with_len a n) ≡ filter_map g (range_with_len a n)
@@ -110,7 +106,7 @@ break_behind xs ys i whole =
 
 -- the breaks of a text are those of its front and, further on, those of its rest
 pub breaks_of-append : (xs ys : List ℕ) → PartsNone xs ys → breaks_of (xs ++ ys) ≡ breaks_of xs ++ map (moved (length xs)) (breaks_of ys)
-unfolding breaks_of
+unfolding breaks_of breaks_before
 breaks_of-append xs ys whole =
     ap (λ n. filter_map (break_at (xs ++ ys)) (range_with_len 0 n)) (length-append xs ys)
     ∙ ap (filter_map (break_at (xs ++ ys))) (range_with_len-append 0 (length xs) (length ys))
@@ -134,7 +130,7 @@ none_with byte before after place lf cr = grind (arith, nat_tests)
 
 -- they have no break
 pub breaks_of-none : (xs : List ℕ) → HasNone xs → breaks_of xs ≡ []
-unfolding breaks_of
+unfolding breaks_of breaks_before
 breaks_of-none xs none =
     filter_map-none (break_at xs) 0 (length xs) (λ i low high.
     let here = none i (omega arith) in
@@ -142,7 +138,7 @@ breaks_of-none xs none =
 
 -- a line ending alone is one break
 pub breaks_of-ending : (ending : LineEnding) → breaks_of (ending_bytes ending) ≡ record { start = 0; end = length (ending_bytes ending) - 1 } ∷ []
-unfolding breaks_of
+unfolding breaks_of breaks_before
 breaks_of-ending Lf = refl
 breaks_of-ending Cr = refl
 breaks_of-ending CrLf = refl

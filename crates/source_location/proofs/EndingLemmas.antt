@@ -9,13 +9,15 @@ use Rattle.std.proofs.Math.Seq.{drop-cons, drop-length}
 use Rattle.memchr.specs.Find.{IsLastByte, is_byte2}
 use Rattle.source_location.specs.declared.newlines.LineEnding.{LineEnding}
 use Rattle.source_location.specs.declared.newlines.LineEnding.TheVariants.{Lf, Cr, CrLf}
-use Rattle.source_location.specs.Breaks.{LineBreak, breaks_of, moved}
-use Rattle.source_location.specs.Rows.{row_start}
+use Rattle.source_location.specs.Breaks.{LineBreak, moved}
 use Rattle.source_location.specs.Newlines.{ending_bytes}
 use Rattle.source_location.specs.Lines.{lines_of, ending_length, IsLastLine}
 use Rattle.source_location.proofs.CutLemmas.{HasNone, PartsNone, breaks_of-none, breaks_of-first, breaks_of-append, breaks_of-ending, length-ending}
 use Rattle.source_location.proofs.NewlinesLemmas.{test_lf, test_which, passed_over}
 use Rattle.source_location.proofs.LinesLemmas.{EndsWhole, IsOneLine, row_start_seam, lines_of-last}
+use Rattle.source_location.proofs.BreaksLemmas.{within_nonzero}
+use Rattle.oxc_windows.specs.Breaks.{breaks_before, breaks_of}
+use Rattle.oxc_windows.specs.Rows.{row_start}
 
 -- how long the ending is, by the last two bytes
 length_crlf : (text : List ℕ) → get_or text (length text - 1) 0 ≡ 10 → get_or text (length text - 2) 0 ≡ 13 → ending_length text ≡ 2
@@ -49,9 +51,6 @@ pub record EndsWith (text : List ℕ) (ending : LineEnding) : Type 0 where
   pub bytes : drop (length text - ending_length text) text ≡ ending_bytes ending
   pub whole : PartsNone (take (length text - ending_length text) text) (ending_bytes ending)
 
-nonzero_within : (text : List ℕ) (i : ℕ) → 0 < get_or text i 0 → i < length text
-nonzero_within text i h = ⊎_elim (λ lt. lt) (λ ge. absurd (omega (arith, get_or_past text i 0 ge, h))) (cases_lt i (length text))
-
 ends_crlf : (text : List ℕ) → get_or text (length text - 1) 0 ≡ 10 → get_or text (length text - 2) 0 ≡ 13 → EndsWith text CrLf
 ends_crlf text lf cr =
     let two = length_crlf text lf cr in
@@ -67,7 +66,7 @@ ends_crlf text lf cr =
 ends_cr : (text : List ℕ) → get_or text (length text - 1) 0 ≡ 13 → EndsWith text Cr
 ends_cr text cr =
     let one = length_cr text cr in
-    let some : 0 < length text = omega (arith, nonzero_within text (length text - 1) (omega (arith, cr))) in
+    let some : 0 < length text = omega (arith, within_nonzero text (length text - 1) (omega (arith, cr))) in
     record {
       len = one;
       within = omega (arith, some);
@@ -78,7 +77,7 @@ ends_cr text cr =
 ends_lf : (text : List ℕ) → get_or text (length text - 1) 0 ≡ 10 → (get_or text (length text - 2) 0 ≡ 13 → ⊥) → EndsWith text Lf
 ends_lf text lf not_cr =
     let one = length_lf text lf not_cr in
-    let some : 0 < length text = omega (arith, nonzero_within text (length text - 1) (omega (arith, lf))) in
+    let some : 0 < length text = omega (arith, within_nonzero text (length text - 1) (omega (arith, lf))) in
     record {
       len = one;
       within = omega (arith, some);
@@ -91,7 +90,7 @@ ends_lf text lf not_cr =
         let long : length (take (length text - ending_length text) text) ≡ length text - 1 = omega (arith, length-take (length text - ending_length text) text, one) in
         let place : length (take (length text - ending_length text) text) - 1 ≡ length text - 2 = omega (arith, long) in
         let there : length text - 2 < length text - ending_length text =
-        omega (arith, one, long, place, nonzero_within (take (length text - ending_length text) text) (length (take (length text - ending_length text) text) - 1) (omega (arith, last))) in
+        omega (arith, one, long, place, within_nonzero (take (length text - ending_length text) text) (length (take (length text - ending_length text) text) - 1) (omega (arith, last))) in
         sym (get_or-take (length text - ending_length text) text (length text - 2) 0 there)
         ∙ ap (λ k. get_or (take (length text - ending_length text) text) k 0) (sym place) ∙ last
 
@@ -119,11 +118,11 @@ ends_whole text ending ends =
     ∙ omega (arith, length-append front e, length-ending ending))
 
 breaks_of-nil : breaks_of [] ≡ []
-unfolding breaks_of
+unfolding breaks_of breaks_before
 breaks_of-nil = refl
 
 empty_whole : EndsWhole []
-unfolding row_start breaks_of
+unfolding row_start breaks_of breaks_before
 empty_whole = refl
 
 -- bytes without a break, and the ending behind them, are one line

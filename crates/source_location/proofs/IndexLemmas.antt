@@ -11,22 +11,17 @@ use Rattle.std.proofs.lemmas.List.{length-map, get_or-map, get_or_default, get_o
 use Rattle.std.proofs.lemmas.List.Sums.{sum_by-cons, list_all-from_AllPass, AllPass-from_list_all}
 use Rattle.std.proofs.lemmas.List.Folds.{list_all_at, list_all-append}
 use Rattle.source_location.specs.Breaks.{LineBreak, breaks_of, AreBreaks, moved}
-use Rattle.source_location.specs.Rows.{row_of, line_starts, row_start}
-use Rattle.source_location.specs.Characters.{is_char_start, char_count}
+use Rattle.source_location.specs.Rows.{line_starts}
+use Rattle.source_location.specs.Characters.{is_char_start}
 use Rattle.source_location.specs.declared.line_index.IndexKind.{IndexKind}
 use Rattle.source_location.specs.declared.line_index.IndexKind.TheVariants.{Ascii}
 use Rattle.source_location.specs.Index.{IndexView, IsIndex, index_of, is_ascii, is_ascii_kind}
 use Rattle.source_location.proofs.Counting.{count_by_cut}
 use Rattle.source_location.proofs.BreaksLemmas.{breaks_valid, few_breaks, within_nonzero}
-
-after_end : (e o : ℕ) → leb (e + 1) o ≡ ltb e o
-after_end e o = grind (arith, nat_tests)
-
-count_ends : (list : List LineBreak) (o : ℕ) → count_by (λ s. leb s o) (map (λ b. b.end + 1) list) ≡ count_by (λ b. ltb b.end o) list
-count_ends [] o = refl
-count_ends (b ∷ list) o =
-    sum_by-cons (λ s. cond (leb s o) 1 0) (b.end + 1) (map (λ c. c.end + 1) list)
-    ∙ rw (after_end b.end o, count_ends list o) (sym (sum_by-cons (λ c. cond (ltb c.end o) 1 0) b list))
+use Rattle.oxc_windows.proofs.StartsLemmas.{count_ends}
+use Rattle.bytecount.specs.Counts.{begins_char, char_count}
+use Rattle.source_location.proofs.CharactersLemmas.{begins_alike}
+use Rattle.oxc_windows.specs.Rows.{row_of, row_start}
 
 zero_le : (o : ℕ) → leb 0 o ≡ true
 zero_le o = grind (arith, nat_tests)
@@ -142,14 +137,14 @@ pub ascii_part : (text : List ℕ) (from to : ℕ) → is_ascii text ≡ true �
 ascii_part text from to e = ascii_is (slice_range text from to) (λ i. ascii_in text from to i (ascii_all text e))
 
 -- each byte of it is a character
-ascii_start : (x : ℕ) → x < 128 → is_char_start x ≡ true
+pub ascii_start : (x : ℕ) → x < 128 → is_char_start x ≡ true
 ascii_start x h = grind (arith, nat_tests)
 
 pub char_count-ascii : (text : List ℕ) → is_ascii text ≡ true → char_count text ≡ length text
 unfolding char_count
 char_count-ascii text e =
-    count_by_cut is_char_start text (length text) (omega arith)
-    (λ k d h. ascii_start (get_or text k d) (omega (arith, get_or_default text k d 0 h, ascii_all text e k)))
+    count_by_cut begins_char text (length text) (omega arith)
+    (λ k d h. begins_alike (get_or text k d) ∙ ascii_start (get_or text k d) (omega (arith, get_or_default text k d 0 h, ascii_all text e k)))
     (λ k d low high. absurd (omega (arith, low, high)))
 
 -- its boundary after the first characters

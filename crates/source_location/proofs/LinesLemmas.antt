@@ -10,8 +10,8 @@ use Rattle.std.proofs.lemmas.List.Elements.{filter-append}
 use Rattle.std.proofs.lemmas.List.Folds.{concat-append}
 use Rattle.std.proofs.Math.Seq.{take-add, drop-append_seam}
 use Rattle.source_location.specs.declared.newlines.LineEnding.{LineEnding}
-use Rattle.source_location.specs.Breaks.{LineBreak, breaks_of, moved}
-use Rattle.source_location.specs.Rows.{row_start, row_count, line_starts}
+use Rattle.source_location.specs.Breaks.{LineBreak, moved}
+use Rattle.source_location.specs.Rows.{row_count, line_starts}
 use Rattle.source_location.specs.Newlines.{ending_bytes, IsFirstBreak}
 use Rattle.source_location.specs.Lines.{LineView, line_of, lines_of, texts_of, IsFirstLine}
 use Rattle.source_location.proofs.Counting.{range_with_len_push}
@@ -19,6 +19,9 @@ use Rattle.source_location.proofs.CutLemmas.{PartsNone, breaks_of-append, length
 use Rattle.source_location.proofs.BreaksLemmas.{breaks_valid}
 use Rattle.source_location.proofs.RowsLemmas.{row_start_first, row_start_past, row_start-le, row_start-le-next, row_start-lt-next}
 use Rattle.source_location.proofs.NewlinesLemmas.{ending_ends, first_break_boundary}
+use Rattle.oxc_windows.specs.Breaks.{breaks_before, breaks_of}
+use Rattle.std.proofs.lemmas.Bool.{lt-ltb as ltb_yes, le-ltb as ltb_no}
+use Rattle.oxc_windows.specs.Rows.{row_start}
 
 -- where a row of a text starts, and whether that is before the text's end
 abbrev pub starts_at : List ℕ → ℕ → ℕ
@@ -49,12 +52,6 @@ map_filter-moved f g p q k a b (suc n) at same_test same =
     ∙ ap (λ x. cond (q a) (x ∷ map g (filter q (range_with_len (a + 1) n))) (map g (filter q (range_with_len (a + 1) n)))) value
     ∙ sym (cons_if g (q a) a (filter q (range_with_len (a + 1) n)))
 
-ltb_yes : (a b : ℕ) → a < b → ltb a b ≡ true
-ltb_yes a b h = grind (arith, nat_tests)
-
-ltb_no : (a b : ℕ) → b ≤ a → ltb a b ≡ false
-ltb_no a b h = grind (arith, nat_tests)
-
 ltb_moved : (n a b c : ℕ) → c ≡ n + b → ltb (n + a) c ≡ ltb a b
 ltb_moved n a b c e = grind (arith, nat_tests)
 
@@ -70,7 +67,7 @@ lines_push offset text k =
 
 -- an empty text has no line
 pub lines_of-nil : (offset : ℕ) (text : List ℕ) → length text ≡ 0 → lines_of offset text ≡ []
-unfolding lines_of breaks_of row_start
+unfolding lines_of breaks_of row_start breaks_before
 lines_of-nil offset [] e = refl
 lines_of-nil offset (x ∷ text) e = absurd (omega (arith, e))
 

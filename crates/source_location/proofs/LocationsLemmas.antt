@@ -6,10 +6,11 @@ use Rattle.std.proofs.lemmas.Bool.Decides.{nat_tests}
 use Rattle.std.proofs.lemmas.Str.{IsUtf8-encode, IsCharBoundary-start, IsCharBoundary-end, IsCharBoundary-from_take, IsCharBoundary-after_ascii}
 use lib.Utf8.{encode}
 use Rattle.source_location.specs.Breaks.{LineBreak, breaks_of}
-use Rattle.source_location.specs.Rows.{row_start}
 use Rattle.source_location.proofs.BreaksLemmas.{breaks_valid, break_ends_ascii}
 use Rattle.source_location.proofs.RowsLemmas.{row_start_after, row_start_past}
 use Rattle.source_location.specs.Locations.{begins_with_mark, counted_from}
+pub use Rattle.oxc_windows.proofs.TextLemmas.{row_start_boundary}
+use Rattle.oxc_windows.specs.Rows.{row_start}
 
 -- what stands at the front of a text with a mark
 pub mark_front : (text : List ℕ) → get_or text 0 0 ≡ 0xEF → get_or text 1 0 ≡ 0xBB → get_or text 2 0 ≡ 0xBF → (3 ≤ length text) × (take 3 text ≡ 0xEF ∷ 0xBB ∷ 0xBF ∷ [])
@@ -33,18 +34,6 @@ pub mark_boundary : (text : List ℕ) → IsUtf8 text → begins_with_mark text 
 mark_boundary text utf8 e =
     let front = mark_within text e in
     IsCharBoundary-from_take text 3 utf8 front.0 (subst IsUtf8 (sym front.1) mark_utf8)
-
--- a text may be cut where a row starts
-pub row_start_boundary : (text : List ℕ) (r : ℕ) → IsUtf8 text → IsCharBoundary text (row_start (length text) (breaks_of text) r)
-unfolding row_start
-row_start_boundary text zero utf8 = IsCharBoundary-start text utf8
-row_start_boundary text (suc k) utf8 =
-    let none : LineBreak = record { start = 0; end = 0 } in
-    ⊎_elim (λ lt.
-    let inside = (breaks_valid text).within k none lt in
-    rw (row_start_after (length text) (breaks_of text) k none lt) (IsCharBoundary-after_ascii text _ utf8 inside (break_ends_ascii text k none lt)))
-    (λ ge. rw (row_start_past (length text) (breaks_of text) (suc k) (omega (arith, ge))) (IsCharBoundary-end text))
-    (cases_lt k (length (breaks_of text)))
 
 -- where the columns are counted from
 pub counted_from_later : (text : List ℕ) (r : ℕ) → 0 < r → counted_from text r ≡ row_start (length text) (breaks_of text) r

@@ -14,6 +14,7 @@ use Rattle.source_location.specs.Characters.{char_count}
 use Rattle.source_location.specs.Locations.{begins_with_mark, counted_from, location_of, IsOffsetAt}
 use Rattle.source_location.proofs.CharactersLemmas.{char_count-between, char_count-le, char_count-lt, char_count-none}
 use Rattle.source_location.proofs.LocationsLemmas.{mark_within, mark_boundary, mark_bytes, counted_from_later, counted_from_mark, counted_from_first, counted_from_boundary, row_start_boundary}
+use Rattle.oxc_windows.proofs.ByteRowsLemmas.{rows_begin as row_of_none}
 
 pub row_at : (text : List ℕ) (o : ℕ) (place : SourceLocation) → location_of text o ≡ place → row_of (breaks_of text) o + 1 ≡ place.row
 unfolding location_of
@@ -213,12 +214,6 @@ mark_start text zero e b lt = refl
 mark_start text (suc zero) e b lt = absurd (omega (arith, b.1 (omega (arith, (mark_within text e).0)) (omega (arith, (mark_bytes text e).1)), (mark_bytes text e).1))
 mark_start text (suc (suc zero)) e b lt = absurd (omega (arith, b.1 (omega (arith, (mark_within text e).0)) (omega (arith, (mark_bytes text e).2)), (mark_bytes text e).2))
 mark_start text (suc (suc (suc o))) e b lt = absurd (omega arith)
-
--- no row ends before the text
-row_of_none : (text : List ℕ) → row_of (breaks_of text) 0 ≡ 0
-row_of_none text =
-    ⊎_elim (λ some. absurd (omega (arith, ends_before_row (breaks_of text) 0 (breaks_valid text).ordered 0 (record { start = 0; end = 0 }) some)))
-    (λ zero. omega arith) (cases_lt 0 (row_of (breaks_of text) 0))
 
 -- 0 and 3 have one location in a text with a mark
 mark_locations : (text : List ℕ) → begins_with_mark text ≡ true → location_of text 3 ≡ location_of text 0

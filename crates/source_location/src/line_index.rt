@@ -343,7 +343,6 @@ impl IndexKind {
 }
 
 /// How many characters begin in the bytes.
-#[tactic(auto, using(crate::proofs::CharactersLemmas::counted_alike))]
 fn character_count(bytes: &[u8]) -> usize
     ensures { result ≡ char_count bytes.now }
 {

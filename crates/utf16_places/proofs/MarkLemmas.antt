@@ -22,6 +22,7 @@ use Rattle.utf16_places.specs.Index.{IsWideIn, AreWideBefore}
 use Rattle.utf16_places.proofs.UnitsLemmas.{begun, begun-encode, before, before-between, units-between, units-le-between, scalar_low}
 use Rattle.utf16_places.proofs.CharacterLemmas.{character_at, byte_of, encode_first}
 use Rattle.utf16_places.proofs.WideLemmas.{IsWideSpan, wide_span, past_span, plain}
+use Rattle.base_lemmas.proofs.Lists.{slice_range-rest as rest_is}
 
 -- a byte of a part
 pub slice_byte : (bytes : List ℕ) (from to k : ℕ) → from + k < to → get_or (slice_range bytes from to) k 0 ≡ get_or bytes (from + k) 0
@@ -42,9 +43,6 @@ high_byte byte e = grind (arith, nat_tests)
 
 low_byte : (byte : ℕ) → leb 128 byte ≡ false → byte < 128
 low_byte byte e = grind (arith, nat_tests)
-
-rest_is : (bytes : List ℕ) (passed : ℕ) → slice_range bytes passed (length bytes) ≡ drop passed bytes
-rest_is bytes passed = take_all (length bytes - passed) (drop passed bytes) (omega (arith, length-drop passed bytes))
 
 pub past_found : (bytes : List ℕ) (passed at : ℕ) → passed ≤ length bytes → ((k : ℕ) → k < passed → get_or bytes k 0 < 128) → position (λ byte. leb 128 byte) (slice_range bytes passed (length bytes)) ≡ Some at
     → IsPastAsciiAt bytes (passed + at)
