@@ -4,8 +4,9 @@
 usage: speed.py [DOCUMENT..]     (many multi wide unicode deep big; all where none is named)
 
 It wants the archive of `sh bindings/test.sh` (out/llvm/libgirzohal.a), cc, cargo and valgrind. The documents are those of
-tools/cost.py, with labels by bytes. For each: what `files_text` takes in the library, what `girzohal_draw` takes of which that is
-a part, and what `draw` of the Rust crate takes, with the ratios of both to the first. Both have to draw the same."""
+tools/cost.py, with labels by bytes. For each: what `files_text` takes in the library (compiled into the function `draw` of
+crates/girzohal_c), what `girzohal_draw` takes of which that is a part, and what `draw` of the Rust crate takes, with the ratios
+of both to the first. Both have to draw the same."""
 import os
 import re
 import struct
@@ -93,13 +94,13 @@ def main(wanted):
             given = os.path.join(room, name)
             with open(given, "wb") as file:
                 file.write(arrays(documents.MAKERS[name]()))
-            text, whole = counts(in_c, given, given + ".c", ("files_text", "girzohal_draw"))
+            text, whole = counts(in_c, given, given + ".c", ("draw", "girzohal_draw"))
             (rust,) = counts(in_rust, given, given + ".rust", ("counted",))
             with open(given + ".c", "rb") as one, open(given + ".rust", "rb") as other:
                 if one.read() != other.read():
                     sys.exit(f"{name}: the drawings differ")
-            of = text or whole
-            print(f"{name:8} files_text {text or 0:14,}   girzohal_draw {whole:14,} ({whole / of:.3f})   Rust {rust:14,} ({rust / of:.3f})", flush=True)
+            print(f"{name:8} files_text {text:14,}   girzohal_draw {whole:14,} ({whole / text:.3f})   "
+                  f"Rust {rust:14,} ({rust / text:.3f})", flush=True)
 
 
 if __name__ == "__main__":
