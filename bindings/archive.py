@@ -107,7 +107,9 @@ def by_rt(to, within):
 
 
 def main(given):
-    within = int(given.pop(1)) if given[:1] == ["--within"] and len(given) > 1 and given.pop(0) else None
+    within = None
+    if given[:1] == ["--within"] and len(given) > 1:
+        within, given = int(given[1]), given[2:]
     if len(given) != 1:
         sys.exit(__doc__.split("\n\n")[1])
     to = os.path.abspath(given[0])
