@@ -4,7 +4,8 @@
 usage: examples.py [--check]   (run anywhere; with --check nothing is written, and the status is 1 where a table is old)
 
 Each examples/NAME.json becomes plain arrays in c/tests/examples.h and calls of the builder in rust/tests/examples/mod.rs,
-with labels by bytes, and beside them the drawing of examples/NAME.txt (theme `none`, 80 columns, tab stops 4 apart)."""
+with labels by bytes, and beside them the document itself and the drawing of examples/NAME.txt (theme `none`, 80 columns,
+tab stops 4 apart)."""
 import json
 import os
 import sys
@@ -36,8 +37,8 @@ def ends(document, report, label):
 
 def examples():
     for name in sorted(f[:-5] for f in os.listdir(EXAMPLES) if f.endswith(".json")):
-        with open(os.path.join(EXAMPLES, name + ".json"), encoding="utf-8") as file:
-            document = json.load(file)
+        with open(os.path.join(EXAMPLES, name + ".json"), encoding="utf-8", newline="") as file:
+            document = file.read()
         with open(os.path.join(EXAMPLES, name + ".txt"), encoding="utf-8", newline="") as file:
             yield name, document, file.read()
 
@@ -74,8 +75,8 @@ class Texts:
         return "{%d, %d}" % (start, len(self.whole.encode()))
 
 
-def c_table(name, document, drawing):
-    word, texts = name.replace("-", "_"), Texts()
+def c_table(name, text, drawing):
+    word, texts, document = name.replace("-", "_"), Texts(), json.loads(text)
     files = ["{%s, %s}" % (texts.put(f["name"]), texts.put(f["source"])) for f in document["files"]]
     reports, labels = [], []
     for report in document["reports"]:
@@ -89,6 +90,7 @@ def c_table(name, document, drawing):
     rows = [f"static const char {word}_texts[] =\n    {c_text(texts.whole)};"]
     for kind, found in (("file", files), ("report", reports), ("label", labels)):
         rows.append("static const girzohal_%s %s_%ss[] = {\n    %s};" % (kind, word, kind, ",\n    ".join(found)))
+    rows.append(f"static const char {word}_document[] =\n    {c_text(text)};")
     rows.append(f"static const char {word}_drawing[] =\n    {c_text(drawing)};")
     return "\n".join(rows)
 
@@ -103,13 +105,14 @@ def c_header():
     rows += ["typedef struct {", "    const char *name, *texts;", "    size_t texts_len;"]
     for kind in ("file", "report", "label"):
         rows.append(f"    const girzohal_{kind} *{kind}s;\n    size_t {kind}s_len;")
+    rows += ["    const char *document;", "    size_t document_len;"]
     rows += ["    const char *drawing;", "    size_t drawing_len;", "} example;", ""]
     rows += ["#define COUNT(array) (sizeof(array) / sizeof((array)[0]))", "static const example examples[] = {"]
     for name in names:
         w = name.replace("-", "_")
         arrays = ", ".join(f"{w}_{kind}s, COUNT({w}_{kind}s)" for kind in ("file", "report", "label"))
         rows.append(f'    {{"{name}", {w}_texts, sizeof {w}_texts - 1, {arrays},')
-        rows.append(f"     {w}_drawing, sizeof {w}_drawing - 1}},")
+        rows.append(f"     {w}_document, sizeof {w}_document - 1, {w}_drawing, sizeof {w}_drawing - 1}},")
     return "\n".join(rows + ["};", "#endif", ""])
 
 
@@ -141,16 +144,17 @@ def rust_module():
     rows = ["// The examples of the repository, as calls of the builder. Made by bindings/examples.py: don't edit."]
     rows += ["use girzohal::{Files, Label, Report};", ""]
     rows += ["pub struct Example {", "    pub name: &'static str,", "    pub files: Files,", "    pub reports: Vec<Report>,"]
-    rows += ["    pub drawing: &'static str,", "}", ""]
+    rows += ["    pub document: &'static str,", "    pub drawing: &'static str,", "}", ""]
     names = []
-    for name, document, drawing in examples():
-        word = name.replace("-", "_")
+    for name, text, _ in examples():
+        word, document = name.replace("-", "_"), json.loads(text)
         names.append(word)
         rows += [f"fn {word}() -> Example {{", "    let mut files = Files::new();"]
         rows += [f"    files.add({rust_text(f['name'])}, {rust_text(f['source'])});" for f in document["files"]]
         rows.append("    let reports = vec![")
         rows += [f"        {rust_report(document, r)}," for r in document["reports"]]
         rows += ["    ];", "    Example {", f"        name: {rust_text(name)},", "        files,", "        reports,"]
+        rows += [f'        document: include_str!("../../../../examples/{name}.json"),']
         rows += [f'        drawing: include_str!("../../../../examples/{name}.txt"),', "    }", "}", ""]
     rows += ["pub fn examples() -> Vec<Example> {", "    vec![" + ", ".join(f"{name}()" for name in names) + "]", "}", ""]
     return "\n".join(rows)

@@ -2,14 +2,20 @@
 # Builds the library by both compilers, compares what they answer on the examples, and tries it from C, C++, Rust,
 # Python and Node, as far as this machine has them. The last line is 'N passed, M failed'; the status is 0 where M is 0.
 #
-# usage: sh bindings/test.sh [-v]     (-v shows what the parts say, also where they pass)
+# usage: sh bindings/test.sh [-v] [--within SECONDS]
+# -v shows what the parts say, also where they pass. Where `rt ci` has just proved this checkout, the archives are built over
+# what it left; else `rt lib` proves what has no kept work, which may take an hour from nothing. With --within that gets so many
+# seconds for each compiler, and all is skipped where they don't suffice.
+
+# a part is a function that `part` calls
+# shellcheck disable=SC2317
 cd "$(dirname "$0")" || exit 1
 top=$(cd .. && pwd)
 out=$PWD/out
-# a part is a function that `part` calls
-# shellcheck disable=SC2317
-crate=$top/crates/girzohal_c
-verbose=$1
+verbose=
+within=
+[ "$1" = -v ] && verbose=-v && shift
+[ "$1" = --within ] && within=$2
 passed=0
 failed=0
 skipped=
@@ -32,9 +38,10 @@ part() {
     return 0
 }
 
+# skip NAME WHY
 skip() {
     skipped="$skipped $1"
-    echo "skipped: $1: there is no $2"
+    echo "skipped: $1: $2"
 }
 
 finish() {
@@ -44,13 +51,20 @@ finish() {
     exit
 }
 
-# build COMPILER WORDS..: the archive of one compiler, kept in out/COMPILER
-build() {
-    compiler=$1
-    shift
-    mkdir -p "$out/$compiler" && (cd "$crate" && rt lib "$@") &&
-        cp "$crate/out/libgirzohal_c.a" "$out/$compiler/libgirzohal_c.a"
+# the archives of both compilers, in out/COMPILER; without them there is nothing to try
+archives() {
+    name="the archives by LLVM and by Rattle's own compiler"
+    python3 archive.py ${within:+--within "$within"} "$out" >"$out/built" 2>&1
+    built=$?
+    if [ "$built" -eq 3 ]; then
+        skip "$name, and all that calls them" "rt lib had not built them within $within seconds"
+        finish
+    fi
+    part "$name" as_built
+    [ "$built" -eq 0 ] || finish
 }
+
+as_built() { cat "$out/built" && return "$built"; }
 
 make_c() {
     compiler=$1
@@ -101,6 +115,8 @@ versions() {
     grep -q "^version = \"$version\"$" rust/Cargo.toml && grep -q "\"version\": \"$version\"" node/package.json
 }
 
+# rust FOLDER WORDS
+# shellcheck disable=SC2086
 rust() { (cd rust && GIRZOHAL_LIB=$1 CARGO_TARGET_DIR=$out/rust cargo test --offline --quiet $2); }
 
 python() { (cd python && GIRZOHAL_LIBRARY=$1 PYTHONDONTWRITEBYTECODE=1 python3 -m unittest -q); }
@@ -111,15 +127,14 @@ node_module() {
 }
 
 mkdir -p "$out" || exit 1
-if ! has rt; then
-    skip everything rt
-    failed=1
-    finish
-fi
-part "the archive by LLVM" build llvm
-part "the archive by Rattle's own compiler" build rattle --backend rattle
 part "one version everywhere" versions
 has python3 && part "the tables of examples are new" python3 examples.py --check
+if ! has rt || ! has python3; then
+    skip everything "there is no rt or no python3"
+    failed=$((failed + 1))
+    finish
+fi
+archives
 
 if has "${CC:-cc}" && has make; then
     part "libraries for C" make_c llvm all
@@ -131,35 +146,31 @@ if has "${CC:-cc}" && has make; then
         part "C and C++" make_c llvm test
         part "C and C++ by Rattle's own compiler" make_c rattle test
     else
-        skip "C and C++" "${CXX:-c++}"
+        skip "C and C++" "there is no ${CXX:-c++}"
     fi
     part "make install" installed
-    if has valgrind; then part "valgrind" valgrind_calls; else skip valgrind valgrind; fi
+    if has valgrind; then part "valgrind" valgrind_calls; else skip valgrind "there is no valgrind"; fi
     part "address and undefined behavior sanitizers" sanitized
     has objcopy && part "an archive that starves" starved
 else
-    skip "C and C++" "${CC:-cc} or make"
+    skip "C and C++" "there is no ${CC:-cc} or no make"
 fi
 
 if has cargo && has "${CC:-cc}"; then
     part "Rust" rust "$out/llvm"
     part "Rust without memory" rust "$out/starved" "--features starved --test starved"
 else
-    skip Rust cargo
+    skip Rust "there is no cargo"
 fi
 
-if has python3; then
-    part "Python" python "$out/llvm/libgirzohal.so"
-    part "Python without memory" python "$out/starved/libgirzohal.so"
-else
-    skip Python python3
-fi
+part "Python" python "$out/llvm/libgirzohal.so"
+part "Python without memory" python "$out/starved/libgirzohal.so"
 
 headers=
 has node && headers=$(node -p 'require("path").resolve(process.execPath, "../../include/node")')
 if [ -n "$headers" ] && [ -f "$headers/node_api.h" ]; then
     part "Node" node_module "$headers"
 else
-    skip Node "node with its headers"
+    skip Node "there is no node with its headers"
 fi
 finish

@@ -28,12 +28,13 @@ extern "C" {
 /* The version of this header: major, minor and patch, a byte each. girzohal_version() gives that of the library. */
 #define GIRZOHAL_VERSION 0x000100u
 
-/* What a call comes to. Where several causes hold, the status is the first of 2, 1, 10 whose cause holds; want of
- * memory may come in the place of 1, 10 and 0, never in that of 2. */
+/* What a call comes to. Where several causes hold, the status is the first of 2, 3, 1, 10 whose cause holds; want of
+ * memory may come in the place of 3, 1, 10 and 0, never in that of 2. */
 enum {
     GIRZOHAL_DONE = 0,             /* the text stands in `out`; `needed` is its length in bytes */
     GIRZOHAL_REFUSED = 1,          /* a report is refused; `cause`, `report` and `label` say which and why */
     GIRZOHAL_WRONG_ARGUMENT = 2,   /* an argument is wrong; `array` and `index` name the first that is */
+    GIRZOHAL_NO_DOCUMENT = 3,      /* the bytes are no document; of girzohal_document alone */
     GIRZOHAL_OUT_OF_MEMORY = 6,    /* memory was wanting */
     GIRZOHAL_BUFFER_TOO_SMALL = 10 /* `out` is too small; `needed` is how many bytes it takes */
 };
@@ -54,7 +55,8 @@ enum {
     GIRZOHAL_JSON = 1     /* each report is one line of JSON, which ends in LF; theme, tabs and width don't matter */
 };
 
-/* `array` of an answer: which argument is wrong. They are judged in this order, each by its elements' order. */
+/* `array` of an answer: which argument is wrong. They are judged in this order, each by its elements' order. Of
+ * girzohal_document only the look can be wrong. */
 enum {
     GIRZOHAL_TEXTS = 0,   /* they are no UTF-8; `index` is 0 */
     GIRZOHAL_FILES = 1,   /* `index` is the file's place, or SIZE_MAX where there are more than UINT32_MAX files */
@@ -66,7 +68,10 @@ enum {
 /* `cause` of an answer: why a report is refused. The first report that has a fault decides; in it positions come before
  * the order of ends, and a label's start before its end. */
 enum {
-    GIRZOHAL_START_NO_PLACE = 2,   /* a label's start lies outside its file's source, or inside a character */
+    GIRZOHAL_UNKNOWN_FILE = 1,     /* the report is on a file that isn't there; of girzohal_document alone: a report in
+                                      an array with such a file is a wrong argument */
+    GIRZOHAL_START_NO_PLACE = 2,   /* a label's start lies outside its file's source, inside a character, or at a row or
+                                      column that isn't there */
     GIRZOHAL_END_NO_PLACE = 3,     /* its end does */
     GIRZOHAL_END_BEFORE_START = 4  /* it ends before it starts; `first` and `second` are start and end, in bytes */
 };
@@ -135,6 +140,14 @@ uint32_t girzohal_draw(const uint8_t *texts, size_t texts_len, const girzohal_fi
                        size_t labels_len, const girzohal_look *look, uint8_t *out, size_t out_len,
                        girzohal_answer *answer);
 
+/* Writes the reports of a document into `out`, in their order, and gives the status. A document is JSON in UTF-8, files
+ * and reports on them, of the form that docs/DOCUMENT.md of girzohal states.
+ *
+ * A buffer of twice the document and 4 KiB is seldom too small. Where it is, `needed` says how large it has to be, and
+ * the call is made again. */
+uint32_t girzohal_document(const uint8_t *document, size_t document_len, const girzohal_look *look, uint8_t *out,
+                           size_t out_len, girzohal_answer *answer);
+
 /* The version of the library: major, minor and patch, a byte each; 0x000100 is 0.1.0. */
 uint32_t girzohal_version(void);
 
@@ -180,6 +193,15 @@ static inline uint32_t girzohal_draw_or_empty(const uint8_t *texts, size_t texts
                          files ? files_len : 0, reports ? reports : &no_report, reports ? reports_len : 0,
                          labels ? labels : &no_label, labels ? labels_len : 0, look, out ? out : &no_byte,
                          out ? out_len : 0, answer);
+}
+
+/* girzohal_document, where NULL is a document of no bytes (which is none), and as `out` a buffer of none. */
+static inline uint32_t girzohal_document_or_empty(const uint8_t *document, size_t document_len,
+                                                  const girzohal_look *look, uint8_t *out, size_t out_len,
+                                                  girzohal_answer *answer) {
+    uint8_t no_byte;
+    return girzohal_document(document ? document : (const uint8_t *)"", document ? document_len : 0, look,
+                             out ? out : &no_byte, out ? out_len : 0, answer);
 }
 
 #ifdef __cplusplus

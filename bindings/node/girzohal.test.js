@@ -7,7 +7,7 @@ const path = require('node:path');
 const test = require('node:test');
 const { Worker, isMainThread } = require('node:worker_threads');
 const native = require(process.env.GIRZOHAL_NODE || './out/girzohal.node');
-const { Files, Report, Severity, Theme, byteOffset, draw, json, version } = require('./index.js');
+const { Files, Report, Severity, Theme, byteOffset, draw, drawDocument, json, jsonDocument, version } = require('./index.js');
 
 const EXAMPLES = path.join(__dirname, '..', '..', 'examples');
 const ASCII = { theme: Theme.none };
@@ -21,9 +21,13 @@ function byteOf(source, [row, column]) {
   return byteOffset(rows + characters, Infinity);
 }
 
+function documentOf(name) {
+  return fs.readFileSync(path.join(EXAMPLES, `${name}.json`));
+}
+
 function example(name) {
   const drawing = fs.readFileSync(path.join(EXAMPLES, `${name}.txt`), 'utf8');
-  const said = JSON.parse(fs.readFileSync(path.join(EXAMPLES, `${name}.json`), 'utf8'));
+  const said = JSON.parse(documentOf(name).toString());
   const files = new Files();
   for (const file of said.files) files.add(file.name, file.source);
   const reports = said.reports.map((each) => {
@@ -58,7 +62,37 @@ test('examples are drawn', () => {
     const { files, reports, drawing } = example(name);
     assert.equal(draw(files, reports, ASCII), drawing, name);
     assert.equal(json(files, reports).split('\n').length, reports.length + 1, name);
+    assert.equal(drawDocument(documentOf(name), ASCII), drawing, name);
+    assert.equal(drawDocument(documentOf(name).toString(), ASCII), drawing, name);
+    assert.equal(jsonDocument(documentOf(name)), json(files, reports), name);
   }
+});
+
+test('documents that are refused are told', () => {
+  const files = [{ name: 'a.txt', source: 'é\nabc' }];
+  const told = (file, labels) => {
+    const reports = [{ file: 0, message: 'm' }, { file, message: 'm', labels }];
+    return drawDocument(JSON.stringify({ version: 2, files, reports }));
+  };
+  const rows = [
+    [0, { bytes: [1, 2] }, { kind: 'noPlace', report: 1, label: 0, atEnd: false }],
+    [0, { start: [2, 4], end: [2, 5] }, { kind: 'noPlace', report: 1, label: 0, atEnd: true }],
+    [0, { start: [2, 3], end: [2, 1] }, { kind: 'endBeforeStart', start: 5, end: 3 }],
+    [1, { bytes: [0, 2] }, { kind: 'unknownFile', report: 1, message: 'report 1: no such file' }],
+  ];
+  for (const [file, label, wanted] of rows) assert.throws(() => told(file, [label]), wanted);
+  for (const none of ['', '{', '[]', '{}', Buffer.from([255]), '{"files":[],"reports":[]} x']) {
+    for (const call of [drawDocument, jsonDocument]) assert.throws(() => call(none), { kind: 'noDocument' });
+  }
+  assert.throws(() => drawDocument('{', { tabs: 0 }), { kind: 'wrongLook' });
+  assert.equal(drawDocument('{"files":[],"reports":[]}'), '');
+});
+
+test('a small first buffer of a document is followed by one that fits', () => {
+  const row = 'x'.repeat(3000);
+  const report = { file: 0, message: 'm', labels: [{ start: [1, 1], end: [1, 2], text: 'y' }] };
+  const document = JSON.stringify({ files: [{ name: 'a.txt', source: row }], reports: Array(100).fill(report) });
+  assert.equal(drawDocument(document).split(row).length, 101);
 });
 
 test('refusals and wrong arguments are told', () => {
@@ -87,6 +121,9 @@ test('buffers that are no structs are refused', () => {
   const look = Buffer.alloc(24);
   for (const bad of [[], [1, 2, 3, 4, 5], [Buffer.alloc(1), Buffer.alloc(31), Buffer.alloc(0), Buffer.alloc(0), look]]) {
     assert.throws(() => native.draw(...bad), TypeError);
+  }
+  for (const bad of [[], [Buffer.alloc(1)], [Buffer.alloc(1), Buffer.alloc(23)], ['{}', look]]) {
+    assert.throws(() => native.document(...bad), TypeError);
   }
   assert.deepEqual(native.draw(Buffer.alloc(0), Buffer.alloc(0), Buffer.alloc(0), Buffer.alloc(0), look).slice(0, 3), [2, 4, 1]);
 });

@@ -20,12 +20,15 @@ static int are_structs(const void *data, size_t len, size_t size) {
     return len % size == 0 && (uintptr_t)data % sizeof(uint64_t) == 0;
 }
 
+/* Of a document, `texts` are its bytes, and there are no arrays. */
 typedef struct {
+    int is_document;
     const void *texts, *files, *reports, *labels, *look;
     size_t texts_len, files_len, reports_len, labels_len, look_len;
 } arguments;
 
 static uint32_t call(const arguments *it, uint8_t *out, size_t out_len, girzohal_answer *answer) {
+    if (it->is_document) return girzohal_document(it->texts, it->texts_len, it->look, out, out_len, answer);
     return girzohal_draw(it->texts, it->texts_len, it->files, it->files_len / sizeof(girzohal_file), it->reports,
                          it->reports_len / sizeof(girzohal_report), it->labels, it->labels_len / sizeof(girzohal_label),
                          it->look, out, out_len, answer);
@@ -71,7 +74,7 @@ static napi_value fill(napi_env env, const arguments *it) {
 static napi_value draw(napi_env env, napi_callback_info info) {
     napi_value args[5];
     size_t count = 5;
-    arguments it;
+    arguments it = {0};
     if (napi_get_cb_info(env, info, &count, args, NULL, NULL) != napi_ok || count != 5
         || !bytes_of(env, args[0], &it.texts, &it.texts_len) || !bytes_of(env, args[1], &it.files, &it.files_len)
         || !bytes_of(env, args[2], &it.reports, &it.reports_len) || !bytes_of(env, args[3], &it.labels, &it.labels_len)
@@ -80,6 +83,20 @@ static napi_value draw(napi_env env, napi_callback_info info) {
         || !are_structs(it.labels, it.labels_len, sizeof(girzohal_label)) || it.look_len != sizeof(girzohal_look)
         || !are_structs(it.look, it.look_len, sizeof(girzohal_look))) {
         napi_throw_type_error(env, NULL, "draw(texts, files, reports, labels, look) takes five buffers of whole structs");
+        return NULL;
+    }
+    return fill(env, &it);
+}
+
+/* document(document, look) */
+static napi_value document(napi_env env, napi_callback_info info) {
+    napi_value args[2];
+    size_t count = 2;
+    arguments it = {.is_document = 1};
+    if (napi_get_cb_info(env, info, &count, args, NULL, NULL) != napi_ok || count != 2
+        || !bytes_of(env, args[0], &it.texts, &it.texts_len) || !bytes_of(env, args[1], &it.look, &it.look_len)
+        || it.look_len != sizeof(girzohal_look) || !are_structs(it.look, it.look_len, sizeof(girzohal_look))) {
+        napi_throw_type_error(env, NULL, "document(document, look) takes two buffers, the second of one struct");
         return NULL;
     }
     return fill(env, &it);
@@ -94,6 +111,7 @@ static napi_value version(napi_env env, napi_callback_info info) {
 NAPI_MODULE_INIT() {
     const napi_property_descriptor calls[] = {
         {"draw", NULL, draw, NULL, NULL, NULL, napi_enumerable, NULL},
+        {"document", NULL, document, NULL, NULL, NULL, napi_enumerable, NULL},
         {"version", NULL, version, NULL, NULL, NULL, napi_enumerable, NULL},
     };
     return napi_define_properties(env, exports, sizeof calls / sizeof calls[0], calls) == napi_ok ? exports : NULL;

@@ -109,6 +109,8 @@ function errorOf([status, array, index, cause, report, label, first, second]) {
     return new DrawError('wrongReport', `report ${index}: no such file, or an empty part of its code`, { report: index });
   }
   if (status === 2) return new DrawError('wrongLook', `the look's ${['theme', 'tabs', 'form'][index]} is wrong`);
+  if (status === 3) return new DrawError('noDocument', 'no document');
+  if (status === 1 && cause === 1) return new DrawError('unknownFile', `report ${report}: no such file`, { report });
   if (status === 1 && cause === 4) {
     return new DrawError('endBeforeStart', `${at}: end ${second} before start ${first}`, { report, label, start: first, end: second });
   }
@@ -215,10 +217,27 @@ function json(files, reports) {
   return write(files, reports, lookOf({}, 1));
 }
 
+function writeDocument(document, look) {
+  return told(native.document(Buffer.from(document), look));
+}
+
+/** The drawings of the reports of a document, a string or bytes: JSON of files and reports on them, whose keys are those
+ * that docs/DOCUMENT.md of the repository lists. Throws a DrawError of kind `noDocument` where it is none. */
+function drawDocument(document, look) {
+  return writeDocument(document, lookOf(look, 0));
+}
+
+/** A line of JSON for each report of a document. */
+function jsonDocument(document) {
+  return writeDocument(document, lookOf({}, 1));
+}
+
 /** The version of the library: [major, minor, patch]. */
 function version() {
   const said = native.version();
   return [(said >> 16) & 255, (said >> 8) & 255, said & 255];
 }
 
-module.exports = { DrawError, Files, Report, Severity, Theme, byteOffset, draw, json, version };
+module.exports = {
+  DrawError, Files, Report, Severity, Theme, byteOffset, draw, drawDocument, json, jsonDocument, version,
+};

@@ -28,11 +28,12 @@ import copy
 import ctypes
 import enum
 import os
-from typing import Callable, List, NamedTuple, Optional, Sequence, Tuple
+from typing import Callable, List, NamedTuple, Optional, Sequence, Tuple, Union
 
 __all__ = [
-    "DrawError", "EndBeforeStart", "Files", "Label", "Look", "NoPlace", "OutOfMemory", "Report", "Severity", "Theme",
-    "WrongFile", "WrongLook", "WrongReport", "byte_offset", "draw", "json", "version",
+    "DrawError", "EndBeforeStart", "Files", "Label", "Look", "NoDocument", "NoPlace", "OutOfMemory", "Report", "Severity",
+    "Theme", "UnknownFile", "WrongFile", "WrongLook", "WrongReport", "byte_offset", "draw", "draw_document", "json",
+    "json_document", "version",
 ]  # fmt: skip
 
 # ---- the C interface, as bindings/c/girzohal.h declares it
@@ -84,6 +85,8 @@ def _load() -> ctypes.CDLL:
         bytes_, size, ctypes.POINTER(_File), size, ctypes.POINTER(_Report), size, ctypes.POINTER(_Label), size,
         ctypes.POINTER(_Look), out, size, ctypes.POINTER(_Answer),
     ]  # fmt: skip
+    library.girzohal_document.restype = ctypes.c_uint32
+    library.girzohal_document.argtypes = [bytes_, size, ctypes.POINTER(_Look), out, size, ctypes.POINTER(_Answer)]
     library.girzohal_version.restype = ctypes.c_uint32
     library.girzohal_version.argtypes = []
     return library
@@ -260,8 +263,23 @@ class WrongLook(DrawError):
         self.field = field
 
 
+class NoDocument(DrawError):
+    """The bytes are no document."""
+
+    def __init__(self) -> None:
+        super().__init__("no document")
+
+
+class UnknownFile(DrawError):
+    """A report of a document is on a file that isn't there."""
+
+    def __init__(self, report: int) -> None:
+        super().__init__(f"report {report}: no such file")
+        self.report = report
+
+
 class NoPlace(DrawError):
-    """A label's start, or its end, lies outside its file's source or inside a character."""
+    """A label's start, or its end, lies outside its file's source, inside a character, or at a row or column that isn't there."""
 
     def __init__(self, report: int, label: int, at_end: bool) -> None:
         super().__init__(f"report {report}: label {label}: its {'end' if at_end else 'start'} is no place in the source")
@@ -287,6 +305,10 @@ def _error(status: int, answer: _Answer) -> Exception:
     if status == 2:
         wrong = {1: WrongFile, 2: WrongReport}.get(answer.array)
         return wrong(answer.index) if wrong else WrongLook(("theme", "tabs", "form")[answer.index])
+    if status == 3:
+        return NoDocument()
+    if status == 1 and answer.cause == 1:
+        return UnknownFile(answer.report)
     if status == 1 and answer.cause == 4:
         return EndBeforeStart(answer.report, answer.label, answer.first, answer.second)
     if status == 1:
@@ -308,6 +330,35 @@ def draw(files: Files, reports: Sequence[Report], look: Look = Look()) -> str:
 def json(files: Files, reports: Sequence[Report]) -> str:
     """A line of JSON for each report. Raises what ``draw`` raises."""
     return _write(files, reports, _numbers(Look(), 1))
+
+
+def draw_document(document: Union[str, bytes], look: Look = Look()) -> str:
+    """The drawings of the reports of a document, one after another: JSON of files and reports on them.
+
+    Its keys are those that docs/DOCUMENT.md of the repository lists; labels may be given by rows and columns.
+    Raises ``NoDocument`` where the text is no such JSON, and a ``DrawError`` that names the first report that is refused.
+
+    >>> source = "let total = 1;\\nprint(totl);\\n"
+    >>> label = {"start": [2, 7], "end": [2, 11], "text": "not found", "primary": True}
+    >>> report = {"file": 0, "message": "`totl` isn't defined.", "labels": [label]}
+    >>> import json
+    >>> document = json.dumps({"files": [{"name": "cart.js", "source": source}], "reports": [report]})
+    >>> print(draw_document(document), end="")
+    <BLANKLINE>
+      × `totl` isn't defined.
+       ╭─[cart.js:2:7]
+     1 │ let total = 1;
+     2 │ print(totl);
+       ·       ──┬─
+       ·         ╰── not found
+       ╰────
+    """
+    return _write_document(document, _numbers(look, 0))
+
+
+def json_document(document: Union[str, bytes]) -> str:
+    """A line of JSON for each report of a document. Raises what ``draw_document`` raises."""
+    return _write_document(document, _numbers(Look(), 1))
 
 
 def version() -> Tuple[int, int, int]:
@@ -362,6 +413,11 @@ def _write(files: Files, reports: Sequence[Report], look: _Look) -> str:
         (_Label * len(labels))(*labels), len(labels), look,
     )  # fmt: skip
     return _fill(2 * len(buffer) + 256 * len(said) + 4096, _library.girzohal_draw, arrays)
+
+
+def _write_document(document: Union[str, bytes], look: _Look) -> str:
+    said = document.encode() if isinstance(document, str) else document
+    return _fill(2 * len(said) + 4096, _library.girzohal_document, (said, len(said), look))
 
 
 def _fill(room: int, call: Callable[..., int], arguments: tuple) -> str:

@@ -8,7 +8,7 @@ import os
 import unittest
 
 import girzohal
-from girzohal import Files, Label, Look, Report, Severity, Theme, byte_offset, draw
+from girzohal import Files, Label, Look, Report, Severity, Theme, byte_offset, draw, draw_document, json_document
 
 HERE = os.path.dirname(os.path.abspath(__file__))
 EXAMPLES = os.path.join(HERE, "..", "..", "examples")
@@ -23,10 +23,15 @@ def byte_of(source, place):
     return byte_offset(source, at + column - 1 + mark)
 
 
+def document_of(name):
+    """An example, as bytes."""
+    with open(os.path.join(EXAMPLES, name + ".json"), "rb") as file:
+        return file.read()
+
+
 def example(name):
     """The files and the reports of an example, and its drawing."""
-    with open(os.path.join(EXAMPLES, name + ".json"), "rb") as file:
-        said = json.load(file)
+    said = json.loads(document_of(name))
     with open(os.path.join(EXAMPLES, name + ".txt"), encoding="utf-8", newline="") as file:
         drawing = file.read()
     files, reports = Files(), []
@@ -63,6 +68,47 @@ class Calls(unittest.TestCase):
                 self.assertEqual(draw(files, reports, ASCII), drawing)
                 lines = girzohal.json(files, reports)
                 self.assertEqual([json.loads(line)["message"] for line in lines.splitlines()], [r.message for r in reports])
+
+    def test_documents_are_drawn(self):
+        for name in NAMES:
+            with self.subTest(name):
+                files, reports, drawing = example(name)
+                document = document_of(name)
+                self.assertEqual(draw_document(document, ASCII), drawing)
+                self.assertEqual(draw_document(document.decode(), ASCII), drawing)
+                self.assertEqual(json_document(document), girzohal.json(files, reports))
+
+    def test_documents_that_are_refused_are_told(self):
+        files = [{"name": "a.txt", "source": "é\nabc"}]
+
+        def told(file, labels):
+            said = [{"file": 0, "message": "m"}, {"file": file, "message": "m", "labels": labels}]
+            return draw_document(json.dumps({"version": 2, "files": files, "reports": said}))
+
+        for label, at_end in (({"bytes": [1, 2]}, False), ({"start": [2, 4], "end": [2, 5]}, True)):
+            with self.assertRaises(girzohal.NoPlace) as raised:
+                told(0, [label])
+            error = raised.exception
+            self.assertEqual((error.report, error.label, error.at_end), (1, 0, at_end))
+        with self.assertRaises(girzohal.EndBeforeStart) as raised:
+            told(0, [{"start": [2, 3], "end": [2, 1]}])
+        self.assertEqual((raised.exception.start, raised.exception.end), (5, 3))
+        with self.assertRaises(girzohal.UnknownFile) as raised:
+            told(1, [])
+        self.assertEqual(str(raised.exception), "report 1: no such file")
+        for none in ("", b"", "{", "[]", "{}", b"\xff", '{"files":[],"reports":[]} x'):
+            for call in (draw_document, json_document):
+                with self.subTest(none), self.assertRaises(girzohal.NoDocument):
+                    call(none)
+        with self.assertRaises(girzohal.WrongLook):
+            draw_document("{", Look(tabs=0))
+        self.assertEqual(draw_document('{"files":[],"reports":[]}'), "")
+
+    def test_a_small_first_buffer_of_a_document_is_followed_by_one_that_fits(self):
+        row, label = "x" * 3000, {"start": [1, 1], "end": [1, 2], "text": "y"}
+        said = [{"file": 0, "message": "m", "labels": [label]}] * 100
+        document = json.dumps({"files": [{"name": "a.txt", "source": row}], "reports": said})
+        self.assertEqual(draw_document(document).count(row), 100)
 
     def test_themes_are_told_apart(self):
         files, reports = one("let x = 1;\n"), [Report.error("oops").label(4, 5, "here")]
@@ -135,7 +181,8 @@ class Calls(unittest.TestCase):
         examples = [example(name) for name in NAMES]
 
         def often(_):
-            return all(draw(files, reports, ASCII) == drawing for _ in range(20) for files, reports, drawing in examples)
+            drawn = all(draw(files, reports, ASCII) == drawing for _ in range(20) for files, reports, drawing in examples)
+            return drawn and all(draw_document(document_of(name), ASCII) == example(name)[2] for name in NAMES)
 
         with concurrent.futures.ThreadPoolExecutor(8) as pool:
             self.assertEqual(list(pool.map(often, range(8))), [True] * 8)
@@ -150,8 +197,14 @@ class Calls(unittest.TestCase):
         library.girzohal_starve.argtypes, library.girzohal_asked.restype = [ctypes.c_int64], ctypes.c_int64
         for name in NAMES:
             files, reports, drawing = example(name)
-            lines = girzohal.json(files, reports)
-            for call, said in ((lambda: draw(files, reports, ASCII), drawing), (lambda: girzohal.json(files, reports), lines)):
+            lines, document = girzohal.json(files, reports), document_of(name)
+            calls = [
+                (lambda: draw(files, reports, ASCII), drawing),
+                (lambda: girzohal.json(files, reports), lines),
+                (lambda: draw_document(document, ASCII), drawing),
+                (lambda: json_document(document), lines),
+            ]
+            for call, said in calls:
                 library.girzohal_starve(-1)
                 self.assertEqual(call(), said)
                 asked, wants = library.girzohal_asked(), 0

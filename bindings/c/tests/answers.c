@@ -20,6 +20,8 @@ int main(void) {
             uint32_t status = girzohal_draw((const uint8_t *)e->texts, e->texts_len, e->files, e->files_len, e->reports,
                                             e->reports_len, e->labels, e->labels_len, &look, out, sizeof out, &answer);
             print(e->name, &look, status, &answer);
+            status = girzohal_document((const uint8_t *)e->document, e->document_len, &look, out, sizeof out, &answer);
+            print(e->name, &look, status, &answer);
         }
     }
     return 0;

@@ -45,6 +45,12 @@ static int is_wrong(const reply *it, size_t array, size_t index) {
         && a->cause == 0 && a->report == 0 && a->label == 0 && a->first == 0 && a->second == 0;
 }
 
+static int refuses_document(const reply *it) {
+    const girzohal_answer *a = &it->answer;
+    return it->status == GIRZOHAL_NO_DOCUMENT && untouched_from(it, 0) && answers(it, 0, 0, 0) && a->cause == 0
+        && a->report == 0 && a->label == 0 && a->first == 0 && a->second == 0;
+}
+
 static int wrote(const reply *it, const char *text, size_t len) {
     return it->status == GIRZOHAL_DONE && answers(it, len, 0, 0) && memcmp(it->out, text, len) == 0
         && untouched_from(it, len);
@@ -81,6 +87,112 @@ static void try_examples(void) {
         check(e->name, "JSON is a line for each report",
               drawn.status == GIRZOHAL_DONE && drawn.out[0] == '{' && drawn.out[drawn.answer.needed - 1] == '\n');
     }
+}
+
+/* ---- documents */
+
+static void draw_document(const char *document, size_t len, const girzohal_look *look, size_t room, reply *it) {
+    begin(it);
+    it->status = girzohal_document((const uint8_t *)document, len, look, it->out, room, &it->answer);
+}
+
+static void try_documents(void) {
+    static reply of_arrays, drawn;
+    for (size_t at = 0; at < COUNT(examples); at++) {
+        const example *e = &examples[at];
+        size_t len = e->drawing_len;
+        draw_document(e->document, e->document_len, &ascii, ROOM, &drawn);
+        check(e->name, "the document is drawn as the example", wrote(&drawn, e->drawing, len));
+        draw_document(e->document, e->document_len, &ascii, len, &drawn);
+        check(e->name, "a buffer that just fits the document's", wrote(&drawn, e->drawing, len));
+        draw_document(e->document, e->document_len, &ascii, 0, &drawn);
+        check(e->name, "a buffer of no bytes for a document", is_small(&drawn, len));
+        draw_document(e->document, e->document_len, &ascii, len - 1, &drawn);
+        check(e->name, "a buffer that is too small for a document by one", is_small(&drawn, len));
+        draw_example(e, &json, ROOM, &of_arrays);
+        draw_document(e->document, e->document_len, &json, ROOM, &drawn);
+        check(e->name, "JSON of the document is that of the arrays",
+              wrote(&drawn, (const char *)of_arrays.out, of_arrays.answer.needed));
+        size_t closing = e->document_len - 1;
+        while (e->document[closing] != '}') closing--;
+        for (size_t cut = 0; cut <= closing; cut += 1 + cut / 16) {
+            draw_document(e->document, cut, &ascii, ROOM, &drawn);
+            check(e->name, "a document that is cut is none", refuses_document(&drawn));
+        }
+    }
+}
+
+static void try_no_documents(void) {
+    static reply it;
+    static const char nul[] = "{\"files\":[],\"reports\":[]}\0";
+    static const char *const none_of_them[] = {
+        "", " ", "{", "[]", "null", "{}", "\377", "{\"files\":[]}", "{\"files\":[],\"reports\":[]}x",
+        "{\"files\":[],\"reports\":[],\"more\":1}", "{\"version\":3,\"files\":[],\"reports\":[]}",
+        "\357\273\277{\"files\":[],\"reports\":[]}",
+    };
+    for (size_t at = 0; at < COUNT(none_of_them); at++) {
+        draw_document(none_of_them[at], strlen(none_of_them[at]), &ascii, ROOM, &it);
+        check(none_of_them[at], "is no document", refuses_document(&it));
+    }
+    draw_document(nul, sizeof nul - 1, &ascii, ROOM, &it);
+    check("a byte 0 behind a document", "makes it none", refuses_document(&it));
+    draw_document(nul, sizeof nul - 2, &ascii, 0, &it);
+    check("a document of no reports", "is drawn as nothing", wrote(&it, "", 0));
+    begin(&it);
+    it.status = girzohal_document_or_empty(NULL, 9, &ascii, NULL, 9, &it.answer);
+    check("NULL", "is no document", refuses_document(&it));
+    begin(&it);
+    it.status = girzohal_document_or_empty((const uint8_t *)nul, sizeof nul - 2, &ascii, NULL, 0, &it.answer);
+    check("NULL as the buffer of a document", "is empty", wrote(&it, "", 0));
+    girzohal_look wrong = {3, 0, 2, 80};
+    draw_document("{", 1, &wrong, ROOM, &it);
+    check("a theme", "goes before the document", is_wrong(&it, 4, 0));
+    wrong.theme = 0;
+    draw_document("{", 1, &wrong, ROOM, &it);
+    check("tab stops", "go before the document", is_wrong(&it, 4, 1));
+    wrong.tabs = 16;
+    draw_document("{", 1, &wrong, ROOM, &it);
+    check("a form", "goes before the document", is_wrong(&it, 4, 2));
+}
+
+static void try_refused_documents(void) {
+    static reply it;
+    char document[512];
+    static const char form[] = "{\"version\":2,\"files\":[{\"name\":\"a\",\"source\":\"\303\251\\nabc\"}],\"reports\":["
+                               "{\"file\":0,\"message\":\"m\"},{\"file\":%d,\"message\":\"m\",\"labels\":["
+                               "{\"bytes\":[0,2]},{%s}]}]}";
+    struct {
+        int file;
+        const char *label;
+        uint32_t cause;
+        size_t label_at;
+        uint64_t first, second;
+    } refused[] = {
+        {1, "\"bytes\":[0,2]", GIRZOHAL_UNKNOWN_FILE, 0, 0, 0},
+        {7, "\"bytes\":[9,9]", GIRZOHAL_UNKNOWN_FILE, 0, 0, 0},
+        {0, "\"bytes\":[1,2]", GIRZOHAL_START_NO_PLACE, 1, 0, 0},
+        {0, "\"bytes\":[0,7]", GIRZOHAL_END_NO_PLACE, 1, 0, 0},
+        {0, "\"start\":[3,1],\"end\":[3,1]", GIRZOHAL_START_NO_PLACE, 1, 0, 0},
+        {0, "\"start\":[2,4],\"end\":[2,5]", GIRZOHAL_END_NO_PLACE, 1, 0, 0},
+        {0, "\"start\":[2,3],\"end\":[2,1]", GIRZOHAL_END_BEFORE_START, 1, 5, 3},
+    };
+    for (size_t at = 0; at < COUNT(refused); at++) {
+        int len = sprintf(document, form, refused[at].file, refused[at].label);
+        draw_document(document, (size_t)len, &ascii, 1, &it);
+        check(refused[at].label, "is refused, which goes before a small buffer",
+              refuses(&it, refused[at].cause, 1, refused[at].label_at, refused[at].first, refused[at].second));
+    }
+}
+
+/* arrays in arrays, far deeper than a document nests */
+static void try_deep_documents(void) {
+    enum { DEEP = 1000000 };
+    static reply it;
+    char *deep = malloc(DEEP);
+    if (deep != NULL) memset(deep, '[', DEEP);
+    if (deep != NULL) draw_document(deep, DEEP, &ascii, ROOM, &it);
+    check("a million open brackets", "are no document", deep != NULL && refuses_document(&it));
+    free(deep);
 }
 
 /* ---- wrong and hostile arguments: one report with one label, of which one number is changed */
@@ -384,8 +496,11 @@ static void *draw_often(void *bad) {
     reply *it = malloc(sizeof *it);
     for (int round = 0; it != NULL && round < 50; round++) {
         for (size_t at = 0; at < COUNT(examples); at++) {
-            draw_example(&examples[at], &ascii, ROOM, it);
-            if (!wrote(it, examples[at].drawing, examples[at].drawing_len)) ++*(int *)bad;
+            const example *e = &examples[at];
+            draw_example(e, &ascii, ROOM, it);
+            if (!wrote(it, e->drawing, e->drawing_len)) ++*(int *)bad;
+            draw_document(e->document, e->document_len, &ascii, ROOM, it);
+            if (!wrote(it, e->drawing, e->drawing_len)) ++*(int *)bad;
         }
     }
     if (it == NULL) ++*(int *)bad;
@@ -416,6 +531,10 @@ static void try_version(void) {
 int main(void) {
     try_version();
     try_examples();
+    try_documents();
+    try_no_documents();
+    try_refused_documents();
+    try_deep_documents();
     try_texts();
     try_numbers();
     try_order();

@@ -42,24 +42,26 @@ void __wrap_free(void *old) {
 static const girzohal_look looks[] = {{GIRZOHAL_NONE, 4, GIRZOHAL_DRAWING, 80}, {GIRZOHAL_NONE, 4, GIRZOHAL_JSON, 80}};
 static uint8_t out[8192], right[8192], before[8192];
 
-static uint32_t call(const example *e, const girzohal_look *look, girzohal_answer *answer) {
+static uint32_t call(const example *e, int is_document, const girzohal_look *look, girzohal_answer *answer) {
+    if (is_document)
+        return girzohal_document((const uint8_t *)e->document, e->document_len, look, out, sizeof out, answer);
     return girzohal_draw((const uint8_t *)e->texts, e->texts_len, e->files, e->files_len, e->reports, e->reports_len,
                          e->labels, e->labels_len, look, out, sizeof out, answer);
 }
 
-static void starve(const example *e, const girzohal_look *look) {
+static void starve(const example *e, int is_document, const girzohal_look *look) {
     girzohal_answer answer;
     long wants = 0, bridged = 0;
     left = -1;
     asked = 0;
-    int holds = call(e, look, &answer) == GIRZOHAL_DONE && live == 0;
+    int holds = call(e, is_document, look, &answer) == GIRZOHAL_DONE && live == 0;
     size_t needed = answer.needed;
     long all = asked;
     memcpy(right, out, sizeof out);
     for (long at = 0; holds && at < all; at++) {
         memcpy(out, before, sizeof out);
         left = at;
-        uint32_t status = call(e, look, &answer);
+        uint32_t status = call(e, is_document, look, &answer);
         left = -1;
         int starved = status == GIRZOHAL_OUT_OF_MEMORY && answer.needed == 0 && memcmp(out, before, sizeof out) == 0;
         int drew = status == GIRZOHAL_DONE && answer.needed == needed && memcmp(out, right, needed) == 0
@@ -74,6 +76,7 @@ static void starve(const example *e, const girzohal_look *look) {
 int main(void) {
     memset(before, 0xAA, sizeof before);
     for (size_t at = 0; at < COUNT(examples); at++)
-        for (size_t look = 0; look < COUNT(looks); look++) starve(&examples[at], &looks[look]);
+        for (size_t look = 0; look < COUNT(looks); look++)
+            for (int is_document = 0; is_document < 2; is_document++) starve(&examples[at], is_document, &looks[look]);
     return told("starved");
 }

@@ -21,9 +21,26 @@ static std::string drawn(const example &e, const girzohal_look &look) {
     }
 }
 
+static std::string drawn_document(const std::string &document, const girzohal_look &look) {
+    std::vector<uint8_t> said(document.begin(), document.end()), out;
+    girzohal_answer answer;
+    for (;;) {
+        uint32_t status =
+            girzohal_document_or_empty(said.data(), said.size(), &look, out.data(), out.size(), &answer);
+        if (status == GIRZOHAL_DONE) return std::string(out.begin(), out.begin() + answer.needed);
+        if (status != GIRZOHAL_BUFFER_TOO_SMALL) return "status " + std::to_string(status);
+        out.resize(answer.needed);
+    }
+}
+
 int main() {
     const girzohal_look look = {GIRZOHAL_NONE, 4, GIRZOHAL_DRAWING, 80};
-    for (const example &e : examples) check(e.name, "is drawn", drawn(e, look) == std::string(e.drawing, e.drawing_len));
+    for (const example &e : examples) {
+        const std::string drawing(e.drawing, e.drawing_len), document(e.document, e.document_len);
+        check(e.name, "is drawn", drawn(e, look) == drawing);
+        check(e.name, "is drawn out of its document", drawn_document(document, look) == drawing);
+    }
+    check("an empty vector", "is no document", drawn_document("", look) == "status 3");
     example empty = examples[0];
     empty.texts_len = empty.files_len = empty.reports_len = empty.labels_len = 0;
     check("empty vectors", "are drawn as nothing", drawn(empty, look).empty());

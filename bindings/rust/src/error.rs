@@ -17,7 +17,15 @@ pub enum DrawError {
     },
     /// The look's tab stops aren't 1 to 16 columns apart.
     WrongTabs,
-    /// A label's start, or its end, lies outside its file's source or inside a character.
+    /// The bytes are no document.
+    NoDocument,
+    /// A report of a document is on a file that isn't there.
+    UnknownFile {
+        /// The report.
+        report: usize,
+    },
+    /// A label's start, or its end, lies outside its file's source, inside a character, or at a row or column that
+    /// isn't there.
     NoPlace {
         /// The report.
         report: usize,
@@ -51,6 +59,8 @@ impl DrawError {
                 report: answer.index,
             },
             (2, 4, _) => DrawError::WrongTabs,
+            (3, _, _) => DrawError::NoDocument,
+            (1, _, 1) => DrawError::UnknownFile { report },
             (1, _, 2) | (1, _, 3) => DrawError::NoPlace {
                 report,
                 label,
@@ -82,6 +92,8 @@ impl fmt::Display for DrawError {
                 )
             }
             DrawError::WrongTabs => write!(f, "tab stops aren't 1 to 16 columns apart"),
+            DrawError::NoDocument => write!(f, "no document"),
+            DrawError::UnknownFile { report } => write!(f, "report {report}: no such file"),
             DrawError::NoPlace {
                 report,
                 label,

@@ -95,6 +95,14 @@ extern "C" {
         out_len: usize,
         answer: *mut Answer,
     ) -> u32;
+    fn girzohal_document(
+        document: *const u8,
+        document_len: usize,
+        look: *const Look,
+        out: *mut u8,
+        out_len: usize,
+        answer: *mut Answer,
+    ) -> u32;
     fn girzohal_version() -> u32;
 }
 
@@ -113,6 +121,26 @@ pub(crate) fn draw(arrays: &Arrays<'_>, look: &Look, out: &mut [u8], answer: &mu
             arrays.reports.len(),
             arrays.labels.as_ptr(),
             arrays.labels.len(),
+            look,
+            out.as_mut_ptr(),
+            out.len(),
+            answer,
+        )
+    }
+}
+
+/// Writes the reports of a document into a buffer. Gives the status, and tells the rest in the answer.
+pub(crate) fn draw_document(
+    document: &[u8],
+    look: &Look,
+    out: &mut [u8],
+    answer: &mut Answer,
+) -> u32 {
+    // SAFETY: as in `draw`. The document is of any bytes.
+    unsafe {
+        girzohal_document(
+            document.as_ptr(),
+            document.len(),
             look,
             out.as_mut_ptr(),
             out.len(),

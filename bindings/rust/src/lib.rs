@@ -162,6 +162,48 @@ pub fn json(files: &Files, reports: &[Report]) -> Result<String, DrawError> {
     write(files, reports, &JSON)
 }
 
+/// The drawings of the reports of a document, one after another: JSON in UTF-8, of files and reports on them.
+///
+/// Which keys it has, `docs/DOCUMENT.md` of the repository says. Its labels may be given by rows and columns.
+///
+/// # Errors
+///
+/// Nothing is drawn where the look is wrong, the bytes are no document, or one of its reports is on a file that isn't
+/// there or has a label without a place: the error names the first.
+///
+/// ```
+/// use girzohal::{draw_document, DrawError, Look};
+///
+/// let document = r#"{
+///     "files": [{ "name": "cart.js", "source": "let total = 1;\nprint(totl);\n" }],
+///     "reports": [{
+///         "file": 0, "message": "`totl` isn't defined.", "scope": "eslint", "number": "no-undef",
+///         "labels": [{ "start": [2, 7], "end": [2, 11], "text": "not found", "primary": true }],
+///         "help": "Did you mean `total`?"
+///     }]
+/// }"#;
+/// assert_eq!(draw_document(document, &Look::default())?, include_str!("../../c/example.txt"));
+/// assert_eq!(draw_document("{}", &Look::default()), Err(DrawError::NoDocument));
+/// # Ok::<(), DrawError>(())
+/// ```
+pub fn draw_document(document: impl AsRef<[u8]>, look: &Look) -> Result<String, DrawError> {
+    write_document(document.as_ref(), &look.numbers())
+}
+
+/// A line of JSON for each report of a document, which [`draw_document`] says.
+///
+/// # Errors
+///
+/// As those of [`draw_document`].
+///
+/// ```
+/// let document = r#"{ "files": [], "reports": [] }"#;
+/// assert_eq!(girzohal::json_document(document).as_deref(), Ok(""));
+/// ```
+pub fn json_document(document: impl AsRef<[u8]>) -> Result<String, DrawError> {
+    write_document(document.as_ref(), &JSON)
+}
+
 /// The version of the library: major, minor and patch.
 ///
 /// ```
@@ -177,6 +219,12 @@ fn write(files: &Files, reports: &[Report], look: &ffi::Look) -> Result<String, 
     let arrays = owned.arrays();
     fill(owned.room(), |out, answer| {
         ffi::draw(&arrays, look, out, answer)
+    })
+}
+
+fn write_document(document: &[u8], look: &ffi::Look) -> Result<String, DrawError> {
+    fill(2 * document.len() + 4096, |out, answer| {
+        ffi::draw_document(document, look, out, answer)
     })
 }
 

@@ -4,7 +4,7 @@
 mod examples;
 
 use examples::examples;
-use girzohal::{draw, json, version};
+use girzohal::{draw, draw_document, json, json_document, version};
 use girzohal::{DrawError, Files, Label, Look, Report, Theme};
 
 fn ascii() -> Look {
@@ -27,6 +27,8 @@ fn examples_are_drawn() {
     for example in all {
         let drawn = draw(&example.files, &example.reports, &ascii());
         assert_eq!(drawn.as_deref(), Ok(example.drawing), "{}", example.name);
+        let drawn = draw_document(example.document, &ascii());
+        assert_eq!(drawn.as_deref(), Ok(example.drawing), "{}", example.name);
         let lines = json(&example.files, &example.reports).unwrap();
         assert_eq!(
             lines.lines().count(),
@@ -34,7 +36,55 @@ fn examples_are_drawn() {
             "{}",
             example.name
         );
+        let same = json_document(example.document.as_bytes());
+        assert_eq!(same, Ok(lines), "{}", example.name);
     }
+}
+
+#[test]
+fn documents_that_are_refused_are_told() {
+    let files = r#""version": 2, "files": [{ "name": "a.txt", "source": "é\nabc" }]"#;
+    let told = |file, label| {
+        let first = r#"{ "file": 0, "message": "m" }"#;
+        let second = format!(r#"{{ "file": {file}, "message": "m", "labels": [{label}] }}"#);
+        draw_document(
+            format!(r#"{{ {files}, "reports": [{first}, {second}] }}"#),
+            &ascii(),
+        )
+    };
+    let no_place = |at_end| {
+        Err(DrawError::NoPlace {
+            report: 1,
+            label: 0,
+            at_end,
+        })
+    };
+    assert_eq!(told(0, r#"{ "bytes": [1, 2] }"#), no_place(false));
+    assert_eq!(
+        told(0, r#"{ "start": [2, 4], "end": [2, 5] }"#),
+        no_place(true)
+    );
+    let reversed = DrawError::EndBeforeStart {
+        report: 1,
+        label: 0,
+        start: 5,
+        end: 3,
+    };
+    assert_eq!(
+        told(0, r#"{ "start": [2, 3], "end": [2, 1] }"#),
+        Err(reversed)
+    );
+    let unknown = DrawError::UnknownFile { report: 1 };
+    assert_eq!(told(1, ""), Err(unknown));
+    assert_eq!(unknown.to_string(), "report 1: no such file");
+    for none in ["", "{", "[]", "{}", r#"{"files":[],"reports":[]} x"#] {
+        assert_eq!(draw_document(none, &ascii()), Err(DrawError::NoDocument));
+        assert_eq!(json_document(none), Err(DrawError::NoDocument));
+    }
+    assert_eq!(draw_document(b"\xff", &ascii()), Err(DrawError::NoDocument));
+    let look = Look { tabs: 0, ..ascii() };
+    assert_eq!(draw_document("{", &look), Err(DrawError::WrongTabs));
+    assert!(told(0, r#"{ "bytes": [3, 6] }"#).is_ok());
 }
 
 #[test]
@@ -150,6 +200,20 @@ fn a_small_first_buffer_is_followed_by_one_that_fits() {
 }
 
 #[test]
+fn a_small_first_buffer_of_a_document_is_followed_by_one_that_fits() {
+    // every report shows the one long row
+    let row = "x".repeat(3000);
+    let label = r#"{ "start": [1, 1], "end": [1, 2], "text": "y" }"#;
+    let report = format!(r#"{{ "file": 0, "message": "m", "labels": [{label}] }}"#);
+    let reports = vec![report; 100].join(",");
+    let files = format!(r#"[{{ "name": "a.txt", "source": "{row}" }}]"#);
+    let document = format!(r#"{{ "files": {files}, "reports": [{reports}] }}"#);
+    let drawn = draw_document(&document, &ascii()).unwrap();
+    assert_eq!(drawn.matches(&row).count(), 100);
+    assert!(drawn.len() > 2 * document.len() + 4096);
+}
+
+#[test]
 fn many_reports_are_drawn_as_alone() {
     let files = one("let x = 1;\n");
     let report = Report::error("oops").label(4..5, "here");
@@ -166,6 +230,8 @@ fn threads_draw_at_once() {
             scope.spawn(|| {
                 for example in all.iter().cycle().take(500) {
                     let drawn = draw(&example.files, &example.reports, &ascii());
+                    assert_eq!(drawn.as_deref(), Ok(example.drawing));
+                    let drawn = draw_document(example.document, &ascii());
                     assert_eq!(drawn.as_deref(), Ok(example.drawing));
                 }
             });

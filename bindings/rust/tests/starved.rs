@@ -3,7 +3,7 @@
 #[rustfmt::skip]
 mod examples;
 
-use girzohal::{draw, json, DrawError, Look, Theme};
+use girzohal::{draw, draw_document, json, json_document, DrawError, Look, Theme};
 
 extern "C" {
     /// Lets the library's request for memory that comes behind so many others fail, or none where it is negative.
@@ -48,5 +48,7 @@ fn want_of_memory_is_told() {
         starved(e.name, e.drawing, || draw(&e.files, &e.reports, &look));
         let lines = json(&e.files, &e.reports).unwrap();
         starved(e.name, &lines, || json(&e.files, &e.reports));
+        starved(e.name, e.drawing, || draw_document(e.document, &look));
+        starved(e.name, &lines, || json_document(e.document));
     }
 }

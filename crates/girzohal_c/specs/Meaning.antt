@@ -7,6 +7,7 @@ use Rattle.report_arrays.specs.declared.shapes.Report.{Report}
 use Rattle.report_arrays.specs.declared.shapes.Label.{Label}
 use Rattle.report_arrays.specs.Wrong.{wrong_of}
 use Rattle.render_files.specs.Given.{GivenReport}
+use Rattle.documents.specs.Document.{Document, document_of}
 use Rattle.girzohal_c.specs.Values.{named, report as report_of}
 use Rattle.girzohal_c.specs.declared.shapes.Look.{Look}
 use Rattle.girzohal_c.specs.declared.drawing.Argument.{Argument}
@@ -64,3 +65,12 @@ judged (Some argument) meant = is_wrong argument
 -- what the arrays mean, under a look
 abbrev pub meaning : Arrays → Look → Meaning
 meaning it look = judged (wrong it look) (means (files_in it) (reports_in it))
+
+-- what a document means, or that there is none
+abbrev pub said_by : Option Document → Meaning
+said_by None = no_document
+said_by (Some it) = means it.files it.reports
+
+-- what the bytes of a document mean, under a look
+abbrev pub document_meaning : List ℕ → Look → Meaning
+document_meaning bytes look = judged (option_map InLook (wrong_look look)) (said_by (document_of bytes))

@@ -2,13 +2,14 @@
 ghost use Rattle.std.specs.Prelude.{map};
 ghost use Rattle.render_files.specs.Given.{given_report};
 ghost use Rattle.girzohal_c.specs.Values.{named, report as report_of};
-ghost use Rattle.girzohal_c.specs.Meaning.{arrays, meaning};
+ghost use Rattle.girzohal_c.specs.Meaning.{arrays, document_meaning, meaning};
 ghost use Rattle.girzohal_c.specs.Replies.{IsTextOf, Makes};
 
 use crate::shapes::Look;
 use crate::style::{Form, Style, style_of};
 use crate::values::{files_of, reports_of};
 use codespan::Files;
+use documents::read_document;
 use render_files::{FileReport, ReportError, files_json, files_text};
 use report_arrays::{File, Label, Report, Wrong, read_texts};
 use std::alloc::Global;
@@ -57,6 +58,26 @@ pub(crate) fn draw_arrays(
         Err(field) => return Err(Fault::IsWrong(Argument::InLook(field))),
     };
     match draw_right(alloc, text, files, reports, labels, &style) {
+        Ok(text) => Ok(text),
+        Err(ReportError::OutOfMemory) => Err(Fault::WantsMemory),
+        Err(why) => Err(Fault::IsRefused(why)),
+    }
+}
+
+/// The text of what a document means. The look is judged before the document is read.
+pub(crate) fn draw_document(alloc: Global, document: &[u8], look: &Look) -> Result<String, Fault>
+    ensures { Makes look.now (document_meaning document.now look.now) result }
+{
+    let style = match style_of(look) {
+        Ok(style) => style,
+        Err(field) => return Err(Fault::IsWrong(Argument::InLook(field))),
+    };
+    let document = match read_document(alloc, document) {
+        Ok(Some(document)) => document,
+        Ok(None) => return Err(Fault::IsNoDocument),
+        Err(_) => return Err(Fault::WantsMemory),
+    };
+    match draw(alloc, &style, &document.files, &document.reports) {
         Ok(text) => Ok(text),
         Err(ReportError::OutOfMemory) => Err(Fault::WantsMemory),
         Err(why) => Err(Fault::IsRefused(why)),

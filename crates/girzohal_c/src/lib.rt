@@ -13,7 +13,7 @@
 #![tactic(auto)]
 
 ghost use Rattle.std.specs.Prelude.{◌≡◌, ◌⊎◌};
-ghost use Rattle.girzohal_c.specs.Meaning.{arrays, meaning};
+ghost use Rattle.girzohal_c.specs.Meaning.{arrays, document_meaning, meaning};
 ghost use Rattle.girzohal_c.specs.Replies.{RepliesTo, reply};
 
 mod answers;
@@ -23,7 +23,7 @@ mod style;
 mod values;
 
 use crate::answers::reply_with;
-use crate::drawing::draw_arrays;
+use crate::drawing::{draw_arrays, draw_document};
 pub use crate::shapes::{Answer, Look};
 use report_arrays::{File, Label, Report};
 use std::alloc::Global;
@@ -54,6 +54,27 @@ pub extern "C" fn girzohal_draw(
         out,
         answer,
     )
+}
+
+/// Writes the reports of a document into the caller's buffer, and gives the status.
+///
+/// The document is JSON of the form that `docs/DOCUMENT.md` states. The statuses are those of
+/// [`girzohal_draw`], of whose arguments the look alone can be wrong here, and 3: the bytes are no
+/// document.
+#[unsafe(no_mangle)]
+#[tactic(auto, using(crate::proofs::Replying::tells_replies))]
+pub extern "C" fn girzohal_document(
+    alloc: Global,
+    document: &[u8],
+    look: &Look,
+    out: &mut [u8],
+    answer: &mut Answer,
+) -> u32
+    ensures replies { RepliesTo look.now (document_meaning document.now look.now)
+        (reply result answer.new out.old out.new) }
+    ensures kept { (result ≡ 0) ⊎ (out.new ≡ out.old) }
+{
+    reply_with(draw_document(alloc, document, look), out, answer)
 }
 
 /// The version of the library: major, minor and patch, a byte each, as in 0x000100 for 0.1.0.

@@ -5,6 +5,7 @@ pub struct Example {
     pub name: &'static str,
     pub files: Files,
     pub reports: Vec<Report>,
+    pub document: &'static str,
     pub drawing: &'static str,
 }
 
@@ -20,6 +21,7 @@ fn by_bytes() -> Example {
         name: "by-bytes",
         files,
         reports,
+        document: include_str!("../../../../examples/by-bytes.json"),
         drawing: include_str!("../../../../examples/by-bytes.txt"),
     }
 }
@@ -36,6 +38,7 @@ fn byte_order_mark() -> Example {
         name: "byte-order-mark",
         files,
         reports,
+        document: include_str!("../../../../examples/byte-order-mark.json"),
         drawing: include_str!("../../../../examples/byte-order-mark.txt"),
     }
 }
@@ -57,6 +60,7 @@ fn cart() -> Example {
         name: "cart",
         files,
         reports,
+        document: include_str!("../../../../examples/cart.json"),
         drawing: include_str!("../../../../examples/cart.txt"),
     }
 }
@@ -73,6 +77,7 @@ fn first_row() -> Example {
         name: "first-row",
         files,
         reports,
+        document: include_str!("../../../../examples/first-row.json"),
         drawing: include_str!("../../../../examples/first-row.txt"),
     }
 }
@@ -89,6 +94,7 @@ fn oops() -> Example {
         name: "oops",
         files,
         reports,
+        document: include_str!("../../../../examples/oops.json"),
         drawing: include_str!("../../../../examples/oops.txt"),
     }
 }
@@ -105,6 +111,7 @@ fn tab_past_ascii() -> Example {
         name: "tab-past-ascii",
         files,
         reports,
+        document: include_str!("../../../../examples/tab-past-ascii.json"),
         drawing: include_str!("../../../../examples/tab-past-ascii.txt"),
     }
 }
@@ -129,6 +136,7 @@ fn two_reports() -> Example {
         name: "two-reports",
         files,
         reports,
+        document: include_str!("../../../../examples/two-reports.json"),
         drawing: include_str!("../../../../examples/two-reports.txt"),
     }
 }
@@ -145,6 +153,7 @@ fn unused_variable() -> Example {
         name: "unused-variable",
         files,
         reports,
+        document: include_str!("../../../../examples/unused-variable.json"),
         drawing: include_str!("../../../../examples/unused-variable.txt"),
     }
 }
@@ -161,6 +170,7 @@ fn wide_characters() -> Example {
         name: "wide-characters",
         files,
         reports,
+        document: include_str!("../../../../examples/wide-characters.json"),
         drawing: include_str!("../../../../examples/wide-characters.txt"),
     }
 }
@@ -177,6 +187,7 @@ fn wide_numbers() -> Example {
         name: "wide-numbers",
         files,
         reports,
+        document: include_str!("../../../../examples/wide-numbers.json"),
         drawing: include_str!("../../../../examples/wide-numbers.txt"),
     }
 }

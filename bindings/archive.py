@@ -1,0 +1,126 @@
+#!/usr/bin/env python3
+"""Builds the static library by both compilers: FOLDER/llvm/libgirzohal_c.a and FOLDER/rattle/libgirzohal_c.a.
+
+usage: archive.py [--within SECONDS] FOLDER      (run anywhere; it needs rt)
+
+Where `rt ci` has just proved the crates of this checkout, what it left in crates/*/out is taken: then the static library
+alone is proved once more, since `rt ci` keeps nothing of it, and each compiler takes what that check proved. Else `rt lib`
+builds it, which proves all that has no work kept by `rt check`. With --within, `rt lib` gets so many seconds for each
+compiler; past them, the status is 3 and what was there is left."""
+import os
+import shutil
+import signal
+import subprocess
+import sys
+import tempfile
+
+TOP = os.path.dirname(os.path.dirname(os.path.abspath(__file__)))
+NAME = "girzohal_c"
+FOLDER = os.path.join(TOP, "crates", NAME)
+COMPILERS = ("llvm", "rattle")
+
+
+def kit():
+    """The kit's folder, by the command rt."""
+    command = shutil.which("rt") or sys.exit("archive.py: there is no rt")
+    return os.path.dirname(os.path.dirname(os.path.realpath(command)))
+
+
+def uses():
+    """The libraries that each crate stands on, by crates.txt: those of this repository, and those of the kit."""
+    found = {}
+    with open(os.path.join(TOP, "crates.txt"), encoding="utf-8") as file:
+        for line in file:
+            name, colon, libraries = line.partition("#")[0].partition(":")
+            if colon:
+                found[name.split()[0]] = libraries.split()
+    own = lambda name: [it for it in found[name] if it in found]
+    return own, lambda name: [it for it in found[name] if it not in found]
+
+
+def below(own, name):
+    """The libraries of this repository below a crate, each once."""
+    found = []
+    for each in own(name):
+        found += [it for it in [*below(own, each), each] if it not in found]
+    return found
+
+
+def rlib(name):
+    return os.path.join(TOP, "crates", name, "out", "rlib", name + ".rlib")
+
+
+def is_of_ci(name):
+    """Whether `rt ci` left a library here (`rt check` leaves a stamp beside it), and none of its files was touched since."""
+    if not os.path.isfile(os.path.join(rlib(name), "format")) or os.path.exists(os.path.join(rlib(name), "..", "stamp")):
+        return False
+    made, crate = os.stat(rlib(name)).st_mtime, os.path.join(TOP, "crates", name)
+    if os.stat(os.path.join(TOP, "crates.txt")).st_mtime > made:
+        return False
+    for part in ("src", "specs", "proofs"):
+        for at, _, files in os.walk(os.path.join(crate, part)):
+            if any(os.stat(it).st_mtime > made for it in [at, *(os.path.join(at, file) for file in files)]):
+                return False
+    return True
+
+
+def words(own, of_kit, libraries):
+    """What both the check and the builds are told."""
+    told = ["--crate-name", NAME, "src/lib.rt", "--crate-type", "staticlib", "--links", NAME + "="]
+    for name in ["std", *of_kit(NAME)]:
+        told += ["--extern", f"{name}={kit()}/rlibs/{name}.rlib"]
+    for name in own(NAME):
+        told += ["--extern", f"{name}={rlib(name)}"]
+    for folder in [f"{kit()}/rlibs", *(os.path.dirname(rlib(name)) for name in libraries)]:
+        told += ["-L", "dependency=" + folder]
+    return told + ["--antt-project", f"{kit()}/rattle/logic/antt-project.json"]
+
+
+def over_ci(own, of_kit, libraries, to):
+    """Proves the static library over what `rt ci` proved, and has each compiler build what was proved."""
+    rattle, told = f"{kit()}/bin/rattle", words(own, of_kit, libraries)
+    with tempfile.TemporaryDirectory() as room:
+        proved = room + "/proved"
+        jobs = "2" if len(os.sched_getaffinity(0)) > 1 else "1"
+        checks = [["check", *told, "--logic-built", f"{kit()}/logic_built", "--jobs", jobs, "-o", proved]]
+        for it in COMPILERS:
+            made = ["--crate-checked", proved, "--toolchain", f"{kit()}/toolchain", "--backend", it]
+            checks.append(["build", *told, *made, "-o", f"{to}/{it}/lib{NAME}.a"])
+        return next((status for it in checks if (status := subprocess.run([rattle, *it], cwd=FOLDER).returncode)), 0)
+
+
+def by_rt(to, within):
+    """Has `rt lib` build it by each compiler."""
+    for it in COMPILERS:
+        # a session of its own, so that the provers end with it
+        with subprocess.Popen(["rt", "lib", "--backend", it], cwd=FOLDER, start_new_session=True) as ran:
+            try:
+                status = ran.wait(within)
+            except subprocess.TimeoutExpired:
+                os.killpg(ran.pid, signal.SIGKILL)
+                print(f"archive.py: rt lib had not ended after {within} seconds")
+                return 3
+        if status:
+            return 1
+        shutil.copyfile(os.path.join(FOLDER, "out", f"lib{NAME}.a"), f"{to}/{it}/lib{NAME}.a")
+    return 0
+
+
+def main(given):
+    within = None
+    if given[:1] == ["--within"] and len(given) > 1:
+        within, given = int(given[1]), given[2:]
+    if len(given) != 1:
+        sys.exit(__doc__.split("\n\n")[1])
+    to = os.path.abspath(given[0])
+    for it in COMPILERS:
+        os.makedirs(f"{to}/{it}", exist_ok=True)
+    own, of_kit = uses()
+    libraries = below(own, NAME)
+    if all(is_of_ci(it) for it in libraries):
+        return over_ci(own, of_kit, libraries, to)
+    return by_rt(to, within)
+
+
+if __name__ == "__main__":
+    sys.exit(main(sys.argv[1:]))

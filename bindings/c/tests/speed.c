@@ -1,0 +1,31 @@
+/* Draws once what a file holds, for counting instructions: bindings/speed.py writes the file, and reads the counts.
+ * usage: speed FILE DRAWING   (four numbers of 64 bits, how many bytes, files, reports and labels, and then these) */
+#include <girzohal.h>
+
+#include <stdio.h>
+#include <stdlib.h>
+
+static void *take(FILE *from, size_t count, size_t size) {
+    void *made = malloc(count * size + 8);
+    if (made == NULL || fread(made, size, count, from) != count) exit(2);
+    return made;
+}
+
+int main(int count, char **words) {
+    uint64_t lens[4];
+    FILE *from = count == 3 ? fopen(words[1], "rb") : NULL, *to;
+    if (from == NULL || fread(lens, 8, 4, from) != 4) return 2;
+    uint8_t *texts = take(from, lens[0], 1);
+    girzohal_file *files = take(from, lens[1], sizeof *files);
+    girzohal_report *reports = take(from, lens[2], sizeof *reports);
+    girzohal_label *labels = take(from, lens[3], sizeof *labels);
+    girzohal_look look = {GIRZOHAL_NONE, 4, GIRZOHAL_DRAWING, 80};
+    girzohal_answer answer;
+    size_t room = (size_t)1 << 28;
+    uint8_t *out = malloc(room);
+    if (out == NULL) return 2;
+    uint32_t status = girzohal_draw(texts, lens[0], files, lens[1], reports, lens[2], labels, lens[3], &look, out, room, &answer);
+    to = fopen(words[2], "wb");
+    if (status != GIRZOHAL_DONE || to == NULL || fwrite(out, 1, answer.needed, to) != answer.needed) return 1;
+    return fclose(to) != 0;
+}
