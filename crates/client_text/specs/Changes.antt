@@ -1,8 +1,9 @@
 -- What changes make of a text, and which change is faulty.
-use Rattle.std.specs.Prelude.{◌≡◌, ℕ, ◌+◌, ◌<◌, ◌≤◌, ◌⊎◌, List, [], ◌∷◌, string_bytes, Option, Some, None}
+use Rattle.std.specs.Prelude.{◌≡◌, ℕ, ◌+◌, ◌*◌, ◌<◌, ◌≤◌, ◌⊎◌, List, [], ◌∷◌, length, sum_by, string_bytes, Option, Some, None}
 use Rattle.std.specs.List.{replace_range}
 use Rattle.source_location.specs.Index.{Fits}
 use Rattle.text_places.specs.Places.{IsNearest}
+use Rattle.text_places.specs.Pages.{most_bytes}
 use Rattle.text_places.specs.declared.encoding.Encoding.{Encoding}
 use Rattle.text_places.specs.declared.place.Place.{Place}
 use Rattle.client_text.specs.declared.change.Change.{Change}
@@ -76,3 +77,11 @@ IsFirstFault encoding text (change ∷ changes) number fault =
 -- a refusal names the first change that is refused, and why
 abbrev pub IsRefusal : Encoding → List ℕ → List Change → Refusal → Type 0
 IsRefusal encoding text changes refusal = IsFirstFault encoding text changes refusal.change refusal.fault
+
+-- how many bytes changes insert
+abbrev pub inserted : List Change → ℕ
+inserted changes = sum_by (λ change. length (string_bytes change.text)) changes
+
+-- how many bytes changes look at, at most: what they insert, and nine pages for each
+abbrev pub most_looked : List Change → ℕ
+most_looked changes = length changes * (9 * most_bytes) + inserted changes

@@ -4,13 +4,15 @@ ghost use Rattle.std.specs.Prelude.{string_bytes, OnOk, IfOk, IfErr, OnErr};
 ghost use Rattle.std.specs.Str.{IsCharBoundary};
 ghost use Rattle.source_location.specs.Index.{Fits};
 ghost use Rattle.std.specs.List.{concat};
-ghost use Rattle.client_text.specs.Changes.{AllChange, IsRefusal};
+ghost use Rattle.client_text.specs.Changes.{AllChange, IsRefusal, most_looked};
 ghost use Rattle.client_text.specs.Document.{IsEdited};
 
 use crate::apply::apply;
 use crate::{Change, Fault, Refusal};
+use oxc_windows::{OwnLedger, Page, Steps};
 use std::alloc::{AllocError, Global};
-use std::marker::Model;
+use std::marker::{Brand, Model};
+use std::sync::ledger::{Blank, Ledger};
 use text_places::{Encoding, Pieces, TextPlaces};
 
 /// A document as a client edits it: its text, which has its places, and its version.
@@ -31,17 +33,19 @@ impl Model for ClientText {
 }
 
 /// Makes changes, each on the text that the one before left; an `Err` may leave any text.
-fn apply_all(
+fn apply_all<L: Ledger>(
     alloc: Global,
     places: &mut TextPlaces,
     encoding: Encoding,
     changes: &[Change],
+    steps: &mut Steps<L>,
 ) -> Result<(), Refusal>
     ensures done { OnOk result (AllChange encoding places.old changes.now places.new) }
     ensures cause { IfErr result (IsRefusal encoding places.old changes.now) }
+    ensures ticks { steps.new ≤ steps.old + most_looked changes.now }
 {
     for (number, change) in changes.iter().enumerate() {
-        match apply(alloc, places, encoding, change) {
+        match apply(alloc, places, encoding, change, steps) {
             Ok(()) => {}
             Err(fault) => {
                 return Err(Refusal {
@@ -55,71 +59,101 @@ fn apply_all(
 }
 
 /// A copy of a text with its places.
-fn copied(alloc: Global, places: &TextPlaces) -> Result<TextPlaces, AllocError>
-    ensures { IfOk result (λ copy. copy ≡ places.now) }
+fn copied<L: Ledger>(
+    alloc: Global,
+    places: &TextPlaces,
+    steps: &mut Steps<L>,
+) -> Result<TextPlaces, AllocError>
+    ensures copy { IfOk result (λ copy. copy ≡ places.now) }
+    ensures ticks { steps.new ≡ steps.old + length places.now }
 {
-    let _ = places.len();
+    steps.tick(places.len().to_usize());
     let text = places.to_text(alloc)?;
     let copy = TextPlaces::new(alloc, text.as_str())?;
     Ok(copy)
 }
 
 /// Makes the only change of a list.
-fn apply_one(
+fn apply_one<L: Ledger>(
     alloc: Global,
     places: &mut TextPlaces,
     encoding: Encoding,
     change: &Change,
+    steps: &mut Steps<L>,
 ) -> Result<(), Refusal>
     ensures done { OnOk result (AllChange encoding places.old (change.now ∷ []) places.new) }
     ensures cause { IfErr result (IsRefusal encoding places.old (change.now ∷ [])) }
     ensures unchanged { OnErr result (places.new ≡ places.old) }
+    ensures ticks { steps.new ≤ steps.old + most_looked (change.now ∷ []) }
 {
-    match apply(alloc, places, encoding, change) {
+    match apply(alloc, places, encoding, change, steps) {
         Ok(()) => Ok(()),
         Err(fault) => Err(Refusal { change: 0, fault }),
     }
 }
 
 /// Makes all changes of a list, or none: of a single one in place, of more on a copy.
-fn change_places(
+fn change_places<L: Ledger>(
     alloc: Global,
     places: &mut TextPlaces,
     encoding: Encoding,
     changes: &[Change],
+    steps: &mut Steps<L>,
 ) -> Result<(), Refusal>
     ensures done { OnOk result (AllChange encoding places.old changes.now places.new) }
     ensures cause { IfErr result (IsRefusal encoding places.old changes.now) }
     ensures unchanged { OnErr result (places.new ≡ places.old) }
+    ensures one { length changes.now ≤ 1 → steps.new ≤ steps.old + most_looked changes.now }
+    ensures all { steps.new ≤ steps.old + length places.old + most_looked changes.now }
 {
     match changes {
         [] => Ok(()),
-        [change] => apply_one(alloc, places, encoding, change),
-        _ => change_copy(alloc, places, encoding, changes),
+        [change] => apply_one(alloc, places, encoding, change, steps),
+        _ => change_copy(alloc, places, encoding, changes, steps),
     }
 }
 
 /// Makes changes on a copy, which takes the place of the text when all are made.
-fn change_copy(
+fn change_copy<L: Ledger>(
     alloc: Global,
     places: &mut TextPlaces,
     encoding: Encoding,
     changes: &[Change],
+    steps: &mut Steps<L>,
 ) -> Result<(), Refusal>
     requires { 0 < length changes.now }
     ensures done { OnOk result (AllChange encoding places.old changes.now places.new) }
     ensures cause { IfErr result (IsRefusal encoding places.old changes.now) }
     ensures unchanged { OnErr result (places.new ≡ places.old) }
+    ensures ticks { steps.new ≤ steps.old + length places.old + most_looked changes.now }
 {
-    let Ok(mut copy) = copied(alloc, places) else {
+    let Ok(mut copy) = copied(alloc, places, steps) else {
         return Err(Refusal {
             change: 0,
             fault: Fault::OutOfMemory,
         });
     };
-    apply_all(alloc, &mut copy, encoding, changes)?;
+    apply_all(alloc, &mut copy, encoding, changes, steps)?;
     *places = copy;
     Ok(())
+}
+
+/// Makes the changes of a notification on a counter of its own.
+fn change_alone<P: Page>(
+    client: &mut ClientText,
+    version: i32,
+    changes: &[Change],
+    blank: Blank,
+) -> Result<(), Refusal>
+    requires named { blank.name ≡ P.number }
+    requires cut { blank.parts ≡ P.pieces }
+    requires some { 0 < blank.parts }
+    ensures done { OnOk result (IsEdited client.old version changes.now client.new) }
+    ensures cause { IfErr result (IsRefusal client.old.encoding client.old.text changes.now) }
+    ensures unchanged { OnErr result (client.new ≡ client.old) }
+{
+    let mut steps = Steps::new(OwnLedger::<P>::new(blank));
+    client.change_counted(version, changes, &mut steps)
 }
 
 impl ClientText {
@@ -171,7 +205,25 @@ impl ClientText {
         ensures cause { IfErr result (IsRefusal self.old.encoding self.old.text changes.now) }
         ensures unchanged { OnErr result (self.new ≡ self.old) }
     {
-        change_places(self.alloc, &mut self.places, self.encoding, changes)?;
+        change_alone::<Brand>(self, version, changes, Blank::new(1))
+    }
+
+    /// The same, where the bytes of the text and of what is inserted that are looked at are counted.
+    /// A single change looks at what it inserts and at nine pages of 1,024 bytes at most, whatever
+    /// it removes; a list of more looks at the whole text besides, which is copied.
+    pub fn change_counted<L: Ledger>(
+        &mut self,
+        version: i32,
+        changes: &[Change],
+        steps: &mut Steps<L>,
+    ) -> Result<(), Refusal>
+        ensures done { OnOk result (IsEdited self.old version changes.now self.new) }
+        ensures cause { IfErr result (IsRefusal self.old.encoding self.old.text changes.now) }
+        ensures unchanged { OnErr result (self.new ≡ self.old) }
+        ensures one { length changes.now ≤ 1 → steps.new ≤ steps.old + most_looked changes.now }
+        ensures all { steps.new ≤ steps.old + length self.old.text + most_looked changes.now }
+    {
+        change_places(self.alloc, &mut self.places, self.encoding, changes, steps)?;
         self.version = version;
         Ok(())
     }

@@ -3,7 +3,11 @@ use Rattle.std.proofs.Common.{◌≡◌, ◌⊎◌, ℕ, ◌+◌, ◌-◌, ◌^�
 use Rattle.std.specs.Str.{IsUtf8, IsCharBoundary}
 use Rattle.std.proofs.lemmas.Bool.{cases_lt}
 use Rattle.std.proofs.lemmas.List.{drop_more, drop_at, take-append-drop, length-take-le, length-drop, take_more, take_all, length-append, get_or-append-add, get_or_append_left, get_or_past, take_at, take-append-le, length-take, get_or_at, take-take, get_or_default, get_or_push}
-use Rattle.std.proofs.lemmas.Str.{IsUtf8-drop, IsUtf8-append}
+use Rattle.std.proofs.lemmas.Str.{IsUtf8-drop, IsUtf8-append, IsUtf8-past_char, drop_past_char, length-encode, len_utf8_bounds, IsCharBoundary-start, IsCharBoundary-from_rest}
+use Rattle.std.proofs.lemmas.List.Elements.{All-push, All-same}
+use Rattle.std.specs.List.{All}
+use Rattle.std.specs.Char.{len_utf8}
+use lib.Utf8.{encode, encodes}
 use Rattle.source_location.specs.Breaks.{breaks_of}
 use Rattle.source_location.specs.Rows.{row_of}
 use Rattle.source_location.specs.Index.{Fits}
@@ -11,8 +15,8 @@ use Rattle.std.proofs.Math.Seq.{take-add}
 use Rattle.source_location.proofs.BreaksLemmas.{few_breaks}
 use Rattle.source_location.proofs.CutLemmas.{PartsNone}
 use Rattle.text_places.specs.Bytes.{begun}
-use Rattle.text_places.specs.Pages.{bytes_in, text_of, front_of, counts_of, IsCleanAt, IsCounted, ArePages, IsPaged}
-use Rattle.text_places.specs.Building.{plus, total, recounted, IsPageOf, ArePagesOf, AreSmall}
+use Rattle.text_places.specs.Pages.{most_bytes, least_bytes, bytes_in, text_of, front_of, counts_of, IsCleanAt, IsCounted, AreFilled, ArePages, IsPaged}
+use Rattle.text_places.specs.Building.{plus, total, recounted, IsPageEnd, IsPageOf, ArePagesOf, AreSmall}
 use Rattle.text_places.specs.declared.encoding.Encoding.{Encoding}
 use Rattle.text_places.specs.declared.encoding.Encoding.TheVariants.{Utf8, Utf16, Utf32}
 use Rattle.text_places.specs.declared.page.Counts.{Counts}
@@ -33,18 +37,24 @@ few_units e text utf8 = begun-le-length e text utf8
 pub ruleset whole = (rows_whole, few_rows, few_units)
 
 -- the pages of the front of a text, and what is left of it
-pub record ArePagesSoFar (text : List ℕ) (pages : List Page) (rest : List ℕ) : Type 0 where
-  pub whole : text_of pages ++ rest ≡ text
+pub record ArePagesSoFar (text : List ℕ) (pages : List Page) (left : List ℕ) : Type 0 where
+  pub whole : text_of pages ++ left ≡ text
   pub own : (k : ℕ) (d : Page) → k < length pages → (get_or pages k d).own ≡ counts_of (bytes_in (get_or pages k d))
   pub clean : (k : ℕ) → k ≤ length pages → IsCleanAt text (length (front_of pages k))
-  pub short : length rest ≤ length text
-  pub utf8 : IsUtf8 rest
+  pub most : All (λ page. length (bytes_in page) ≤ most_bytes) pages
+  pub least : All (λ page. least_bytes ≤ length (bytes_in page)) pages
+  pub rest : 0 < length pages → least_bytes ≤ length left
+  pub short : length left ≤ length text
+  pub utf8 : IsUtf8 left
 
 pub so_far_none : (text : List ℕ) → IsUtf8 text → ArePagesSoFar text [] text
 so_far_none text utf8 = record {
   whole = ap (λ l. l ++ text) text-nil;
   own = λ k d h. absurd (omega (arith, h));
   clean = λ k h some. absurd (omega (arith, some, ap length (ap text_of (take_all k [] (omega arith)) ∙ text-nil)));
+  most = λ k d h. absurd (omega (arith, h));
+  least = λ k d h. absurd (omega (arith, h));
+  rest = λ h. absurd (omega (arith, h));
   short = omega arith;
   utf8 = utf8;
 }
@@ -74,8 +84,10 @@ clean_behind front rest at some clean gt cr lf =
     clean some (sym (get_or-append-add front rest (at - 1) 0) ∙ ap (λ k. get_or (front ++ rest) k 0) (sym back) ∙ cr) (sym (get_or-append-add front rest at 0) ∙ lf)
 
 pub so_far_more : (text : List ℕ) (pages more : List Page) (page : Page) (rest front back : List ℕ) (at : ℕ) → ArePagesSoFar text pages rest → IsPageOf front page
-    → front ≡ take at rest → back ≡ drop at rest → 0 < at → at ≤ length rest → IsCleanAt rest at → IsCharBoundary rest at → more ≡ pages ++ page ∷ [] → ArePagesSoFar text more back
-so_far_more text pages more page rest front back at so is fronts backs some within clean boundary pushed =
+    → front ≡ take at rest → back ≡ drop at rest → IsPageEnd rest at → more ≡ pages ++ page ∷ [] → ArePagesSoFar text more back
+so_far_more text pages more page rest front back at so is fronts backs end pushed =
+    let some : 0 < at = omega (arith, end.least) in
+    let within : at ≤ length rest = omega (arith, end.rest) in
     let joined : text_of more ++ back ≡ text =
     ap (λ l. text_of l ++ back) pushed ∙ ap (λ l. l ++ back) (text_pushed pages page) ∙ append_assoc (text_of pages) (bytes_in page) back
     ∙ ap (λ l. text_of pages ++ l) (ap (λ l. l ++ back) (is.whole ∙ fronts) ∙ ap (λ l. take at rest ++ l) backs ∙ take-append-drop at rest) ∙ so.whole in
@@ -89,20 +101,59 @@ so_far_more text pages more page rest front back at so is fronts backs some with
           (λ ge.
           let last : length (front_of (pages ++ page ∷ []) k) ≡ length (text_of pages) + at =
           ap length (front-all (pages ++ page ∷ []) k (omega (arith, ge, length-append pages (page ∷ []))) ∙ text_pushed pages page) ∙ length-append (text_of pages) (bytes_in page) ∙ ap (λ n. length (text_of pages) + n) size in
-          subst (λ n. IsCleanAt text n) (sym last) (subst (λ t. IsCleanAt t (length (text_of pages) + at)) so.whole (clean_behind (text_of pages) rest at some clean)))
+          subst (λ n. IsCleanAt text n) (sym last) (subst (λ t. IsCleanAt t (length (text_of pages) + at)) so.whole (clean_behind (text_of pages) rest at some end.clean)))
           (cases_lt k (length pages + 1)));
+      most = All-same (λ (p : Page). length (bytes_in p) ≤ most_bytes) more (pages ++ page ∷ []) pushed (All-push (λ (p : Page). length (bytes_in p) ≤ most_bytes) pages page so.most (omega (arith, size, end.most)));
+      least = All-same (λ (p : Page). least_bytes ≤ length (bytes_in p)) more (pages ++ page ∷ []) pushed (All-push (λ (p : Page). least_bytes ≤ length (bytes_in p)) pages page so.least (omega (arith, size, end.least)));
+      rest = λ _. omega (arith, end.rest, ap length backs, length-drop at rest);
       short = omega (arith, so.short, ap length backs, length-drop at rest);
-      utf8 = subst IsUtf8 (sym backs) (IsUtf8-drop rest at so.utf8 boundary);
+      utf8 = subst IsUtf8 (sym backs) (IsUtf8-drop rest at so.utf8 end.boundary);
     }
 
-pub so_far_all : (text : List ℕ) (pages all : List Page) (page : Page) (rest : List ℕ) → ArePagesSoFar text pages rest → IsPageOf rest page → all ≡ pages ++ page ∷ [] → ArePagesOf text all
-so_far_all text pages all page rest so is pushed = subst (ArePagesOf text) (sym pushed) (record {
-  some = omega (arith, length-append pages (page ∷ []));
-  whole = text_pushed pages page ∙ ap (λ l. text_of pages ++ l) is.whole ∙ so.whole;
-  own = own_more pages page so.own (page_own rest page is);
-  clean = λ k h. subst (λ n. IsCleanAt text n) (ap length (sym (front_kept pages page k (omega (arith, h, length-append pages (page ∷ []))))))
-      (so.clean k (omega (arith, h, length-append pages (page ∷ []))));
-})
+no_text : (pages : List Page) → length pages ≡ 0 → length (text_of pages) ≡ 0
+no_text [] none = ap length text-nil
+no_text (page ∷ pages) none = absurd (omega (arith, none))
+
+pub so_far_all : (text : List ℕ) (pages all : List Page) (page : Page) (rest : List ℕ) → ArePagesSoFar text pages rest → IsPageOf rest page → length rest ≤ most_bytes → all ≡ pages ++ page ∷ [] → ArePagesOf text all
+so_far_all text pages all page rest so is few pushed =
+    let size : length (bytes_in page) ≡ length rest = ap length is.whole in
+    let count : length (pages ++ page ∷ []) ≡ length pages + 1 = length-append pages (page ∷ []) in
+    subst (ArePagesOf text) (sym pushed) (record {
+      some = omega (arith, count);
+      whole = text_pushed pages page ∙ ap (λ l. text_of pages ++ l) is.whole ∙ so.whole;
+      own = own_more pages page so.own (page_own rest page is);
+      clean = λ k h. subst (λ n. IsCleanAt text n) (ap length (sym (front_kept pages page k (omega (arith, h, count))))) (so.clean k (omega (arith, h, count)));
+      most = All-push (λ (p : Page). length (bytes_in p) ≤ most_bytes) pages page so.most (omega (arith, size, few));
+      least = λ long.
+          All-push (λ (p : Page). least_bytes ≤ length (bytes_in p)) pages page so.least
+          (⊎_elim (λ some. omega (arith, so.rest some, size)) (λ none. omega (arith, size, long, ap length so.whole, length-append (text_of pages) rest, no_text pages (omega (arith, none)))) (cases_lt 0 (length pages)));
+      one = λ short. ⊎_elim (λ some. absurd (omega (arith, so.rest some, so.short, short))) (λ none. omega (arith, count, none)) (cases_lt 0 (length pages));
+    })
+
+-- a boundary is near each byte of a text
+near_boundary : (cs bs : List ℕ) (i : ℕ) → IsUtf8 bs → encodes cs ≡ bs → i < length bs → (o : ℕ) × IsCharBoundary bs o × (o ≤ i) × (i ≤ o + 3)
+near_boundary [] bs i utf8 is lt = absurd (omega (arith, lt, ap length is))
+near_boundary (c ∷ cs) bs i utf8 is lt =
+    let n = len_utf8 c in
+    let bounds = len_utf8_bounds c in
+    let rest = encodes cs in
+    let size : length bs ≡ n + length rest = omega (arith, ap length is, length-append (encode c) rest, length-encode c) in
+    ⊎_elim
+    (λ first. (0, IsCharBoundary-start bs utf8, omega arith, omega (arith, first, bounds.1)))
+    (λ later.
+    let next = near_boundary cs rest (i - n) (IsUtf8-past_char bs rest c utf8 (sym is)) refl (omega (arith, later, lt, size)) in
+    let behind : drop n bs ≡ rest = ap (λ k. drop k bs) (let e : n ≡ 0 + n = omega arith in e) ∙ drop_past_char bs rest 0 c (sym is) in (
+      n + next.0,
+      IsCharBoundary-from_rest bs n next.0 (omega (arith, size)) (subst (λ l. IsCharBoundary l next.0) (sym behind) next.1),
+      omega (arith, next.2, later),
+      omega (arith, next.3),
+    ))
+    (cases_lt i n)
+
+pub floor_near : (bs : List ℕ) (i r : ℕ) → IsUtf8 bs → i < length bs → ((j : ℕ) → r < j → j ≤ i → ¬ IsCharBoundary bs j) → i ≤ r + 3
+floor_near bs i r utf8 lt none =
+    let near = near_boundary utf8.0 bs i utf8 utf8.1.1 lt in
+    ⊎_elim (λ past. absurd (none near.0 past near.2 near.1)) (λ le. omega (arith, le, near.3)) (cases_lt r near.0)
 
 -- pages counted again
 pub total-append : (at : Counts) (xs ys : List Page) → total at (xs ++ ys) ≡ total (total at xs) ys
@@ -159,6 +210,11 @@ get_recounted at xs k d h =
     ap (λ l. get_or (recounted at l) k d) (sym (take-append-drop k xs) ∙ ap (λ l. take k xs ++ l) (drop_more xs k d h))
     ∙ ap (λ l. get_or l k d) (recounted-append at (take k xs) (get_or xs k d ∷ drop (k + 1) xs))
     ∙ get_or_at (recounted at (take k xs)) (record (get_or xs k d) { before = total at (take k xs) }) (recounted (plus (total at (take k xs)) (get_or xs k d).own) (drop (k + 1) xs)) d k (front_size at xs k h)
+
+pub recounted-all : (P : List ℕ → Type 0) (at : Counts) (xs : List Page) → All (λ page. P (bytes_in page)) xs → All (λ page. P (bytes_in page)) (recounted at xs)
+recounted-all P at xs all k d h =
+    let lt : k < length xs = omega (arith, h, length-recounted at xs) in
+    subst (λ (p : Page). P (bytes_in p)) (sym (get_recounted at xs k d lt)) (all k d lt)
 
 pub front_recounted : (at : Counts) (xs : List Page) (k : ℕ) → k ≤ length xs → front_of (recounted at xs) k ≡ front_of xs k
 front_recounted at xs k h =
@@ -245,8 +301,9 @@ front_later first later i =
 pub pages_counted : (first later : List Page) (at : Counts) → 0 < length (first ++ later) → Fits (text_of (first ++ later)) → AreBehind (text_of first) at later
     → ((k : ℕ) (d : Page) → k < length first → IsCounted (front_of first k) (get_or first k d))
     → ((k : ℕ) → k < length first → IsCleanAt (text_of (first ++ later)) (length (front_of first k)))
+    → AreFilled (first ++ recounted at later)
     → IsPaged (first ++ recounted at later) (total at later)
-pages_counted first later at some fits is known clean =
+pages_counted first later at some fits is known clean filled =
     let again = recounted at later in
     let pages = first ++ again in
     let size = length-recounted at later in
@@ -270,6 +327,7 @@ pages_counted first later at some fits is known clean =
             (λ lt. subst (λ f. IsCleanAt (text_of (first ++ later)) (length f)) (sym (front_known first again k (omega arith))) (clean k lt))
             (λ ge. let i = k - length first in later_clean i (omega (arith, h, ge, length-append first again, size)) k (omega (arith, ge)))
             (cases_lt k (length first)));
+        filled = filled;
       };
       total = all;
       bytes = ap (λ (c : Counts). c.bytes) all ∙ counts-bytes (text_of pages);

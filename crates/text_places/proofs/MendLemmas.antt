@@ -6,17 +6,18 @@ use Rattle.std.specs.List.Sorted.{IsPartitionPoint}
 use Rattle.std.proofs.lemmas.Bool.{cases_lt, false≢true, leb-true, leb-false, ltb-true, ltb-false}
 use Rattle.std.proofs.Math.Seq.{take-add}
 use Rattle.std.proofs.lemmas.List.{get_or_default, take-append-drop, length-take-le, length-drop, length-take, drop-drop, drop-append-le, length-append, get_or-append-add, get_or_append_left, get_or_past, get_or-take, get_or-drop, take_at, drop_at, take-append-le, take-take, take_all, drop_all}
+use Rattle.std.proofs.lemmas.List.Elements.{All-append, All-take, All-drop}
 use Rattle.source_location.specs.Index.{Fits}
 use Rattle.source_location.specs.Breaks.{breaks_of}
 use Rattle.source_location.proofs.BreaksLemmas.{few_breaks}
 use Rattle.text_places.specs.Bytes.{begun}
-use Rattle.text_places.specs.Pages.{bytes_in, text_of, front_of, counts_of, IsCleanAt, IsCounted, ArePages, IsPaged}
+use Rattle.text_places.specs.Pages.{most_bytes, least_bytes, bytes_in, text_of, front_of, counts_of, IsCleanAt, IsCounted, AreFilled, ArePages, IsPaged}
 use Rattle.text_places.specs.Building.{total, recounted, IsNothing, ArePagesOf, AreSmall}
 use Rattle.text_places.specs.Mending.{IsAheadOf, IsBehind, IsBetween, PartNone, merged_of}
 use Rattle.text_places.specs.declared.page.Counts.{Counts}
 use Rattle.text_places.specs.declared.page.Page.{Page}
 use Rattle.text_places.proofs.PagesLemmas.{some_page, bytes_at, split, rest-more, front-more, front-le, front-all, text-append, text-nil, cut_before, cut_behind, last_behind, text_utf8, IsParted}
-use Rattle.text_places.proofs.BuildLemmas.{recounted-text, AreBehind, pages_counted, totals_small, front_known, front_later, clean_behind}
+use Rattle.text_places.proofs.BuildLemmas.{recounted-text, recounted-all, length-recounted, AreBehind, pages_counted, totals_small, front_known, front_later, clean_behind}
 
 pub ahead_of : (pages : List Page) (o r : ℕ) → ArePages pages → o ≤ length (text_of pages) → r ≤ length pages
     → IsPartitionPoint (λ page. ltb page.before.bytes o ≡ true) (λ page. ltb page.before.bytes o ≡ false) pages r → IsAheadOf pages (r - 1) o
@@ -149,6 +150,7 @@ between pages first last start end insert text d ok ahead back le within is =
     let at_end : length g + y ≡ end = omega (arith, back.from) in
     record {
       ordered = in_order pages first last start end ahead back le;
+      within = back.within;
       whole =
           ap (λ l. f ++ (l ++ r)) is ∙ joined f (take x a) insert (drop y b) r
           ∙ ap (λ l. (l ++ insert) ++ (drop y b ++ r)) (sym (take_in pages first d x ahead.within upto_a) ∙ ap (λ n. take n (text_of pages)) at_start)
@@ -218,11 +220,10 @@ cut_later f m r q ahead back inside later =
 -- the pages after a change
 pub record IsMended (pages new put : List Page) (first last start end : ℕ) (insert text : List ℕ) (at : Counts) : Type 0 where
   pub old : ArePages pages
-  pub ahead : IsAheadOf pages first start
-  pub back : IsBehind pages last end
   pub fits : Fits (replace_range (text_of pages) start end insert)
   pub between : IsBetween pages first last start end insert text
   pub made : ArePagesOf text new
+  pub long : length text < least_bytes → (first ≡ 0) × (last + 1 ≡ length pages)
   pub counted : at ≡ counts_of (front_of pages first)
   pub stands : put ≡ take first pages ++ (new ++ drop (last + 1) pages)
 
@@ -289,19 +290,42 @@ mended_behind pages new put first last start end insert text at is = record { co
             clean_of_back g (text_of r) p some (subst (λ t. IsCleanAt t (length g + p)) (split pages (last + 1)) (subst (IsCleanAt (text_of pages)) at known)))
             (cases_lt k (length new))
 
+-- what a change leaves is filled
+mended_filled : (pages new put : List Page) (first last start end : ℕ) (insert text : List ℕ) (at : Counts) → IsMended pages new put first last start end insert text at
+    → AreFilled (take first pages ++ recounted at (new ++ drop (last + 1) pages))
+mended_filled pages new put first last start end insert text at is = record {
+  most = All-append (λ (page : Page). length (bytes_in page) ≤ most_bytes) (take first pages) (recounted at (new ++ drop (last + 1) pages)) (All-take (λ (page : Page). length (bytes_in page) ≤ most_bytes) first pages is.old.filled.most) (recounted-all (λ (bytes : List ℕ). length bytes ≤ most_bytes) at (new ++ drop (last + 1) pages) (All-append (λ (page : Page). length (bytes_in page) ≤ most_bytes) new (drop (last + 1) pages) is.made.most (All-drop (λ (page : Page). length (bytes_in page) ≤ most_bytes) (last + 1) pages is.old.filled.most)));
+  least = λ more.
+      ⊎_elim
+      (λ short.
+      let whole = is.long short in
+      absurd (omega (arith, more, whole.0, whole.1, is.made.one short, count, length-take first pages, length-drop (last + 1) pages)))
+      (λ long.
+      All-append (λ (page : Page). least_bytes ≤ length (bytes_in page)) (take first pages) (recounted at (new ++ drop (last + 1) pages))
+      (⊎_elim (λ lt. All-take (λ (page : Page). least_bytes ≤ length (bytes_in page)) first pages (is.old.filled.least lt)) (λ le k d h. absurd (omega (arith, h, le, length-take first pages, is.between.ordered, is.between.within))) (cases_lt 1 (length pages)))
+      (recounted-all (λ (bytes : List ℕ). least_bytes ≤ length bytes) at (new ++ drop (last + 1) pages)
+      (All-append (λ (page : Page). least_bytes ≤ length (bytes_in page)) new (drop (last + 1) pages) (is.made.least long)
+      (⊎_elim (λ lt. All-drop (λ (page : Page). least_bytes ≤ length (bytes_in page)) (last + 1) pages (is.old.filled.least lt)) (λ le k d h. absurd (omega (arith, h, le, length-drop (last + 1) pages, is.between.within))) (cases_lt 1 (length pages))))))
+      (cases_lt (length text) least_bytes);
+}
+  where
+    count : length (take first pages ++ recounted at (new ++ drop (last + 1) pages)) ≡ length (take first pages) + (length new + length (drop (last + 1) pages))
+    count = length-append (take first pages) (recounted at (new ++ drop (last + 1) pages)) ∙ ap (λ n. length (take first pages) + n) (length-recounted at (new ++ drop (last + 1) pages) ∙ length-append new (drop (last + 1) pages))
+
 mended_counted : (pages new put : List Page) (first last start end : ℕ) (insert text : List ℕ) (at : Counts) → IsMended pages new put first last start end insert text at
     → IsPaged (take first pages ++ recounted at (new ++ drop (last + 1) pages)) (total at (new ++ drop (last + 1) pages))
 mended_counted pages new put first last start end insert text at is =
     let q = new ++ drop (last + 1) pages in
     let a = take first pages in
-    let size : length a ≡ first = length-take-le first pages (let h = is.ahead.within in omega arith) in
+    let size : length a ≡ first = length-take-le first pages (omega (arith, is.between.ordered, is.between.within)) in
     pages_counted a q at (omega (arith, is.made.some, length-append a q, length-append new (drop (last + 1) pages)))
     (subst Fits (sym (mended_text pages new put first last start end insert text at is)) is.fits)
     (mended_behind pages new put first last start end insert text at is)
     (λ k d h.
     subst (λ f. IsCounted f (get_or a k d)) (ap text_of (sym (take-take k first pages (omega (arith, h, size)))))
-    (subst (IsCounted (front_of pages k)) (sym (get_or-take first pages k d (omega (arith, h, size)))) (is.old.counted k d (omega (arith, h, size, is.ahead.within)))))
+    (subst (IsCounted (front_of pages k)) (sym (get_or-take first pages k d (omega (arith, h, size)))) (is.old.counted k d (omega (arith, h, size, is.between.ordered, is.between.within)))))
     (λ k h. clean k (omega (arith, h, size)))
+    (mended_filled pages new put first last start end insert text at is)
   where
     clean : (k : ℕ) → k < first → IsCleanAt (text_of (take first pages ++ (new ++ drop (last + 1) pages))) (length (front_of (take first pages) k))
     clean k lt =
@@ -310,7 +334,7 @@ mended_counted pages new put first last start end insert text at is =
         let c = length (front_of pages k) in
         let whole : text_of q ≡ text ++ text_of (drop (last + 1) pages) = text-append new (drop (last + 1) pages) ∙ ap (λ l. l ++ text_of (drop (last + 1) pages)) is.made.whole in
         let upto : c ≤ length f = front-le pages k first (omega (arith, lt)) in
-        let known : IsCleanAt (f ++ text_of (drop first pages)) c = subst (λ t. IsCleanAt t c) (split pages first) (is.old.clean k (omega (arith, lt, is.ahead.within))) in
+        let known : IsCleanAt (f ++ text_of (drop first pages)) c = subst (λ t. IsCleanAt t c) (split pages first) (is.old.clean k (omega (arith, lt, is.between.ordered, is.between.within))) in
         subst (λ l. IsCleanAt (text_of (take first pages ++ q)) (length l)) (ap text_of (sym (take-take k first pages (omega (arith, lt)))))
         (subst (λ t. IsCleanAt t c) (sym (text-append (take first pages) q))
         (⊎_elim
@@ -323,7 +347,7 @@ put_front : (pages new put : List Page) (first last start end : ℕ) (insert tex
     → (take first put ≡ take first pages) × (drop first put ≡ new ++ drop (last + 1) pages)
 put_front pages new put first last start end insert text at is =
     let q = new ++ drop (last + 1) pages in
-    let size : length (take first pages) ≡ first = length-take-le first pages (let h = is.ahead.within in omega arith) in
+    let size : length (take first pages) ≡ first = length-take-le first pages (omega (arith, is.between.ordered, is.between.within)) in
     (ap (take first) is.stands ∙ take_at (take first pages) q first size, ap (drop first) is.stands ∙ drop_at (take first pages) q first size)
 
 pub mended_paged : (pages new put left : List Page) (first last start end : ℕ) (insert text : List ℕ) (at all : Counts) → IsMended pages new put first last start end insert text at
@@ -379,11 +403,21 @@ pub made_small : (text : List ℕ) (pages : List Page) (at : Counts) → Fits te
 made_small text pages at fits made none k h =
     totals_small (text_of []) at pages (made_behind text pages at made none) (text_utf8 []) (omega (arith, fits, ap length (ap (λ l. l ++ text_of pages) text-nil ∙ made.whole))) k h
 
+made_filled : (text : List ℕ) (pages : List Page) (at : Counts) → ArePagesOf text pages → AreFilled (recounted at pages)
+made_filled text pages at made = record {
+  most = recounted-all (λ (bytes : List ℕ). length bytes ≤ most_bytes) at pages made.most;
+  least = λ more.
+      ⊎_elim
+      (λ short. absurd (omega (arith, more, made.one short, length-recounted at pages)))
+      (λ long. recounted-all (λ (bytes : List ℕ). least_bytes ≤ length bytes) at pages (made.least long))
+      (cases_lt (length text) least_bytes);
+}
+
 pub made_paged : (text : List ℕ) (pages left : List Page) (at all : Counts) → Fits text → ArePagesOf text pages → IsNothing at
     → left ≡ recounted at pages → all ≡ total at pages → IsPaged left all
 made_paged text pages left at all fits made none e s =
     subst (λ l. IsPaged l all) (sym e) (subst (IsPaged (recounted at pages)) (sym s)
-    (pages_counted [] pages at made.some (subst Fits (sym made.whole) fits) (made_behind text pages at made none) (λ k d h. absurd (omega (arith, h))) (λ k h. absurd (omega (arith, h)))))
+    (pages_counted [] pages at made.some (subst Fits (sym made.whole) fits) (made_behind text pages at made none) (λ k d h. absurd (omega (arith, h))) (λ k h. absurd (omega (arith, h))) (made_filled text pages at made)))
 
 pub made_text : (text : List ℕ) (pages left : List Page) (at : Counts) → ArePagesOf text pages → left ≡ recounted at pages → text_of left ≡ text
 made_text text pages left at made e = ap text_of e ∙ recounted-text at pages ∙ made.whole

@@ -14,7 +14,7 @@ use Rattle.source_location.specs.Breaks.{LineBreak, break_at, break_with, breaks
 use Rattle.source_location.specs.Rows.{row_of, row_start}
 use Rattle.source_location.specs.Index.{Fits}
 use Rattle.source_location.proofs.BreaksLemmas.{breaks_valid, breaks_found, few_breaks}
-use Rattle.source_location.proofs.RowsLemmas.{row_le, row_start_after, ends_from_row}
+use Rattle.source_location.proofs.RowsLemmas.{row_le, row_start-le, row_start_after, ends_from_row}
 use Rattle.source_location.proofs.CutLemmas.{PartsNone, breaks_of-append}
 use Rattle.text_places.specs.Bytes.{begun, before}
 use Rattle.text_places.specs.Places.{line_end}
@@ -461,6 +461,13 @@ has_row_end pages k row page ok some within is same =
       high = omega (arith, rows, is.high, next);
       fits = omega (arith, size, bytes, fits);
       within = omega (arith, size, bytes);
+      small = ok.filled.most k page is.within;
+      units = λ e place end.
+          let at : length f + place ≡ row_start (length text) (breaks_of text) row = omega (arith, ends place end, bytes) in
+          omega (arith, units_at e pages k page ok is.within, units_in_page e pages k page place is.within end.within, ap (before e text) at);
+      few_units = λ e.
+          let s = row_start (length text) (breaks_of text) row in
+          omega (arith, before-le e text s (length text) (row_start-le (length text) (breaks_of text) row valid), before-all e text (length text) (omega arith), begun-le-length e text (text_utf8 pages), fits);
       ends = ends;
       begins = λ place end.
           let none : LineBreak = record { start = 0; end = 0 } in
@@ -491,6 +498,7 @@ has_units e pages k most page ok is same =
     subst (HasUnits e text most) (sym same) (record {
       low = omega (arith, units, is.low);
       fits = omega (arith, size, bytes, fits);
+      small = ok.filled.most k page is.within;
       found = λ place last.
           let at : length f + place ≡ p.before.bytes + place = omega (arith, bytes) in
           subst (IsLastWithin e text most) at (record {

@@ -10,11 +10,9 @@ ghost use Rattle.text_places.specs.Building.{plus, total, recounted, IsNothing, 
 ghost use Rattle.text_places.specs.Building.{IsPageOf, ArePagesOf, AreSmall};
 
 use crate::Encoding;
-use crate::page::{Counts, Page, count_rows, count_units};
+use crate::page::{Counts, PAGE, Page, count_rows, count_units};
 use std::alloc::{AllocError, Global};
 
-/// How many bytes a page may have.
-pub(crate) const PAGE: usize = 1024;
 /// How many bytes a page is filled with at first.
 const FILLED: usize = 768;
 
@@ -76,6 +74,8 @@ fn clean_cut(text: &str, at: usize) -> usize
     requires { IsCharBoundary text.now at }
     ensures boundary { IsCharBoundary text.now result }
     ensures clean { IsCleanAt text.now result }
+    ensures near { at ≤ result + 1 }
+    ensures upto { result ≤ at }
 {
     let bytes = text.as_bytes();
     if at > 0 && at < bytes.len() && bytes[at - 1] == b'\r' && bytes[at] == b'\n' {
@@ -85,13 +85,12 @@ fn clean_cut(text: &str, at: usize) -> usize
     }
 }
 
-/// Where the first page of a text ends.
+/// Where the first page of a text ends that is too long for one.
 fn first_cut(text: &str) -> usize
-    requires { 0 < length text.now }
+    requires { 1024 < length text.now }
     ensures { IsPageEnd text.now result }
 {
-    let at = clean_cut(text, text.floor_char_boundary(FILLED));
-    if at == 0 { text.len() } else { at }
+    clean_cut(text, text.floor_char_boundary(FILLED))
 }
 
 /// The pages of a text.

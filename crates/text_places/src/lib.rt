@@ -1,6 +1,7 @@
 //! Positions of the Language Server Protocol.
 #![tactic(auto)]
 
+mod alone;
 mod answers;
 mod build;
 mod encoding;

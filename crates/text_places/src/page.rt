@@ -4,10 +4,17 @@ ghost use Rattle.std.specs.List.{filter, range_with_len};
 ghost use Rattle.source_location.specs.Breaks.{breaks_of};
 ghost use Rattle.source_location.specs.Rows.{row_of};
 ghost use Rattle.text_places.specs.Bytes.{units_begun, begun};
-ghost use Rattle.text_places.specs.Pages.{counts_of, units_in, ends_row, ends_pair, IsLastWithin};
+ghost use Rattle.text_places.specs.Pages.{bytes_in, counts_of, units_in, ends_row, ends_pair, IsLastWithin};
 ghost use Rattle.text_places.specs.Pages.{IsRowEnd};
 
 use crate::Encoding;
+use oxc_windows::Steps;
+use std::sync::ledger::Ledger;
+
+/// How many bytes a page has at most.
+pub(crate) const PAGE: usize = 1024;
+/// How many bytes a page has at least, but for an only one.
+pub(crate) const LEAST: usize = 256;
 
 /// What is counted in a piece of a text.
 #[derive(Clone, Copy, Debug)]
@@ -43,6 +50,16 @@ impl Counts {
             Encoding::Utf32 => self.units32,
         }
     }
+}
+
+/// The text of a page: all its bytes count as looked at. Who counts what is looked at comes to a
+/// page's text by this alone.
+pub(crate) fn opened<'a, L: Ledger>(page: &'a Page, steps: &mut Steps<L>) -> &'a str
+    ensures text { result.now ≡ bytes_in page.now }
+    ensures ticks { steps.new ≡ steps.old + length (bytes_in page.now) }
+{
+    steps.tick(page.text.len());
+    page.text.as_str()
 }
 
 /// How many units the character takes that begins with a byte; none where no character does.

@@ -5,10 +5,12 @@ ghost use Rattle.source_location.specs.Rows.{row_of};
 ghost use Rattle.text_places.specs.Bytes.{begun, before};
 ghost use Rattle.text_places.specs.Places.{line_begin, line_end};
 ghost use Rattle.text_places.specs.Pages.{text_of, ArePages, IsInPage, IsRowPage, IsUnitPage};
-ghost use Rattle.text_places.specs.Pages.{HasOffset, HasRowEnd, HasUnits, IsLastWithin};
+ghost use Rattle.text_places.specs.Pages.{most_bytes, HasOffset, HasRowEnd, HasUnits, IsLastWithin};
 
 use crate::Encoding;
-use crate::page::{Page, break_start, count_rows, count_units, place_within, row_end};
+use crate::page::{Page, break_start, count_rows, count_units, opened, place_within, row_end};
+use oxc_windows::Steps;
+use std::sync::ledger::Ledger;
 
 /// The page of an offset, by its number.
 fn number_at(pages: &[Page], offset: u32) -> usize
@@ -109,25 +111,55 @@ pub(crate) fn row_start(pages: &[Page], row: u32) -> u32
     if row == 0 { 0 } else { row_end_at(pages, row) }
 }
 
+/// The units that begin before a row.
+pub(crate) fn units_before_row<L: Ledger>(
+    pages: &[Page],
+    encoding: Encoding,
+    row: u32,
+    steps: &mut Steps<L>,
+) -> u32
+    requires known { ArePages pages.now }
+    requires within { row ≤ length (breaks_of (text_of pages.now)) }
+    ensures value { result
+        ≡ before encoding (text_of pages.now) (line_begin (text_of pages.now) row) }
+    ensures ticks { steps.new ≤ steps.old + most_bytes }
+{
+    if row == 0 {
+        return 0;
+    }
+    let page = page_of_row(pages, row);
+    let bytes = opened(page, steps).as_bytes();
+    let end = row_end(bytes, (row - page.before.rows) as usize);
+    page.before.units(encoding) + count_units(encoding, &bytes[..end])
+}
+
 /// Where the break of a row begins, which has one.
-pub(crate) fn break_begin(pages: &[Page], row: u32) -> u32
+pub(crate) fn break_begin<L: Ledger>(pages: &[Page], row: u32, steps: &mut Steps<L>) -> u32
     requires known { ArePages pages.now }
     requires within { row < length (breaks_of (text_of pages.now)) }
     requires short { length (breaks_of (text_of pages.now)) < 2 ^ 32 }
-    ensures { result ≡ line_end (text_of pages.now) row }
+    ensures value { result ≡ line_end (text_of pages.now) row }
+    ensures ticks { steps.new ≤ steps.old + most_bytes }
 {
     let page = page_of_row(pages, row + 1);
-    let bytes = page.text.as_bytes();
+    let bytes = opened(page, steps).as_bytes();
     let end = row_end(bytes, (row + 1 - page.before.rows) as usize);
     page.before.bytes + break_start(bytes, end) as u32
 }
 
 /// The last place before which no more units begin than so many.
-pub(crate) fn place_by(pages: &[Page], encoding: Encoding, most: u64) -> u32
+pub(crate) fn place_by<L: Ledger>(
+    pages: &[Page],
+    encoding: Encoding,
+    most: u64,
+    steps: &mut Steps<L>,
+) -> u32
     requires { ArePages pages.now }
-    ensures { IsLastWithin encoding (text_of pages.now) most result }
+    ensures last { IsLastWithin encoding (text_of pages.now) most result }
+    ensures ticks { steps.new ≤ steps.old + most_bytes }
 {
     let page = page_of_units(pages, encoding, most);
     let left = most - page.before.units(encoding) as u64;
-    page.before.bytes + place_within(encoding, page.text.as_bytes(), left) as u32
+    let bytes = opened(page, steps).as_bytes();
+    page.before.bytes + place_within(encoding, bytes, left) as u32
 }
