@@ -1,0 +1,15 @@
+//! Reports that were found, as they are shown.
+//!
+//! - [`shown_reports`]: reports on files for a drawing, whose texts can't drive a terminal, each with
+//!   the place that its tool gave it where no label says where it stands.
+//! - [`document_reports`]: the way in from a document.
+#![tactic(auto)]
+
+mod given;
+mod shown;
+#[cfg(test)]
+mod tests;
+mod texts;
+
+pub use given::document_reports;
+pub use shown::{ShowError, shown_reports};
