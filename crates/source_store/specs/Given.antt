@@ -1,5 +1,7 @@
 -- What a store gave of names.
-use Rattle.std.specs.Prelude.{◌≡◌, ⊤, ℕ, List, Option, Some, None, All, Result, Ok, Err, String, string_bytes}
+use Rattle.std.specs.Prelude.{◌≡◌, ⊤, ℕ, List, ◌++◌, Bool, true, Option, Some, None, All, Result, Ok, Err, String, string_bytes}
+use Rattle.std.specs.List.{list_any}
+use Rattle.std.specs.Str.{bytes_eq}
 use Rattle.std.specs.declared.alloc.Global.{Global}
 use Rattle.found_reports.specs.Held.{Held, holds, lacks}
 use Rattle.found_reports.specs.Listed.{fitting, held_as, held_by}
@@ -34,3 +36,14 @@ IsGiven told spelling names given = All (λ name. IsSaid (told_of told spelling 
 -- a source has a name's text as it was told
 abbrev pub MeetsTold : (List ℕ → Option Held) → Spelling → Source → Type 0
 MeetsTold told spelling source = IsSaid (told_of told spelling (string_bytes source.name)) (held_by source)
+
+-- there is a source of a name
+abbrev pub listed : List Source → List ℕ → Bool
+listed sources name = list_any (λ source. bytes_eq (string_bytes source.name) name) sources
+
+-- sources were added as they were told, and one of them or of those before has the name
+pub record Adds (told : List ℕ → Option Held) (spelling : Spelling) (before now : List Source) (name : List ℕ) : Type 0 where
+  pub more : List Source
+  pub is : now ≡ before ++ more
+  pub told_so : All (MeetsTold told spelling) more
+  pub there : listed now name ≡ true

@@ -1,7 +1,7 @@
 // What a store has of many names.
-ghost use Rattle.std.specs.Prelude.{◌≡◌, ◌++◌, ◌∷◌, [], IfOk, OnOk, map, string_bytes};
+ghost use Rattle.std.specs.Prelude.{◌≡◌, IfOk, OnOk, map, string_bytes};
 ghost use Rattle.found_reports.specs.Listed.{held_as, held_in};
-ghost use Rattle.source_store.specs.Given.{IsGiven, IsSaid, MeetsTold, told_at, told_of};
+ghost use Rattle.source_store.specs.Given.{Adds, IsGiven, IsSaid, MeetsTold, listed, told_at};
 ghost use Rattle.source_store.specs.Place.{text_bytes};
 
 use crate::fetched::{Fetched, Store};
@@ -10,7 +10,7 @@ use found_reports::{Lack, ListedSources, Source};
 use std::alloc::{AllocError, Global};
 
 /// The sources that a store has of these names: of each what the store tells of the path that the
-/// name means, where it tells something. Each name is asked for once.
+/// name means, where it tells something. A name that comes again isn't asked for again.
 ///
 /// # Errors
 ///
@@ -24,11 +24,37 @@ pub fn gather<S: Store>(
     ensures { IfOk result (λ sources. IsGiven (S.told store.now) spelling
         (map string_bytes names.now) (held_in sources.entries.items)) }
 {
-    let mut entries = Vec::with_capacity(alloc, names.len())?;
+    let mut entries = Vec::new(alloc);
     for name in names {
-        entries.push(source_of(alloc, store, spelling, name.as_str())?)?;
+        add(alloc, store, spelling, &mut entries, name.as_str())?;
     }
     Ok(ListedSources { entries })
+}
+
+/// Adds what a store has of a name, unless there is a source of that name.
+#[tactic(auto, using(crate::proofs::GivenLemmas::adds_none, crate::proofs::GivenLemmas::adds_one))]
+fn add<S: Store>(
+    alloc: Global,
+    store: &S,
+    spelling: Spelling,
+    entries: &mut Vec<Source>,
+    name: &str,
+) -> Result<(), AllocError>
+    ensures { OnOk result (Adds (S.told store.now) spelling entries.old.items entries.new.items
+        name.now) }
+{
+    if is_listed(entries, name) {
+        return Ok(());
+    }
+    entries.push(source_of(alloc, store, spelling, name)?)?;
+    Ok(())
+}
+
+/// Whether there is a source of a name.
+fn is_listed(entries: &[Source], name: &str) -> bool
+    ensures { result ≡ listed entries.now name.now }
+{
+    entries.iter().any(|entry| entry.name.as_str() == name)
 }
 
 /// What a store has of a name.
