@@ -11,8 +11,12 @@ use found_reports::Lack;
 use harmless::{Kind, harmless, harmless_source};
 use std::alloc::{AllocError, Global};
 
-/// A text of a kind: harmless, or as it is.
-pub(crate) fn shown_text(
+/// A text of a kind: harmless, or as it is where it is to be `raw`.
+///
+/// # Errors
+///
+/// Want of memory.
+pub fn shown_text(
     alloc: Global,
     raw: bool,
     kind: Kind,
@@ -28,7 +32,11 @@ pub(crate) fn shown_text(
 }
 
 /// The same of a text that may be missing.
-pub(crate) fn shown_if(
+///
+/// # Errors
+///
+/// Want of memory.
+pub fn shown_if(
     alloc: Global,
     raw: bool,
     kind: Kind,
