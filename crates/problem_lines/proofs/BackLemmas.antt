@@ -15,9 +15,10 @@ use Rattle.problem_lines.specs.declared.escape.Field.TheVariants.{Name, Rule, Me
 use Rattle.oxc_protocol.specs.Info.{InfoParts}
 use Rattle.problem_lines.specs.Escape.{own_letter, letter_of, spelled, escape_byte, escape}
 use Rattle.problem_lines.specs.Line.{severity_name, place_text, rule_text, head_text, tail_text, problem_line, IsInRange}
-use Rattle.problem_lines.specs.Parsed.{cut_at, behind, place_at, severity_at, rule_at, head_at, tail_at, parsed, unescape_from, unescape, unescaped}
+use Rattle.problem_lines.specs.Parsed.{place_at, severity_at, rule_at, head_at, tail_at, parsed, unescape_from, unescape, unescaped}
 use Rattle.problem_lines.specs.Read.{IsRead}
-use Rattle.problem_lines.proofs.CutLemmas.{number_back, lf_taken}
+use Rattle.escapes.specs.Cuts.{cut_at, behind}
+use Rattle.escapes.proofs.CutLemmas.{last_taken, number_back}
 
 -- ---- a cut at a byte that does not stand before
 
@@ -139,7 +140,7 @@ unfolding tail_at tail_text behind
 tail_back p =
     ap tail_at (tail_shape (severity_name p.severity) (rule_text p.rule_id) (escape Message p.message))
     ∙ rw (severity_back p.severity (rule_text p.rule_id ++ 0x3A ∷ 0x20 ∷ (escape Message p.message ++ 0x0A ∷ [])))
-    (rw (rule_back p.rule_id (0x20 ∷ (escape Message p.message ++ 0x0A ∷ []))) (rw (lf_taken (escape Message p.message)) refl))
+    (rw (rule_back p.rule_id (0x20 ∷ (escape Message p.message ++ 0x0A ∷ []))) (rw (last_taken 0x0A (escape Message p.message)) refl))
 
 abbrev pub escaped : InfoParts → InfoParts
 escaped p = record { start = p.start; end = p.end; filename = escape Name p.filename; message = escape Message p.message; severity = p.severity; rule_id = option_map (escape Rule) p.rule_id }

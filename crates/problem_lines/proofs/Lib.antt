@@ -1,5 +1,4 @@
 pub mod EscapeLemmas
-pub mod CutLemmas
 pub mod UnescapeLemmas
 pub mod BackLemmas
 pub mod LinesLemmas

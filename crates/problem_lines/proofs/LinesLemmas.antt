@@ -7,7 +7,7 @@ use Rattle.std.proofs.lemmas.Bool.{cases_lt, eqb-true, le-ltb, lt-ltb}
 use Rattle.std.proofs.lemmas.List.{length-append, length-take-le, get_or-take, get_or_at, take_at}
 use Rattle.std.proofs.lemmas.List.Sums.{split_at_first, fails_before_first, passes_at_first}
 use Rattle.std.proofs.Math.Seq.{drop-append-add}
-use Rattle.problem_lines.specs.Parsed.{cut_at}
+use Rattle.escapes.specs.Cuts.{cut_at}
 use Rattle.problem_lines.specs.Lines.{lines_of}
 use Rattle.problem_lines.proofs.UnescapeLemmas.{not_some, not_there, first_of, second_of}
 

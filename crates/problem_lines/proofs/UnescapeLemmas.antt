@@ -7,7 +7,8 @@ use Rattle.std.proofs.lemmas.Bool.{cases_eq, cases_lt, ne_eqb, eqb-true, le-ltb,
 use Rattle.std.proofs.lemmas.Bool.Decides.{nat_tests}
 use Rattle.std.proofs.lemmas.List.{length-append, length-take-le, get_or-take}
 use Rattle.std.proofs.lemmas.List.Sums.{split_at_first, fails_before_first, passes_at_first}
-use Rattle.problem_lines.specs.Parsed.{cut_at, meant, meaning_of, unescape_from, unescape}
+use Rattle.escapes.specs.Cuts.{cut_at}
+use Rattle.problem_lines.specs.Parsed.{meant, meaning_of, unescape_from, unescape}
 
 meant_low : (letter byte : ℕ) → meant letter ≡ Some byte → letter < 128
 meant_low letter byte is = grind (arith, nat_tests)

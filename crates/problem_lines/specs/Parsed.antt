@@ -1,42 +1,11 @@
 -- The parts of a line, as the reader finds them.
-use Rattle.std.specs.Prelude.{ℕ, ◌-◌, ◌^◌, ◌==◌, ◌&&◌, not, nat_lt, nat_le, if◌then◌else◌, Bool, true, false, List, [], ◌∷◌, length, take, slice_index, slice_get, Option, Some, None, option_map, option_and_then, unwrap_or, codes}
-use Rattle.std.specs.List.{list_all, position_or_len, before_first, after_first}
-use Rattle.std.specs.Str.Parse.{digits_value}
+use Rattle.std.specs.Prelude.{ℕ, ◌==◌, if◌then◌else◌, Bool, true, false, List, [], ◌∷◌, slice_get, Option, Some, None, option_map, option_and_then, unwrap_or, codes}
+use Rattle.escapes.specs.Cuts.{behind, cut_at, number_of, without_last}
 use Rattle.oxc_protocol.specs.declared.protocol.Severity.{Severity}
 use Rattle.oxc_protocol.specs.declared.protocol.Severity.TheVariants.{Error, Warning, Advice}
 use Rattle.oxc_protocol.specs.declared.reporter.InfoPosition.{InfoPosition}
 use Rattle.problem_lines.specs.declared.parse.LineParts.{LineParts}
 use Rattle.oxc_protocol.specs.Info.{InfoParts}
-
--- what stands before a byte, where it first comes, and behind it
-unfoldable pub cut_at : ℕ → List ℕ → Option (List ℕ × List ℕ)
-cut_at byte text =
-    if nat_lt (position_or_len (λ b. b == byte) text) (length text)
-    then Some (before_first (λ b. b == byte) text, after_first (λ b. b == byte) text)
-    else None
-
--- what stands behind a front
-unfoldable pub behind : List ℕ → List ℕ → Option (List ℕ)
-behind [] text = Some text
-behind (p ∷ ps) [] = None
-behind (p ∷ ps) (x ∷ xs) = if x == p then behind ps xs else None
-
-abbrev pub is_digit : ℕ → Bool
-is_digit byte = nat_le 0x30 byte && nat_le byte 0x39
-
--- there is a byte, and a zero only by itself
-abbrev pub leads_well : List ℕ → Bool
-leads_well [] = false
-leads_well (byte ∷ []) = true
-leads_well (byte ∷ (next ∷ rest)) = not (byte == 0x30)
-
--- digits, and no zero before others
-abbrev pub looks_as_number : List ℕ → Bool
-looks_as_number text = list_all is_digit text && leads_well text
-
--- a number in decimal, without a leading zero
-unfoldable pub number_of : List ℕ → Option ℕ
-number_of text = if looks_as_number text && nat_lt (digits_value 10 text) (2 ^ 64) then Some (digits_value 10 text) else None
 
 -- a line and a column, and what stands behind them
 unfoldable pub place_at : List ℕ → Option (InfoPosition × List ℕ)
@@ -58,16 +27,12 @@ rule_from text (Some rest) = option_map (λ parts. (Some parts.0, parts.1)) (cut
 unfoldable pub rule_at : List ℕ → Option (Option (List ℕ) × List ℕ)
 rule_at text = rule_from text (behind (codes "[") text)
 
--- a text without the LF at its end
-unfoldable pub without_lf : List ℕ → Option (List ℕ)
-without_lf text = if slice_index text (length text - 1) == 0x0A then Some (take (length text - 1) text) else None
-
 unfoldable pub head_at : List ℕ → Option (List ℕ × InfoPosition × InfoPosition × List ℕ)
 head_at text = option_and_then (λ name. option_and_then (λ start. option_map (λ end. (name.0, start.0, end.0, end.1)) (place_at start.1)) (place_at name.1)) (cut_at 0x3A text)
 
 unfoldable pub tail_at : List ℕ → Option (Severity × Option (List ℕ) × List ℕ)
 tail_at text =
-    option_and_then (λ rest. option_and_then (λ severity. option_and_then (λ rule. option_and_then (λ last. option_map (λ message. (severity.0, rule.0, message)) (without_lf last))
+    option_and_then (λ rest. option_and_then (λ severity. option_and_then (λ rule. option_and_then (λ last. option_map (λ message. (severity.0, rule.0, message)) (without_last 0x0A last))
     (behind (codes ": ") rule.1)) (rule_at severity.1)) (severity_at rest)) (behind (codes " ") text)
 
 -- the parts of a line, with their escapes

@@ -1,9 +1,9 @@
 //! Texts inside a line: what is escaped in them.
-ghost use Rattle.std.specs.Prelude.{◌≡◌, ◌++◌, ◌<◌, IfSome, OnOk, string_bytes};
-ghost use Rattle.std.specs.List.{position};
-ghost use Rattle.problem_lines.specs.Escape.{escape, escape_byte, is_escaped, IsFirstEscape};
-ghost use Rattle.problem_lines.specs.Escape.{letter_of as letter_for, own_letter as own_letter_for};
+ghost use Rattle.std.specs.Prelude.{◌≡◌, ◌++◌, OnOk, string_bytes};
+ghost use Rattle.std.specs.Option.{option_copied};
+ghost use Rattle.problem_lines.specs.Escape.{escape, own_spelling as own_spelling_by};
 
+use escapes::Spelling;
 use std::alloc::AllocError;
 
 /// A kind of text in a line.
@@ -17,73 +17,39 @@ pub enum Field {
     Message,
 }
 
-/// Appends a text as it stands in a line. Runs without an escape are appended as they are.
-pub fn push_escaped(out: &mut String, field: Field, text: &str) -> Result<(), AllocError>
-    ensures { OnOk result (string_bytes out.new ≡ string_bytes out.old ++ escape field text.now) }
-{
-    let mut rest = text;
-    while let Some(at) = first_escaped(field, rest) {
-        out.push_str(&rest[..at])?;
-        push_byte(out, field, rest.as_bytes()[at])?;
-        rest = &rest[at + 1..];
-    }
-    out.push_str(rest)
-}
+impl Spelling for Field {
+    ghost use Rattle.problem_lines.specs.Escape.{spelling as spelling_by, spelling_ascii};
 
-/// Where the first byte stands that is escaped.
-#[tactic(auto, using(crate::proofs::EscapeLemmas::first_escape))]
-fn first_escaped(field: Field, text: &str) -> Option<usize>
-    ensures { IsFirstEscape field text.now result }
-{
-    first_place(field, text.as_bytes())
-}
+    ghost spelled = { spelling_by };
 
-/// Where the first byte stands that is escaped.
-fn first_place(field: Field, bytes: &[u8]) -> Option<usize>
-    ensures { result ≡ position (is_escaped field) bytes.now }
-{
-    bytes
-        .iter()
-        .position(|byte| letter_of(field, *byte).is_some())
-}
+    ghost ascii = { spelling_ascii };
 
-/// The letter that stands behind a backslash for a byte, if it is escaped.
-#[tactic(auto, unfolding(crate::specs::Escape::letter_of))]
-fn letter_of(field: Field, byte: u8) -> Option<u8>
-    ensures letter { result ≡ letter_for field byte }
-    ensures ascii { IfSome result (λ letter. letter < 128) }
-{
-    match byte {
-        b'\\' => Some(b'\\'),
-        b'\n' => Some(b'n'),
-        b'\r' => Some(b'r'),
-        _ => own_letter(field, byte),
+    #[tactic(auto, unfolding(crate::specs::Escape::spelling))]
+    fn spelling(&self, byte: u8) -> Option<&'static str> {
+        match byte {
+            b'\\' => Some("\\\\"),
+            b'\n' => Some("\\n"),
+            b'\r' => Some("\\r"),
+            _ => own_spelling(*self, byte),
+        }
     }
 }
 
-/// The letter of a byte that is escaped in one kind of text alone.
-fn own_letter(field: Field, byte: u8) -> Option<u8>
-    ensures letter { result ≡ own_letter_for field byte }
-    ensures ascii { IfSome result (λ letter. letter < 128) }
+/// What stands for a byte that is escaped in one kind of text alone.
+fn own_spelling(field: Field, byte: u8) -> Option<&'static str>
+    ensures { option_copied result ≡ own_spelling_by field byte }
 {
     match field {
-        Field::Name if byte == b':' => Some(b'c'),
-        Field::Rule if byte == b']' => Some(b'b'),
+        Field::Name if byte == b':' => Some("\\c"),
+        Field::Rule if byte == b']' => Some("\\b"),
         _ => None,
     }
 }
 
-/// Appends an ASCII byte as it stands in a line.
-#[tactic(auto, unfolding(crate::specs::Escape::escape_byte))]
-fn push_byte(out: &mut String, field: Field, byte: u8) -> Result<(), AllocError>
-    requires { byte < 128 }
-    ensures { OnOk result (string_bytes out.new ≡ string_bytes out.old ++ escape_byte field byte) }
+/// Appends a text as it stands in a line.
+#[tactic(auto, using(crate::proofs::EscapeLemmas::escaped_same))]
+pub fn push_escaped(out: &mut String, field: Field, text: &str) -> Result<(), AllocError>
+    ensures { OnOk result (string_bytes out.new ≡ string_bytes out.old ++ escape field text.now) }
 {
-    match letter_of(field, byte) {
-        Some(letter) => {
-            out.push('\\')?;
-            out.push(char::from(letter))
-        }
-        None => out.push(char::from(byte)),
-    }
+    escapes::push_escaped(out, &field, text)
 }

@@ -1,16 +1,10 @@
 //! The parts of a line.
-ghost use Rattle.std.specs.Prelude.{◌≡◌, ◌^◌, ◌<◌, IfSome, option_map};
-ghost use Rattle.std.specs.Option.{option_copied};
-ghost use Rattle.std.specs.List.{list_all};
+ghost use Rattle.std.specs.Prelude.{◌≡◌, IfSome, option_map};
 ghost use Rattle.problem_lines.specs.Line.{IsInRange, IsSmall};
-ghost use Rattle.problem_lines.specs.Parsed.{behind as behind_front, cut_at, head_at};
-ghost use Rattle.problem_lines.specs.Parsed.{is_digit as is_digit_byte};
-ghost use Rattle.problem_lines.specs.Parsed.{leads_well as leads_as_number};
-ghost use Rattle.problem_lines.specs.Parsed.{looks_as_number as looks_numeral};
-ghost use Rattle.problem_lines.specs.Parsed.{number_of as number_in, parsed, place_at, rule_at};
+ghost use Rattle.problem_lines.specs.Parsed.{head_at, parsed, place_at, rule_at};
 ghost use Rattle.problem_lines.specs.Parsed.{severity_at, tail_at, texts_of};
-ghost use Rattle.problem_lines.specs.Parsed.{without_lf as without_last_lf};
 
+use escapes::{behind, cut, number, without_last};
 use oxc_protocol::{InfoPosition, Severity};
 
 /// The parts of a line, with their escapes.
@@ -64,7 +58,7 @@ fn tail(text: &str) -> Option<(Severity, Option<&str>, &str)>
     let rest = behind(text, " ")?;
     let (severity, rest) = severity(rest)?;
     let (rule, rest) = rule(rest)?;
-    let message = without_lf(behind(rest, ": ")?)?;
+    let message = without_last(behind(rest, ": ")?, '\n')?;
     Some((severity, rule, message))
 }
 
@@ -106,64 +100,4 @@ fn rule(text: &str) -> Option<(Option<&str>, &str)>
     };
     let (rule, rest) = cut(rest, ']')?;
     Some((Some(rule), rest))
-}
-
-/// The text before the first delimiter, and the text behind it.
-pub fn cut(text: &str, delimiter: char) -> Option<(&str, &str)>
-    requires { delimiter < 128 }
-    ensures { option_map (λ it. (it.0.now, it.1.now)) result ≡ cut_at delimiter text.now }
-{
-    text.split_once(delimiter)
-}
-
-/// The text behind a front.
-fn behind<'a>(text: &'a str, front: &str) -> Option<&'a str>
-    ensures { option_copied result ≡ behind_front front.now text.now }
-{
-    text.strip_prefix(front)
-}
-
-/// A text without the LF at its end.
-fn without_lf(text: &str) -> Option<&str>
-    ensures { option_copied result ≡ without_last_lf text.now }
-{
-    text.strip_suffix('\n')
-}
-
-/// A number in decimal, without a leading zero.
-#[tactic(auto, using(crate::proofs::CutLemmas::no_number))]
-fn number(text: &str) -> Option<usize>
-    ensures value { result ≡ number_in text.now }
-    ensures range { IfSome result (λ n. n < 2 ^ 64) }
-{
-    if looks_as_number(text.as_bytes()) {
-        text.parse::<usize>().ok()
-    } else {
-        None
-    }
-}
-
-/// Whether there are digits alone, and no zero before others.
-fn looks_as_number(bytes: &[u8]) -> bool
-    ensures { result ≡ looks_numeral bytes.now }
-{
-    are_digits(bytes) && leads_well(bytes)
-}
-
-/// Whether there are digits alone.
-fn are_digits(bytes: &[u8]) -> bool
-    ensures { result ≡ list_all is_digit_byte bytes.now }
-{
-    bytes.iter().all(|byte| b'0' <= *byte && *byte <= b'9')
-}
-
-/// Whether there is a byte, and a zero only by itself.
-fn leads_well(bytes: &[u8]) -> bool
-    ensures { result ≡ leads_as_number bytes.now }
-{
-    match bytes {
-        [] => false,
-        [_] => true,
-        [first, ..] => *first != b'0',
-    }
 }

@@ -12,8 +12,9 @@ ghost use Rattle.problem_lines.specs.Parsed.{unescape as unescaped_text, unescap
 ghost use Rattle.problem_lines.specs.Read.{IsRead};
 ghost use Rattle.problem_lines.specs.Reported.{ReadsReported};
 
-use crate::parse::{LineParts, cut, parse};
+use crate::parse::{LineParts, parse};
 use crate::write::write_problem;
+use escapes::cut;
 use oxc_protocol::Info;
 use std::alloc::{AllocError, Global};
 use thiserror::Error;

@@ -1,0 +1,63 @@
+-- The JSON of GitLab's code quality reports.
+use Rattle.std.specs.Prelude.{ℕ, ◌&&◌, Bool, List, [], ◌∷◌, Option, unwrap_or, codes}
+use Rattle.std.specs.List.{count_by}
+use Rattle.std.specs.Str.{bytes_eq}
+use Rattle.serde_json.specs.Data.{Data, number, unsigned, string, array, object, no_members, put}
+use Rattle.serde_json.specs.View.{items_of}
+use Rattle.serde_json.specs.Written.{compact_text}
+use Rattle.oxc_protocol.specs.declared.protocol.Severity.{Severity}
+use Rattle.oxc_protocol.specs.declared.protocol.Severity.TheVariants.{Error, Warning, Advice}
+use Rattle.escapes.specs.Cuts.{behind}
+use Rattle.ci_findings.specs.Finding.{FindingParts}
+use Rattle.ci_formats.specs.Files.{along}
+use Rattle.ci_formats.specs.Fingerprint.{fingerprint}
+
+abbrev pub grade : Severity → List ℕ
+grade Error = codes "critical"
+grade Warning = codes "major"
+grade Advice = codes "info"
+
+-- a path without `./` before it
+abbrev pub path_of : List ℕ → List ℕ
+path_of name = unwrap_or (behind (codes "./") name) name
+
+abbrev pub code_of : Option (List ℕ) → List ℕ
+code_of code = unwrap_or code []
+
+-- two findings would have one fingerprint: path, code and message are the same
+abbrev pub is_same_issue : FindingParts → FindingParts → Bool
+is_same_issue f other = bytes_eq other.message f.message && (bytes_eq (code_of other.code) (code_of f.code) && bytes_eq (path_of other.name) (path_of f.name))
+
+-- the rows of a finding: the first where its row isn't known, and one where its end isn't
+abbrev pub begin_of : FindingParts → ℕ
+begin_of f = unwrap_or f.start.row 1
+
+abbrev pub last_of : FindingParts → ℕ
+last_of f = unwrap_or f.end.row (begin_of f)
+
+abbrev pub whole : ℕ → Data
+whole n = number (unsigned n)
+
+unfoldable pub location_value : FindingParts → Data
+location_value f =
+    object (put (codes "path") (string (path_of f.name))
+    (put (codes "lines") (object (put (codes "end") (whole (last_of f)) (put (codes "begin") (whole (begin_of f)) no_members))) no_members))
+
+-- a finding, before which this many of its fingerprint stand
+unfoldable pub issue_value : ℕ → FindingParts → Data
+issue_value before f =
+    object (put (codes "location") (location_value f)
+    (put (codes "severity") (string (grade f.severity))
+    (put (codes "fingerprint") (string (fingerprint (path_of f.name) (code_of f.code) f.message before))
+    (put (codes "check_name") (string (unwrap_or f.code (codes "girzohal")))
+    (put (codes "description") (string f.message) no_members)))))
+
+abbrev pub one_issue : List FindingParts → FindingParts → List Data
+one_issue earlier f = issue_value (count_by (is_same_issue f) earlier) f ∷ []
+
+-- the report: an array of all, in order
+unfoldable pub gitlab_value : List FindingParts → Data
+gitlab_value findings = array (items_of (along one_issue [] findings))
+
+abbrev pub gitlab_of : List FindingParts → List ℕ
+gitlab_of findings = compact_text (gitlab_value findings)

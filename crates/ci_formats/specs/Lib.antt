@@ -1,0 +1,10 @@
+pub mod Files
+pub mod Xml
+pub mod XmlAscii
+pub mod Checkstyle
+pub mod Junit
+pub mod Fingerprint
+pub mod Gitlab
+pub mod Stylish
+pub mod Problems
+pub mod Format

@@ -1,0 +1,69 @@
+// Fingerprints of findings.
+ghost use Rattle.std.specs.Prelude.{◌≡◌, ◌++◌, IfOk, OnOk, string_bytes};
+ghost use Rattle.ci_formats.specs.Fingerprint.{fingerprint as fingerprint_of};
+ghost use Rattle.ci_formats.specs.Fingerprint.{marked as marked_by, measured};
+ghost use Rattle.sha2.specs.Sha256.{sha256};
+
+use itoa::Buffer;
+use sha2::{Digest, Sha256};
+use std::alloc::{AllocError, Global};
+
+/// The fingerprint of a finding: SHA-256, in hexadecimal digits, of its path, code and message, and
+/// of how many equal findings stand before it.
+///
+/// # Errors
+///
+/// Want of memory.
+pub fn fingerprint(
+    alloc: Global,
+    path: &str,
+    code: &str,
+    message: &str,
+    before: usize,
+) -> Result<String, AllocError>
+    ensures { IfOk result (λ text. string_bytes text
+        ≡ fingerprint_of path.now code.now message.now before) }
+{
+    let text = marked(alloc, path, code, message, before)?;
+    let digest = digest_of(text.as_bytes());
+    hex::encode(alloc, digest.as_slice())
+}
+
+/// The hash of bytes.
+fn digest_of(bytes: &[u8]) -> [u8; 32]
+    ensures { result ≡ sha256 bytes.now }
+{
+    let mut hasher = Sha256::new();
+    hasher.update(bytes);
+    hasher.finalize()
+}
+
+/// What is hashed.
+#[tactic(auto, unfolding(crate::specs::Fingerprint::marked))]
+fn marked(
+    alloc: Global,
+    path: &str,
+    code: &str,
+    message: &str,
+    before: usize,
+) -> Result<String, AllocError>
+    ensures { IfOk result (λ text. string_bytes text
+        ≡ marked_by path.now code.now message.now before) }
+{
+    let mut text = String::new(alloc);
+    push_measured(&mut text, path)?;
+    push_measured(&mut text, code)?;
+    push_measured(&mut text, message)?;
+    text.push_str(Buffer::new().format(before))?;
+    Ok(text)
+}
+
+/// Appends a text behind its length.
+#[tactic(auto, unfolding(crate::specs::Fingerprint::measured))]
+fn push_measured(out: &mut String, text: &str) -> Result<(), AllocError>
+    ensures { OnOk result (string_bytes out.new ≡ string_bytes out.old ++ measured text.now) }
+{
+    out.push_str(Buffer::new().format(text.len()))?;
+    out.push_str(":")?;
+    out.push_str(text)
+}

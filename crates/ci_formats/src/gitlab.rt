@@ -1,0 +1,148 @@
+// The JSON of GitLab's code quality reports.
+ghost use Rattle.std.specs.Prelude.{◌≡◌, IfOk, Some, codes, map, string_bytes, unwrap_or};
+ghost use Rattle.std.specs.List.{count_by};
+ghost use Rattle.serde_json.specs.Read.{read};
+ghost use Rattle.serde_json.specs.View.{view};
+ghost use Rattle.ci_findings.specs.Finding.{finding_parts};
+ghost use Rattle.ci_formats.specs.Gitlab.{begin_of, code_of as code_for, gitlab_of, gitlab_value};
+ghost use Rattle.ci_formats.specs.Gitlab.{grade as grade_of};
+ghost use Rattle.ci_formats.specs.Gitlab.{is_same_issue as is_alike, issue_value as issue_of};
+ghost use Rattle.ci_formats.specs.Gitlab.{last_of, location_value as location_of};
+ghost use Rattle.ci_formats.specs.Gitlab.{path_of as path_for};
+
+use crate::fingerprints::fingerprint;
+use ci_findings::Finding;
+use escapes::behind;
+use oxc_protocol::Severity;
+use serde_json::{Value, json};
+use std::alloc::{AllocError, Global};
+
+/// The JSON of a code quality report of GitLab: an array of the findings, in order.
+///
+/// # Errors
+///
+/// Want of memory.
+pub fn gitlab_text(alloc: Global, findings: &[Finding]) -> Result<String, AllocError>
+    ensures text { IfOk result (λ text. string_bytes text
+        ≡ gitlab_of (map finding_parts findings.now)) }
+    ensures reads_back { IfOk result (λ text. read (string_bytes text)
+        ≡ Some (gitlab_value (map finding_parts findings.now))) }
+{
+    let report = report(alloc, findings)?;
+    let text = report.to_string(alloc)?;
+    Ok(text)
+}
+
+/// The report as JSON.
+fn report(alloc: Global, findings: &[Finding]) -> Result<Value, AllocError>
+    ensures { IfOk result (λ value. view value ≡ gitlab_value (map finding_parts findings.now)) }
+{
+    let mut issues = Vec::with_capacity(alloc, findings.len())?;
+    for (index, finding) in findings.iter().enumerate() {
+        let before = count_alike(&findings[..index], finding);
+        issues.push(issue(alloc, before, finding)?)?;
+    }
+    Ok(Value::Array(issues))
+}
+
+/// How many findings would have the fingerprint of this one.
+fn count_alike(findings: &[Finding], finding: &Finding) -> usize
+    ensures { result ≡ count_by (is_alike (finding_parts finding.now))
+        (map finding_parts findings.now) }
+{
+    findings
+        .iter()
+        .filter(|other| is_same_issue(finding, other))
+        .count()
+}
+
+/// Whether two findings would have one fingerprint.
+fn is_same_issue(finding: &Finding, other: &Finding) -> bool
+    ensures { result ≡ is_alike (finding_parts finding.now) (finding_parts other.now) }
+{
+    other.message.as_str() == finding.message.as_str()
+        && code_of(other) == code_of(finding)
+        && path_of(other) == path_of(finding)
+}
+
+/// A finding as JSON, before which this many of its fingerprint stand.
+#[tactic(auto, unfolding(crate::specs::Gitlab::issue_value))]
+fn issue(alloc: Global, before: usize, finding: &Finding) -> Result<Value, AllocError>
+    ensures { IfOk result (λ value. view value ≡ issue_of before (finding_parts finding.now)) }
+{
+    let (path, code) = (path_of(finding), code_of(finding));
+    let print = fingerprint(alloc, path, code, finding.message.as_str(), before)?;
+    let place = location(alloc, finding)?;
+    json!(in alloc; {
+        "description": finding.message.as_str(),
+        "check_name": check_name(finding),
+        "fingerprint": print,
+        "severity": grade(finding.severity),
+        "location": place
+    })
+}
+
+/// Where a finding stands, as JSON.
+#[tactic(auto, unfolding(crate::specs::Gitlab::location_value))]
+fn location(alloc: Global, finding: &Finding) -> Result<Value, AllocError>
+    ensures { IfOk result (λ value. view value ≡ location_of (finding_parts finding.now)) }
+{
+    let (begin, end) = (begin_row(finding), end_row(finding));
+    json!(in alloc; {"path": path_of(finding), "lines": {"begin": begin, "end": end}})
+}
+
+/// The first row, 1 where it isn't known.
+fn begin_row(finding: &Finding) -> u32
+    ensures { result ≡ begin_of (finding_parts finding.now) }
+{
+    finding.start.row.unwrap_or(1)
+}
+
+/// The last row, the first where it isn't known.
+fn end_row(finding: &Finding) -> u32
+    ensures { result ≡ last_of (finding_parts finding.now) }
+{
+    finding.end.row.unwrap_or(begin_row(finding))
+}
+
+/// The path without `./` before it.
+fn path_of(finding: &Finding) -> &str
+    ensures { result.now ≡ path_for (finding_parts finding.now).name }
+{
+    let name = finding.name.as_str();
+    match behind(name, "./") {
+        Some(rest) => rest,
+        None => name,
+    }
+}
+
+/// The code, empty where there is none.
+fn code_of(finding: &Finding) -> &str
+    ensures { result.now ≡ code_for (finding_parts finding.now).code }
+{
+    match &finding.code {
+        Some(code) => code.as_str(),
+        None => "",
+    }
+}
+
+/// The name of the check: the code, or the program's name.
+fn check_name(finding: &Finding) -> &str
+    ensures { result.now ≡ unwrap_or (finding_parts finding.now).code (codes "girzohal") }
+{
+    match &finding.code {
+        Some(code) => code.as_str(),
+        None => "girzohal",
+    }
+}
+
+/// The word for a severity.
+fn grade(severity: Severity) -> &'static str
+    ensures { result.now ≡ grade_of severity }
+{
+    match severity {
+        Severity::Error => "critical",
+        Severity::Warning => "major",
+        Severity::Advice => "info",
+    }
+}

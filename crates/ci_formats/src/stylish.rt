@@ -1,0 +1,346 @@
+// A table for people.
+ghost use Rattle.std.specs.Prelude.{◌≡◌, ◌++◌, ◌-◌, IfOk, OnOk, filter, length, map, string_bytes};
+ghost use Rattle.std.specs.List.{count_by, flat_map};
+ghost use Rattle.std.specs.Option.{option_copied};
+ghost use Rattle.ci_findings.specs.Finding.{finding_parts};
+ghost use Rattle.ci_formats.specs.Files.{is_on as stands_on};
+ghost use Rattle.ci_formats.specs.Stylish.{blanks, code_cell, cross, counted as counted_nouns, ending};
+ghost use Rattle.ci_formats.specs.Stylish.{file_text, is_error as is_error_by, level_cell};
+ghost use Rattle.ci_formats.specs.Stylish.{level_word as word_of_level, measured as measured_by};
+ghost use Rattle.ci_formats.specs.Stylish.{place_cells, pointless as without_point, row_text};
+ghost use Rattle.ci_formats.specs.Stylish.{rows_text, shares, stylish_of, summary, plural as plural_of};
+ghost use Rattle.ci_formats.specs.Stylish.{widest as widest_of, widths_of as widths_in};
+
+use crate::files::{is_on, names_of, or_zero};
+use ci_findings::Finding;
+use escapes::without_last;
+use itoa::Buffer;
+use oxc_protocol::Severity;
+use std::alloc::{AllocError, Global};
+use textwrap::core_::display_width;
+
+/// A column of the table.
+#[derive(Clone, Copy)]
+pub enum Measure {
+    /// The row.
+    Row,
+    /// The column.
+    Column,
+    /// How grave a finding is.
+    Level,
+    /// The message.
+    Message,
+}
+
+/// How wide the columns of a file's table are, in cells.
+#[derive(Clone, Copy)]
+pub struct Widths {
+    pub row: usize,
+    pub column: usize,
+    pub level: usize,
+    pub message: usize,
+}
+
+/// A table for people: each file's name, its findings in columns below it, and an empty line; at the
+/// end how many there are. Nothing where there is no finding.
+///
+/// # Errors
+///
+/// Want of memory.
+#[tactic(auto, unfolding(crate::specs::Stylish::stylish_of))]
+pub fn stylish_text(alloc: Global, findings: &[Finding]) -> Result<String, AllocError>
+    ensures { IfOk result (λ text. string_bytes text
+        ≡ stylish_of (map finding_parts findings.now)) }
+{
+    let names = names_of(alloc, findings)?;
+    let mut text = String::new(alloc);
+    push_files(alloc, &mut text, findings, &names)?;
+    push_ending(&mut text, findings)?;
+    Ok(text)
+}
+
+/// Appends the tables of the files of these names.
+fn push_files(
+    alloc: Global,
+    out: &mut String,
+    findings: &[Finding],
+    names: &[&str],
+) -> Result<(), AllocError>
+    ensures { OnOk result (string_bytes out.new ≡ string_bytes out.old
+        ++ flat_map (file_text (map finding_parts findings.now))
+        (map (λ name. name.now) names.now)) }
+{
+    for name in names {
+        push_file(alloc, out, findings, name)?;
+    }
+    Ok(())
+}
+
+/// Appends a file's name and its table.
+#[tactic(auto, unfolding(crate::specs::Stylish::file_text))]
+fn push_file(
+    alloc: Global,
+    out: &mut String,
+    findings: &[Finding],
+    name: &str,
+) -> Result<(), AllocError>
+    ensures { OnOk result (string_bytes out.new
+        ≡ string_bytes out.old ++ file_text (map finding_parts findings.now) name.now) }
+{
+    let own = findings_on(alloc, findings, name)?;
+    out.push_str(name)?;
+    out.push_str("\n")?;
+    push_rows(out, &own)?;
+    out.push_str("\n")
+}
+
+/// The findings on the file of a name.
+fn findings_on<'a>(
+    alloc: Global,
+    findings: &'a [Finding],
+    name: &str,
+) -> Result<Vec<&'a Finding>, AllocError>
+    ensures { IfOk result (λ own. map (λ it. finding_parts it.now) own.items
+        ≡ filter (stands_on name.now) (map finding_parts findings.entry.now)) }
+{
+    let mut own = Vec::new(alloc);
+    for finding in findings {
+        if is_on(name, finding) {
+            own.push(finding)?;
+        }
+    }
+    Ok(own)
+}
+
+/// Appends the rows of a table.
+#[tactic(auto, unfolding(crate::specs::Stylish::rows_text))]
+fn push_rows(out: &mut String, findings: &[&Finding]) -> Result<(), AllocError>
+    ensures { OnOk result (string_bytes out.new
+        ≡ string_bytes out.old ++ rows_text (map (λ it. finding_parts it.now) findings.now)) }
+{
+    push_all(out, widths_of(findings), findings)
+}
+
+/// Appends rows of these widths.
+fn push_all(out: &mut String, widths: Widths, findings: &[&Finding]) -> Result<(), AllocError>
+    ensures { OnOk result (string_bytes out.new ≡ string_bytes out.old
+        ++ flat_map (row_text widths) (map (λ it. finding_parts it.now) findings.now)) }
+{
+    for finding in findings {
+        push_row(out, widths, finding)?;
+    }
+    Ok(())
+}
+
+/// How wide the columns are.
+fn widths_of(findings: &[&Finding]) -> Widths
+    ensures { result ≡ widths_in (map (λ it. finding_parts it.now) findings.now) }
+{
+    Widths {
+        row: widest(findings, Measure::Row),
+        column: widest(findings, Measure::Column),
+        level: widest(findings, Measure::Level),
+        message: widest(findings, Measure::Message),
+    }
+}
+
+/// How wide the widest cell of a column is.
+#[tactic(auto, using(std::proofs::lemmas::List::Sums::fold_push), unfolding(crate::specs::Stylish::widest))]
+fn widest(findings: &[&Finding], measure: Measure) -> usize
+    ensures { result ≡ widest_of measure (map (λ it. finding_parts it.now) findings.now) }
+{
+    let mut most = 0;
+    for finding in findings {
+        most = most.max(measured(finding, measure));
+    }
+    most
+}
+
+/// How wide a cell of a finding is.
+fn measured(finding: &Finding, measure: Measure) -> usize
+    ensures { result ≡ measured_by measure (finding_parts finding.now) }
+{
+    match measure {
+        Measure::Row => Buffer::new().format(or_zero(finding.start.row)).len(),
+        Measure::Column => Buffer::new().format(or_zero(finding.start.column)).len(),
+        Measure::Level => level_word(finding.severity).len(),
+        Measure::Message => display_width(pointless(finding.message.as_str())),
+    }
+}
+
+/// Appends a finding's row.
+#[tactic(auto, unfolding(crate::specs::Stylish::row_text))]
+fn push_row(out: &mut String, widths: Widths, finding: &Finding) -> Result<(), AllocError>
+    ensures { OnOk result (string_bytes out.new
+        ≡ string_bytes out.old ++ row_text widths (finding_parts finding.now)) }
+{
+    out.push_str("  ")?;
+    push_place(out, widths, finding)?;
+    out.push_str("  ")?;
+    push_level(out, widths, finding)?;
+    out.push_str("  ")?;
+    out.push_str(pointless(finding.message.as_str()))?;
+    push_code(out, widths, finding)?;
+    out.push_str("\n")
+}
+
+/// Appends where a finding stands.
+#[tactic(auto, unfolding(crate::specs::Stylish::place_cells))]
+fn push_place(out: &mut String, widths: Widths, finding: &Finding) -> Result<(), AllocError>
+    ensures { OnOk result (string_bytes out.new
+        ≡ string_bytes out.old ++ place_cells widths (finding_parts finding.now)) }
+{
+    push_blanks(
+        out,
+        widths.row.saturating_sub(measured(finding, Measure::Row)),
+    )?;
+    out.push_str(Buffer::new().format(or_zero(finding.start.row)))?;
+    out.push_str(":")?;
+    out.push_str(Buffer::new().format(or_zero(finding.start.column)))?;
+    push_blanks(
+        out,
+        widths
+            .column
+            .saturating_sub(measured(finding, Measure::Column)),
+    )
+}
+
+/// Appends how grave a finding is.
+#[tactic(auto, unfolding(crate::specs::Stylish::level_cell))]
+fn push_level(out: &mut String, widths: Widths, finding: &Finding) -> Result<(), AllocError>
+    ensures { OnOk result (string_bytes out.new
+        ≡ string_bytes out.old ++ level_cell widths (finding_parts finding.now)) }
+{
+    out.push_str(level_word(finding.severity))?;
+    push_blanks(
+        out,
+        widths
+            .level
+            .saturating_sub(measured(finding, Measure::Level)),
+    )
+}
+
+/// Appends the code, where there is one, behind the message's column.
+fn push_code(out: &mut String, widths: Widths, finding: &Finding) -> Result<(), AllocError>
+    ensures { OnOk result (string_bytes out.new ≡ string_bytes out.old
+        ++ code_cell widths (finding_parts finding.now) (finding_parts finding.now).code) }
+{
+    let Some(code) = finding.code.as_deref() else {
+        return Ok(());
+    };
+    let room = widths
+        .message
+        .saturating_sub(measured(finding, Measure::Message));
+    push_blanks(out, room)?;
+    out.push_str("  ")?;
+    out.push_str(code)
+}
+
+/// Appends blanks.
+#[tactic(auto, using(std::proofs::lemmas::List::replicate_more), unfolding(crate::specs::Stylish::blanks))]
+fn push_blanks(out: &mut String, count: usize) -> Result<(), AllocError>
+    ensures { OnOk result (string_bytes out.new ≡ string_bytes out.old ++ blanks count) }
+{
+    for _ in 0..count {
+        out.push(' ')?;
+    }
+    Ok(())
+}
+
+/// A message without the point at its end.
+fn pointless(message: &str) -> &str
+    ensures { result.now ≡ without_point message.now }
+{
+    match without_last(message, '.') {
+        Some(front) => front,
+        None => message,
+    }
+}
+
+/// The word for a severity.
+fn level_word(severity: Severity) -> &'static str
+    ensures { result.now ≡ word_of_level severity }
+{
+    match severity {
+        Severity::Error => "error",
+        Severity::Warning => "warning",
+        Severity::Advice => "advice",
+    }
+}
+
+/// Appends how many findings there are, if there are any.
+fn push_ending(out: &mut String, findings: &[Finding]) -> Result<(), AllocError>
+    ensures { OnOk result (string_bytes out.new
+        ≡ string_bytes out.old ++ ending (map finding_parts findings.now)) }
+{
+    if findings.is_empty() {
+        return Ok(());
+    }
+    let errors = count_errors(findings);
+    push_summary(out, findings.len(), errors)
+}
+
+/// How many of the findings are errors.
+fn count_errors(findings: &[Finding]) -> usize
+    ensures { result ≡ count_by is_error_by (map finding_parts findings.now) }
+{
+    findings.iter().filter(|finding| is_error(finding)).count()
+}
+
+/// Whether a finding is an error.
+fn is_error(finding: &Finding) -> bool
+    ensures { result ≡ is_error_by (finding_parts finding.now) }
+{
+    match finding.severity {
+        Severity::Error => true,
+        Severity::Warning | Severity::Advice => false,
+    }
+}
+
+/// Appends how many findings there are, and how many of them are errors.
+#[tactic(auto, unfolding(crate::specs::Stylish::summary))]
+fn push_summary(out: &mut String, all: usize, errors: usize) -> Result<(), AllocError>
+    ensures { OnOk result (string_bytes out.new ≡ string_bytes out.old ++ summary all errors) }
+{
+    out.push_str(cross())?;
+    push_counted(out, all, "problem")?;
+    out.push_str(" (")?;
+    push_shares(out, all, errors)?;
+    out.push_str(")\n")
+}
+
+/// What stands before the number of findings.
+fn cross() -> &'static str
+    ensures { result.now ≡ cross }
+{
+    "✖ "
+}
+
+/// Appends how many of the findings are errors, and how many aren't.
+#[tactic(auto, unfolding(crate::specs::Stylish::shares))]
+fn push_shares(out: &mut String, all: usize, errors: usize) -> Result<(), AllocError>
+    ensures { OnOk result (string_bytes out.new ≡ string_bytes out.old ++ shares all errors) }
+{
+    push_counted(out, errors, "error")?;
+    out.push_str(", ")?;
+    push_counted(out, all.saturating_sub(errors), "warning")
+}
+
+/// Appends a number of things.
+#[tactic(auto, unfolding(crate::specs::Stylish::counted))]
+fn push_counted(out: &mut String, count: usize, noun: &str) -> Result<(), AllocError>
+    ensures { OnOk result (string_bytes out.new
+        ≡ string_bytes out.old ++ counted_nouns count noun.now) }
+{
+    out.push_str(Buffer::new().format(count))?;
+    out.push_str(" ")?;
+    out.push_str(noun)?;
+    out.push_str(plural(count))
+}
+
+/// What stands behind the name of a thing, where there are this many.
+fn plural(count: usize) -> &'static str
+    ensures { result.now ≡ plural_of count }
+{
+    if count == 1 { "" } else { "s" }
+}

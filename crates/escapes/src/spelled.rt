@@ -1,0 +1,63 @@
+// Texts in which some bytes are spelled otherwise.
+ghost use Rattle.std.specs.Prelude.{◌≡◌, ◌++◌, ◌<◌, ℕ, List, Option, true, OnOk, string_bytes};
+ghost use Rattle.std.specs.List.{position};
+ghost use Rattle.std.specs.Option.{is_some, option_copied};
+ghost use Rattle.escapes.specs.Escape.{IsFirstSpelled, escaped, is_spelled, spelled_as};
+
+use std::alloc::AllocError;
+
+/// What stands in a kind of text for the bytes that would end it or mean something else.
+pub trait Spelling {
+    /// What stands for a byte, if it is spelled otherwise.
+    ghost spelled: { Self → ℕ → Option (List ℕ) };
+
+    /// What stands for a byte, if it is spelled otherwise.
+    fn spelling(&self, byte: u8) -> Option<&'static str>
+        ensures { option_copied result ≡ spelled self.now byte };
+
+    ghost ascii: { (kind : Self) (byte : ℕ) → is_some (spelled kind byte) ≡ true → byte < 128 };
+}
+
+/// Appends a text as it is spelled. Runs that are spelled as they are, are appended as they are.
+///
+/// # Errors
+///
+/// Want of memory, after a first part.
+pub fn push_escaped<S: Spelling>(out: &mut String, kind: &S, text: &str) -> Result<(), AllocError>
+    ensures { OnOk result (string_bytes out.new
+        ≡ string_bytes out.old ++ escaped (S.spelled kind.now) text.now) }
+{
+    let mut rest = text;
+    while let Some(at) = first_spelled(kind, rest) {
+        out.push_str(&rest[..at])?;
+        push_byte(out, kind, rest.as_bytes()[at])?;
+        rest = &rest[at + 1..];
+    }
+    out.push_str(rest)
+}
+
+/// Where the first byte stands that is spelled otherwise.
+fn first_spelled<S: Spelling>(kind: &S, text: &str) -> Option<usize>
+    ensures { IsFirstSpelled (S.spelled kind.now) text.now result }
+{
+    first_place(kind, text.as_bytes())
+}
+
+/// Where the first byte stands that is spelled otherwise.
+fn first_place<S: Spelling>(kind: &S, bytes: &[u8]) -> Option<usize>
+    ensures { result ≡ position (is_spelled (S.spelled kind.now)) bytes.now }
+{
+    bytes.iter().position(|byte| kind.spelling(*byte).is_some())
+}
+
+/// Appends an ASCII byte as it is spelled.
+fn push_byte<S: Spelling>(out: &mut String, kind: &S, byte: u8) -> Result<(), AllocError>
+    requires { byte < 128 }
+    ensures { OnOk result (string_bytes out.new
+        ≡ string_bytes out.old ++ spelled_as byte (S.spelled kind.now byte)) }
+{
+    match kind.spelling(byte) {
+        Some(text) => out.push_str(text),
+        None => out.push(char::from(byte)),
+    }
+}

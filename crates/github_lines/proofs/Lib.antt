@@ -1,0 +1,2 @@
+pub mod PercentLemmas
+pub mod BackLemmas

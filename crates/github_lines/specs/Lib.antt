@@ -1,0 +1,4 @@
+pub mod Percent
+pub mod Unescape
+pub mod Annotation
+pub mod Read
