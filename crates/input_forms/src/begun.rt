@@ -1,0 +1,88 @@
+// What an input begins as.
+ghost use Rattle.std.specs.Prelude.{◌≡◌};
+ghost use Rattle.input_forms.specs.Begun.{behind_bracket, behind_mark, begins_as as begins_so};
+ghost use Rattle.input_forms.specs.Begun.{begun_at, begun_with, first_from};
+ghost use Rattle.input_forms.specs.Begun.{is_blank as blank};
+
+/// What an input begins as.
+#[derive(Clone, Copy, Debug, PartialEq, Eq)]
+pub enum Begun {
+    /// A JSON object.
+    Object,
+    /// JSON of another kind: a list of objects, of texts, or of nothing.
+    OtherJson,
+    /// Anything else.
+    Lines,
+}
+
+/// What an input begins as, behind one byte order mark and behind blanks: a `{` begins an object, and
+/// a `[` with a `{`, a `"` or a `]` behind it, blanks aside, begins other JSON.
+#[tactic(auto, unfolding(crate::specs::Begun::begins_as))]
+pub fn begins_as(bytes: &[u8]) -> Begun
+    ensures { result ≡ begins_so bytes.now }
+{
+    begun_at(first_from(without_mark(bytes)))
+}
+
+/// What a text begins as whose first byte is no blank.
+fn begun_at(text: &[u8]) -> Begun
+    ensures { result ≡ begun_at text.now }
+{
+    match text {
+        [first, rest @ ..] => begun_with(*first, rest),
+        [] => Begun::Lines,
+    }
+}
+
+/// What a text begins as that is a byte and others.
+fn begun_with(first: u8, rest: &[u8]) -> Begun
+    ensures { result ≡ begun_with first rest.now }
+{
+    if first == b'{' {
+        Begun::Object
+    } else if first == b'[' {
+        in_bracket(first_from(rest))
+    } else {
+        Begun::Lines
+    }
+}
+
+/// What a text begins as behind a bracket.
+fn in_bracket(rest: &[u8]) -> Begun
+    ensures { result ≡ behind_bracket rest.now }
+{
+    match rest {
+        [b'{' | b'"' | b']', ..] => Begun::OtherJson,
+        _ => Begun::Lines,
+    }
+}
+
+/// A text without a byte order mark before it.
+fn without_mark(bytes: &[u8]) -> &[u8]
+    ensures { result.now ≡ behind_mark bytes.now }
+{
+    match bytes.strip_prefix(&[0xEF, 0xBB, 0xBF]) {
+        Some(rest) => rest,
+        None => bytes,
+    }
+}
+
+/// A text from its first byte on that is no blank.
+fn first_from(mut bytes: &[u8]) -> &[u8]
+    ensures { result.now ≡ first_from bytes.entry.now }
+{
+    while let [first, rest @ ..] = bytes {
+        if !is_blank(*first) {
+            return bytes;
+        }
+        bytes = rest;
+    }
+    bytes
+}
+
+/// Whether a byte is a blank of JSON: a space, a tab, a CR or an LF.
+fn is_blank(byte: u8) -> bool
+    ensures { result ≡ blank byte }
+{
+    byte == b' ' || byte == b'\t' || byte == b'\r' || byte == b'\n'
+}

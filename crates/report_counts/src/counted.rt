@@ -1,0 +1,206 @@
+// How many reports there are, and whether one is at or above a level.
+ghost use Rattle.std.specs.Prelude.{◌≡◌, ◌++◌, IfOk, OnOk, count_by, string_bytes};
+ghost use Rattle.std.specs.List.{list_any};
+ghost use Rattle.report_counts.specs.Counted.{comma_behind, counts_of as counted_in, ended, is_advice};
+ghost use Rattle.report_counts.specs.Counted.{is_error, is_of, is_warning, more_line as more_text};
+ghost use Rattle.report_counts.specs.Counted.{one_reaches as reaches_in, plural, reaches};
+ghost use Rattle.report_counts.specs.Counted.{summary_line as summary_text, with_part};
+
+use found_reports::{FoundReport, FoundReports};
+use oxc_protocol::Severity;
+use std::alloc::{AllocError, Global};
+
+/// From which severity on a report counts as something that was found.
+#[derive(Clone, Copy, Debug, PartialEq, Eq)]
+pub enum Level {
+    /// Errors.
+    Error,
+    /// Errors and warnings.
+    Warning,
+    /// All reports.
+    Advice,
+    /// None.
+    Never,
+}
+
+/// How many reports there are of each severity.
+#[derive(Clone, Copy, Debug, PartialEq, Eq)]
+pub struct Counts {
+    /// Errors.
+    pub errors: usize,
+    /// Warnings.
+    pub warnings: usize,
+    /// Advice.
+    pub notes: usize,
+}
+
+/// How many reports there are of each severity.
+pub fn counts_of(found: &FoundReports<'_>) -> Counts
+    ensures { result ≡ counted_in found.now.found }
+{
+    let reports = found.reports();
+    Counts {
+        errors: count(reports, Severity::Error),
+        warnings: count(reports, Severity::Warning),
+        notes: count(reports, Severity::Advice),
+    }
+}
+
+/// How many reports have a severity.
+fn count(reports: &[FoundReport], wanted: Severity) -> usize
+    ensures { result ≡ count_by (λ it. is_of wanted it.diagnostic.severity) reports.now }
+{
+    let mut count = 0;
+    for report in reports {
+        if is_of(wanted, severity(report)) {
+            count += 1;
+        }
+    }
+    count
+}
+
+/// Whether a severity is the wanted one.
+fn is_of(wanted: Severity, severity: Severity) -> bool
+    ensures { result ≡ is_of wanted severity }
+{
+    match wanted {
+        Severity::Error => is_error(severity),
+        Severity::Warning => is_warning(severity),
+        Severity::Advice => is_advice(severity),
+    }
+}
+
+/// Whether one of the reports is at or above a level.
+pub fn one_reaches(at: Level, found: &FoundReports<'_>) -> bool
+    ensures { result ≡ reaches_in at found.now.found }
+{
+    any_reaches(at, found.reports())
+}
+
+fn any_reaches(at: Level, reports: &[FoundReport]) -> bool
+    ensures { result ≡ list_any (λ it. reaches at it.diagnostic.severity) reports.now }
+{
+    reports.iter().any(|it| reaches(at, severity(it)))
+}
+
+/// The severity of a report.
+fn severity(report: &FoundReport) -> Severity
+    ensures { result ≡ report.now.diagnostic.severity }
+{
+    report.diagnostic.inner().severity
+}
+
+fn is_error(severity: Severity) -> bool
+    ensures { result ≡ is_error severity }
+{
+    match severity {
+        Severity::Error => true,
+        Severity::Warning | Severity::Advice => false,
+    }
+}
+
+fn is_warning(severity: Severity) -> bool
+    ensures { result ≡ is_warning severity }
+{
+    match severity {
+        Severity::Warning => true,
+        Severity::Error | Severity::Advice => false,
+    }
+}
+
+fn is_advice(severity: Severity) -> bool
+    ensures { result ≡ is_advice severity }
+{
+    match severity {
+        Severity::Advice => true,
+        Severity::Error | Severity::Warning => false,
+    }
+}
+
+/// Whether a severity is at or above a level.
+fn reaches(at: Level, severity: Severity) -> bool
+    ensures { result ≡ reaches at severity }
+{
+    match (at, severity) {
+        (Level::Never, _) | (Level::Warning, Severity::Advice) => false,
+        (Level::Advice | Level::Warning, _) => true,
+        (Level::Error, _) => is_error(severity),
+    }
+}
+
+/// The line that says how many reports there are, as `3 errors, 1 warning`, with an LF; nothing where
+/// there is none.
+///
+/// # Errors
+///
+/// Want of memory.
+#[tactic(auto, unfolding(crate::specs::Counted::summary_line))]
+pub fn summary_line(alloc: Global, counts: Counts) -> Result<String, AllocError>
+    ensures { IfOk result (λ text. string_bytes text ≡ summary_text counts) }
+{
+    let mut text = String::new(alloc);
+    push_part(&mut text, counts.errors, "error")?;
+    push_part(&mut text, counts.warnings, "warning")?;
+    push_part(&mut text, counts.notes, "note")?;
+    end(&mut text)?;
+    Ok(text)
+}
+
+/// Appends how many there are of a word.
+#[tactic(auto, unfolding(crate::specs::Counted::with_part))]
+fn push_part(text: &mut String, count: usize, word: &str) -> Result<(), AllocError>
+    ensures { OnOk result (string_bytes text.new ≡ with_part (string_bytes text.old) count word.now) }
+{
+    if count == 0 {
+        return Ok(());
+    }
+    push_comma(text)?;
+    let plural = plural(count);
+    write!(text, "{count} {word}{plural}")
+}
+
+/// Appends a comma behind a text that is something.
+fn push_comma(text: &mut String) -> Result<(), AllocError>
+    ensures { OnOk result (string_bytes text.new
+        ≡ string_bytes text.old ++ comma_behind (string_bytes text.old)) }
+{
+    if text.is_empty() {
+        Ok(())
+    } else {
+        text.push_str(", ")
+    }
+}
+
+/// What a word ends in where there are so many.
+fn plural(count: usize) -> &'static str
+    ensures { result.now ≡ plural count }
+{
+    if count == 1 { "" } else { "s" }
+}
+
+/// Ends a line that says something.
+fn end(text: &mut String) -> Result<(), AllocError>
+    ensures { OnOk result (string_bytes text.new ≡ ended (string_bytes text.old)) }
+{
+    if text.is_empty() {
+        Ok(())
+    } else {
+        text.push_str("\n")
+    }
+}
+
+/// The line that says that there are more reports than were drawn, with an LF; nothing where there
+/// are no more.
+///
+/// # Errors
+///
+/// Want of memory.
+#[tactic(auto, unfolding(crate::specs::Counted::more_line))]
+pub fn more_line(alloc: Global, count: usize) -> Result<String, AllocError>
+    ensures { IfOk result (λ text. string_bytes text ≡ more_text count) }
+{
+    if count == 0 {
+        return Ok(String::new(alloc));
+    }
+    format!(in alloc; "and {count} more\n")
+}

@@ -1,0 +1,74 @@
+-- What is written of reports.
+use Rattle.std.specs.Prelude.{◌≡◌, ℕ, ◌-◌, ◌++◌, ◌∷◌, List, [], length, take, min, unwrap_or, Bool, true, false, if◌then◌else◌, Option, Some, None}
+use Rattle.std.specs.List.{flat_map}
+use Rattle.serde_json.specs.Written.{compact_text}
+use Rattle.oxc_handlers.specs.declared.theme.GraphicalTheme.{GraphicalTheme}
+use Rattle.oxc_handlers.specs.Theme.{none_theme, unicode_theme, unicode_nocolor_theme}
+use Rattle.oxc_handlers.specs.Handler.{Handler}
+use Rattle.oxc_handlers.specs.JsonText.{json_of}
+use Rattle.oxc_handlers.specs.Report.{drawn, plan_of}
+use Rattle.documents.specs.Document.{Document}
+use Rattle.documents.specs.Written.{document_value}
+use Rattle.found_reports.specs.Found.{Found}
+use Rattle.found_reports.specs.Kept.{FoundParts}
+use Rattle.shown_reports.specs.Shown.{IsShown, shown_view}
+use Rattle.report_counts.specs.Counted.{counts_of, more_line, summary_line}
+use Rattle.girzohal_asked.specs.declared.Asked.{Asked}
+use Rattle.girzohal_asked.specs.declared.ThemeChoice.{ThemeChoice}
+use Rattle.girzohal_asked.specs.declared.ThemeChoice.TheVariants.{Auto, Plain, Unicode, UnicodeNocolor}
+
+-- ---- drawings
+
+-- without colors where nothing else was chosen
+abbrev pub theme_of : ThemeChoice → GraphicalTheme
+theme_of Auto = unicode_nocolor_theme
+theme_of Plain = none_theme
+theme_of Unicode = unicode_theme
+theme_of UnicodeNocolor = unicode_nocolor_theme
+
+abbrev pub handler_of : Asked → Handler
+handler_of asked = record { theme = theme_of asked.theme; width = unwrap_or asked.width 80; tab = asked.tabs }
+
+-- the drawing of the plan of what a report shows
+unfoldable pub drawing_of : Handler → Bool → Found → List ℕ
+drawing_of handler raw it = drawn handler.theme handler.width (plan_of handler.tab (shown_view raw it))
+
+abbrev pub drawings : Handler → Bool → List Found → List ℕ
+drawings handler raw found = flat_map (drawing_of handler raw) found
+
+-- how many of so many are drawn
+abbrev pub drawn_count : Option ℕ → ℕ → ℕ
+drawn_count None count = count
+drawn_count (Some most) count = min most count
+
+abbrev pub summary : Bool → List Found → List ℕ
+summary quiet found = if quiet then [] else summary_line (counts_of found)
+
+-- the drawings of the first reports, at most so many where there is a most
+unfoldable pub first_drawings : Asked → Option ℕ → List Found → List ℕ
+first_drawings asked most found = drawings (handler_of asked) asked.raw (take (drawn_count most (length found)) found)
+
+-- that there are more than were drawn, and how many there are
+unfoldable pub ending_text : Asked → List Found → List ℕ
+ending_text asked found = more_line (length found - drawn_count asked.most (length found)) ++ summary asked.quiet found
+
+-- reports as they are drawn
+unfoldable pub drawing_text : Asked → List Found → List ℕ
+drawing_text asked found = first_drawings asked asked.most found ++ ending_text asked found
+
+-- ---- other forms
+
+-- what a report shows as JSON, and an LF
+unfoldable pub json_line : Bool → Found → List ℕ
+json_line raw it = json_of (shown_view raw it) ++ 10 ∷ []
+
+abbrev pub json_text : Bool → List Found → List ℕ
+json_text raw found = flat_map (json_line raw) found
+
+-- the text of a document of these reports
+pub record IsDocumentText (raw : Bool) (found : List Found) (text : List ℕ) : Type 0 where
+  pub parts : FoundParts
+  pub document : Document
+  pub found_there : parts.found ≡ found
+  pub shown : IsShown raw parts document
+  pub is : text ≡ compact_text (document_value document.files document.reports)

@@ -1,0 +1,15 @@
+//! What is written of reports: drawings, JSON, a document.
+//!
+//! - [`drawing_text`]: reports drawn, and how many there are; [`first_drawings`] and [`ending_text`] are
+//!   its two parts.
+//! - [`json_text`]: each report as a line of JSON.
+//! - [`document_text`]: the reports and their files as a document.
+#![tactic(auto)]
+
+mod drawing;
+#[cfg(test)]
+mod tests;
+mod texts;
+
+pub use drawing::{drawing_text, ending_text, first_drawings};
+pub use texts::{document_text, json_text};

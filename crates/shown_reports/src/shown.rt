@@ -1,0 +1,249 @@
+// Reports on files, as a drawing has them.
+ghost use Rattle.std.specs.Prelude.{◌≡◌, ◌++◌, ◌∷◌, [], ◌<◌, ◌≤◌, All, IfOk, IsErrOf, OnOk};
+ghost use Rattle.std.specs.Prelude.{length, map};
+ghost use Rattle.oxc_span.specs.Views.{text_bytes};
+ghost use Rattle.oxc_protocol.specs.Views.{code_parts, inner_parts};
+ghost use Rattle.render_files.specs.Given.{given_label, given_report};
+ghost use Rattle.documents.specs.Views.{document_view};
+ghost use Rattle.found_reports.specs.Found.{found_on};
+ghost use Rattle.found_reports.specs.Held.{held_of};
+ghost use Rattle.found_reports.specs.Kept.{IsShort, Stands, file_view};
+ghost use Rattle.shown_reports.specs.Shown.{IsShown, label_by_bytes as by_bytes, shown_file};
+ghost use Rattle.shown_reports.specs.Shown.{shown_code, shown_note, shown_parts};
+ghost use Rattle.shown_reports.specs.Standing.{KeepsFile, KeepsHeld, shown_as};
+
+use crate::texts::{shown_if, shown_source, shown_text};
+use codespan::{AddError, FileId, Files};
+use documents::Document;
+use found_reports::{FoundFile, FoundReport, FoundReports, note_of};
+use harmless::Kind;
+use oxc_protocol::{Diagnostic, LabeledSpan, Labels, OxcCode, OxcDiagnostic, OxcDiagnosticInner};
+use render_files::{FileReport, LabelPlace, PlaceLabel};
+use std::alloc::{AllocError, Global};
+use thiserror::Error;
+
+/// Why reports aren't shown.
+#[derive(Clone, Copy, Debug, PartialEq, Eq, Error)]
+pub enum ShowError {
+    /// There are `u32::MAX` files or more, past the last number of a file.
+    #[error("too many files")]
+    TooManyFiles,
+    /// There was no memory left.
+    #[error("out of memory")]
+    OutOfMemory,
+}
+
+impl From<AllocError> for ShowError {
+    ghost use Rattle.std.specs.Prelude.{◌≡◌};
+    ghost use Rattle.shown_reports.specs.declared.shown.ShowError.TheVariants.{OutOfMemory};
+
+    ghost from_gives = { λ _ error. error ≡ OutOfMemory };
+
+    fn from(_error: AllocError) -> ShowError {
+        ShowError::OutOfMemory
+    }
+}
+
+/// Reports that were found, as a document to draw: their texts harmless, or as they are where they
+/// are to be `raw`; labels by bytes; and where a report has none, a last line of its note that says
+/// where its tool puts it. None of its reports is refused by a drawing.
+///
+/// # Errors
+///
+/// `TooManyFiles` only where there are `u32::MAX` files or more, and want of memory.
+pub fn shown_reports(
+    alloc: Global,
+    found: &FoundReports<'_>,
+    raw: bool,
+) -> Result<Document, ShowError>
+    ensures shown { IfOk result (λ it. IsShown raw found.now (document_view it)) }
+    ensures many { IsErrOf result ShowError.TooManyFiles
+        → 4294967295 ≤ length found.now.files }
+{
+    let held = found.files();
+    let files = shown_files(alloc, held, raw)?;
+    let reports = file_reports(alloc, held, found.reports(), raw)?;
+    Ok(Document { files, reports })
+}
+
+/// The files, by their numbers.
+fn shown_files(
+    alloc: Global,
+    held: &[FoundFile<'_>],
+    raw: bool,
+) -> Result<Files<String>, ShowError>
+    requires { All IsShort (map file_view held.now) }
+    ensures files { IfOk result (λ files. files ≡ map (shown_file raw) (map file_view held.now)) }
+    ensures few { IfOk result (λ files. length held.now ≤ 4294967295) }
+    ensures places { IfOk result (λ files. All (KeepsFile raw) (map file_view held.now)) }
+    ensures many { IsErrOf result ShowError.TooManyFiles → 4294967295 ≤ length held.now }
+{
+    let mut files = Files::new(alloc);
+    for file in held {
+        add_file(alloc, &mut files, file, raw)?;
+    }
+    Ok(files)
+}
+
+/// Adds a file.
+#[tactic(auto, unfolding(crate::specs::Shown::shown_file))]
+fn add_file(
+    alloc: Global,
+    files: &mut Files<String>,
+    file: &FoundFile<'_>,
+    raw: bool,
+) -> Result<(), ShowError>
+    requires { IsShort (file_view file.now) }
+    ensures added { OnOk result (files.new ≡ files.old ++ shown_file raw (file_view file.now) ∷ []) }
+    ensures few { OnOk result (length files.old < 4294967295) }
+    ensures places { OnOk result (KeepsHeld raw (held_of file.now.source)) }
+    ensures many { IsErrOf result ShowError.TooManyFiles → 4294967295 ≤ length files.old }
+{
+    let name = shown_text(alloc, raw, Kind::Name, file.name.as_str())?;
+    let source = shown_source(alloc, raw, &file.source)?;
+    match files.add(name, source) {
+        Ok(_) => Ok(()),
+        Err(AddError::TooManyFiles) => Err(ShowError::TooManyFiles),
+        Err(AddError::OutOfMemory) => Err(ShowError::OutOfMemory),
+        Err(AddError::SourceTooLong { .. }) => unreachable!(),
+    }
+}
+
+/// The reports, on the files with their numbers.
+fn file_reports(
+    alloc: Global,
+    held: &[FoundFile<'_>],
+    reports: &[FoundReport],
+    raw: bool,
+) -> Result<Vec<FileReport>, AllocError>
+    requires few { length held.now ≤ 4294967295 }
+    requires stand { All (Stands (map file_view held.now)) reports.now }
+    ensures { IfOk result (λ it. map given_report it.items
+        ≡ map (shown_as raw (map file_view held.now)) reports.now) }
+{
+    let mut shown = Vec::with_capacity(alloc, reports.len())?;
+    for report in reports {
+        shown.push(file_report(alloc, held, report, raw)?)?;
+    }
+    Ok(shown)
+}
+
+/// A report.
+#[tactic(auto, using(crate::proofs::ShownLemmas::file_viewed), unfolding(crate::specs::Standing::shown_as))]
+fn file_report(
+    alloc: Global,
+    held: &[FoundFile<'_>],
+    report: &FoundReport,
+    raw: bool,
+) -> Result<FileReport, AllocError>
+    requires few { length held.now ≤ 4294967295 }
+    requires stands { Stands (map file_view held.now) report.now }
+    ensures { IfOk result (λ it. given_report it
+        ≡ shown_as raw (map file_view held.now) report.now) }
+{
+    let parts = parts_of(alloc, &held[report.file], report, raw)?;
+    let labels = place_labels(alloc, report.diagnostic.labels(), raw)?;
+    let diagnostic = with_parts(OxcDiagnostic::error(alloc, "")?, parts);
+    match FileId::from_index(report.file as u32) {
+        Some(file) => Ok(FileReport {
+            file,
+            diagnostic,
+            labels,
+        }),
+        None => unreachable!(),
+    }
+}
+
+/// A diagnostic of these parts.
+fn with_parts(mut diagnostic: OxcDiagnostic, parts: OxcDiagnosticInner) -> OxcDiagnostic
+    ensures { result ≡ inner_parts parts }
+{
+    *diagnostic.inner_mut() = parts;
+    diagnostic
+}
+
+/// What a report on a file says, without its labels.
+#[tactic(auto, unfolding(crate::specs::Shown::shown_parts))]
+fn parts_of(
+    alloc: Global,
+    file: &FoundFile<'_>,
+    report: &FoundReport,
+    raw: bool,
+) -> Result<OxcDiagnosticInner, AllocError>
+    ensures { IfOk result (λ it. inner_parts it
+        ≡ shown_parts raw (found_on (file_view file.now) report.now.diagnostic report.now.place)) }
+{
+    let said = &report.diagnostic;
+    Ok(OxcDiagnosticInner {
+        message: shown_text(alloc, raw, Kind::Prose, said.message())?,
+        labels: Labels::new(alloc),
+        help: shown_if(alloc, raw, Kind::Prose, said.help())?,
+        note: note(alloc, file, report, raw)?,
+        severity: said.inner().severity,
+        code: code(alloc, &said.inner().code, raw)?,
+        url: shown_if(alloc, raw, Kind::Name, said.url())?,
+    })
+}
+
+/// A code.
+fn code(alloc: Global, code: &OxcCode, raw: bool) -> Result<OxcCode, AllocError>
+    ensures { IfOk result (λ it. code_parts it ≡ shown_code raw (code_parts code.now)) }
+{
+    Ok(OxcCode {
+        scope: shown_if(alloc, raw, Kind::Name, code.scope.as_deref())?,
+        number: shown_if(alloc, raw, Kind::Name, code.number.as_deref())?,
+    })
+}
+
+/// A note, which tells where a report stands that has no label.
+#[tactic(auto, unfolding(crate::specs::Shown::shown_note))]
+fn note(
+    alloc: Global,
+    file: &FoundFile<'_>,
+    report: &FoundReport,
+    raw: bool,
+) -> Result<Option<String>, AllocError>
+    ensures { IfOk result (λ note. text_bytes note
+        ≡ shown_note raw (found_on (file_view file.now) report.now.diagnostic report.now.place)) }
+{
+    let note = shown_if(alloc, raw, Kind::Prose, report.diagnostic.note())?;
+    match report.place {
+        Some(place) if report.diagnostic.labels().is_empty() => {
+            let name = shown_text(alloc, raw, Kind::Name, file.name.as_str())?;
+            let why = file.source.err();
+            Ok(Some(note_of(alloc, note.as_deref(), name.as_str(), place, why)?))
+        }
+        _ => Ok(note),
+    }
+}
+
+/// Labels, by bytes.
+fn place_labels(
+    alloc: Global,
+    labels: &[LabeledSpan],
+    raw: bool,
+) -> Result<Vec<PlaceLabel>, AllocError>
+    ensures { IfOk result (λ it. map given_label it.items ≡ map (by_bytes raw) labels.now) }
+{
+    let mut placed = Vec::with_capacity(alloc, labels.len())?;
+    for label in labels {
+        placed.push(place_label(alloc, label, raw)?)?;
+    }
+    Ok(placed)
+}
+
+/// A label, by bytes.
+#[tactic(auto, unfolding(crate::specs::Shown::label_by_bytes))]
+fn place_label(alloc: Global, label: &LabeledSpan, raw: bool) -> Result<PlaceLabel, AllocError>
+    ensures { IfOk result (λ it. given_label it ≡ by_bytes raw label.now) }
+{
+    let span = label.span();
+    Ok(PlaceLabel {
+        place: LabelPlace::Bytes {
+            start: span.start,
+            end: span.end,
+        },
+        text: shown_if(alloc, raw, Kind::Prose, label.label())?,
+        primary: label.primary(),
+    })
+}

@@ -1,0 +1,3 @@
+pub mod PlaceLemmas
+pub mod NamedLemmas
+pub mod GivenLemmas

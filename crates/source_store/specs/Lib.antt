@@ -1,0 +1,4 @@
+pub mod Told
+pub mod Place
+pub mod Named
+pub mod Given

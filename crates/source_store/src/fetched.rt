@@ -1,0 +1,28 @@
+// A store as its callers see it.
+ghost use Rattle.std.specs.Prelude.{ℕ, List, Option};
+ghost use Rattle.found_reports.specs.Held.{Held};
+ghost use Rattle.source_store.specs.Told.{IsTold};
+
+use found_reports::Lack;
+use std::alloc::Global;
+
+/// What a store answers.
+#[derive(Debug, Drop)]
+pub enum Fetched {
+    /// The text.
+    Text(String),
+    /// There is no text, for this reason.
+    Lacking(Lack),
+    /// There was no memory left.
+    OutOfMemory,
+}
+
+/// Texts by path.
+pub trait Store {
+    /// What is told of a path: its text, or why it has none. A store that can't know tells nothing.
+    ghost told: { Self → List ℕ → Option Held };
+
+    /// What the store has of a path: what it tells, where it tells something, or want of memory.
+    fn fetch(&self, alloc: Global, path: &str) -> Fetched
+        ensures { IsTold (told self.now path.now) result };
+}

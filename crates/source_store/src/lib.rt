@@ -1,0 +1,24 @@
+//! Where the texts of sources come from.
+//!
+//! - [`Store`]: the text of a path, or why it has none. [`MapStore`] is one in memory, [`DiskStore`]
+//!   reads the files below a folder.
+//! - [`path_in`]: the path that a name in a tool's output means, a URI or not.
+//! - [`gather`]: what a store has of many names.
+//! - [`locate`]: where a path leads from a folder, by words.
+#![tactic(auto)]
+
+mod disk;
+mod fetched;
+mod gathered;
+mod map;
+mod named;
+mod place;
+#[cfg(test)]
+mod tests;
+
+pub use disk::DiskStore;
+pub use fetched::{Fetched, Store};
+pub use gathered::gather;
+pub use map::MapStore;
+pub use named::{Spelling, path_in};
+pub use place::locate;

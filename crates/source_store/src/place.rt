@@ -1,0 +1,167 @@
+// Where a name leads.
+ghost use Rattle.std.specs.Prelude.{◌≡◌, ◌++◌, ◌∷◌, [], map, IfOk, IfSome, OnOk, true, false, string_bytes};
+ghost use Rattle.std.specs.Option.{option_copied};
+ghost use Rattle.std.specs.List.{slice_split};
+ghost use Rattle.source_store.specs.Place.{IsBelow, begins_with as begins_with_parts, entered};
+ghost use Rattle.source_store.specs.Place.{goes_up as goes_up_by, is_absolute as begins_at_slash};
+ghost use Rattle.source_store.specs.Place.{left, located as located_at, parts_of, path_of, resolved};
+ghost use Rattle.source_store.specs.Place.{stays as stays_by, text_bytes, walked};
+
+use std::alloc::{AllocError, Global};
+
+/// The absolute path to which a path leads from the folder `root`, an absolute path, where that is
+/// below the root or may be anywhere. `.` and `..` are resolved by words, and no path that is given
+/// has one of them.
+///
+/// # Errors
+///
+/// Want of memory.
+pub fn locate(
+    alloc: Global,
+    root: &str,
+    path: &str,
+    anywhere: bool,
+) -> Result<Option<String>, AllocError>
+    ensures path { IfOk result (λ found. text_bytes found
+        ≡ located_at root.now path.now anywhere) }
+    ensures below { anywhere ≡ false → IfOk result (λ found. IfSome (text_bytes found)
+        (IsBelow root.now)) }
+{
+    located(alloc, root, path, anywhere)
+}
+
+/// The same, known by the path alone.
+#[tactic(auto, unfolding(crate::specs::Place::located))]
+fn located(
+    alloc: Global,
+    root: &str,
+    path: &str,
+    anywhere: bool,
+) -> Result<Option<String>, AllocError>
+    ensures { IfOk result (λ found. text_bytes found ≡ located_at root.now path.now anywhere) }
+{
+    let top = walk(alloc, Vec::new(alloc), root)?;
+    let parts = resolve(alloc, root, path)?;
+    if anywhere || begins_with(&parts, &top) {
+        Ok(Some(path_text(alloc, &parts)?))
+    } else {
+        Ok(None)
+    }
+}
+
+/// The parts of the path to which a path leads from a folder, or from the top.
+fn resolve<'a>(alloc: Global, root: &'a str, path: &'a str) -> Result<Vec<&'a str>, AllocError>
+    ensures { IfOk result (λ parts. map (λ part. part.now) parts.items
+        ≡ resolved root.entry.now path.entry.now) }
+{
+    if is_absolute(path) {
+        walk(alloc, Vec::new(alloc), path)
+    } else {
+        let top = walk(alloc, Vec::new(alloc), root)?;
+        walk(alloc, top, path)
+    }
+}
+
+/// Whether a path begins at the top.
+fn is_absolute(path: &str) -> bool
+    ensures { result ≡ begins_at_slash path.now }
+{
+    path.as_bytes().first() == Some(&b'/')
+}
+
+/// The parts of the path to which a path leads from a folder.
+#[tactic(auto, unfolding(crate::specs::Place::walked))]
+fn walk<'a>(alloc: Global, at: Vec<&'a str>, path: &'a str) -> Result<Vec<&'a str>, AllocError>
+    ensures { IfOk result (λ parts. map (λ part. part.now) parts.items
+        ≡ walked (map (λ part. part.now) at.entry.items) path.entry.now) }
+{
+    let mut at = at;
+    let parts = cut(alloc, path)?;
+    for part in &parts {
+        enter(&mut at, part)?;
+    }
+    Ok(at)
+}
+
+/// What stands between the slashes of a path.
+fn cut<'a>(alloc: Global, path: &'a str) -> Result<Vec<&'a str>, AllocError>
+    ensures { IfOk result (λ parts. map (λ part. part.now) parts.items ≡ parts_of path.entry.now) }
+{
+    path.split('/').collect(alloc)
+}
+
+/// Goes on from a folder by one part of a path.
+#[tactic(auto, unfolding(crate::specs::Place::entered))]
+fn enter<'a>(at: &mut Vec<&'a str>, part: &'a str) -> Result<(), AllocError>
+    ensures { OnOk result (map (λ part. part.now) at.new.items
+        ≡ entered (map (λ part. part.now) at.old.items) part.entry.now) }
+{
+    if stays(part) {
+        Ok(())
+    } else if goes_up(part) {
+        leave(at);
+        Ok(())
+    } else {
+        add(at, part)
+    }
+}
+
+/// Whether a part leads nowhere.
+fn stays(part: &str) -> bool
+    ensures { result ≡ stays_by part.now }
+{
+    part.is_empty() || part == "."
+}
+
+/// Whether a part leads to the folder around.
+fn goes_up(part: &str) -> bool
+    ensures { result ≡ goes_up_by part.now }
+{
+    part == ".."
+}
+
+/// Drops the last part.
+#[tactic(auto, using(crate::proofs::PlaceLemmas::map_left))]
+fn leave(at: &mut Vec<&str>)
+    ensures { map (λ part. part.now) at.new.items ≡ left (map (λ part. part.now) at.old.items) }
+{
+    let _last = at.pop();
+}
+
+/// Appends a part.
+#[tactic(auto, using(crate::proofs::PlaceLemmas::map_added))]
+fn add<'a>(at: &mut Vec<&'a str>, part: &'a str) -> Result<(), AllocError>
+    ensures { OnOk result (map (λ part. part.now) at.new.items
+        ≡ map (λ part. part.now) at.old.items ++ part.entry.now ∷ []) }
+{
+    at.push(part)?;
+    Ok(())
+}
+
+/// Whether the first parts of a path are those of a folder.
+#[tactic(auto, unfolding(crate::specs::Place::begins_with))]
+fn begins_with(path: &[&str], folder: &[&str]) -> bool
+    ensures { result ≡ begins_with_parts (map (λ part. part.now) path.now)
+        (map (λ part. part.now) folder.now) }
+{
+    match folder {
+        [] => true,
+        [first, folder @ ..] => match path {
+            [] => false,
+            [part, path @ ..] => *part == *first && begins_with(path, folder),
+        },
+    }
+}
+
+/// The path of these parts.
+fn path_text(alloc: Global, parts: &[&str]) -> Result<String, AllocError>
+    ensures { IfOk result (λ path. string_bytes path
+        ≡ path_of (map (λ part. part.now) parts.now)) }
+{
+    let mut path = String::new(alloc);
+    for part in parts {
+        path.push_str("/")?;
+        path.push_str(part)?;
+    }
+    Ok(path)
+}
