@@ -1,0 +1,90 @@
+// A change that is made.
+ghost use Rattle.std.specs.Prelude.{◌≡◌, ◌+◌, ◌-◌, ◌≤◌, ◌↔◌, IsTrue, length, string_bytes, OnOk};
+ghost use Rattle.std.specs.Prelude.{IfErr, OnErr};
+ghost use Rattle.std.specs.List.{replace_range};
+ghost use Rattle.std.specs.Str.{IsCharBoundary};
+ghost use Rattle.source_location.specs.Index.{Fits};
+ghost use Rattle.client_text.specs.Changes.{Changes, IsFault, IsReplaced, IsFaultOf};
+ghost use Rattle.std.specs.Prelude.{Some};
+
+use crate::{Change, Fault};
+use source_location::fits;
+use std::alloc::Global;
+use text_places::{Encoding, Place, TextPlaces};
+use text_size::{TextRange, TextSize};
+
+/// Whether a text would fit after a change.
+#[tactic(auto, using(crate::proofs::ChangeLemmas::length_after))]
+fn fits_after(places: &TextPlaces, start: TextSize, end: TextSize, insert: &str) -> bool
+    requires ordered { start ≤ end }
+    requires within { end ≤ length places.now }
+    ensures { IsTrue result ↔ Fits (replace_range places.now start end insert.now) }
+{
+    let kept = places.len().to_u32() as u64 - (end.to_u32() - start.to_u32()) as u64;
+    insert.len() < u32::MAX as usize && kept + (insert.len() as u64) < u32::MAX as u64
+}
+
+/// Replaces the part of a text between two places.
+fn replace_part(
+    alloc: Global,
+    places: &mut TextPlaces,
+    encoding: Encoding,
+    from: Place,
+    to: Place,
+    insert: &str,
+) -> Result<(), Fault>
+    ensures done { OnOk result (IsReplaced encoding places.old from to insert.now places.new) }
+    ensures cause { IfErr result
+        (λ fault. IsFaultOf encoding places.old (Some (from, to)) insert.now fault) }
+    ensures unchanged { OnErr result (places.new ≡ places.old) }
+{
+    let (start, end) = places.nearest_range(encoding, from, to);
+    if end < start {
+        return Err(Fault::Reversed);
+    }
+    if !fits_after(places, start, end, insert) {
+        return Err(Fault::TooLong);
+    }
+    match places.replace(alloc, TextRange::new(start, end), insert) {
+        Ok(()) => Ok(()),
+        Err(_) => Err(Fault::OutOfMemory),
+    }
+}
+
+/// Puts a text in the place of the whole.
+fn replace_whole(alloc: Global, places: &mut TextPlaces, text: &str) -> Result<(), Fault>
+    ensures done { OnOk result (Fits places.new × (places.new ≡ text.now)) }
+    ensures unchanged { OnErr result (places.new ≡ places.old) }
+    ensures cause { IfErr result (λ fault. (fault ≡ Fault.TooLong → ¬ Fits text.now)
+        × (fault ≡ Fault.Reversed → ⊥)) }
+{
+    if !fits(text) {
+        return Err(Fault::TooLong);
+    }
+    match TextPlaces::new(alloc, text) {
+        Ok(new) => {
+            *places = new;
+            Ok(())
+        }
+        Err(_) => Err(Fault::OutOfMemory),
+    }
+}
+
+/// Makes a change.
+pub(crate) fn apply(
+    alloc: Global,
+    places: &mut TextPlaces,
+    encoding: Encoding,
+    change: &Change,
+) -> Result<(), Fault>
+    ensures done { OnOk result (Changes encoding places.old change.now places.new) }
+    ensures cause { IfErr result (λ fault. IsFault encoding places.old change.now fault) }
+    ensures unchanged { OnErr result (places.new ≡ places.old) }
+{
+    match change.range {
+        Some((from, to)) => {
+            replace_part(alloc, places, encoding, from, to, change.text.as_str())
+        }
+        None => replace_whole(alloc, places, change.text.as_str()),
+    }
+}

@@ -1,0 +1,140 @@
+// Pages made of a text.
+ghost use Rattle.std.specs.Prelude.{◌≡◌, ◌+◌, ◌-◌, ◌^◌, ◌<◌, ◌≤◌, ℕ, length, take, drop, IfOk};
+ghost use Rattle.std.specs.Prelude.{vec_len, ◌++◌};
+ghost use Rattle.std.specs.Str.{IsCharBoundary};
+ghost use Rattle.source_location.specs.Breaks.{breaks_of};
+ghost use Rattle.source_location.specs.Index.{Fits};
+ghost use Rattle.text_places.specs.Bytes.{begun};
+ghost use Rattle.text_places.specs.Pages.{counts_of, text_of, IsCleanAt};
+ghost use Rattle.text_places.specs.Building.{plus, total, recounted, IsNothing, IsPageEnd};
+ghost use Rattle.text_places.specs.Building.{IsPageOf, ArePagesOf, AreSmall};
+
+use crate::Encoding;
+use crate::page::{Counts, Page, count_rows, count_units};
+use std::alloc::{AllocError, Global};
+
+/// How many bytes a page may have.
+pub(crate) const PAGE: usize = 1024;
+/// How many bytes a page is filled with at first.
+const FILLED: usize = 768;
+
+/// Nothing counted.
+pub(crate) fn nothing() -> Counts
+    ensures { IsNothing result }
+{
+    Counts {
+        bytes: 0,
+        rows: 0,
+        units16: 0,
+        units32: 0,
+    }
+}
+
+/// The sum of two counts.
+fn plus(first: Counts, second: Counts) -> Counts
+    requires { AreSmall (plus first second) }
+    ensures { result ≡ plus first second }
+{
+    Counts {
+        bytes: first.bytes + second.bytes,
+        rows: first.rows + second.rows,
+        units16: first.units16 + second.units16,
+        units32: first.units32 + second.units32,
+    }
+}
+
+/// What is counted in a text.
+#[tactic(auto, unfolding(crate::specs::Pages::counts_of), using(crate::proofs::BuildLemmas::whole))]
+fn counts_in(text: &str) -> Counts
+    requires { Fits text.now }
+    ensures { result ≡ counts_of text.now }
+{
+    let bytes = text.as_bytes();
+    Counts {
+        bytes: bytes.len() as u32,
+        rows: count_rows(bytes, bytes.len()) as u32,
+        units16: count_units(Encoding::Utf16, bytes),
+        units32: count_units(Encoding::Utf32, bytes),
+    }
+}
+
+/// A page of a text, before which nothing is counted yet.
+fn page_of(alloc: Global, text: &str) -> Result<Page, AllocError>
+    requires { Fits text.now }
+    ensures { IfOk result (λ page. IsPageOf text.now page) }
+{
+    let own = counts_in(text);
+    Ok(Page {
+        text: String::from_str(alloc, text)?,
+        before: nothing(),
+        own,
+    })
+}
+
+/// A cut at a boundary or before the CR there, so that no CRLF is parted.
+fn clean_cut(text: &str, at: usize) -> usize
+    requires { IsCharBoundary text.now at }
+    ensures boundary { IsCharBoundary text.now result }
+    ensures clean { IsCleanAt text.now result }
+{
+    let bytes = text.as_bytes();
+    if at > 0 && at < bytes.len() && bytes[at - 1] == b'\r' && bytes[at] == b'\n' {
+        at - 1
+    } else {
+        at
+    }
+}
+
+/// Where the first page of a text ends.
+fn first_cut(text: &str) -> usize
+    requires { 0 < length text.now }
+    ensures { IsPageEnd text.now result }
+{
+    let at = clean_cut(text, text.floor_char_boundary(FILLED));
+    if at == 0 { text.len() } else { at }
+}
+
+/// The pages of a text.
+pub(crate) fn pages_of(alloc: Global, text: &str) -> Result<Vec<Page>, AllocError>
+    requires { Fits text.now }
+    ensures { IfOk result (λ pages. ArePagesOf text.now pages.items) }
+{
+    let mut pages = Vec::new(alloc);
+    let mut rest = text;
+    while rest.len() > PAGE {
+        let at = first_cut(rest);
+        pages.push(page_of(alloc, &rest[..at])?)?;
+        rest = &rest[at..];
+    }
+    pages.push(page_of(alloc, rest)?)?;
+    Ok(pages)
+}
+
+/// Counts what is before each page, from what is before the first, and in all of them.
+fn recount(pages: &mut [Page], at: Counts) -> Counts
+    requires { (k : ℕ) → k ≤ length pages.old → AreSmall (total at (take k pages.old)) }
+    ensures pages { pages.new ≡ recounted at pages.old }
+    ensures total { result ≡ total at pages.old }
+{
+    let mut sum = at;
+    let mut number = 0;
+    while number < pages.len() {
+        let own = pages[number].own;
+        pages[number].before = sum;
+        sum = plus(sum, own);
+        number += 1;
+    }
+    sum
+}
+
+/// Counts what is before each page from one on, and in all of them.
+pub(crate) fn recount_from(pages: &mut Vec<Page>, first: usize, at: Counts) -> Counts
+    requires within { first ≤ vec_len pages.old }
+    requires small { (k : ℕ) → k ≤ length (drop first pages.old.items)
+        → AreSmall (total at (take k (drop first pages.old.items))) }
+    ensures pages { pages.new.items ≡ take first pages.old.items
+        ++ recounted at (drop first pages.old.items) }
+    ensures total { result ≡ total at (drop first pages.old.items) }
+{
+    recount(&mut pages[first..], at)
+}

@@ -1,0 +1,175 @@
+// The index that turns offsets into places and back.
+ghost use Rattle.std.specs.Prelude.{◌≡◌, ◌+◌, ◌<◌, ◌≤◌, ℕ, length, IfOk, IfSome, IsSome, OnOk};
+ghost use Rattle.std.specs.Prelude.{OnErr, string_bytes, ◌↔◌};
+ghost use Rattle.std.specs.List.{concat, replace_range};
+ghost use Rattle.std.specs.Str.{IsCharBoundary};
+ghost use Rattle.source_location.specs.Breaks.{breaks_of};
+ghost use Rattle.source_location.specs.Index.{Fits};
+ghost use Rattle.text_places.specs.Places.{place_at, client_offset as client_offset_of};
+ghost use Rattle.text_places.specs.Places.{IsOffsetOf, IsNearest, AreNearest, IsLineRange};
+
+use crate::answers::{client_place_in, line_in, nearest_in, offset_in, place_in};
+use crate::build::{nothing, pages_of, recount_from};
+use crate::mend::{replace, text_in};
+use crate::page::{Counts, Page};
+use crate::pieces::Pieces;
+use crate::{Encoding, Place};
+use std::alloc::{AllocError, Global};
+use std::marker::Model;
+use text_size::{TextRange, TextSize};
+
+/// A text in pages, with what turns offsets into places and back. Contracts see it as the text.
+#[derive(Debug, Drop)]
+pub struct TextPlaces {
+    pages: Vec<Page>,
+    end: Counts,
+}
+
+impl Model for TextPlaces {
+    ghost use Rattle.std.specs.Prelude.{List, ℕ};
+
+    ghost Value = { List ℕ };
+
+    ghost use Rattle.text_places.specs.Pages.{text_of, IsPaged};
+
+    ghost view = { λ s. text_of s.pages.items };
+
+    ghost invariant = { λ s. IsPaged s.pages.items s.end };
+}
+
+impl TextPlaces {
+    /// The places of a text that fits (`source_location::fits` tests it). It fails for want of
+    /// memory alone.
+    pub fn new(alloc: Global, text: &str) -> Result<TextPlaces, AllocError>
+        requires { Fits text.now }
+        ensures { IfOk result (λ places. places ≡ text.now) }
+    {
+        let mut pages = pages_of(alloc, text)?;
+        let end = recount_from(&mut pages, 0, nothing());
+        Ok(TextPlaces { pages, end })
+    }
+
+    /// The place of a boundary of the text. Of an offset that is none, or past the text, the place
+    /// isn't said.
+    pub fn place_of(&self, encoding: Encoding, offset: TextSize) -> Place
+        ensures { IsCharBoundary self.now offset → result ≡ place_at encoding self.now offset }
+    {
+        let at = offset.to_u32().min(self.end.bytes);
+        place_in(self.pages.as_slice(), encoding, at)
+    }
+
+    /// The boundary with the place; None exactly where no boundary has it.
+    pub fn offset_of(&self, encoding: Encoding, place: Place) -> Option<TextSize>
+        ensures { IsOffsetOf encoding self.now place result }
+    {
+        match offset_in(self.pages.as_slice(), self.end, encoding, place) {
+            Some(offset) => Some(TextSize::new(offset)),
+            None => None,
+        }
+    }
+
+    /// The boundary nearest to a place: past the last line the text's end; in a line the largest
+    /// boundary not behind where its break begins whose unit is at most the asked one.
+    pub fn nearest(&self, encoding: Encoding, place: Place) -> TextSize
+        ensures nearest { IsNearest encoding self.now place result }
+        ensures boundary { IsCharBoundary self.now result }
+    {
+        TextSize::new(nearest_in(self.pages.as_slice(), self.end, encoding, place))
+    }
+
+    /// The place at which a client sees a boundary: that of the CR for the LF of a CRLF.
+    pub fn client_place_of(&self, encoding: Encoding, offset: TextSize) -> Place
+        ensures { IsCharBoundary self.now offset
+            → result ≡ place_at encoding self.now (client_offset_of self.now offset) }
+    {
+        let at = offset.to_u32().min(self.end.bytes);
+        client_place_in(self.pages.as_slice(), self.end, encoding, at)
+    }
+
+    /// How many bytes the text has.
+    pub fn len(&self) -> TextSize
+        ensures value { result ≡ length self.now }
+        ensures fits { Fits self.now }
+    {
+        TextSize::new(self.end.bytes)
+    }
+
+    /// The nearest boundaries to the places of both ends of a range.
+    pub fn nearest_range(
+        &self,
+        encoding: Encoding,
+        start: Place,
+        end: Place,
+    ) -> (TextSize, TextSize)
+        ensures { AreNearest encoding self.now start end result.0 result.1 }
+    {
+        (self.nearest(encoding, start), self.nearest(encoding, end))
+    }
+
+    /// The places of both ends of a range of boundaries.
+    pub fn range_of(&self, encoding: Encoding, range: TextRange) -> (Place, Place)
+        ensures start { IsCharBoundary self.now range.0
+            → result.0 ≡ place_at encoding self.now range.0 }
+        ensures end { IsCharBoundary self.now range.1
+            → result.1 ≡ place_at encoding self.now range.1 }
+    {
+        (
+            self.place_of(encoding, range.start()),
+            self.place_of(encoding, range.end()),
+        )
+    }
+
+    /// How many lines the text has.
+    pub fn line_count(&self) -> u32
+        ensures { result ≡ length (breaks_of self.now) + 1 }
+    {
+        self.end.rows + 1
+    }
+
+    /// Where a line lies, without its break; None where there is no such line.
+    pub fn line_range(&self, line: u32) -> Option<TextRange>
+        ensures some { IsSome result ↔ (line ≤ length (breaks_of self.now)) }
+        ensures value { IfSome result (λ range. IsLineRange self.now line range.0 range.1) }
+    {
+        if line > self.end.rows {
+            return None;
+        }
+        let (start, end) = line_in(self.pages.as_slice(), self.end, line);
+        Some(TextRange::new(TextSize::new(start), TextSize::new(end)))
+    }
+
+    /// Replaces a part of the text. It looks at the pages at the part's two ends, at what is
+    /// inserted, and at what is counted before the pages behind; an `Err` leaves all as it was.
+    pub fn replace(
+        &mut self,
+        alloc: Global,
+        range: TextRange,
+        insert: &str,
+    ) -> Result<(), AllocError>
+        requires start { IsCharBoundary self.old range.0 }
+        requires end { IsCharBoundary self.old range.1 }
+        requires fits { Fits (replace_range self.old range.0 range.1 insert.now) }
+        ensures done { OnOk result (self.new ≡ replace_range self.old range.0 range.1 insert.now) }
+        ensures unchanged { OnErr result (self.new ≡ self.old) }
+    {
+        let (start, end) = (range.start().to_u32(), range.end().to_u32());
+        self.end = replace(alloc, &mut self.pages, start, end, insert)?;
+        Ok(())
+    }
+
+    /// The pieces in which the text is kept, in order: for whoever writes it out or reads through it
+    /// without a copy.
+    pub fn pieces(&self) -> Pieces<'_>
+        ensures { concat result ≡ self.now }
+    {
+        Pieces::of_pages(self.pages.as_slice())
+    }
+
+    /// A copy of the text.
+    pub fn to_text(&self, alloc: Global) -> Result<String, AllocError>
+        ensures { IfOk result (λ text. string_bytes text ≡ self.now) }
+    {
+        let text = text_in(alloc, self.pages.as_slice())?;
+        Ok(text)
+    }
+}
