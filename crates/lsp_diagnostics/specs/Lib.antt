@@ -1,0 +1,5 @@
+pub mod Seen
+pub mod Files
+pub mod Messages
+pub mod Diagnostics
+pub mod Ordered

@@ -1,0 +1,16 @@
+//! Diagnostics as the Language Server Protocol writes them: what a client is told of one file, in
+//! the units in which it counts.
+//!
+//! - [`publish`]: the parameters of `textDocument/publishDiagnostics` as a text; [`published`]: the
+//!   same as a value, for whoever puts them into a message.
+#![tactic(auto)]
+
+mod laws;
+mod messages;
+mod ranges;
+#[cfg(test)]
+mod tests;
+mod told;
+
+pub use laws::ranges_are_ordered;
+pub use told::{OpenFile, all_stand, publish, published};

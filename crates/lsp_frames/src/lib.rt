@@ -1,0 +1,16 @@
+//! The frames of the Language Server Protocol's base protocol: each message stands behind a head that
+//! tells its length in bytes.
+//!
+//! - [`write_frame`]: the frame of a body.
+//! - [`Frames`]: a reader that takes bytes as they come, however they are cut, and gives whole bodies.
+#![tactic(auto)]
+
+mod frames;
+mod head;
+#[cfg(test)]
+mod tests;
+mod written;
+
+pub use frames::{End, Frames, State, Taken};
+pub use head::{Head, LONGEST_BODY, LONGEST_HEAD, Place, START, Step, Why, read_byte};
+pub use written::{laws, write_frame};
