@@ -22,6 +22,7 @@ use Rattle.oxc_plan.specs.Columns.{is_char_start, boundary_down, boundary_up, co
 use Rattle.oxc_plan.specs.Rows.{RowView}
 use Rattle.oxc_plan.specs.Width.{with_lead, led, moved, at_margin, text_width}
 use Rattle.oxc_plan.proofs.WidthLemmas.{advance_of-le, few_chars}
+use Rattle.std.proofs.lemmas.Bool.{and_parts as both}
 
 -- a character adds at most three columns to a text's width
 
@@ -141,10 +142,6 @@ count (p ∷ ps) = length p + count ps
 abbrev AreScalars : List (List ℕ) → Type 0
 AreScalars [] = Unit {0}
 AreScalars (p ∷ ps) = (all_scalars p ≡ true) × AreScalars ps
-
-both : (a b : Bool) → (a && b) ≡ true → (a ≡ true) × (b ≡ true)
-both true b e = (refl, e)
-both false b e = let no : false ≡ true = e in cc
 
 count_prepend : (c : ℕ) (ps : List (List ℕ)) → count (prepend (c ∷ []) ps) ≡ count ps + 1
 count_prepend c [] = refl

@@ -7,16 +7,12 @@ use Rattle.oxc_protocol.specs.declared.protocol.Severity.TheVariants.{Error, War
 use Rattle.report_reader.specs.Seen.{Mark, Row, Head, named, bare, dashes, Snippet}
 use Rattle.report_reader.specs.Shown.{spaces, carets, bar_of, marker, mark_body, mark_cells, bars_to, hang_line, hang_of, hangs_from, marks_lines, row_front, other_front, unders, row_lines, head_text, head_line, close_line, number_width, snippet_lines, title_line, ended}
 use Rattle.report_reader.specs.WellFormed.{is_line, is_line_of, are_marks, is_next_row, are_rows, is_head, is_snippet, HasHeadSizes, HasRowSizes, HasSizes}
-use Rattle.report_reader.proofs.BytesLemmas.{not_eq, both, both_first, both_last, has_no-append, has_no-replicate, digits_have_no, decimal_digits}
+use Rattle.report_reader.proofs.BytesLemmas.{all_append, not_eq, both, both_first, both_last, has_no-append, has_no-replicate, digits_have_no, decimal_digits}
 use Rattle.report_reader.proofs.RunsLemmas.{AreApart, marks_apart}
 use Rattle.report_reader.proofs.HangsLemmas.{bars_have_no}
 
 abbrev pub are_lines : List (List ℕ) → Bool
 are_lines lines = list_all is_line lines
-
-pub all_append : {X : Type 0} (p : X → Bool) (xs ys : List X) → list_all p xs ≡ true → list_all p ys ≡ true → list_all p (xs ++ ys) ≡ true
-all_append p [] ys first last = last
-all_append p (x ∷ xs) ys first last = both _ _ (both_first _ _ first) (all_append p xs ys (both_last _ _ first) last)
 
 all_reverse : (p : List ℕ → Bool) (xs : List (List ℕ)) → list_all p xs ≡ true → list_all p (reverse xs) ≡ true
 all_reverse p [] are = refl

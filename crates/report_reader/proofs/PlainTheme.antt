@@ -17,6 +17,7 @@ use Rattle.report_reader.specs.Shown as seen
 use Rattle.report_reader.specs.Shown.{spaces, carets, bar_of}
 use Rattle.report_reader.specs.SeenOf.{seen_mark}
 use Rattle.report_reader.proofs.RowWords.{plain_setting, IsApart, AreApart}
+pub use Rattle.oxc_handlers.proofs.PlacesLemmas.{styled_plain}
 
 pub blank : encode_utf8 0x20 ≡ 0x20 ∷ []
 unfolding lib.Utf8.encode
@@ -39,10 +40,6 @@ pub repeated_is : (n c : ℕ) → repeated n (c ∷ []) ≡ replicate n c
 unfolding repeated
 repeated_is zero c = refl
 repeated_is (suc n) c = ap (λ l. c ∷ l) (repeated_is n c)
-
-pub styled_plain : (text : List ℕ) → styled Plain text ≡ text
-unfolding styled
-styled_plain text = append-nil text
 
 plain_of_three : (n : ℕ) → get_or (Plain ∷ Plain ∷ Plain ∷ []) n Plain ≡ Plain
 plain_of_three zero = refl

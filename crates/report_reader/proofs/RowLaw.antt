@@ -24,6 +24,7 @@ use Rattle.report_reader.proofs.ShownLemmas.{ended_append, unders_append}
 use Rattle.report_reader.specs.SeenOf.{seen_mark}
 use Rattle.report_reader.proofs.RowWords.{plain_setting, hang_at, hangs_of, IsApart, AreApart, IsRowShown}
 use Rattle.report_reader.proofs.PlainTheme.{blank, newline, repeated_is, styled_highlight, other_front_is, source_line_is, ordered, marks_line_is}
+use Rattle.std.proofs.Math.Bool.{or-true as either}
 
 or_first : (a b : Bool) → (a || b) ≡ false → a ≡ false
 or_first false b is = refl
@@ -32,10 +33,6 @@ or_first true b is = is
 or_last : (a b : Bool) → (a || b) ≡ false → b ≡ false
 or_last false b is = is
 or_last true b is = let no : true ≡ false = is in cc
-
-either : (a : Bool) → (a || true) ≡ true
-either true = refl
-either false = refl
 
 same_label : (label : ℕ) → eqb label label ≡ true
 same_label label = grind (arith, nat_tests)

@@ -12,12 +12,7 @@ use Rattle.report_reader.proofs.RunsLemmas.{least_of}
 use Rattle.report_reader.specs.SeenOf.{seen_mark, seen_row, seen_head}
 use Rattle.report_reader.proofs.RowWords.{IsApart, AreApart, AreReadableRows, IsSized, AreSized, AreRowsFrom, IsSeenWell}
 use Rattle.oxc_handlers.proofs.ShownBytes.{shown_passes}
-
-less_test : (a b : ℕ) → a < b → nat_lt a b ≡ true
-less_test a b lt = grind (arith, nat_tests)
-
-most_test : (a b : ℕ) → a ≤ b → nat_le a b ≡ true
-most_test a b le = grind (arith, nat_tests)
+use Rattle.std.proofs.lemmas.Bool.{lt-ltb as less_test, le-leb as most_test}
 
 behind : (before : Option ℕ) (start : ℕ) → least_of before ≤ start → is_behind before start ≡ true
 behind None start le = refl

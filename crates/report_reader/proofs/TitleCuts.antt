@@ -13,6 +13,7 @@ use Rattle.textwrap.specs.Pieces.{PieceView, with_gap, word_pieces, pieces}
 use Rattle.textwrap.specs.Filled.{spaces, line_text}
 use Rattle.report_reader.specs.Title.{kept, without_last_spaces}
 use Rattle.report_reader.proofs.TitleWords.{has_no, both, both_first, both_last, has_no-append, has_no_first, has_no_last, word_whole, is_word, is_full, are_words, AreUtf8, are_words_of, words_utf8}
+use Rattle.report_reader.proofs.BytesLemmas.{all_append, not_eq}
 
 abbrev is_text : List ℕ → Bool
 is_text text = has_no 0x20 text
@@ -137,10 +138,6 @@ word_full room w utf8 full =
     let texts : List (List ℕ) = cuts_behind room false at_start (chars w.text) in
     gap_full w.gap texts (all_full texts (cuts_full room (chars w.text) size (subst (λ l. has_no 0x20 l ≡ true) (sym same) clean)))
 
-all_append : {X : Type 0} (p : X → Bool) (xs ys : List X) → list_all p xs ≡ true → list_all p ys ≡ true → list_all p (xs ++ ys) ≡ true
-all_append p [] ys first last = last
-all_append p (x ∷ xs) ys first last = both _ _ (both_first _ _ first) (all_append p xs ys (both_last _ _ first) last)
-
 pieces_append : (xs ys : List PieceView) → are_pieces xs ≡ true → list_all is_full_piece ys ≡ true → 0 < length xs → are_pieces (xs ++ ys) ≡ true
 pieces_append [] ys first last some = absurd (omega (arith, some))
 pieces_append (x ∷ xs) ys first last some = both _ _ (both_first (is_piece x) (list_all is_full_piece xs) first) (all_append is_full_piece xs ys (both_last (is_piece x) (list_all is_full_piece xs) first) last)
@@ -204,9 +201,6 @@ spaces_go (suc n) = ap (kept 0x20) (spaces_go n)
 kept_byte : (b : ℕ) (text : List ℕ) → (b == 0x20) ≡ false → kept b text ≡ b ∷ text
 kept_byte b [] other = rw other refl
 kept_byte b (c ∷ text) other = refl
-
-not_eq : (b c : ℕ) → not (b == c) ≡ true → (b == c) ≡ false
-not_eq b c is = grind (arith, nat_tests)
 
 text_stays : (text : List ℕ) → has_no 0x20 text ≡ true → without_last_spaces text ≡ text
 unfolding without_last_spaces

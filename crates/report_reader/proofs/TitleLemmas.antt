@@ -10,6 +10,7 @@ use Rattle.textwrap.specs.Filled.{room, line_text, lines_of, part_lines, joined_
 use Rattle.report_reader.specs.Title.{without_last_spaces}
 use Rattle.report_reader.proofs.TitleWords.{has_no, both_first, both_last, has_no_last}
 use Rattle.report_reader.proofs.TitleCuts.{pieces_are, line_of_pieces}
+use Rattle.report_reader.proofs.BytesLemmas.{not_eq}
 
 -- lines without LF between them are one line
 one_of : (line : List ℕ) (more : List (List ℕ)) → has_no 0x0A (joined_by_breaks (line ∷ more)) ≡ true → joined_by_breaks (line ∷ more) ≡ line
@@ -77,9 +78,6 @@ some_part width first later part line more is none utf8 =
     ∙ ap (λ l. first ++ l) (line_of_pieces (pieces (room width later) part) part of.0 of.1)
 
 -- the text's parts: one where it holds no LF, and two at least where it does
-not_eq : (b c : ℕ) → not (b == c) ≡ true → (b == c) ≡ false
-not_eq b c is = grind (arith, nat_tests)
-
 one_part : (text : List ℕ) → has_no 0x0A text ≡ true → slice_split (λ byte. byte == 0x0A) text ≡ text ∷ []
 one_part [] clean = refl
 one_part (b ∷ text) clean =

@@ -7,24 +7,7 @@ use Rattle.std.proofs.lemmas.Str.{IsUtf8-nil, IsUtf8-take, IsUtf8-drop, IsUtf8-p
 use Rattle.std.proofs.lemmas.Bool.Decides.{nat_tests}
 use Rattle.textwrap.specs.Filled.{spaces}
 use Rattle.textwrap.specs.Words.{Word, is_letter_or_digit, is_inner_hyphen, with_space, with_byte, words_behind}
-
-abbrev pub has_no : ℕ → List ℕ → Bool
-has_no c text = list_all (λ b. not (b == c)) text
-
-pub both : (a b : Bool) → a ≡ true → b ≡ true → (a && b) ≡ true
-both a b ya yb = rw (ya, yb) refl
-
-pub both_first : (a b : Bool) → (a && b) ≡ true → a ≡ true
-both_first true b is = refl
-both_first false b is = is
-
-pub both_last : (a b : Bool) → (a && b) ≡ true → b ≡ true
-both_last true b is = is
-both_last false b is = let no : false ≡ true = is in cc
-
-pub has_no-append : (c : ℕ) (xs ys : List ℕ) → has_no c xs ≡ true → has_no c ys ≡ true → has_no c (xs ++ ys) ≡ true
-has_no-append c [] ys none others = others
-has_no-append c (x ∷ xs) ys none others = both _ _ (both_first _ _ none) (has_no-append c xs ys (both_last _ _ none) others)
+pub use Rattle.report_reader.proofs.BytesLemmas.{has_no, both, both_first, both_last, has_no-append}
 
 pub has_no_first : (c : ℕ) (xs ys : List ℕ) → has_no c (xs ++ ys) ≡ true → has_no c xs ≡ true
 has_no_first c [] ys none = refl

@@ -1,11 +1,15 @@
 //! The law that ties drawing to reading.
-ghost use Rattle.std.specs.Prelude.{◌<◌, ◌^◌, IfSome, length};
+ghost use Rattle.std.specs.Prelude.{◌≡◌, ◌<◌, ◌^◌, None, true, IfSome, length, map};
 ghost use Rattle.std.specs.Option.{option_copied};
 ghost use Rattle.std.specs.Str.{IsUtf8};
 ghost use Rattle.oxc_handlers.specs.Report.{view_parts};
 ghost use Rattle.oxc_protocol.specs.SourceViews.{ref_views};
+ghost use Rattle.report_reader.specs.Cells.{AreCells};
 ghost use Rattle.report_reader.specs.ReadsBack.{ReadsBack};
+ghost use Rattle.report_reader.specs.Seen.{mark_model};
+ghost use Rattle.report_reader.specs.WellFormed.{are_marks};
 
+use crate::SeenMark;
 use oxc_handlers::DiagnosticView;
 use oxc_plan::TabWidth;
 use oxc_protocol::SourceRef;
@@ -24,6 +28,16 @@ pub fn drawings_read_back(_width: usize, tabs: TabWidth, view: &DiagnosticView<'
     source_fits(&view.source);
     let _stop = tabs.get();
 }
+
+/// The law of the lines under a row, cell by cell, counted from 0: of marks that are in order with a
+/// space between them, the line of marks has in each mark's cells its carets, and its marker where
+/// its text hangs, and a space in every other cell; and the line of a text that hangs behind them
+/// has, up to its own cell, a bar where each of their texts hangs, and a space in every other cell.
+/// It does nothing; a caller calls it to know the law.
+pub fn marks_by_cells(_marks: &[SeenMark])
+    ensures { are_marks None (map mark_model _marks.now) ≡ true
+        → AreCells (map mark_model _marks.now) }
+{}
 
 /// A `&str` is UTF-8.
 fn is_text(_text: &str)

@@ -16,7 +16,7 @@ mod shows;
 mod texts;
 
 pub use crate::checks::well_formed;
-pub use crate::laws::drawings_read_back;
+pub use crate::laws::{drawings_read_back, marks_by_cells};
 pub use crate::reader::read_report;
 pub use crate::seen::{Seen, SeenHead, SeenMark, SeenRow, SeenSnippet};
 pub use crate::shows::show_report;
