@@ -1,16 +1,17 @@
 // A text that is edited in place.
 ghost use Rattle.std.specs.Prelude.{◌≡◌, ℕ, ◌+◌, ◌-◌, ◌^◌, ◌<◌, ◌≤◌, ◌++◌, ◌∷◌, [], true, false};
 ghost use Rattle.std.specs.Prelude.{Ok, IsOk, IfOk, OnOk, OnErr, MatchBool, MatchResult, List};
+ghost use Rattle.std.specs.Prelude.{IsSome, IfSome, ◌↔◌};
 ghost use Rattle.std.specs.Prelude.{length, nat_lt, map, take, string_bytes, string_len};
 ghost use Rattle.std.specs.Prelude.{string_capacity, vec_len, vec_capacity};
 ghost use Rattle.std.specs.Str.{IsCharBoundary};
 ghost use Rattle.source_location.specs.Breaks.{breaks_of};
-ghost use Rattle.source_location.specs.Rows.{line_starts as row_starts};
+ghost use Rattle.source_location.specs.Rows.{line_starts as row_starts, row_count, row_start};
 ghost use Rattle.source_location.specs.Index.{Fits};
 ghost use Rattle.source_edit.specs.Edits.{Change, Editing, change_of, edited, after_edit};
 ghost use Rattle.source_edit.specs.Edits.{after_edits};
 ghost use Rattle.source_edit.specs.Causes.{IsAcceptable, AreAcceptable, IsCause, IsCauseAmong};
-ghost use Rattle.source_edit.specs.Starts.{starts_between};
+ghost use Rattle.source_edit.specs.Starts.{starts_between, row_range};
 ghost use Rattle.source_edit.specs.Ready.{IsReady, KeepsWhatGoes};
 
 use crate::edit::check;
@@ -86,6 +87,62 @@ impl EditText {
         ensures { result.now ≡ row_starts (breaks_of self.now.text) }
     {
         self.line_starts.as_slice()
+    }
+
+    /// How many rows the text has: one more than it has breaks.
+    pub fn line_count(&self) -> usize
+        ensures { result ≡ row_count self.now.text }
+    {
+        self.line_starts.len()
+    }
+
+    /// Where a row lies with its break, by its number from 0; none where there is no such row.
+    pub fn line_range(&self, line: usize) -> Option<TextRange>
+        ensures some { IsSome result ↔ (line < row_count self.now.text) }
+        ensures value { IfSome result (λ range. range ≡ row_range self.now.text line) }
+    {
+        if line >= self.line_starts.len() {
+            return None;
+        }
+        let start = self.row_start(line);
+        let end = self.row_start(line + 1);
+        Some(TextRange::new(start, end))
+    }
+
+    /// Where a row starts, and the text's end for one that there isn't.
+    fn row_start(&self, row: usize) -> TextSize
+        ensures { result ≡ row_start (length self.now.text) (breaks_of self.now.text) row }
+    {
+        let starts = self.line_starts();
+        if row < starts.len() {
+            starts[row]
+        } else {
+            TextSize::new(self.text().len() as u32)
+        }
+    }
+
+    /// The text, for good: what it took to edit it and to go back is given up.
+    pub fn into_text(self) -> String
+        ensures { string_bytes result ≡ self.text }
+    {
+        let EditText {
+            text,
+            line_starts: _,
+            steps: _,
+            alloc: _,
+        } = self;
+        text
+    }
+
+    /// Ends the history: no edit made so far can be undone, and what they kept of memory is given
+    /// back, with the room that was taken for going back.
+    pub fn forget(&mut self)
+        ensures text { self.new.text ≡ self.old.text }
+        ensures history { self.new.history ≡ [] }
+    {
+        self.steps = Vec::new(self.alloc);
+        self.text.shrink_to_fit();
+        self.line_starts.shrink_to_fit();
     }
 
     /// How many edits can be undone.
