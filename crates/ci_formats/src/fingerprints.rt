@@ -1,6 +1,6 @@
 // Fingerprints of findings.
 ghost use Rattle.std.specs.Prelude.{◌≡◌, ◌++◌, IfOk, OnOk, string_bytes};
-ghost use Rattle.ci_formats.specs.Fingerprint.{fingerprint as fingerprint_of};
+ghost use Rattle.ci_formats.specs.Fingerprint.{AreToldApart, fingerprint as fingerprint_of};
 ghost use Rattle.ci_formats.specs.Fingerprint.{marked as marked_by, measured};
 ghost use Rattle.sha2.specs.Sha256.{sha256};
 
@@ -28,6 +28,12 @@ pub fn fingerprint(
     let digest = digest_of(text.as_bytes());
     hex::encode(alloc, digest.as_slice())
 }
+
+/// What is hashed tells findings apart: it is the same text only of the same path, code, message
+/// and number of equal findings before.
+pub fn issues_are_told_apart()
+    ensures { AreToldApart }
+{}
 
 /// The hash of bytes.
 fn digest_of(bytes: &[u8]) -> [u8; 32]

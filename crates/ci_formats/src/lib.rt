@@ -20,7 +20,7 @@ mod tests;
 mod xml;
 
 pub use checkstyle::checkstyle_text;
-pub use fingerprints::fingerprint;
+pub use fingerprints::{fingerprint, issues_are_told_apart};
 pub use format::{CiFormat, SendError, send, text_in};
 pub use github_lines::{github_line, github_text};
 pub use gitlab::gitlab_text;

@@ -6,12 +6,12 @@ use Rattle.std.specs.Result.{result_ok}
 use Rattle.std.specs.Char.{digit_value}
 use Rattle.std.specs.Str.Parse.{ParsesUnsigned, AllDigits, digits_value, without_leading_plus}
 use Rattle.std.specs.Str.Pattern.{FindsTextPrefix}
-use Rattle.std.proofs.lemmas.Bool.{cases_lt, ne_eqb, eq-eqb, eqb-true, le-ltb, lt-ltb, le-leb, and_left, and_from, and_parts, or_parts}
+use Rattle.std.proofs.lemmas.Bool.{cases_lt, ne_eqb, eq-eqb, eqb-true, le-ltb, lt-ltb, le-leb, and_left, and_from, and_parts, or_from, or_parts}
 use Rattle.std.proofs.lemmas.List.{length-append, get_or_at, get_or_append_left, take_at, take_all, take_more}
 use Rattle.std.proofs.lemmas.List.Sums.{position_or_len_is}
 use Rattle.std.proofs.Math.Seq.{drop-append-add}
 use Rattle.std.proofs.lemmas.Fmt.{decimal_is_IsNumeral, first_decimal, decimal_digit}
-use Rattle.std.proofs.lemmas.Str.Parse.{digit_from_value}
+use Rattle.std.proofs.lemmas.Str.Parse.{digit_at, digit_from_value}
 use Rattle.std.proofs.lemmas.Grind.{common_steps}
 use Rattle.escapes.specs.Cuts.{cut_at, behind, is_digit, leads_well, looks_as_number, number_of, without_last}
 
@@ -169,3 +169,13 @@ cut_here byte xs ys free =
     (λ k lt. ap (λ b. b == byte) (get_or_append_left xs (byte ∷ ys) 0 k lt) ∙ free_at byte xs k free lt)
     (λ lt. eq-eqb (get_or text (length xs) 0) byte (get_or_at xs byte ys 0 (length xs) refl)) in
     rw (place, lt-ltb (length xs) (length text) long) (ap₂ (λ a b. Some (a, b)) (take_at xs (byte ∷ ys) (length xs) refl) (drop-append-add xs (byte ∷ ys) 1))
+
+-- ---- a number has no byte but digits
+
+any_from : (byte : ℕ) (xs : List ℕ) → ((k : ℕ) → k < length xs → get_or xs k 0 ≡ byte → ⊥) → list_any (λ b. b == byte) xs ≡ false
+any_from byte [] other = refl
+any_from byte (x ∷ xs) other = or_from (x == byte) (list_any (λ b. b == byte) xs) (ne_eqb x byte (λ e. other 0 (omega arith) e)) (any_from byte xs (λ k lt e. other (suc k) (omega arith) e))
+
+pub decimal_free : (byte n : ℕ) → n < 2 ^ 64 → (byte < 0x30) ⊎ (0x39 < byte) → list_any (λ b. b == byte) (decimal n) ≡ false
+decimal_free byte n small (inl low) = any_from byte (decimal n) (λ k h e. let d = digit_at (decimal n) k (decimal_is_IsNumeral n small).0.1 h in omega (arith, d, e, low))
+decimal_free byte n small (inr high) = any_from byte (decimal n) (λ k h e. let d = digit_at (decimal n) k (decimal_is_IsNumeral n small).0.1 h in omega (arith, d, e, high))

@@ -10,7 +10,7 @@ use Rattle.std.proofs.lemmas.Str.{IsCharBoundary-before_ascii, IsCharBoundary-en
 use Rattle.std.proofs.lemmas.Str.Parse.{digit_at}
 use Rattle.std.proofs.lemmas.Fmt.{decimal_is_IsNumeral}
 use Rattle.escapes.specs.Cuts.{cut_at, behind, without_last}
-use Rattle.escapes.proofs.CutLemmas.{behind_front, cut_here, free_at, number_back, last_taken}
+use Rattle.escapes.proofs.CutLemmas.{behind_front, cut_here, decimal_free, free_at, number_back, last_taken}
 use Rattle.escapes.proofs.EscapeLemmas.{none_append}
 use Rattle.github_lines.specs.declared.percent.Field.{Field}
 use Rattle.github_lines.specs.declared.percent.Field.TheVariants.{Message, Property}
@@ -69,12 +69,8 @@ value_ends v = (any_weaker (ends Property) (λ b. b == 0x2C) (λ b e. (rest b e)
     rest : (b : ℕ) → ends Property b ≡ false → ((b == 0x3A) ≡ false) × ((b == 0x2C) ≡ false)
     rest b e = or_parts (b == 0x3A) (b == 0x2C) (or_parts (b == 0x0D) (b == 0x3A || b == 0x2C) (or_parts (b == 0x0A) (b == 0x0D || (b == 0x3A || b == 0x2C)) e).1).1
 
-any_from : (byte : ℕ) (xs : List ℕ) → ((k : ℕ) → k < length xs → get_or xs k 0 ≡ byte → ⊥) → list_any (λ b. b == byte) xs ≡ false
-any_from byte [] other = refl
-any_from byte (x ∷ xs) other = or_from (x == byte) (list_any (λ b. b == byte) xs) (ne_eqb x byte (λ e. other 0 (omega arith) e)) (any_from byte xs (λ k lt e. other (suc k) (omega arith) e))
-
 number_ends : (n : ℕ) → n < 2 ^ 64 → (list_any (λ b. b == 0x2C) (decimal n) ≡ false) × (list_any (λ b. b == 0x3A) (decimal n) ≡ false)
-number_ends n small = (any_from 0x2C (decimal n) (λ k h e. let d = digit_at (decimal n) k (decimal_is_IsNumeral n small).0.1 h in omega (arith, d, e)), any_from 0x3A (decimal n) (λ k h e. let d = digit_at (decimal n) k (decimal_is_IsNumeral n small).0.1 h in omega (arith, d, e)))
+number_ends n small = (decimal_free 0x2C n small (inl (omega arith)), decimal_free 0x3A n small (inr (omega arith)))
 
 -- ---- one property
 
