@@ -28,14 +28,11 @@ pub filed_one : (reading : Reading) (files : List NamedHeld) (known : List Known
 filed_one reading files known it = of_one (IsFiled reading files) known it
 
 -- a file's number stays its own
-file_more : (files more : List NamedHeld) (number : ℕ) → number < length files → file_at (files ++ more) number ≡ file_at files number
-file_more files more number within = get_or-append files more _ number within
-
 one_more : (reading : Reading) (files more : List NamedHeld) (it : Known) → IsFiled reading files it → IsFiled reading (files ++ more) it
 one_more reading files more it filed = record {
   readable = filed.readable;
   within = omega (arith, length-append files more, filed.within);
-  filed = file_more files more it.file filed.within ∙ filed.filed;
+  filed = get_or-append files more _ it.file filed.within ∙ filed.filed;
 }
 
 pub filed_more : (reading : Reading) (files more : List NamedHeld) (known : List Known) → All (IsFiled reading files) known → All (IsFiled reading (files ++ more)) known

@@ -75,10 +75,13 @@ aside_at reading finding region message file None =
 aside_at reading finding region message file (Some span) =
     found_on file (aside_diagnostic reading finding message (label_at true None span ∷ [])) None
 
+abbrev pub aside_on : Reading → Finding → Option Region → Option (List ℕ) → NamedHeld → Found
+aside_on reading finding region message file =
+    aside_at reading finding region message file (span_in_held reading file.held region)
+
 abbrev pub aside_in : Reading → Finding → Placed → Option NamedHeld → List Found
 aside_in reading finding it None = []
-aside_in reading finding it (Some file) =
-    aside_at reading finding it.region it.message file (span_in_held reading file.held it.region) ∷ []
+aside_in reading finding it (Some file) = aside_on reading finding it.region it.message file ∷ []
 
 -- the advice that a location becomes: none where it names no file
 unfoldable pub aside : Reading → Finding → Placed → List Found
@@ -89,14 +92,24 @@ aside reading finding it = aside_in reading finding it it.source
 abbrev pub main_diagnostic : Reading → Finding → List Label → OxcParts
 main_diagnostic reading finding labels = diagnostic_of reading finding (severity_of finding.level) finding.message labels
 
--- at the first location that names a file: where it has a span, the others in that file are labels and the rest advice;
--- where it has none, the report keeps the place that the log gives, and all others are advice
+-- the advice that those of these locations become that aren't in a file
+abbrev pub asides_beside : Reading → Finding → NamedHeld → List Placed → List Found
+asides_beside reading finding file others =
+    flat_map (aside reading finding) (filter (λ it. not (is_beside reading file it)) others)
+
+-- a report with its first label: the other locations in its file are labels, and the rest advice
+abbrev pub labeled_reports : Reading → Finding → NamedHeld → Label → List Placed → List Found
+labeled_reports reading finding file first others =
+    found_on file (main_diagnostic reading finding (labels_with reading file (first ∷ []) others)) None
+    ∷ asides_beside reading finding file others
+
+-- at the first location that names a file: where it has a span, that is the first label; where it has none, the report
+-- keeps the place that the log gives, and all others are advice
 abbrev pub reports_by : Reading → Finding → Placed → NamedHeld → List Placed → Option (Range ℕ) → List Found
 reports_by reading finding first file others None =
     found_on file (main_diagnostic reading finding []) (Some (given_place first.region)) ∷ flat_map (aside reading finding) others
 reports_by reading finding first file others (Some span) =
-    found_on file (main_diagnostic reading finding (labels_with reading file (label_at true first.message span ∷ []) others)) None
-    ∷ flat_map (aside reading finding) (filter (λ it. not (is_beside reading file it)) others)
+    labeled_reports reading finding file (label_at true first.message span) others
 
 unfoldable pub reports_at : Reading → Finding → Placed → NamedHeld → List Placed → List Found
 reports_at reading finding first file others =

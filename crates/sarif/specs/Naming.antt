@@ -45,9 +45,13 @@ next_base bases used None uri = None
 next_base bases used (Some base) uri =
     if stands_alone uri || list_any (λ name. bytes_eq name base) used then None else base_named bases base
 
+-- a URI ends in a slash, or is empty
+abbrev pub ends_a_part : List ℕ → Bool
+ends_a_part uri = length uri == 0 || is_slash (slice_index uri (length uri - 1))
+
 -- the URI of a base with a slash behind it, nothing where it is empty
 abbrev pub with_slash : List ℕ → List ℕ
-with_slash uri = if length uri == 0 || is_slash (slice_index uri (length uri - 1)) then uri else uri ++ 0x2F ∷ []
+with_slash uri = if ends_a_part uri then uri else uri ++ 0x2F ∷ []
 
 unfoldable pub front_of : Option (List ℕ) → List ℕ
 front_of None = []

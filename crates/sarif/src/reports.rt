@@ -1,14 +1,13 @@
 //! The reports that a log means.
-ghost use Rattle.std.specs.Prelude.{◌≡◌, ◌++◌, ◌∷◌, ◌≤◌, [], All, None, drop, filter, flat_map};
-ghost use Rattle.std.specs.Prelude.{length, map, not, take, IfOk, OnOk};
+ghost use Rattle.std.specs.Prelude.{◌≡◌, ◌++◌, ◌∷◌, ◌≤◌, [], All, None, drop, flat_map};
+ghost use Rattle.std.specs.Prelude.{length, map, take, IfOk, OnOk};
 ghost use Rattle.found_reports.specs.Found.{StandsIn, found_on};
 ghost use Rattle.found_reports.specs.Held.{held_text};
 ghost use Rattle.sarif_log.specs.Log.{log_view, run_view};
 ghost use Rattle.sarif_findings.specs.Findings.{finding_view};
 ghost use Rattle.sarif_findings.specs.Views.{borrowed};
-ghost use Rattle.sarif.specs.Labels.{is_beside, labels_with, span_in_held};
-ghost use Rattle.sarif.specs.Meaning.{aside, aside_at, aside_diagnostic as aside_meant};
-ghost use Rattle.sarif.specs.Meaning.{finding_reports};
+ghost use Rattle.sarif.specs.Meaning.{aside, aside_diagnostic as aside_meant, aside_on};
+ghost use Rattle.sarif.specs.Meaning.{asides_beside, finding_reports, labeled_reports};
 ghost use Rattle.sarif.specs.Meaning.{main_diagnostic as main_meant, nowhere};
 ghost use Rattle.sarif.specs.Meaning.{reports_among, reports_at, reports_in, run_reports};
 ghost use Rattle.sarif.specs.Views.{HoldsText, IsFiled, IsReadable, IsTold, known_view};
@@ -231,12 +230,8 @@ fn push_labeled<'s>(
     requires lacks_none { HoldsText (known_view file.now).held }
     requires first { StandsIn (held_text (known_view file.now).held) first }
     ensures added { OnOk result (found.new.found ≡ found.old.found
-        ++ found_on (known_view file.now) (main_meant (reading_view reading.now)
-        (finding_view finding.now) (labels_with (reading_view reading.now)
-        (known_view file.now) (first ∷ []) (map (placed_view known.now) others.now))) None
-        ∷ flat_map (aside (reading_view reading.now) (finding_view finding.now))
-        (filter (λ it. not (is_beside (reading_view reading.now) (known_view file.now) it))
-        (map (placed_view known.now) others.now))) }
+        ++ labeled_reports (reading_view reading.now) (finding_view finding.now)
+        (known_view file.now) first (map (placed_view known.now) others.now)) }
     ensures files { OnOk result (found.new.files ≡ found.old.files) }
 {
     let labels = labels_of(alloc, reading, known, file, first, others)?;
@@ -279,9 +274,8 @@ fn push_other_asides<'s>(
     requires filed { All (IsFiled (reading_view reading.now) found.old.files) known.now }
     requires readable { IsReadable (reading_view reading.now) file.now }
     ensures added { OnOk result (found.new.found ≡ found.old.found
-        ++ flat_map (aside (reading_view reading.now) (finding_view finding.now))
-        (filter (λ it. not (is_beside (reading_view reading.now) (known_view file.now) it))
-        (map (placed_view known.now) others.now))) }
+        ++ asides_beside (reading_view reading.now) (finding_view finding.now)
+        (known_view file.now) (map (placed_view known.now) others.now)) }
     ensures files { OnOk result (found.new.files ≡ found.old.files) }
 {
     for it in others {
@@ -326,9 +320,8 @@ fn push_aside_at<'s>(
 ) -> Result<(), AllocError>
     requires { IsFiled (reading_view reading.now) found.old.files file.now }
     ensures added { OnOk result (found.new.found ≡ found.old.found
-        ++ aside_at (reading_view reading.now) (finding_view finding.now) it.now.region
-        (borrowed it.now.message) (known_view file.now)
-        (span_in_held (reading_view reading.now) (known_view file.now).held it.now.region) ∷ []) }
+        ++ aside_on (reading_view reading.now) (finding_view finding.now) it.now.region
+        (borrowed it.now.message) (known_view file.now) ∷ []) }
     ensures files { OnOk result (found.new.files ≡ found.old.files) }
 {
     match span_in_file(reading, file, it.region) {

@@ -1,13 +1,14 @@
 //! The names of files: URIs with their bases before them.
-ghost use Rattle.std.specs.Prelude.{◌≡◌, ◌++◌, ◌==◌, ◌-◌, map, length, option_map, slice_index};
-ghost use Rattle.std.specs.Prelude.{string_bytes, take_while, not, ◌||◌, IfOk};
+ghost use Rattle.std.specs.Prelude.{◌≡◌, ◌++◌, map, option_map, slice_index};
+ghost use Rattle.std.specs.Prelude.{string_bytes, take_while, not, IfOk};
 ghost use Rattle.std.specs.List.{list_any};
 ghost use Rattle.std.specs.Str.{bytes_eq};
 ghost use Rattle.sarif_log.specs.Log.{artifact_location_view, artifact_view, names_view};
 ghost use Rattle.sarif_log.specs.Log.{text_view, uri_base_view};
 ghost use Rattle.sarif_findings.specs.Views.{borrowed};
 ghost use Rattle.sarif.specs.Naming.{artifact_at as artifact_numbered, base_named as last_named};
-ghost use Rattle.sarif.specs.Naming.{front_of as front_meant, location_in as location_meant};
+ghost use Rattle.sarif.specs.Naming.{ends_a_part as part_ends, front_of as front_meant};
+ghost use Rattle.sarif.specs.Naming.{location_in as location_meant};
 ghost use Rattle.sarif.specs.Naming.{name_of as name_meant, next_base as base_meant};
 ghost use Rattle.sarif.specs.Naming.{is_colon, is_slash, resolved as resolved_by};
 ghost use Rattle.sarif.specs.Naming.{stands_alone as alone};
@@ -117,7 +118,7 @@ fn next_base<'l>(
 
 /// Whether a URI ends in a slash, or is empty.
 fn ends_a_part(uri: &str) -> bool
-    ensures { result ≡ (length uri.now == 0 || is_slash (slice_index uri.now (length uri.now - 1))) }
+    ensures { result ≡ part_ends uri.now }
 {
     match uri.as_bytes().last() {
         Some(byte) => *byte == b'/',
