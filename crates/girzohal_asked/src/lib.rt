@@ -29,6 +29,18 @@ pub enum OutputForm {
     Json,
     /// A document of files and reports.
     Document,
+    /// A line for each report, as compilers write them.
+    Problems,
+    /// Annotations of GitHub's runners.
+    Github,
+    /// A report of GitLab's code quality.
+    Gitlab,
+    /// Checkstyle's XML.
+    Checkstyle,
+    /// JUnit's XML.
+    Junit,
+    /// A table for each file, as ESLint prints it.
+    Stylish,
 }
 
 /// Which characters a drawing is made of.

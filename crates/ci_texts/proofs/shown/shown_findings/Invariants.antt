@@ -1,0 +1,10 @@
+-- The findings before are there, and the others come next.
+use Rattle.std.proofs.Common.{◌≡◌, ◌++◌, drop, map}
+use Rattle.ci_findings.specs.Finding.{finding_parts}
+use Rattle.ci_texts.specs.Texts.{shown_finding}
+use Rattle.ci_texts.proofs.shown.shown_findings.Given as goal
+
+abbrev pub invariant-loop-finding : goal.invariant-loop-finding
+invariant-loop-finding l =
+    map finding_parts l.shown.items ++ map (shown_finding l.raw) (map finding_parts (drop l.finding-index l.findings))
+    ≡ map (shown_finding l.raw) (map finding_parts l.findings)

@@ -1,0 +1,62 @@
+// What is written of reports for CI systems.
+ghost use Rattle.std.specs.Prelude.{◌≡◌, IfOk, map, string_bytes};
+ghost use Rattle.ci_findings.specs.Finding.{finding_parts};
+ghost use Rattle.ci_texts.specs.Texts.{ci_text as ci_text_of, shown_finding as finding_shown};
+
+use ci_findings::{Finding, findings_of};
+use ci_formats::{CiFormat, text_in};
+use found_reports::FoundReports;
+use harmless::Kind;
+use shown_reports::{shown_if, shown_text};
+use std::alloc::{AllocError, Global};
+
+/// The findings of reports in a format.
+///
+/// # Errors
+///
+/// Want of memory.
+#[tactic(auto, unfolding(crate::specs::Texts::ci_text))]
+pub fn ci_text(
+    alloc: Global,
+    format: CiFormat,
+    raw: bool,
+    found: &FoundReports<'_>,
+) -> Result<String, AllocError>
+    ensures { IfOk result (λ text. string_bytes text ≡ ci_text_of format raw found.now.found) }
+{
+    let findings = findings_of(alloc, found)?;
+    let shown = shown_findings(alloc, raw, &findings)?;
+    text_in(alloc, format, &shown)
+}
+
+/// Findings whose texts can't drive a terminal, unless they are to stay raw.
+fn shown_findings(
+    alloc: Global,
+    raw: bool,
+    findings: &[Finding],
+) -> Result<Vec<Finding>, AllocError>
+    ensures { IfOk result (λ shown. map finding_parts shown.items
+        ≡ map (finding_shown raw) (map finding_parts findings.now)) }
+{
+    let mut shown = Vec::with_capacity(alloc, findings.len())?;
+    for finding in findings {
+        shown.push(shown_finding(alloc, raw, finding)?)?;
+    }
+    Ok(shown)
+}
+
+/// Such a finding.
+#[tactic(auto, unfolding(crate::specs::Texts::shown_finding))]
+fn shown_finding(alloc: Global, raw: bool, finding: &Finding) -> Result<Finding, AllocError>
+    ensures { IfOk result (λ shown. finding_parts shown
+        ≡ finding_shown raw (finding_parts finding.now)) }
+{
+    Ok(Finding {
+        name: shown_text(alloc, raw, Kind::Name, finding.name.as_str())?,
+        start: finding.start,
+        end: finding.end,
+        severity: finding.severity,
+        code: shown_if(alloc, raw, Kind::Name, finding.code.as_deref())?,
+        message: shown_text(alloc, raw, Kind::Prose, finding.message.as_str())?,
+    })
+}
