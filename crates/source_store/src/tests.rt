@@ -24,7 +24,7 @@ fn names_mean_paths(rt: HostRuntime) -> Result<(), Fail> {
     let rows = [
         (Spelling::Path, "a%20b.c", Some("a%20b.c")),
         (Spelling::Uri, "a%20b.c", Some("a b.c")),
-        (Spelling::Path, "file:///tmp/a%20b.c", Some("/tmp/a b.c")),
+        (Spelling::Path, "file:///src/a%20b.c", Some("/src/a b.c")),
         (Spelling::Uri, "file://localhost/a.c", Some("/a.c")),
         (Spelling::Uri, "file://elsewhere/a.c", None),
         (Spelling::Uri, "file:a.c", Some("a.c")),
