@@ -339,6 +339,11 @@ has_offset pages k o page ok is same =
       upto = omega (arith, upto, off);
       rows = omega (arith, rows_at pages k page ok is.within, ap (row_of (breaks_of b)) off, rows_in pages k page (o - length f) ok is.within upto, ap (row_of (breaks_of text)) x);
       units = λ e. omega (arith, units_at e pages k page ok is.within, ap (before e b) off, units_in_page e pages k page (o - length f) is.within upto, ap (before e text) x);
+      back = λ e s low high.
+          let from : length f ≤ s = omega (arith, bytes, low) in
+          let y : s ≡ length f + (s - length f) = omega (arith, from) in
+          let off_s : s - length f ≡ s - p.before.bytes = omega (arith, bytes) in
+          omega (arith, units_at e pages k page ok is.within, ap (before e b) off_s, units_in_page e pages k page (s - length f) is.within (omega (arith, high, upto)), ap (before e text) y);
       few_rows = omega (arith, row_le (breaks_of text) o, few_breaks text, fits);
       few_units = λ e. omega (arith, before-le e text o (length text) whole, before-all e text (length text) (omega arith), begun-le-length e text (text_utf8 pages), fits);
     })

@@ -7,8 +7,8 @@ ghost use Rattle.text_places.specs.Places.{place_at, line_begin, line_end, clien
 ghost use Rattle.text_places.specs.Places.{IsOffsetOf, IsNearest, IsLineRange};
 ghost use Rattle.text_places.specs.Pages.{most_bytes, text_of, ArePages, IsPaged, IsLastWithin};
 
-use crate::page::{Counts, Page};
-use crate::seek::{break_begin, place_by, row_start, rows_to, units_before_row, units_to};
+use crate::page::{Counts, Page, count_units};
+use crate::seek::{break_begin, page_at, place_by, row_start, rows_to, units_before_row, units_to};
 use crate::{Encoding, Place};
 use oxc_windows::Steps;
 use std::sync::ledger::Ledger;
@@ -21,6 +21,12 @@ fn units_between(pages: &[Page], encoding: Encoding, start: u32, offset: u32) ->
     ensures { result + before encoding (text_of pages.now) start
         ≡ before encoding (text_of pages.now) offset }
 {
+    let page = page_at(pages, offset);
+    if page.before.bytes <= start {
+        let from = (start - page.before.bytes) as usize;
+        let to = (offset - page.before.bytes) as usize;
+        return count_units(encoding, &page.text.as_bytes()[from..to]);
+    }
     units_to(pages, encoding, offset) - units_to(pages, encoding, start)
 }
 

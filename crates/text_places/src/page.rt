@@ -8,6 +8,8 @@ ghost use Rattle.text_places.specs.Pages.{bytes_in, counts_of, units_in, ends_ro
 ghost use Rattle.text_places.specs.Pages.{IsRowEnd};
 
 use crate::Encoding;
+use bytecount::count;
+use memchr::{memchr, memchr2};
 use oxc_windows::Steps;
 use std::sync::ledger::Ledger;
 
@@ -80,8 +82,20 @@ pub(crate) fn units_begun(encoding: Encoding, byte: u8) -> u32
 }
 
 /// How many units begin in bytes.
-#[tactic(auto, unfolding(crate::specs::Bytes::begun))]
 pub(crate) fn count_units(encoding: Encoding, bytes: &[u8]) -> u32
+    requires { begun encoding bytes.now < 2 ^ 32 }
+    ensures { result ≡ begun encoding bytes.now }
+{
+    if bytes.is_ascii() {
+        bytes.len() as u32
+    } else {
+        sum_units(encoding, bytes)
+    }
+}
+
+/// The same, byte by byte.
+#[tactic(auto, unfolding(crate::specs::Bytes::begun))]
+fn sum_units(encoding: Encoding, bytes: &[u8]) -> u32
     requires { begun encoding bytes.now < 2 ^ 32 }
     ensures { result ≡ begun encoding bytes.now }
 {
@@ -103,8 +117,20 @@ fn ends_row(bytes: &[u8], at: usize) -> bool
 }
 
 /// How many rows end before a place.
-#[tactic(auto, using(crate::proofs::EndLemmas::rows_are))]
 pub(crate) fn count_rows(bytes: &[u8], to: usize) -> usize
+    requires { to ≤ length bytes.now }
+    ensures { result ≡ row_of (breaks_of bytes.now) to }
+{
+    let front = &bytes[..to];
+    match memchr(b'\r', front) {
+        None => count(front, b'\n'),
+        Some(_) => rows_by_byte(bytes, to),
+    }
+}
+
+/// The same, byte by byte.
+#[tactic(auto, using(crate::proofs::EndLemmas::rows_are))]
+fn rows_by_byte(bytes: &[u8], to: usize) -> usize
     requires { to ≤ length bytes.now }
     ensures { result ≡ row_of (breaks_of bytes.now) to }
 {
@@ -127,20 +153,32 @@ pub(crate) fn row_end(bytes: &[u8], row: usize) -> usize
 {
     let mut left = row;
     let mut at = 0;
-    while at < bytes.len() {
-        if ends_row(bytes, at) {
+    while let Some(skip) = memchr2(b'\n', b'\r', &bytes[at..]) {
+        let hit = at + skip;
+        if ends_row(bytes, hit) {
             left -= 1;
             if left == 0 {
-                return at + 1;
+                return hit + 1;
             }
         }
-        at += 1;
+        at = hit + 1;
     }
-    at
+    bytes.len()
 }
 
 /// The last place before which no more units begin than so many.
 pub(crate) fn place_within(encoding: Encoding, bytes: &[u8], most: u64) -> usize
+    ensures { IsLastWithin encoding bytes.now most result }
+{
+    if bytes.is_ascii() {
+        most.min(bytes.len() as u64) as usize
+    } else {
+        place_by_byte(encoding, bytes, most)
+    }
+}
+
+/// The same, byte by byte.
+fn place_by_byte(encoding: Encoding, bytes: &[u8], most: u64) -> usize
     ensures { IsLastWithin encoding bytes.now most result }
 {
     let mut at = 0;

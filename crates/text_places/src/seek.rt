@@ -40,7 +40,7 @@ fn number_of_units(pages: &[Page], encoding: Encoding, most: u64) -> usize
 }
 
 /// The page of an offset.
-fn page_at(pages: &[Page], offset: u32) -> &Page
+pub(crate) fn page_at(pages: &[Page], offset: u32) -> &Page
     requires known { ArePages pages.now }
     requires within { offset ≤ length (text_of pages.now) }
     ensures { HasOffset (text_of pages.now) offset result.now }
