@@ -1,0 +1,135 @@
+//! Where the run of lines ends that belongs to what begins at a line.
+ghost use Rattle.std.specs.Prelude.{◌≡◌, ◌≤◌, ◌+◌, if◌then◌else◌, IfSome, None, Some, map, length};
+ghost use Rattle.std.specs.Prelude.{option_map};
+ghost use Rattle.line_shapes.specs.Shape.{shape_parts};
+ghost use Rattle.tool_lines.specs.Lines.{announced_len as announced_length};
+ghost use Rattle.tool_lines.specs.Lines.{behind as behind_there, head};
+ghost use Rattle.tool_lines.specs.Lines.{trail_len as trail_length};
+ghost use Rattle.fed_lines.specs.Feed.{announced_end as announced_ends};
+ghost use Rattle.fed_lines.specs.Feed.{ends_trails as ends_all_trails, run_end as run_ends};
+ghost use Rattle.fed_lines.specs.Feed.{trail_end as trail_ends};
+
+use line_shapes::shape::Shape;
+use tool_lines::lines::{Sort, announced, in_trail, what_begins};
+
+/// The first of these lines.
+pub(crate) fn first_of(lines: &[Vec<u8>]) -> Option<&[u8]>
+    ensures { option_map (λ line. line.now) result ≡ head (map (λ line. line.items) lines.now) }
+{
+    match lines {
+        [first, ..] => Some(first.as_slice()),
+        [] => None,
+    }
+}
+
+/// How many lines belong to what begins on the line before, if no line behind these can change it.
+pub(crate) fn run_end(shapes: &[Shape<'_>], sort: Sort, lines: &[Vec<u8>]) -> Option<usize>
+    ensures value { result
+        ≡ run_ends (map shape_parts shapes.now) sort (map (λ line. line.items) lines.now) }
+    ensures within { IfSome result (λ count. count ≤ length lines.now) }
+{
+    match sort {
+        Sort::Kept | Sort::Heading | Sort::Below => Some(0),
+        Sort::Announced => match lines {
+            [_, rest @ ..] => announced_end(rest),
+            [] => None,
+        },
+        Sort::Inline => trail_end(shapes, lines),
+    }
+}
+
+/// The same of the lines behind an arrow, the arrow among those that belong.
+fn announced_end(mut lines: &[Vec<u8>]) -> Option<usize>
+    ensures value { result ≡ announced_ends 1 (map (λ line. line.items) lines.entry.now) }
+    ensures within { IfSome result (λ count. count ≤ 1 + length lines.entry.now) }
+{
+    let mut count = 1;
+    while let [first, rest @ ..] = lines {
+        if first.is_empty() || announced(first, first_of(rest)).is_some() {
+            return Some(count);
+        }
+        count += 1;
+        lines = rest;
+    }
+    None
+}
+
+/// The same of a trail.
+fn trail_end(shapes: &[Shape<'_>], mut lines: &[Vec<u8>]) -> Option<usize>
+    ensures value { result
+        ≡ trail_ends (map shape_parts shapes.now) 0 (map (λ line. line.items) lines.entry.now) }
+    ensures within { IfSome result (λ count. count ≤ length lines.entry.now) }
+{
+    let mut count = 0;
+    while let [first, rest @ ..] = lines {
+        let Some(next) = first_of(rest) else {
+            return unless_open(ends_trails(shapes, first), count);
+        };
+        if !in_trail(shapes, first, Some(next)) {
+            return Some(count);
+        }
+        count += 1;
+        lines = rest;
+    }
+    None
+}
+
+fn unless_open(ends: bool, count: usize) -> Option<usize>
+    ensures { result ≡ (if ends then Some count else None) }
+{
+    if ends { Some(count) } else { None }
+}
+
+/// Whether a line ends each trail, whatever stands behind it.
+pub(crate) fn ends_trails(shapes: &[Shape<'_>], line: &[u8]) -> bool
+    ensures { result ≡ ends_all_trails (map shape_parts shapes.now) line.now }
+{
+    line.is_empty() || !matches!(what_begins(shapes, line, None).sort, Sort::Kept)
+}
+
+/// How many lines belong to what begins on the line before, where no line is to come.
+pub(crate) fn behind(shapes: &[Shape<'_>], sort: Sort, lines: &[Vec<u8>]) -> usize
+    ensures value { result
+        ≡ behind_there (map shape_parts shapes.now) sort (map (λ line. line.items) lines.now) }
+    ensures within { result ≤ length lines.now }
+{
+    match sort {
+        Sort::Kept | Sort::Heading | Sort::Below => 0,
+        Sort::Announced => match lines {
+            [_, rest @ ..] => 1 + announced_len(rest),
+            [] => 0,
+        },
+        Sort::Inline => trail_len(shapes, lines),
+    }
+}
+
+fn announced_len(mut lines: &[Vec<u8>]) -> usize
+    ensures value { result ≡ announced_length (map (λ line. line.items) lines.entry.now) }
+    ensures within { result ≤ length lines.entry.now }
+{
+    let mut count = 0;
+    while let [first, rest @ ..] = lines {
+        if first.is_empty() || announced(first, first_of(rest)).is_some() {
+            return count;
+        }
+        count += 1;
+        lines = rest;
+    }
+    count
+}
+
+fn trail_len(shapes: &[Shape<'_>], mut lines: &[Vec<u8>]) -> usize
+    ensures value { result
+        ≡ trail_length (map shape_parts shapes.now) (map (λ line. line.items) lines.entry.now) }
+    ensures within { result ≤ length lines.entry.now }
+{
+    let mut count = 0;
+    while let [first, rest @ ..] = lines {
+        if !in_trail(shapes, first, first_of(rest)) {
+            return count;
+        }
+        count += 1;
+        lines = rest;
+    }
+    count
+}
