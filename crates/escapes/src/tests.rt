@@ -39,7 +39,13 @@ fn lines_are_taken_apart(rt: HostRuntime) {
     assert_eq!(rt; behind(":", "::"), None);
     assert_eq!(rt; without_last("done.", '.'), Some("done"));
     assert_eq!(rt; without_last("", '.'), None);
-    let rows = [("0", Some(0)), ("10", Some(10)), ("01", None), ("", None), ("+1", None)];
+    let rows = [
+        ("0", Some(0)),
+        ("10", Some(10)),
+        ("01", None),
+        ("", None),
+        ("+1", None),
+    ];
     for (text, wanted) in rows {
         assert_eq!(rt; number(text), wanted);
     }
