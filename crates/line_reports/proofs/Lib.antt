@@ -1,0 +1,4 @@
+pub mod RunLemmas
+pub mod FileLemmas
+pub mod LabelLemmas
+pub mod NamesLemmas

@@ -1,0 +1,17 @@
+use Rattle.std.proofs.Common.{◌≡◌, ◌++◌, map, length}
+use Rattle.line_reports.specs.Gathered.{AreTexts, AreTold}
+use Rattle.line_reports.specs.Reports.{report_alone}
+use Rattle.line_reports.specs.Told.{told_parts}
+use Rattle.line_reports.proofs.gathered.Gathered.push_each.Given as goal
+
+abbrev pub invariant-loop-findings : goal.invariant-loop-findings
+invariant-loop-findings g l =
+    let told = g.S.Sources.told l.sources in
+    record {
+      texts : AreTexts l.self.texts.items l.self.found.files;
+      held : AreTold told l.self.found.files;
+      found : l.self.found.found ++ map (report_alone l.columns told) (map told_parts l.findings) ≡ l.initial.self.found.found ++ map (report_alone l.columns told) (map told_parts l.initial.findings);
+    }
+
+abbrev pub decreases-loop-findings : goal.decreases-loop-findings
+decreases-loop-findings g l = length l.findings

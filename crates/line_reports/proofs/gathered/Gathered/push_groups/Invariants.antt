@@ -1,0 +1,17 @@
+use Rattle.std.proofs.Common.{◌≡◌, ◌++◌, map, length}
+use Rattle.line_reports.specs.Gathered.{AreTexts, AreTold}
+use Rattle.line_reports.specs.Joined.{group_parts}
+use Rattle.line_reports.specs.Reports.{all_reports}
+use Rattle.line_reports.proofs.gathered.Gathered.push_groups.Given as goal
+
+abbrev pub invariant-loop-groups : goal.invariant-loop-groups
+invariant-loop-groups g l =
+    let told = g.S.Sources.told l.sources in
+    record {
+      texts : AreTexts l.self.texts.items l.self.found.files;
+      held : AreTold told l.self.found.files;
+      found : l.self.found.found ++ all_reports l.columns told (map group_parts l.groups) ≡ l.initial.self.found.found ++ all_reports l.columns told (map group_parts l.initial.groups);
+    }
+
+abbrev pub decreases-loop-groups : goal.decreases-loop-groups
+decreases-loop-groups g l = length l.groups

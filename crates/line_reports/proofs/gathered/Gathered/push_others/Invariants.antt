@@ -1,0 +1,17 @@
+use Rattle.std.proofs.Common.{◌≡◌, ◌++◌, map, length}
+use Rattle.line_reports.specs.Gathered.{AreTexts, AreTold}
+use Rattle.line_reports.specs.Gathered.{mark_parts}
+use Rattle.line_reports.specs.Reports.{other_notes, report_alone}
+use Rattle.line_reports.proofs.gathered.Gathered.push_others.Given as goal
+
+abbrev pub invariant-loop-marks : goal.invariant-loop-marks
+invariant-loop-marks g l =
+    let told = g.S.Sources.told l.sources in
+    record {
+      texts : AreTexts l.self.texts.items l.self.found.files;
+      held : AreTold told l.self.found.files;
+      found : l.self.found.found ++ map (report_alone l.columns told) (other_notes (map mark_parts l.marks)) ≡ l.initial.self.found.found ++ map (report_alone l.columns told) (other_notes (map mark_parts l.initial.marks));
+    }
+
+abbrev pub decreases-loop-marks : goal.decreases-loop-marks
+decreases-loop-marks g l = length l.marks

@@ -1,0 +1,60 @@
+-- What is known of the files of the reports so far.
+use Rattle.std.specs.Prelude.{ℕ, ◌≡◌, ◌≤◌, ◌<◌, ◌^◌, List, Option, Some, None, IfSome, Bool, false, slice_get, map, option_map}
+use Rattle.std.specs.List.{All}
+use Rattle.std.specs.Str.{bytes_eq}
+use Rattle.std.specs.declared.ops.Range.{Range}
+use Rattle.oxc_protocol.specs.Source.{Fits}
+use Rattle.sarif_spans.specs.Span.{IsSpanOf}
+use Rattle.found_reports.specs.Found.{NamedHeld}
+use Rattle.found_reports.specs.Held.{Held, holds, lacks}
+use Rattle.line_reports.specs.declared.rows.RowText.{RowText}
+use Rattle.line_reports.specs.declared.labels.Mark.{Mark}
+use Rattle.line_reports.specs.Told.{told_parts}
+use Rattle.line_reports.specs.Reports.{MarkParts}
+
+abbrev pub text_in : Held → Option (List ℕ)
+text_in (holds text) = Some text
+text_in (lacks why) = None
+
+abbrev pub row_text : Option RowText → Option (List ℕ)
+row_text text = option_map (λ it. it.text.now) text
+
+-- these are the texts of these files
+abbrev pub AreTexts : List (Option RowText) → List NamedHeld → Type 0
+AreTexts texts files = map row_text texts ≡ map (λ file. text_in file.held) files
+
+-- of each file's name its text is told, or why it has none
+abbrev pub AreTold : (List ℕ → Held) → List NamedHeld → Type 0
+AreTold told files = All (λ file. file.held ≡ told file.name) files
+
+-- a span stands in a text that is held
+pub record StandsInText (text : List ℕ) (range : Range ℕ) : Type 0 where
+  pub short : Fits text
+  pub span : IsSpanOf text range
+
+abbrev pub StandsHeld : Held → Range ℕ → Type 0
+StandsHeld (holds text) range = StandsInText text range
+StandsHeld (lacks why) range = ⊥
+
+-- a label over it can be made
+pub record FitsLabel (range : Range ℕ) : Type 0 where
+  pub ordered : range.start ≤ range.end
+  pub short : range.end < 2 ^ 32
+
+abbrev pub mark_parts : Mark → MarkParts
+mark_parts mark = record { note = told_parts mark.note.now; span = mark.span }
+
+-- the spans of notes stand in what is held
+abbrev pub MarksStand : Held → List MarkParts → Type 0
+MarksStand held marks = All (λ mark. IfSome mark.span (StandsHeld held)) marks
+
+abbrev pub MarksFit : List MarkParts → Type 0
+MarksFit marks = All (λ mark. IfSome mark.span FitsLabel) marks
+
+abbrev pub has_name : Option NamedHeld → List ℕ → Bool
+has_name None name = false
+has_name (Some file) name = bytes_eq file.name name
+
+-- there is a file of this number, and it has this name
+abbrev pub is_named : List NamedHeld → ℕ → List ℕ → Bool
+is_named files number name = has_name (slice_get files number) name

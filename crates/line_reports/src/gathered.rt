@@ -1,0 +1,423 @@
+//! The reports of pieces, gathered with their files.
+ghost use Rattle.std.specs.Prelude.{◌≡◌, ◌++◌, ◌∷◌, [], ◌<◌, IfOk, IfSome, OnOk, Some, map, length};
+ghost use Rattle.std.specs.Prelude.{option_map, string_bytes};
+ghost use Rattle.std.specs.Str.Lossy.{utf8_lossy};
+ghost use Rattle.found_reports.specs.Found.{file_at};
+ghost use Rattle.found_reports.specs.Held.{held_of};
+ghost use Rattle.oxc_protocol.specs.Source.{Fits};
+ghost use Rattle.tool_lines.specs.Lines.{piece_parts};
+ghost use Rattle.line_reports.specs.Gathered.{AreTexts, AreTold, FitsLabel, MarksStand, StandsHeld};
+ghost use Rattle.line_reports.specs.Gathered.{is_named, mark_parts, row_text as text_of, text_in};
+ghost use Rattle.line_reports.specs.Joined.{group_parts};
+ghost use Rattle.line_reports.specs.Reports.{all_reports, group_by, group_reports, held_span};
+ghost use Rattle.line_reports.specs.Reports.{kept_place as place_kept, marks_of, named_file};
+ghost use Rattle.line_reports.specs.Reports.{note_span, other_notes, own_labels as labels_by};
+ghost use Rattle.line_reports.specs.Reports.{report_alone, reports_in};
+ghost use Rattle.line_reports.specs.Told.{told_parts};
+
+use crate::groups::{Group, joined};
+use crate::labels::{Mark, diagnostic, labels, lines};
+use crate::rows::RowText;
+use crate::told::Told;
+use found_reports::{FoundReports, GivenPlace, Lack, Sources};
+use line_shapes::tools::Columns;
+use oxc_protocol::LabeledSpan;
+use std::alloc::{AllocError, Global};
+use std::collections::BTreeMap;
+use std::ops::Range;
+use tool_lines::lines::Piece;
+
+/// The reports that pieces mean, which begin with the first of these lines.
+///
+/// A finding whose row is there in its file's text has its span as the primary label; the notes
+/// behind it that have a span in the same file are labels too, and each other note is a report
+/// behind it. A finding without a span has no label, and keeps the place that its tool gave.
+///
+/// # Errors
+///
+/// Want of memory. Nothing is refused.
+#[tactic(auto, unfolding(crate::specs::Reports::reports_in))]
+pub fn reports_of<'s, S: Sources>(
+    alloc: Global,
+    lines: &[&[u8]],
+    pieces: &[Piece<'_>],
+    sources: &'s S,
+    columns: Columns,
+) -> Result<FoundReports<'s>, AllocError>
+    ensures { IfOk result (λ it. it.found ≡ reports_in columns (S.told sources.now)
+        (map (λ line. line.now) lines.now) (map piece_parts pieces.now)) }
+{
+    let groups = joined(alloc, lines, pieces)?;
+    let mut gathered = Gathered::new(alloc);
+    gathered.push_groups(alloc, sources, columns, groups.as_slice())?;
+    Ok(gathered.found)
+}
+
+/// The reports so far, with the rows of their files' texts.
+#[derive(Drop)]
+struct Gathered<'s> {
+    found: FoundReports<'s>,
+    /// Of each file the text with its rows, if it has one.
+    texts: Vec<Option<RowText<'s>>>,
+    /// The numbers of files by their names.
+    numbers: BTreeMap<String, usize>,
+}
+
+impl<'s> Gathered<'s> {
+    fn new(alloc: Global) -> Gathered<'s>
+        ensures found { result.found ≡ record { files = []; found = [] } }
+        ensures texts { result.texts.items ≡ [] }
+    {
+        Gathered {
+            found: FoundReports::new(alloc),
+            texts: Vec::new(alloc),
+            numbers: BTreeMap::new(alloc),
+        }
+    }
+
+    /// Pushes the reports of findings and their notes.
+    fn push_groups<S: Sources>(
+        &mut self,
+        alloc: Global,
+        sources: &'s S,
+        columns: Columns,
+        mut groups: &[Group<'_>],
+    ) -> Result<(), AllocError>
+        requires texts { AreTexts self.old.texts.items self.old.found.files }
+        requires told { AreTold (S.told sources.now) self.old.found.files }
+        ensures { OnOk result (self.new.found.found
+            ≡ self.old.found.found
+            ++ all_reports columns (S.told sources.now) (map group_parts groups.entry.now)) }
+    {
+        while let [group, rest @ ..] = groups {
+            self.push_group(alloc, sources, columns, group)?;
+            groups = rest;
+        }
+        Ok(())
+    }
+
+    /// Pushes the reports of a finding and its notes.
+    #[tactic(auto, unfolding(crate::specs::Reports::group_reports))]
+    fn push_group<S: Sources>(
+        &mut self,
+        alloc: Global,
+        sources: &'s S,
+        columns: Columns,
+        group: &Group<'_>,
+    ) -> Result<(), AllocError>
+        requires texts { AreTexts self.old.texts.items self.old.found.files }
+        requires told { AreTold (S.told sources.now) self.old.found.files }
+        ensures texts { OnOk result (AreTexts self.new.texts.items self.new.found.files) }
+        ensures told { OnOk result (AreTold (S.told sources.now) self.new.found.files) }
+        ensures found { OnOk result (self.new.found.found
+            ≡ self.old.found.found
+            ++ group_reports columns (S.told sources.now) (group_parts group.now)) }
+    {
+        let file = self.file(alloc, sources, group.head.finding.place.name)?;
+        match self.span(columns, file, &group.head) {
+            Some(range) => self.push_marked(alloc, sources, columns, file, group, &range),
+            None => {
+                self.push_alone(alloc, sources, columns, &group.head)?;
+                self.push_each(alloc, sources, columns, group.notes.as_slice())
+            }
+        }
+    }
+
+    /// The same of a finding that has this span in this file.
+    #[tactic(auto, using(crate::proofs::FileLemmas::label_fits, crate::proofs::LabelLemmas::marks_fit))]
+    fn push_marked<S: Sources>(
+        &mut self,
+        alloc: Global,
+        sources: &'s S,
+        columns: Columns,
+        file: usize,
+        group: &Group<'_>,
+        range: &Range<usize>,
+    ) -> Result<(), AllocError>
+        requires texts { AreTexts self.old.texts.items self.old.found.files }
+        requires told { AreTold (S.told sources.now) self.old.found.files }
+        requires file { file < length self.old.found.files }
+        requires range { StandsHeld (file_at self.old.found.files file).held range.now }
+        ensures texts { OnOk result (AreTexts self.new.texts.items self.new.found.files) }
+        ensures told { OnOk result (AreTold (S.told sources.now) self.new.found.files) }
+        ensures found { OnOk result (self.new.found.found
+            ≡ self.old.found.found
+            ++ group_by columns (S.told sources.now) (file_at self.old.found.files file)
+            (group_parts group.now) (Some range.now)) }
+    {
+        let marks = self.marks(alloc, columns, file, group.notes.as_slice())?;
+        let labels = labels(alloc, range, marks.as_slice())?;
+        let lines = lines(alloc, &group.head, marks.as_slice())?;
+        let diagnostic = diagnostic(alloc, &group.head, labels, lines.as_slice())?;
+        self.found.push(file, diagnostic, None)?;
+        self.push_others(alloc, sources, columns, marks.as_slice())
+    }
+
+    /// Pushes the reports of the notes that are no labels.
+    fn push_others<S: Sources>(
+        &mut self,
+        alloc: Global,
+        sources: &'s S,
+        columns: Columns,
+        mut marks: &[Mark<'_, '_>],
+    ) -> Result<(), AllocError>
+        requires texts { AreTexts self.old.texts.items self.old.found.files }
+        requires told { AreTold (S.told sources.now) self.old.found.files }
+        ensures texts { OnOk result (AreTexts self.new.texts.items self.new.found.files) }
+        ensures told { OnOk result (AreTold (S.told sources.now) self.new.found.files) }
+        ensures found { OnOk result (self.new.found.found
+            ≡ self.old.found.found
+            ++ map (report_alone columns (S.told sources.now))
+            (other_notes (map mark_parts marks.entry.now))) }
+    {
+        while let [mark, rest @ ..] = marks {
+            if mark.span.is_none() {
+                self.push_alone(alloc, sources, columns, mark.note)?;
+            }
+            marks = rest;
+        }
+        Ok(())
+    }
+
+    /// Pushes the reports of findings, each by itself.
+    fn push_each<S: Sources>(
+        &mut self,
+        alloc: Global,
+        sources: &'s S,
+        columns: Columns,
+        mut findings: &[Told<'_>],
+    ) -> Result<(), AllocError>
+        requires texts { AreTexts self.old.texts.items self.old.found.files }
+        requires told { AreTold (S.told sources.now) self.old.found.files }
+        ensures texts { OnOk result (AreTexts self.new.texts.items self.new.found.files) }
+        ensures told { OnOk result (AreTold (S.told sources.now) self.new.found.files) }
+        ensures found { OnOk result (self.new.found.found
+            ≡ self.old.found.found
+            ++ map (report_alone columns (S.told sources.now))
+            (map told_parts findings.entry.now)) }
+    {
+        while let [told, rest @ ..] = findings {
+            self.push_alone(alloc, sources, columns, told)?;
+            findings = rest;
+        }
+        Ok(())
+    }
+
+    /// Pushes the report of a finding by itself.
+    #[tactic(auto, using(crate::proofs::FileLemmas::labels_fit))]
+    fn push_alone<S: Sources>(
+        &mut self,
+        alloc: Global,
+        sources: &'s S,
+        columns: Columns,
+        told: &Told<'_>,
+    ) -> Result<(), AllocError>
+        requires texts { AreTexts self.old.texts.items self.old.found.files }
+        requires told { AreTold (S.told sources.now) self.old.found.files }
+        ensures texts { OnOk result (AreTexts self.new.texts.items self.new.found.files) }
+        ensures told { OnOk result (AreTold (S.told sources.now) self.new.found.files) }
+        ensures found { OnOk result (self.new.found.found
+            ≡ self.old.found.found
+            ++ report_alone columns (S.told sources.now) (told_parts told.now) ∷ []) }
+    {
+        let file = self.file(alloc, sources, told.finding.place.name)?;
+        let span = self.span(columns, file, told);
+        let labels = own_labels(alloc, &span)?;
+        let diagnostic = diagnostic(alloc, told, labels, told.details())?;
+        self.found.push(file, diagnostic, kept_place(told, &span))?;
+        Ok(())
+    }
+
+    /// The notes with their spans in a file.
+    fn marks<'n, 'a>(
+        &self,
+        alloc: Global,
+        columns: Columns,
+        file: usize,
+        mut notes: &'n [Told<'a>],
+    ) -> Result<Vec<Mark<'n, 'a>>, AllocError>
+        requires texts { AreTexts self.now.texts.items self.now.found.files }
+        requires file { file < length self.now.found.files }
+        ensures marks { IfOk result (λ marks. map mark_parts marks.items
+            ≡ marks_of columns (file_at self.now.found.files file)
+            (map told_parts notes.entry.now)) }
+        ensures stand { IfOk result (λ marks. MarksStand (file_at self.now.found.files file).held
+            (map mark_parts marks.items)) }
+    {
+        let mut marks = Vec::new(alloc);
+        while let [note, rest @ ..] = notes {
+            let span = self.note_span(alloc, columns, file, note)?;
+            marks.push(Mark { note, span })?;
+            notes = rest;
+        }
+        Ok(marks)
+    }
+
+    /// The span of a note in a file, if it is in it.
+    #[tactic(auto, using(crate::proofs::FileLemmas::named_at))]
+    fn note_span(
+        &self,
+        alloc: Global,
+        columns: Columns,
+        file: usize,
+        note: &Told<'_>,
+    ) -> Result<Option<Range<usize>>, AllocError>
+        requires texts { AreTexts self.now.texts.items self.now.found.files }
+        requires file { file < length self.now.found.files }
+        ensures span { IfOk result (λ span. span
+            ≡ note_span columns (file_at self.now.found.files file) (told_parts note.now)) }
+        ensures stands { IfOk result (λ span. IfSome span
+            (StandsHeld (file_at self.now.found.files file).held)) }
+    {
+        let name = String::from_utf8_lossy(alloc, note.finding.place.name)?;
+        if self.is_named(file, name.as_str()) {
+            Ok(self.span(columns, file, note))
+        } else {
+            Ok(None)
+        }
+    }
+
+    /// The span of a finding in a file.
+    #[tactic(auto, using(crate::proofs::FileLemmas::span_held, crate::proofs::FileLemmas::span_lacks, crate::proofs::FileLemmas::stands_held))]
+    fn span(&self, columns: Columns, file: usize, told: &Told<'_>) -> Option<Range<usize>>
+        requires texts { AreTexts self.now.texts.items self.now.found.files }
+        requires file { file < length self.now.found.files }
+        ensures span { result
+            ≡ held_span columns (file_at self.now.found.files file).held (told_parts told.now) }
+        ensures stands { IfSome result (StandsHeld (file_at self.now.found.files file).held) }
+    {
+        match self.text(file) {
+            Some(text) => text.span(columns, told.spot()),
+            None => None,
+        }
+    }
+
+    /// The text of a file with its rows, if it has one.
+    fn text(&self, file: usize) -> Option<&RowText<'s>>
+        requires texts { AreTexts self.now.texts.items self.now.found.files }
+        requires file { file < length self.now.found.files }
+        ensures { option_map (λ it. it.now.text.now) result
+            ≡ text_in (file_at self.now.found.files file).held }
+    {
+        match self.texts.get(file) {
+            Some(text) => lent(text),
+            None => None,
+        }
+    }
+
+    /// The number of the file of a name, which is added where it isn't there.
+    fn file<S: Sources>(
+        &mut self,
+        alloc: Global,
+        sources: &'s S,
+        name: &[u8],
+    ) -> Result<usize, AllocError>
+        requires texts { AreTexts self.old.texts.items self.old.found.files }
+        requires told { AreTold (S.told sources.now) self.old.found.files }
+        ensures texts { OnOk result (AreTexts self.new.texts.items self.new.found.files) }
+        ensures told { OnOk result (AreTold (S.told sources.now) self.new.found.files) }
+        ensures file { IfOk result (λ file. file < length self.new.found.files) }
+        ensures named { IfOk result (λ file. file_at self.new.found.files file
+            ≡ named_file (S.told sources.now) (utf8_lossy name.now)) }
+        ensures found { self.new.found.found ≡ self.old.found.found }
+    {
+        let name = String::from_utf8_lossy(alloc, name)?;
+        match self.number(name.as_str()) {
+            Some(file) => Ok(file),
+            None => self.add(alloc, sources, name),
+        }
+    }
+
+    /// The number of the file of a name, if it was found.
+    #[tactic(auto, using(crate::proofs::FileLemmas::named_is))]
+    fn number(&self, name: &str) -> Option<usize>
+        ensures file { IfSome result (λ file. file < length self.now.found.files) }
+        ensures named { IfSome result (λ file.
+            (file_at self.now.found.files file).name ≡ name.now) }
+    {
+        match self.numbers.get(name) {
+            Some(file) if self.is_named(*file, name) => Some(*file),
+            _ => None,
+        }
+    }
+
+    /// Whether a file has this name.
+    fn is_named(&self, file: usize, name: &str) -> bool
+        ensures { result ≡ is_named self.now.found.files file name.now }
+    {
+        match self.found.files().get(file) {
+            Some(file) => file.name.as_str() == name,
+            None => false,
+        }
+    }
+
+    /// Adds the file of a name.
+    fn add<S: Sources>(
+        &mut self,
+        alloc: Global,
+        sources: &'s S,
+        name: String,
+    ) -> Result<usize, AllocError>
+        requires texts { AreTexts self.old.texts.items self.old.found.files }
+        requires told { AreTold (S.told sources.now) self.old.found.files }
+        ensures texts { OnOk result (AreTexts self.new.texts.items self.new.found.files) }
+        ensures told { OnOk result (AreTold (S.told sources.now) self.new.found.files) }
+        ensures file { IfOk result (λ file. file < length self.new.found.files) }
+        ensures named { IfOk result (λ file. file_at self.new.found.files file
+            ≡ named_file (S.told sources.now) (string_bytes name)) }
+        ensures found { self.new.found.found ≡ self.old.found.found }
+    {
+        let source = sources.source(name.as_str());
+        let key = String::from_str(alloc, name.as_str())?;
+        let text = row_text(alloc, &source)?;
+        let file = self.found.add_file(name, source)?;
+        self.texts.push(text)?;
+        self.numbers.insert(key, file)?;
+        Ok(file)
+    }
+}
+
+/// The text, if there is one.
+fn lent<'t, 's>(text: &'t Option<RowText<'s>>) -> Option<&'t RowText<'s>>
+    ensures { option_map (λ it. it.now.text.now) result ≡ text_of text.now }
+{
+    match text {
+        Some(text) => Some(text),
+        None => None,
+    }
+}
+
+/// The rows of a text, if there is one.
+fn row_text<'s>(
+    alloc: Global,
+    source: &Result<&'s str, Lack>,
+) -> Result<Option<RowText<'s>>, AllocError>
+    requires { IfOk source.now (λ text. Fits text.now) }
+    ensures { IfOk result (λ text. text_of text ≡ text_in (held_of source.now)) }
+{
+    match source {
+        Ok(text) => Ok(Some(RowText::new(alloc, text)?)),
+        Err(_) => Ok(None),
+    }
+}
+
+/// The label of a finding by itself.
+fn own_labels(alloc: Global, span: &Option<Range<usize>>) -> Result<Vec<LabeledSpan>, AllocError>
+    requires { IfSome span.now FitsLabel }
+    ensures { IfOk result (λ labels. labels.items ≡ labels_by span.now) }
+{
+    match span {
+        Some(range) => labels(alloc, range, &[]),
+        None => Ok(Vec::new(alloc)),
+    }
+}
+
+/// The place that a finding without a span keeps.
+fn kept_place(told: &Told<'_>, span: &Option<Range<usize>>) -> Option<GivenPlace>
+    ensures { result ≡ place_kept (told_parts told.now) span.now }
+{
+    match span {
+        Some(_) => None,
+        None => Some(told.place()),
+    }
+}
