@@ -1,0 +1,143 @@
+-- Names of which reports ask, and that these decide the reports.
+use Rattle.std.proofs.Common.{◌≡◌, ℕ, ◌<◌, Bool, true, false, cond, List, [], ◌∷◌, ◌++◌, length, map, Option, Some, None, option_map, ◌||◌, refl, sym, ap, ap₂, ◌∙◌, ◌+◌, get_or, subst, take}
+use Rattle.std.specs.List.{All, AllByRecursion, flat_map, list_any}
+use Rattle.std.specs.Str.{bytes_eq}
+use Rattle.std.proofs.lemmas.List.Elements.{All-head, All-tail}
+use Rattle.std.proofs.lemmas.Slice.Eq.{bytes_eq-Decides}
+use Rattle.std.proofs.lemmas.Grind.{flat_map-append}
+use Rattle.std.proofs.lemmas.List.{append-nil, map-append, take_more}
+use Rattle.found_reports.specs.Found.{NamedHeld}
+use Rattle.found_reports.specs.Held.{Held}
+use Rattle.sarif_log.specs.declared.log.ColumnKind.{ColumnKind}
+use Rattle.sarif_log.specs.Log.{ArtifactLocation, Log, Names, Run}
+use Rattle.sarif_findings.specs.Findings.{Finding, Spot, findings_in}
+use Rattle.sarif.specs.Asked.{DecideReports, and_name, and_names, asked_at, asked_by, finding_names, names_in, run_names, spot_names}
+use Rattle.sarif.specs.Labels.{Placed, placed}
+use Rattle.sarif.specs.Meaning.{finding_reports, reports_among, reports_in, run_reports}
+use Rattle.sarif.specs.Naming.{location_in, resolved}
+use Rattle.sarif.specs.Reading.{Reading, reading_of}
+use Rattle.sarif.specs.Texts.{contents_in, held_or_told, source_of, source_under, told_first, told_of}
+
+-- names and more of them
+pub and_names_append : (names xs ys : List (List ℕ)) → and_names names (xs ++ ys) ≡ and_names (and_names names xs) ys
+unfolding and_names
+and_names_append names [] ys = refl
+and_names_append names (x ∷ xs) ys = and_names_append (and_name names x) xs ys
+
+pub and_names_none : (names : List (List ℕ)) → and_names names [] ≡ names
+unfolding and_names
+and_names_none names = refl
+
+-- one item more
+pub and_names_more : {X Y : Type 0} (view : X → Y) (f : Y → List (List ℕ)) (start now new : List (List ℕ)) (xs : List X) (i : ℕ) (x : X) → i < length xs → x ≡ get_or xs i x
+    → now ≡ and_names start (flat_map f (map view (take i xs))) → new ≡ and_names now (f (view x)) → new ≡ and_names start (flat_map f (map view (take (i + 1) xs)))
+and_names_more view f start now new xs i x within here before more =
+    let one : take (i + 1) xs ≡ take i xs ++ x ∷ [] = take_more xs i x within ∙ ap (λ y. take i xs ++ y ∷ []) (sym here) in
+    let parts : flat_map f (map view (take (i + 1) xs)) ≡ flat_map f (map view (take i xs)) ++ f (view x) =
+    ap (λ ys. flat_map f (map view ys)) one ∙ (ap (flat_map f) (map-append view (take i xs) (x ∷ [])) ∙ (flat_map-append f (map view (take i xs)) (view x ∷ []) ∙ ap (λ ys. flat_map f (map view (take i xs)) ++ ys) (append-nil (f (view x))))) in
+    more ∙ (ap (λ ys. and_names ys (f (view x))) before ∙ (sym (and_names_append start (flat_map f (map view (take i xs))) (f (view x))) ∙ ap (and_names start) (sym parts)))
+
+-- two lists of items
+pub and_names_both : {Y : Type 0} (f : Y → List (List ℕ)) (start mid new : List (List ℕ)) (xs ys : List Y) → mid ≡ and_names start (flat_map f xs) → new ≡ and_names mid (flat_map f ys) → new ≡ and_names start (flat_map f (xs ++ ys))
+and_names_both f start mid new xs ys first second =
+    second ∙ (ap (λ zs. and_names zs (flat_map f ys)) first ∙ (sym (and_names_append start (flat_map f xs) (flat_map f ys)) ∙ ap (and_names start) (sym (flat_map-append f xs ys))))
+
+-- ---- what is told of all the names together is told of each
+
+abbrev Alike : (List ℕ → Held) → (List ℕ → Held) → List ℕ → Type 0
+Alike told other name = told name ≡ other name
+
+abbrev AllAlike : (List ℕ → Held) → (List ℕ → Held) → List (List ℕ) → Type 0
+AllAlike told other names = AllByRecursion (Alike told other) names
+
+-- one of these is the name
+alike_among : (told other : List ℕ → Held) (names : List (List ℕ)) (name : List ℕ) → AllAlike told other names → list_any (λ it. bytes_eq it name) names ≡ true → Alike told other name
+alike_among told other [] name all there = absurd (cc)
+alike_among told other (x ∷ xs) name all there =
+    elim (bytes_eq x name) as (λ b. (b ≡ true → x ≡ name) → (b || list_any (λ it. bytes_eq it name) xs ≡ true) → Alike told other name)
+    [ true ↦ λ same _. subst (Alike told other) (same refl) all.0 | false ↦ λ _ rest. alike_among told other xs name all.1 rest ]
+    (bytes_eq-Decides x name).0 there
+
+alike_append : (told other : List ℕ → Held) (xs ys : List (List ℕ)) → AllAlike told other (xs ++ ys) → AllAlike told other xs × AllAlike told other ys
+alike_append told other [] ys all = (tt, all)
+alike_append told other (x ∷ xs) ys all = let rest = alike_append told other xs ys all.1 in ((all.0, rest.0), rest.1)
+
+-- one name more
+alike_one : (told other : List ℕ → Held) (names : List (List ℕ)) (name : List ℕ) → AllAlike told other (and_name names name) → AllAlike told other names × Alike told other name
+alike_one told other names name =
+    elim (list_any (λ it. bytes_eq it name) names) as (λ b. (b ≡ true → AllAlike told other names → Alike told other name) → AllAlike told other (cond b names (names ++ name ∷ [])) → AllAlike told other names × Alike told other name)
+    [ true ↦ λ among all. (all, among refl all) | false ↦ λ _ all. let both = alike_append told other names (name ∷ []) all in (both.0, both.1.0) ]
+    (λ there all. alike_among told other names name all there)
+
+alike_each : (told other : List ℕ → Held) (names xs : List (List ℕ)) → AllAlike told other (and_names names xs) → AllAlike told other names × AllAlike told other xs
+unfolding and_names
+alike_each told other names [] all = (all, tt)
+alike_each told other names (x ∷ xs) all =
+    let rest = alike_each told other (and_name names x) xs all in
+    let one = alike_one told other names x rest.0 in
+    (one.0, (one.1, rest.1))
+
+by_recursion : (told other : List ℕ → Held) (names : List (List ℕ)) → All (Alike told other) names → AllAlike told other names
+by_recursion told other [] all = tt
+by_recursion told other (x ∷ xs) all = (All-head (Alike told other) x xs all, by_recursion told other xs (All-tail (Alike told other) x xs all))
+
+-- ---- and decides what the reports are
+
+same_told : (told other : List ℕ → Held) (name uri : List ℕ) → Alike told other name → Alike told other uri → told_of told name uri ≡ told_of other name uri
+unfolding told_of
+same_told told other name uri first second = ap₂ (told_first name uri) first second
+
+same_held : (told other : List ℕ → Held) (name uri : List ℕ) (contents : Option (List ℕ)) → Alike told other name → Alike told other uri → held_or_told told name uri contents ≡ held_or_told other name uri contents
+same_held told other name uri None first second = same_told told other name uri first second
+same_held told other name uri (Some text) first second = refl
+
+same_by : (told other : List ℕ → Held) (names : Names) (it : ArtifactLocation) (base uri : Option (List ℕ)) → AllAlike told other (asked_by names base uri)
+    → option_map (λ uri. source_under told names it (resolved names.bases base uri) uri) uri ≡ option_map (λ uri. source_under other names it (resolved names.bases base uri) uri) uri
+same_by told other names it base None all = refl
+same_by told other names it base (Some uri) all =
+    let name = resolved names.bases base uri in
+    ap Some (same_held told other name uri (contents_in names it name) all.0 all.1.0)
+
+same_source : (told other : List ℕ → Held) (names : Names) (it : ArtifactLocation) → AllAlike told other (asked_at names it) → source_of told names it ≡ source_of other names it
+unfolding source_of asked_at
+same_source told other names it all = same_by told other names it (location_in names it).base (location_in names it).uri all
+
+same_placed : (told other : List ℕ → Held) (reading : Reading) (spot : Spot) → AllAlike told other (spot_names reading.names spot) → placed told reading spot ≡ placed other reading spot
+same_placed told other reading spot all =
+    let with_source : Option NamedHeld → Placed = λ source. record (placed told reading spot) { source = source } in
+    ap with_source (same_source told other reading.names spot.location.artifact all)
+
+same_spots : (told other : List ℕ → Held) (reading : Reading) (spots : List Spot) → AllAlike told other (flat_map (spot_names reading.names) spots) → map (placed told reading) spots ≡ map (placed other reading) spots
+same_spots told other reading [] all = refl
+same_spots told other reading (spot ∷ rest) all =
+    let both = alike_append told other (spot_names reading.names spot) (flat_map (spot_names reading.names) rest) all in
+    ap₂ (λ x xs. x ∷ xs) (same_placed told other reading spot both.0) (same_spots told other reading rest both.1)
+
+same_finding : (told other : List ℕ → Held) (reading : Reading) (finding : Finding) → AllAlike told other (finding_names reading.names finding) → finding_reports told reading finding ≡ finding_reports other reading finding
+unfolding finding_reports finding_names
+same_finding told other reading finding all =
+    let apart = subst (AllAlike told other) (flat_map-append (spot_names reading.names) finding.locations finding.related) all in
+    let both = alike_append told other (flat_map (spot_names reading.names) finding.locations) (flat_map (spot_names reading.names) finding.related) apart in
+    ap₂ (reports_among reading finding) (same_spots told other reading finding.locations both.0) (same_spots told other reading finding.related both.1)
+
+same_findings : (told other : List ℕ → Held) (reading : Reading) (findings : List Finding) → AllAlike told other (flat_map (finding_names reading.names) findings) → flat_map (finding_reports told reading) findings ≡ flat_map (finding_reports other reading) findings
+same_findings told other reading [] all = refl
+same_findings told other reading (finding ∷ rest) all =
+    let both = alike_append told other (finding_names reading.names finding) (flat_map (finding_names reading.names) rest) all in
+    ap₂ (λ xs ys. xs ++ ys) (same_finding told other reading finding both.0) (same_findings told other reading rest both.1)
+
+same_run : (told other : List ℕ → Held) (columns : Option ColumnKind) (run : Run) → AllAlike told other (run_names run) → run_reports told columns run ≡ run_reports other columns run
+unfolding run_reports run_names reading_of
+same_run told other columns run all = same_findings told other (reading_of columns run) (findings_in run) all
+
+same_runs : (told other : List ℕ → Held) (columns : Option ColumnKind) (runs : List Run) → AllAlike told other (flat_map run_names runs) → flat_map (run_reports told columns) runs ≡ flat_map (run_reports other columns) runs
+same_runs told other columns [] all = refl
+same_runs told other columns (run ∷ rest) all =
+    let both = alike_append told other (run_names run) (flat_map run_names rest) all in
+    ap₂ (λ xs ys. xs ++ ys) (same_run told other columns run both.0) (same_runs told other columns rest both.1)
+
+pub names_decide : (log : Log) → DecideReports log
+unfolding names_in reports_in
+names_decide log told other columns all =
+    let each = alike_each told other [] (flat_map run_names log.runs) (by_recursion told other (names_in log) all) in
+    same_runs told other columns log.runs each.1

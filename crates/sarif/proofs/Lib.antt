@@ -1,0 +1,5 @@
+pub mod NamingLemmas
+pub mod KnownLemmas
+pub mod LabelLemmas
+pub mod ReportLemmas
+pub mod AskedLemmas

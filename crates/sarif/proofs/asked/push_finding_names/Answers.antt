@@ -1,0 +1,22 @@
+-- The names of its locations, and those of the related ones.
+use Rattle.std.proofs.Common.{◌≡◌, map, string_bytes}
+use Rattle.std.proofs.lemmas.Result.{on_ok_weaker}
+use Rattle.std.specs.List.{flat_map}
+use Rattle.sarif_log.specs.Log.{names_view}
+use Rattle.sarif_findings.specs.Findings.{finding_view, spot_view}
+use Rattle.sarif.specs.Asked.{and_names, finding_names, spot_names}
+use Rattle.sarif.proofs.AskedLemmas.{and_names_both}
+use Rattle.sarif.proofs.asked.push_finding_names.Goals as goal
+
+pub returns : goal.returns
+unfolding finding_names finding_view
+returns c =
+    let names = spot_names (names_view c.args.those.now) in
+    let finding = c.args.finding.now in
+    let start = map string_bytes c.args.names.now.items in
+    let middle = map string_bytes c.push_spots_names.new.names.items in
+    let end = map string_bytes c.push_spots_names-2.new.names.items in
+    let first : middle ≡ and_names start (flat_map names (map spot_view finding.locations.items)) = rw c.deref.ensures.value at c.in_ok-push_spots_names.ensures in
+    let both : end ≡ and_names middle (flat_map names (map spot_view c.deref-2.result.now)) → end ≡ and_names start (finding_names (names_view c.args.those.now) (finding_view finding)) =
+    λ e. and_names_both names start middle end (map spot_view finding.locations.items) (map spot_view finding.related.items) first (rw c.deref-2.ensures.value at e) in
+    on_ok_weaker _ both c.push_spots_names-2.ensures

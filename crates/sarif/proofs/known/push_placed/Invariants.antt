@@ -1,0 +1,15 @@
+-- Those so far stand at their seats, and each seat is that of what its location stands for.
+use Rattle.std.proofs.Common.{◌≡◌, ◌++◌, All, drop, length, map, take}
+use Rattle.sarif_findings.specs.Findings.{spot_view}
+use Rattle.sarif.specs.Labels.{placed}
+use Rattle.sarif.specs.Views.{IsFiled, IsSeated, IsTold, placed_view, reading_view}
+use Rattle.sarif.proofs.known.push_placed.Given as goal
+
+abbrev pub invariant-loop-spot : goal.invariant-loop-spot
+invariant-loop-spot g l = record {
+  told : All (IsTold (g.S.Sources.told l.sources) (reading_view l.reading)) l.known.items;
+  filed : All (IsFiled (reading_view l.reading) l.found.files) l.known.items;
+  seated : All (IsSeated l.known.items) l.placed.items;
+  placed : map (placed_view l.known.items) l.placed.items ≡ map (placed_view l.initial.known.items) l.initial.placed.items ++ map (placed (g.S.Sources.told l.sources) (reading_view l.reading)) (map spot_view (take l.spot-index l.spots));
+  found : l.found.found ≡ l.initial.found.found;
+}

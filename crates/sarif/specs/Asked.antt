@@ -1,0 +1,45 @@
+-- The names of which the reports of a log ask.
+use Rattle.std.specs.Prelude.{◌≡◌, ℕ, All, List, [], ◌∷◌, ◌++◌, flat_map, if◌then◌else◌, Option, Some, None}
+use Rattle.std.specs.List.{list_any}
+use Rattle.std.specs.Str.{bytes_eq}
+use Rattle.found_reports.specs.Held.{Held}
+use Rattle.sarif_log.specs.declared.log.ColumnKind.{ColumnKind}
+use Rattle.sarif_log.specs.Log.{ArtifactLocation, Log, Names, Run}
+use Rattle.sarif_findings.specs.Findings.{Finding, Spot, findings_in}
+use Rattle.sarif.specs.Meaning.{reports_in}
+use Rattle.sarif.specs.Naming.{location_in, resolved}
+
+abbrev pub asked_by : Names → Option (List ℕ) → Option (List ℕ) → List (List ℕ)
+asked_by names base None = []
+asked_by names base (Some uri) = resolved names.bases base uri ∷ uri ∷ []
+
+-- the name of a file, and its URI as it stands
+unfoldable pub asked_at : Names → ArtifactLocation → List (List ℕ)
+asked_at names it = asked_by names (location_in names it).base (location_in names it).uri
+
+abbrev pub spot_names : Names → Spot → List (List ℕ)
+spot_names names spot = asked_at names spot.location.artifact
+
+unfoldable pub finding_names : Names → Finding → List (List ℕ)
+finding_names names finding = flat_map (spot_names names) (finding.locations ++ finding.related)
+
+unfoldable pub run_names : Run → List (List ℕ)
+run_names run = flat_map (finding_names run.names) (findings_in run)
+
+-- these names and one more, unless it is there
+abbrev pub and_name : List (List ℕ) → List ℕ → List (List ℕ)
+and_name names name = if list_any (λ other. bytes_eq other name) names then names else names ++ name ∷ []
+
+unfoldable pub and_names : List (List ℕ) → List (List ℕ) → List (List ℕ)
+and_names names [] = names
+and_names names (name ∷ rest) = and_names (and_name names name) rest
+
+-- each once, in the order in which they come
+unfoldable pub names_in : Log → List (List ℕ)
+names_in log = and_names [] (flat_map run_names log.runs)
+
+-- sources that tell the same of these names give the same reports
+abbrev pub DecideReports : Log → Type 0
+DecideReports log =
+    (told other : List ℕ → Held) (columns : Option ColumnKind) → All (λ name. told name ≡ other name) (names_in log)
+    → reports_in told columns log ≡ reports_in other columns log

@@ -1,0 +1,7 @@
+pub mod Naming
+pub mod Texts
+pub mod Reading
+pub mod Labels
+pub mod Meaning
+pub mod Asked
+pub mod Views

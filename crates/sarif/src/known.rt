@@ -1,0 +1,195 @@
+//! The files of a run, each cut into rows once.
+ghost use Rattle.std.specs.Prelude.{◌≡◌, ◌++◌, ◌∷◌, [], ◌<◌, All, Some, map, length, drop, option_map};
+ghost use Rattle.std.specs.Prelude.{slice_get, IfOk, IfSome, OnOk, IsTrue};
+ghost use Rattle.std.specs.List.{Contains};
+ghost use Rattle.found_reports.specs.Held.{held_of, held_text};
+ghost use Rattle.found_reports.specs.Kept.{IsShortHeld};
+ghost use Rattle.sarif_log.specs.Log.{artifact_location_view};
+ghost use Rattle.sarif_spans.specs.Rows.{IsRowOf, rows_in};
+ghost use Rattle.sarif_findings.specs.Findings.{spot_view};
+ghost use Rattle.sarif.specs.Labels.{placed as placed_meant};
+ghost use Rattle.sarif.specs.Texts.{source_of};
+ghost use Rattle.sarif.specs.Views.{IsFiled, IsSeated, IsTold, had_view, known_view};
+ghost use Rattle.sarif.specs.Views.{lent_texts, placed_view, reading_view, seated};
+
+use crate::reading::Reading;
+use crate::texts::{Had, file_had};
+use found_reports::{FoundReports, Lack, Sources};
+use sarif_findings::Spot;
+use sarif_log::{ArtifactLocation, Region};
+use sarif_spans::{Row, rows_of};
+use std::alloc::{AllocError, Global};
+
+/// A file that was asked for.
+#[derive(Drop)]
+pub(crate) struct Known<'s> {
+    /// The reference that it was asked for by.
+    pub(crate) location: &'s ArtifactLocation,
+    /// Its number among the files of the reports.
+    pub(crate) file: usize,
+    /// Its name.
+    pub(crate) name: String,
+    /// Its text, or why it has none.
+    pub(crate) text: Result<&'s str, Lack>,
+    /// The rows of its text.
+    pub(crate) rows: Vec<Row>,
+}
+
+/// A location, with the file that it is in.
+#[derive(Drop)]
+pub(crate) struct Placed<'f> {
+    /// Where its file stands among the known ones, if it names one.
+    pub(crate) seat: Option<usize>,
+    /// Its region.
+    pub(crate) region: Option<Region>,
+    /// What is said there.
+    pub(crate) message: Option<&'f str>,
+}
+
+/// Whether two references are the same.
+#[tactic(auto, unfolding(sarif_log::specs::Log::artifact_location_view))]
+fn is_same(a: &ArtifactLocation, b: &ArtifactLocation) -> bool
+    ensures { IsTrue result → artifact_location_view a.now ≡ artifact_location_view b.now }
+{
+    a.index == b.index && a.uri == b.uri && a.base == b.base
+}
+
+/// The last known file that was asked for by this reference.
+fn seat_known(known: &[Known<'_>], it: &ArtifactLocation) -> Option<usize>
+    ensures { IfSome result (λ k. option_map (λ it. artifact_location_view it.location.now)
+        (slice_get known.now k) ≡ Some (artifact_location_view it.now)) }
+{
+    let mut at = known.len();
+    while at > 0 {
+        at -= 1;
+        if is_same(known[at].location, it) {
+            return Some(at);
+        }
+    }
+    None
+}
+
+/// The rows of a file's text, none where it lacks.
+fn rows_had(
+    alloc: Global,
+    text: &Result<&str, Lack>,
+    breaks: &[&str],
+) -> Result<Vec<Row>, AllocError>
+    ensures rows { IfOk result (λ rows. rows.items
+        ≡ rows_in (lent_texts breaks.now) (held_text (held_of text.now))) }
+    ensures cut { IfOk result (λ rows. All (IsRowOf (held_text (held_of text.now))) rows.items) }
+{
+    match text {
+        Ok(text) => rows_of(alloc, text, breaks),
+        Err(_) => rows_of(alloc, "", breaks),
+    }
+}
+
+/// Adds a file to those of the reports.
+#[tactic(auto, using(crate::proofs::KnownLemmas::filed_last), unfolding(crate::specs::Views::reading_view))]
+fn known_file<'s>(
+    alloc: Global,
+    reading: &Reading<'s>,
+    found: &mut FoundReports<'s>,
+    location: &'s ArtifactLocation,
+    had: Had<'s>,
+) -> Result<Known<'s>, AllocError>
+    requires { IsShortHeld (held_of had.text) }
+    ensures filed { IfOk result (IsFiled (reading_view reading.now) found.new.files) }
+    ensures view { IfOk result (λ it. known_view it ≡ had_view had.entry) }
+    ensures location { IfOk result (λ it. it.location.now ≡ location.now) }
+    ensures files { OnOk result (found.new.files ≡ found.old.files ++ had_view had.entry ∷ []) }
+    ensures found { OnOk result (found.new.found ≡ found.old.found) }
+{
+    let Had { name, text } = had;
+    let rows = rows_had(alloc, &text, &reading.breaks)?;
+    let file = found.add_file(String::from_str(alloc, name.as_str())?, text)?;
+    Ok(Known {
+        location,
+        file,
+        name,
+        text,
+        rows,
+    })
+}
+
+/// The seat of the file that a reference stands for, which is asked for and cut into rows where it
+/// isn't known: none where the reference has no URI.
+#[tactic(auto, using(crate::proofs::KnownLemmas::filed_push, crate::proofs::KnownLemmas::told_push, crate::proofs::KnownLemmas::grows_push, crate::proofs::KnownLemmas::grows_none, crate::proofs::KnownLemmas::seated_push, crate::proofs::KnownLemmas::seated_told), unfolding(crate::specs::Views::reading_view))]
+fn seat_of<'s, S: Sources>(
+    alloc: Global,
+    sources: &'s S,
+    reading: &Reading<'s>,
+    known: &mut Vec<Known<'s>>,
+    found: &mut FoundReports<'s>,
+    it: &'s ArtifactLocation,
+) -> Result<Option<usize>, AllocError>
+    requires told { All (IsTold (S.told sources.now) (reading_view reading.now)) known.old.items }
+    requires filed { All (IsFiled (reading_view reading.now) found.old.files) known.old.items }
+    ensures told { OnOk result (All (IsTold (S.told sources.now) (reading_view reading.now))
+        known.new.items) }
+    ensures filed { OnOk result (All (IsFiled (reading_view reading.now) found.new.files)
+        known.new.items) }
+    ensures grows { OnOk result (known.new.items
+        ≡ known.old.items ++ drop (length known.old.items) known.new.items) }
+    ensures seat { IfOk result (λ seat. seated known.new.items seat ≡ source_of
+        (S.told sources.now) (reading_view reading.now).names (artifact_location_view it.now)) }
+    ensures within { IfOk result (λ seat. IfSome seat (λ k. k < length known.new.items)) }
+    ensures found { OnOk result (found.new.found ≡ found.old.found) }
+{
+    if let Some(seat) = seat_known(known, it) {
+        return Ok(Some(seat));
+    }
+    match file_had(alloc, sources, reading.names, it)? {
+        Some(had) => {
+            let seat = known.len();
+            known.push(known_file(alloc, reading, found, it, had)?)?;
+            Ok(Some(seat))
+        }
+        None => Ok(None),
+    }
+}
+
+/// Appends locations with their files, which become known.
+#[tactic(auto, using(crate::proofs::KnownLemmas::views_more, crate::proofs::KnownLemmas::seats_more))]
+pub(crate) fn push_placed<'f, 's, S: Sources>(
+    alloc: Global,
+    sources: &'s S,
+    reading: &Reading<'s>,
+    known: &mut Vec<Known<'s>>,
+    found: &mut FoundReports<'s>,
+    placed: &mut Vec<Placed<'f>>,
+    spots: &'f [Spot<'s>],
+) -> Result<(), AllocError>
+    requires told { All (IsTold (S.told sources.now) (reading_view reading.now)) known.old.items }
+    requires filed { All (IsFiled (reading_view reading.now) found.old.files) known.old.items }
+    requires seated { All (IsSeated known.old.items) placed.old.items }
+    ensures told { OnOk result (All (IsTold (S.told sources.now) (reading_view reading.now))
+        known.new.items) }
+    ensures filed { OnOk result (All (IsFiled (reading_view reading.now) found.new.files)
+        known.new.items) }
+    ensures seated { OnOk result (All (IsSeated known.new.items) placed.new.items) }
+    ensures placed { OnOk result (map (placed_view known.new.items) placed.new.items
+        ≡ map (placed_view known.old.items) placed.old.items
+        ++ map (placed_meant (S.told sources.now) (reading_view reading.now))
+        (map spot_view spots.now)) }
+    ensures found { OnOk result (found.new.found ≡ found.old.found) }
+{
+    for spot in spots {
+        let location = spot.location;
+        placed.push(Placed {
+            seat: seat_of(alloc, sources, reading, known, found, &location.artifact)?,
+            region: location.region,
+            message: spot.message.as_deref(),
+        })?;
+    }
+    Ok(())
+}
+
+/// The file at a seat.
+pub(crate) fn file_at<'k, 's>(known: &'k [Known<'s>], seat: Option<usize>) -> Option<&'k Known<'s>>
+    ensures view { option_map (λ it. known_view it.now) result ≡ seated known.now seat }
+    ensures among { IfSome result (λ it. Contains known.now it.now) }
+{
+    known.get(seat?)
+}

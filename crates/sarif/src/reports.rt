@@ -1,0 +1,375 @@
+//! The reports that a log means.
+ghost use Rattle.std.specs.Prelude.{◌≡◌, ◌++◌, ◌∷◌, ◌≤◌, [], All, None, drop, flat_map};
+ghost use Rattle.std.specs.Prelude.{length, map, take, IfOk, OnOk};
+ghost use Rattle.found_reports.specs.Found.{StandsIn, found_on};
+ghost use Rattle.found_reports.specs.Held.{held_text};
+ghost use Rattle.sarif_log.specs.Log.{log_view, run_view};
+ghost use Rattle.sarif_findings.specs.Findings.{finding_view};
+ghost use Rattle.sarif_findings.specs.Views.{borrowed};
+ghost use Rattle.sarif.specs.Meaning.{aside, aside_diagnostic as aside_meant, aside_on};
+ghost use Rattle.sarif.specs.Meaning.{asides_beside, finding_reports, labeled_reports};
+ghost use Rattle.sarif.specs.Meaning.{main_diagnostic as main_meant, nowhere};
+ghost use Rattle.sarif.specs.Meaning.{reports_among, reports_at, reports_in, run_reports};
+ghost use Rattle.sarif.specs.Views.{HoldsText, IsFiled, IsReadable, IsTold, known_view};
+ghost use Rattle.sarif.specs.Views.{placed_view, reading_view};
+
+use crate::diagnostics::{diagnostic_of, given_place, message_or, severity_of};
+use crate::known::{Known, Placed, file_at, push_placed};
+use crate::labels::{label_on, labels_of, span_beside, span_in_file};
+use crate::reading::{Reading, reading_of};
+use found_reports::{FoundReports, Lack, Sources};
+use oxc_protocol::{OxcDiagnostic, Severity};
+use oxc_span::LabeledSpan;
+use sarif_findings::{Finding, findings_of};
+use sarif_log::{ColumnKind, Log, Run};
+use std::alloc::{AllocError, Global};
+
+/// The reports that a log means, in its order, over the texts that the sources have.
+///
+/// Columns count as the caller says, else as each run says, else characters.
+///
+/// # Errors
+///
+/// Want of memory.
+#[tactic(auto, unfolding(crate::specs::Meaning::reports_in, sarif_log::specs::Log::log_view))]
+pub fn reports_of<'s, S: Sources>(
+    alloc: Global,
+    log: &'s Log,
+    sources: &'s S,
+    columns: Option<ColumnKind>,
+) -> Result<FoundReports<'s>, AllocError>
+    ensures { IfOk result (λ it. it.found ≡ reports_in (S.told sources.now) columns
+        (log_view log.now)) }
+{
+    let mut found = FoundReports::new(alloc);
+    for run in &log.runs {
+        push_run(alloc, sources, columns, run, &mut found)?;
+    }
+    Ok(found)
+}
+
+/// Appends the reports of a run.
+#[tactic(auto, unfolding(crate::specs::Meaning::run_reports))]
+fn push_run<'s, S: Sources>(
+    alloc: Global,
+    sources: &'s S,
+    columns: Option<ColumnKind>,
+    run: &'s Run,
+    found: &mut FoundReports<'s>,
+) -> Result<(), AllocError>
+    ensures { OnOk result (found.new.found ≡ found.old.found
+        ++ run_reports (S.told sources.now) columns (run_view run.now)) }
+{
+    let reading = reading_of(alloc, columns, run)?;
+    let findings = findings_of(alloc, run)?;
+    push_findings(alloc, sources, &reading, &findings, found)
+}
+
+/// Appends the reports of the findings of a run.
+fn push_findings<'s, S: Sources>(
+    alloc: Global,
+    sources: &'s S,
+    reading: &Reading<'s>,
+    findings: &[Finding<'s>],
+    found: &mut FoundReports<'s>,
+) -> Result<(), AllocError>
+    ensures { OnOk result (found.new.found ≡ found.old.found
+        ++ flat_map (finding_reports (S.told sources.now) (reading_view reading.now))
+        (map finding_view findings.now)) }
+{
+    let mut known = Vec::new(alloc);
+    for finding in findings {
+        push_finding(alloc, sources, reading, &mut known, finding, found)?;
+    }
+    Ok(())
+}
+
+/// Appends the reports of a finding.
+#[tactic(auto, using(crate::proofs::ReportLemmas::among_parts, crate::proofs::ReportLemmas::count_within), unfolding(crate::specs::Meaning::finding_reports, sarif_findings::specs::Findings::finding_view))]
+fn push_finding<'s, S: Sources>(
+    alloc: Global,
+    sources: &'s S,
+    reading: &Reading<'s>,
+    known: &mut Vec<Known<'s>>,
+    finding: &Finding<'s>,
+    found: &mut FoundReports<'s>,
+) -> Result<(), AllocError>
+    requires told { All (IsTold (S.told sources.now) (reading_view reading.now)) known.old.items }
+    requires filed { All (IsFiled (reading_view reading.now) found.old.files) known.old.items }
+    ensures told { OnOk result (All (IsTold (S.told sources.now) (reading_view reading.now))
+        known.new.items) }
+    ensures filed { OnOk result (All (IsFiled (reading_view reading.now) found.new.files)
+        known.new.items) }
+    ensures added { OnOk result (found.new.found ≡ found.old.found
+        ++ finding_reports (S.told sources.now) (reading_view reading.now)
+        (finding_view finding.now)) }
+{
+    let mut placed = Vec::new(alloc);
+    push_placed(
+        alloc,
+        sources,
+        reading,
+        known,
+        found,
+        &mut placed,
+        &finding.locations,
+    )?;
+    let count = placed.len();
+    push_placed(
+        alloc,
+        sources,
+        reading,
+        known,
+        found,
+        &mut placed,
+        &finding.related,
+    )?;
+    push_reports(alloc, reading, finding, known, &placed, count, found)
+}
+
+/// Appends the reports of a finding at these places, of which so many are its locations.
+#[tactic(auto, using(crate::proofs::KnownLemmas::filed_one, crate::proofs::KnownLemmas::filed_more, crate::proofs::ReportLemmas::among_none, crate::proofs::ReportLemmas::among_skip, crate::proofs::ReportLemmas::among_found))]
+fn push_reports<'s>(
+    alloc: Global,
+    reading: &Reading<'s>,
+    finding: &Finding<'s>,
+    known: &[Known<'s>],
+    placed: &[Placed<'_>],
+    count: usize,
+    found: &mut FoundReports<'s>,
+) -> Result<(), AllocError>
+    requires count { count ≤ length placed.now }
+    requires filed { All (IsFiled (reading_view reading.now) found.old.files) known.now }
+    ensures filed { OnOk result (All (IsFiled (reading_view reading.now) found.new.files)
+        known.now) }
+    ensures added { OnOk result (found.new.found ≡ found.old.found
+        ++ reports_among (reading_view reading.now) (finding_view finding.now)
+        (map (placed_view known.now) (take count placed.now))
+        (map (placed_view known.now) (drop count placed.now))) }
+{
+    for at in 0..count {
+        let first = &placed[at];
+        if let Some(file) = file_at(known, first.seat) {
+            let others = &placed[at + 1..];
+            return push_at(alloc, reading, finding, known, file, first, others, found);
+        }
+    }
+    push_nowhere(alloc, reading, finding, found)
+}
+
+/// Appends the reports of a finding whose first location that names a file is this one.
+#[tactic(auto, using(crate::proofs::LabelLemmas::label_stands, crate::proofs::LabelLemmas::span_small, crate::proofs::LabelLemmas::labels_stand, crate::proofs::LabelLemmas::one_stands, crate::proofs::LabelLemmas::none_stand), unfolding(crate::specs::Meaning::reports_at, crate::specs::Meaning::diagnostic_of))]
+fn push_at<'s>(
+    alloc: Global,
+    reading: &Reading<'s>,
+    finding: &Finding<'s>,
+    known: &[Known<'s>],
+    file: &Known<'s>,
+    first: &Placed<'_>,
+    others: &[Placed<'_>],
+    found: &mut FoundReports<'s>,
+) -> Result<(), AllocError>
+    requires filed { All (IsFiled (reading_view reading.now) found.old.files) known.now }
+    requires file { IsFiled (reading_view reading.now) found.old.files file.now }
+    ensures added { OnOk result (found.new.found ≡ found.old.found
+        ++ reports_at (reading_view reading.now) (finding_view finding.now)
+        (placed_view known.now first.now) (known_view file.now)
+        (map (placed_view known.now) others.now)) }
+    ensures files { OnOk result (found.new.files ≡ found.old.files) }
+{
+    match span_in_file(reading, file, first.region) {
+        Some(span) => {
+            let label = label_on(alloc, true, first.message, span)?;
+            push_labeled(alloc, reading, finding, known, file, label, others, found)
+        }
+        None => {
+            let diagnostic = main_diagnostic(alloc, reading, finding, Vec::new(alloc))?;
+            found.push(file.file, diagnostic, Some(given_place(first.region)))?;
+            push_asides(alloc, reading, finding, known, others, found)
+        }
+    }
+}
+
+/// A finding as a diagnostic with these labels.
+#[tactic(auto, unfolding(sarif_findings::specs::Findings::finding_view))]
+fn main_diagnostic(
+    alloc: Global,
+    reading: &Reading<'_>,
+    finding: &Finding<'_>,
+    labels: Vec<LabeledSpan>,
+) -> Result<OxcDiagnostic, AllocError>
+    ensures { IfOk result (λ it. it ≡ main_meant (reading_view reading.now)
+        (finding_view finding.now) labels.items) }
+{
+    let severity = severity_of(finding.level);
+    diagnostic_of(
+        alloc,
+        reading,
+        finding,
+        severity,
+        finding.message.as_str(),
+        labels,
+    )
+}
+
+/// Appends the report of a finding with its first label and those of the other locations in its
+/// file, and the rest of these as advice.
+#[tactic(auto, using(crate::proofs::LabelLemmas::labels_stand), unfolding(crate::specs::Meaning::diagnostic_of))]
+fn push_labeled<'s>(
+    alloc: Global,
+    reading: &Reading<'s>,
+    finding: &Finding<'s>,
+    known: &[Known<'s>],
+    file: &Known<'s>,
+    first: LabeledSpan,
+    others: &[Placed<'_>],
+    found: &mut FoundReports<'s>,
+) -> Result<(), AllocError>
+    requires filed { All (IsFiled (reading_view reading.now) found.old.files) known.now }
+    requires file { IsFiled (reading_view reading.now) found.old.files file.now }
+    requires lacks_none { HoldsText (known_view file.now).held }
+    requires first { StandsIn (held_text (known_view file.now).held) first }
+    ensures added { OnOk result (found.new.found ≡ found.old.found
+        ++ labeled_reports (reading_view reading.now) (finding_view finding.now)
+        (known_view file.now) first (map (placed_view known.now) others.now)) }
+    ensures files { OnOk result (found.new.files ≡ found.old.files) }
+{
+    let labels = labels_of(alloc, reading, known, file, first, others)?;
+    let diagnostic = main_diagnostic(alloc, reading, finding, labels)?;
+    found.push(file.file, diagnostic, None)?;
+    push_other_asides(alloc, reading, finding, known, file, others, found)
+}
+
+/// Appends the advice that these locations become.
+fn push_asides<'s>(
+    alloc: Global,
+    reading: &Reading<'s>,
+    finding: &Finding<'s>,
+    known: &[Known<'s>],
+    others: &[Placed<'_>],
+    found: &mut FoundReports<'s>,
+) -> Result<(), AllocError>
+    requires { All (IsFiled (reading_view reading.now) found.old.files) known.now }
+    ensures added { OnOk result (found.new.found ≡ found.old.found
+        ++ flat_map (aside (reading_view reading.now) (finding_view finding.now))
+        (map (placed_view known.now) others.now)) }
+    ensures files { OnOk result (found.new.files ≡ found.old.files) }
+{
+    for it in others {
+        push_aside(alloc, reading, finding, known, it, found)?;
+    }
+    Ok(())
+}
+
+/// Appends the advice that those of these locations become that aren't in a file.
+fn push_other_asides<'s>(
+    alloc: Global,
+    reading: &Reading<'s>,
+    finding: &Finding<'s>,
+    known: &[Known<'s>],
+    file: &Known<'s>,
+    others: &[Placed<'_>],
+    found: &mut FoundReports<'s>,
+) -> Result<(), AllocError>
+    requires filed { All (IsFiled (reading_view reading.now) found.old.files) known.now }
+    requires readable { IsReadable (reading_view reading.now) file.now }
+    ensures added { OnOk result (found.new.found ≡ found.old.found
+        ++ asides_beside (reading_view reading.now) (finding_view finding.now)
+        (known_view file.now) (map (placed_view known.now) others.now)) }
+    ensures files { OnOk result (found.new.files ≡ found.old.files) }
+{
+    for it in others {
+        if span_beside(reading, known, file, it).is_none() {
+            push_aside(alloc, reading, finding, known, it, found)?;
+        }
+    }
+    Ok(())
+}
+
+/// Appends the advice that a location becomes: none where it names no file.
+#[tactic(auto, using(crate::proofs::KnownLemmas::filed_one), unfolding(crate::specs::Meaning::aside))]
+fn push_aside<'s>(
+    alloc: Global,
+    reading: &Reading<'s>,
+    finding: &Finding<'s>,
+    known: &[Known<'s>],
+    it: &Placed<'_>,
+    found: &mut FoundReports<'s>,
+) -> Result<(), AllocError>
+    requires { All (IsFiled (reading_view reading.now) found.old.files) known.now }
+    ensures added { OnOk result (found.new.found ≡ found.old.found
+        ++ aside (reading_view reading.now) (finding_view finding.now)
+        (placed_view known.now it.now)) }
+    ensures files { OnOk result (found.new.files ≡ found.old.files) }
+{
+    match file_at(known, it.seat) {
+        Some(file) => push_aside_at(alloc, reading, finding, file, it, found),
+        None => Ok(()),
+    }
+}
+
+/// Appends the advice that a location in a file becomes.
+#[tactic(auto, using(crate::proofs::LabelLemmas::label_stands, crate::proofs::LabelLemmas::span_small, crate::proofs::LabelLemmas::labels_stand, crate::proofs::LabelLemmas::one_stands, crate::proofs::LabelLemmas::none_stand), unfolding(crate::specs::Meaning::diagnostic_of))]
+fn push_aside_at<'s>(
+    alloc: Global,
+    reading: &Reading<'s>,
+    finding: &Finding<'s>,
+    file: &Known<'s>,
+    it: &Placed<'_>,
+    found: &mut FoundReports<'s>,
+) -> Result<(), AllocError>
+    requires { IsFiled (reading_view reading.now) found.old.files file.now }
+    ensures added { OnOk result (found.new.found ≡ found.old.found
+        ++ aside_on (reading_view reading.now) (finding_view finding.now) it.now.region
+        (borrowed it.now.message) (known_view file.now) ∷ []) }
+    ensures files { OnOk result (found.new.files ≡ found.old.files) }
+{
+    match span_in_file(reading, file, it.region) {
+        Some(span) => {
+            let mut labels = Vec::new(alloc);
+            labels.push(label_on(alloc, true, None, span)?)?;
+            let diagnostic = aside_diagnostic(alloc, reading, finding, it, labels)?;
+            found.push(file.file, diagnostic, None)?;
+        }
+        None => {
+            let diagnostic = aside_diagnostic(alloc, reading, finding, it, Vec::new(alloc))?;
+            found.push(file.file, diagnostic, Some(given_place(it.region)))?;
+        }
+    }
+    Ok(())
+}
+
+/// The advice that a location becomes, as a diagnostic with these labels.
+#[tactic(auto, unfolding(sarif_findings::specs::Findings::finding_view))]
+fn aside_diagnostic(
+    alloc: Global,
+    reading: &Reading<'_>,
+    finding: &Finding<'_>,
+    it: &Placed<'_>,
+    labels: Vec<LabeledSpan>,
+) -> Result<OxcDiagnostic, AllocError>
+    ensures { IfOk result (λ new. new ≡ aside_meant (reading_view reading.now)
+        (finding_view finding.now) (borrowed it.now.message) labels.items) }
+{
+    let message = message_or(it.message, finding.message.as_str());
+    diagnostic_of(alloc, reading, finding, Severity::Advice, message, labels)
+}
+
+/// Appends the report of a finding that is on no file.
+#[tactic(auto, using(crate::proofs::LabelLemmas::none_stand, crate::proofs::KnownLemmas::file_last), unfolding(crate::specs::Meaning::diagnostic_of))]
+fn push_nowhere<'s>(
+    alloc: Global,
+    reading: &Reading<'s>,
+    finding: &Finding<'s>,
+    found: &mut FoundReports<'s>,
+) -> Result<(), AllocError>
+    ensures added { OnOk result (found.new.found ≡ found.old.found
+        ++ found_on nowhere (main_meant (reading_view reading.now) (finding_view finding.now) [])
+        None ∷ []) }
+    ensures files { OnOk result (found.new.files ≡ found.old.files ++ nowhere ∷ []) }
+{
+    let diagnostic = main_diagnostic(alloc, reading, finding, Vec::new(alloc))?;
+    let file = found.add_file(String::new(alloc), Err(Lack::Missing))?;
+    found.push(file, diagnostic, None)?;
+    Ok(())
+}

@@ -1,0 +1,189 @@
+//! The texts of files: what the log itself has, else what sources tell.
+ghost use Rattle.std.specs.Prelude.{◌≡◌, map, option_map, option_and_then, string_bytes};
+ghost use Rattle.std.specs.Prelude.{IfOk, IfSome};
+ghost use Rattle.oxc_protocol.specs.Source.{Fits};
+ghost use Rattle.found_reports.specs.Held.{held_of};
+ghost use Rattle.found_reports.specs.Kept.{IsShortHeld};
+ghost use Rattle.found_reports.specs.Listed.{fitting as fitting_text};
+ghost use Rattle.sarif_log.specs.Log.{artifact_location_view, artifact_view, names_view};
+ghost use Rattle.sarif_findings.specs.Views.{borrowed};
+ghost use Rattle.sarif.specs.Naming.{artifact_at as artifact_numbered};
+ghost use Rattle.sarif.specs.Texts.{contents_if as contents_meant, contents_in as contents_had};
+ghost use Rattle.sarif.specs.Texts.{contents_named as first_contents, source_of, source_under};
+ghost use Rattle.sarif.specs.Texts.{told_of as told_meant, told_second as second_meant};
+ghost use Rattle.sarif.specs.Views.{had_view};
+
+use crate::resolving::{artifact_at, location_in, name_of, resolved};
+use found_reports::{Lack, Sources};
+use sarif_log::{Artifact, ArtifactLocation, Names};
+use std::alloc::{AllocError, Global};
+
+/// What is had of a file: its name, and its text or why it has none.
+#[derive(Drop)]
+pub(crate) struct Had<'s> {
+    pub(crate) name: String,
+    pub(crate) text: Result<&'s str, Lack>,
+}
+
+/// The contents of an artifact, if it has the name.
+#[tactic(auto, unfolding(sarif_log::specs::Log::artifact_view))]
+fn contents_if<'s>(
+    alloc: Global,
+    names: &Names,
+    name: &str,
+    artifact: &'s Artifact,
+) -> Result<Option<&'s str>, AllocError>
+    ensures { IfOk result (λ it. borrowed it ≡ contents_meant (names_view names.now) name.now
+        (artifact_view artifact.now)) }
+{
+    let Some(text) = &artifact.contents else {
+        return Ok(None);
+    };
+    match name_of(alloc, names, &artifact.location)? {
+        Some(own) if own.as_str() == name => Ok(Some(text.as_str())),
+        _ => Ok(None),
+    }
+}
+
+/// The contents of the first artifact of a name that has some.
+#[tactic(auto, unfolding(crate::specs::Texts::contents_named))]
+fn contents_named<'s>(
+    alloc: Global,
+    names: &'s Names,
+    name: &str,
+) -> Result<Option<&'s str>, AllocError>
+    ensures { IfOk result (λ it. borrowed it ≡ first_contents (names_view names.now) name.now
+        (map artifact_view names.now.artifacts.items)) }
+{
+    for artifact in &names.artifacts {
+        if let Some(text) = contents_if(alloc, names, name, artifact)? {
+            return Ok(Some(text));
+        }
+    }
+    Ok(None)
+}
+
+/// The contents of the artifact of a number.
+#[tactic(auto, unfolding(sarif_log::specs::Log::artifact_view))]
+fn numbered(names: &Names, index: Option<usize>) -> Option<&str>
+    ensures { borrowed result ≡ option_and_then (λ it. it.contents)
+        (artifact_numbered (names_view names.now) index) }
+{
+    artifact_at(names, index)?.contents.as_deref()
+}
+
+/// What the log has: of the artifact that is numbered, else of one of the name.
+#[tactic(auto, unfolding(crate::specs::Texts::contents_in, sarif_log::specs::Log::names_view, sarif_log::specs::Log::artifact_location_view))]
+fn contents_in<'s>(
+    alloc: Global,
+    names: &'s Names,
+    it: &ArtifactLocation,
+    name: &str,
+) -> Result<Option<&'s str>, AllocError>
+    ensures { IfOk result (λ text. borrowed text ≡ contents_had (names_view names.now)
+        (artifact_location_view it.now) name.now) }
+{
+    match numbered(names, it.index) {
+        Some(text) => Ok(Some(text)),
+        None => contents_named(alloc, names, name),
+    }
+}
+
+/// A text, unless it is too long for places in 32 bits.
+fn fitting(text: &str) -> Result<&str, Lack>
+    ensures held { held_of result ≡ fitting_text text.now }
+    ensures short { IfOk result (λ text. Fits text.now) }
+{
+    if text.len() < u32::MAX as usize {
+        Ok(text)
+    } else {
+        Err(Lack::TooLong)
+    }
+}
+
+/// The text of the URI as it stands, else nothing of the name.
+fn told_second<'s, S: Sources>(
+    alloc: Global,
+    sources: &'s S,
+    name: String,
+    uri: &str,
+    why: Lack,
+) -> Result<Had<'s>, AllocError>
+    ensures held { IfOk result (λ it. had_view it ≡ second_meant (string_bytes name) uri.now
+        why (S.told sources.now uri.now)) }
+    ensures short { IfOk result (λ it. IsShortHeld (held_of it.text)) }
+{
+    match sources.source(uri) {
+        Ok(text) => Ok(Had {
+            name: String::from_str(alloc, uri)?,
+            text: Ok(text),
+        }),
+        Err(_) => Ok(Had {
+            name,
+            text: Err(why),
+        }),
+    }
+}
+
+/// What sources tell of a name, else of the URI as it stands.
+#[tactic(auto, unfolding(crate::specs::Texts::told_of))]
+fn told_of<'s, S: Sources>(
+    alloc: Global,
+    sources: &'s S,
+    name: String,
+    uri: &str,
+) -> Result<Had<'s>, AllocError>
+    ensures held { IfOk result (λ it. had_view it ≡ told_meant (S.told sources.now)
+        (string_bytes name) uri.now) }
+    ensures short { IfOk result (λ it. IsShortHeld (held_of it.text)) }
+{
+    match sources.source(name.as_str()) {
+        Ok(text) => Ok(Had {
+            name,
+            text: Ok(text),
+        }),
+        Err(why) => told_second(alloc, sources, name, uri, why),
+    }
+}
+
+/// What is had of a name: what the log has, else what sources tell.
+fn had_under<'s, S: Sources>(
+    alloc: Global,
+    sources: &'s S,
+    names: &'s Names,
+    it: &ArtifactLocation,
+    name: String,
+    uri: &str,
+) -> Result<Had<'s>, AllocError>
+    ensures held { IfOk result (λ had. had_view had ≡ source_under (S.told sources.now)
+        (names_view names.now) (artifact_location_view it.now) (string_bytes name) uri.now) }
+    ensures short { IfOk result (λ had. IsShortHeld (held_of had.text)) }
+{
+    match contents_in(alloc, names, it, name.as_str())? {
+        Some(text) => Ok(Had {
+            name,
+            text: fitting(text),
+        }),
+        None => told_of(alloc, sources, name, uri),
+    }
+}
+
+/// The file that a reference stands for: none where it has no URI.
+#[tactic(auto, unfolding(crate::specs::Texts::source_of, sarif_log::specs::Log::names_view, sarif_log::specs::Log::artifact_location_view))]
+pub(crate) fn file_had<'s, S: Sources>(
+    alloc: Global,
+    sources: &'s S,
+    names: &'s Names,
+    it: &'s ArtifactLocation,
+) -> Result<Option<Had<'s>>, AllocError>
+    ensures held { IfOk result (λ had. option_map had_view had ≡ source_of (S.told sources.now)
+        (names_view names.now) (artifact_location_view it.now)) }
+    ensures short { IfOk result (λ had. IfSome had (λ had. IsShortHeld (held_of had.text))) }
+{
+    let place = location_in(names, it);
+    let Some(uri) = &place.uri else {
+        return Ok(None);
+    };
+    let name = resolved(alloc, &names.bases, place.base.as_deref(), uri.as_str())?;
+    Ok(Some(had_under(alloc, sources, names, it, name, uri.as_str())?))
+}
