@@ -1,0 +1,9 @@
+pub mod Moved
+pub mod Views
+pub mod Edits
+pub mod Session
+pub mod Documents
+pub mod Answers
+pub mod Told
+pub mod Steps
+pub mod Bodies

@@ -1,0 +1,189 @@
+// Findings that move with the text.
+ghost use Rattle.std.specs.Prelude.{◌≡◌, ◌<◌, ◌≤◌, ◌^◌, ◌++◌, All, IfOk, IfSome, OnOk};
+ghost use Rattle.std.specs.Option.{option_to_list};
+ghost use Rattle.std.specs.List.{filter_map};
+ghost use Rattle.oxc_span.specs.Label.{label_end};
+ghost use Rattle.lsp_marks.specs.Moved.{moved_mark};
+ghost use Rattle.lsp_server.specs.Moved.{CanMove, CanMoveAll, head_goes as head_goes_in};
+ghost use Rattle.lsp_server.specs.Moved.{mark_of as mark_in, moved_diagnostic as moved_in};
+ghost use Rattle.lsp_server.specs.Moved.{moved_label as moved_to};
+
+use lsp_marks::{Change, Mark, move_mark};
+use oxc_protocol::{Diagnostic, OxcDiagnostic};
+use oxc_span::LabeledSpan;
+use std::alloc::{AllocError, Global};
+
+/// A label's range.
+fn mark_of(label: &LabeledSpan) -> Mark
+    ensures mark { result ≡ mark_in label.now }
+    ensures start { label.now.offset < 2 ^ 32 }
+    ensures end { label_end label.now < 2 ^ 32 }
+{
+    let span = label.span();
+    Mark {
+        start: span.start as usize,
+        end: span.end as usize,
+    }
+}
+
+/// Where a label's range lies after a change, or none where it became empty.
+fn moved_mark_of(change: Change, label: &LabeledSpan) -> Option<Mark>
+    requires { CanMove change label.now }
+    ensures value { result ≡ moved_mark change (mark_in label.now) }
+    ensures fits { IfSome result (λ mark. (mark.start ≤ mark.end) × (mark.end < 2 ^ 32)) }
+{
+    move_mark(change, mark_of(label))
+}
+
+/// A label after a change, or none where it became empty.
+///
+/// # Errors
+///
+/// Want of memory.
+#[tactic(auto, unfolding(crate::specs::Moved::moved_label))]
+pub fn moved_label(
+    alloc: Global,
+    change: Change,
+    label: &LabeledSpan,
+) -> Result<Option<LabeledSpan>, AllocError>
+    requires { CanMove change label.now }
+    ensures { IfOk result (λ moved. moved ≡ moved_to change label.now) }
+{
+    let Some(mark) = moved_mark_of(change, label) else {
+        return Ok(None);
+    };
+    let text = match label.label() {
+        Some(text) => Some(String::from_str(alloc, text)?),
+        None => None,
+    };
+    let offset = mark.start as u32;
+    let len = (mark.end - mark.start) as u32;
+    if label.primary() {
+        Ok(Some(LabeledSpan::primary_at(text, offset, len)))
+    } else {
+        Ok(Some(LabeledSpan::new(text, offset, len)))
+    }
+}
+
+/// The labels after a change, in their order, without those that became empty.
+fn moved_labels(
+    alloc: Global,
+    change: Change,
+    labels: &[LabeledSpan],
+) -> Result<Vec<LabeledSpan>, AllocError>
+    requires { All (CanMove change) labels.now }
+    ensures { IfOk result (λ moved. moved.items ≡ filter_map (moved_to change) labels.now) }
+{
+    let mut moved = Vec::with_capacity(alloc, labels.len())?;
+    for label in labels {
+        push_label(alloc, change, label, &mut moved)?;
+    }
+    Ok(moved)
+}
+
+/// Appends a label as it is after a change, unless it became empty.
+fn push_label(
+    alloc: Global,
+    change: Change,
+    label: &LabeledSpan,
+    moved: &mut Vec<LabeledSpan>,
+) -> Result<(), AllocError>
+    requires { CanMove change label.now }
+    ensures { OnOk result (moved.new.items
+        ≡ moved.old.items ++ option_to_list (moved_to change label.now)) }
+{
+    match moved_label(alloc, change, label)? {
+        None => Ok(()),
+        Some(label) => {
+            moved.push(label)?;
+            Ok(())
+        }
+    }
+}
+
+/// Whether the first label becomes empty.
+#[tactic(auto, unfolding(crate::specs::Moved::moved_label))]
+fn head_goes(change: Change, labels: &[LabeledSpan]) -> bool
+    requires { All (CanMove change) labels.now }
+    ensures { result ≡ head_goes_in change labels.now }
+{
+    match labels {
+        [] => false,
+        [head, ..] => moved_mark_of(change, head).is_none(),
+    }
+}
+
+/// A finding after a change: its labels move. It goes with its first label.
+///
+/// # Errors
+///
+/// Want of memory.
+#[tactic(auto, unfolding(crate::specs::Moved::moved_diagnostic))]
+pub fn moved_diagnostic(
+    alloc: Global,
+    change: Change,
+    diagnostic: &OxcDiagnostic,
+) -> Result<Option<OxcDiagnostic>, AllocError>
+    requires { CanMoveAll change diagnostic.now }
+    ensures { IfOk result (λ moved. moved ≡ moved_in change diagnostic.now) }
+{
+    let labels = diagnostic.labels();
+    if head_goes(change, labels) {
+        return Ok(None);
+    }
+    let moved = moved_labels(alloc, change, labels)?;
+    let copy = diagnostic.try_clone(alloc)?;
+    let copy = copy.with_labels(alloc, moved)?;
+    Ok(Some(copy))
+}
+
+/// Findings after a change, in their order.
+///
+/// # Errors
+///
+/// Want of memory.
+pub fn moved_all(
+    alloc: Global,
+    change: Change,
+    found: &[OxcDiagnostic],
+) -> Result<Vec<OxcDiagnostic>, AllocError>
+    requires { All (CanMoveAll change) found.now }
+    ensures { IfOk result (λ moved. moved.items ≡ filter_map (moved_in change) found.now) }
+{
+    let mut moved = Vec::with_capacity(alloc, found.len())?;
+    for diagnostic in found {
+        push_diagnostic(alloc, change, diagnostic, &mut moved)?;
+    }
+    Ok(moved)
+}
+
+/// Appends a finding as it is after a change, unless it went.
+fn push_diagnostic(
+    alloc: Global,
+    change: Change,
+    diagnostic: &OxcDiagnostic,
+    moved: &mut Vec<OxcDiagnostic>,
+) -> Result<(), AllocError>
+    requires { CanMoveAll change diagnostic.now }
+    ensures { OnOk result (moved.new.items
+        ≡ moved.old.items ++ option_to_list (moved_in change diagnostic.now)) }
+{
+    match moved_diagnostic(alloc, change, diagnostic)? {
+        None => Ok(()),
+        Some(diagnostic) => {
+            moved.push(diagnostic)?;
+            Ok(())
+        }
+    }
+}
+
+/// Findings as values of their own.
+pub fn copied_all(alloc: Global, found: &[OxcDiagnostic]) -> Result<Vec<OxcDiagnostic>, AllocError>
+    ensures { IfOk result (λ copies. copies.items ≡ found.now) }
+{
+    let mut copies = Vec::with_capacity(alloc, found.len())?;
+    for diagnostic in found {
+        copies.push(diagnostic.try_clone(alloc)?)?;
+    }
+    Ok(copies)
+}

@@ -1,0 +1,395 @@
+// The server.
+ghost use Rattle.std.specs.Prelude.{◌≡◌, ◌++◌, ◌↔◌, IsTrue, true, ℕ, List, IfOk, OnOk, OnErr};
+ghost use Rattle.std.specs.Prelude.{map, string_bytes, None, Some, []};
+ghost use Rattle.std.specs.List.{flat_map};
+ghost use Rattle.std.specs.Option.{option_copied};
+ghost use Rattle.serde_json.specs.View.{view};
+ghost use Rattle.source_location.specs.Index.{Fits};
+ghost use Rattle.lsp_diagnostics.specs.Diagnostics.{published_value};
+ghost use Rattle.lsp_server.specs.Session.{answered, answered_by, asked, begun, next_agreed};
+ghost use Rattle.lsp_server.specs.Session.{next_phase, notice_phase, phase_after, request_phase};
+ghost use Rattle.lsp_server.specs.Session.{requested, IsExit};
+ghost use Rattle.lsp_server.specs.Told.{AreSame, IsChanged, IsClosed, IsNoticed, IsOpened, OnlyAt};
+ghost use Rattle.lsp_server.specs.Told.{PublishesOpen, ShowsAs, seen_closed, seen_open};
+
+use crate::documents::{Edit, OpenText};
+use crate::message::{Agreed, Answer, Code, Id, Message, Method, Notice, Params, Refused};
+use client_text::Change;
+use lsp_diagnostics::{OpenFile, published};
+use oxc_protocol::OxcDiagnostic;
+use source_location::fits;
+use std::alloc::{AllocError, Global};
+use std::collections::BTreeMap;
+use text_places::{Encoding, TextPlaces};
+
+/// How far a session is.
+#[derive(Clone, Copy, Debug)]
+pub enum Phase {
+    /// It hasn't begun.
+    New,
+    /// It runs.
+    Running,
+    /// The client announced its end.
+    ShutDown,
+    /// It is over; true where its end was announced.
+    Exited(bool),
+}
+
+/// The open documents, how far the session is, and what was agreed on.
+#[derive(Drop)]
+pub struct Server {
+    phase: Phase,
+    agreed: Agreed,
+    documents: BTreeMap<String, OpenText>,
+}
+
+impl Server {
+    ghost use Rattle.lsp_server.specs.Documents.{document_of, open_uris, IsKept};
+    ghost use Rattle.lsp_server.specs.Steps.{IsStep};
+
+    /// A server before its first message.
+    pub fn new(alloc: Global) -> Server
+        ensures phase { result.phase ≡ Phase.New }
+        ensures documents { (uri : List ℕ) → document_of result uri ≡ None }
+    {
+        Server {
+            phase: Phase::New,
+            agreed: Agreed {
+                encoding: Encoding::Utf16,
+                related: false,
+            },
+            documents: BTreeMap::new(alloc),
+        }
+    }
+
+    /// Takes a message, and gives what it is answered, or what is told of it.
+    ///
+    /// # Errors
+    ///
+    /// Want of memory: all is as it was.
+    pub fn take(&mut self, alloc: Global, message: Message) -> Result<Option<Answer>, AllocError>
+        ensures step { IfOk result (IsStep self.old message self.new) }
+        ensures once { IfOk result (λ told. answered told ≡ asked message) }
+        ensures err { OnErr result (IsKept self.old self.new) }
+    {
+        match message {
+            Message::NoJson => Ok(Some(Answer::Error(None, Code::ParseError))),
+            Message::Request(id, method) => {
+                let answer = self.request(id, method);
+                Ok(Some(answer))
+            }
+            Message::Notification(notice) => self.notify(alloc, notice),
+        }
+    }
+
+    /// Takes messages, one behind another, and gives what is answered and told. Each request is
+    /// answered once, in their order.
+    ///
+    /// # Errors
+    ///
+    /// Want of memory, at some message.
+    pub fn take_each(
+        &mut self,
+        alloc: Global,
+        messages: Vec<Message>,
+    ) -> Result<Vec<Answer>, AllocError>
+        ensures once { IfOk result (λ answers.
+            flat_map answered_by answers.items ≡ flat_map asked messages.items) }
+        ensures phase { OnOk result (self.new.phase ≡ phase_after self.old.phase messages.items) }
+    {
+        let mut answers = Vec::new(alloc);
+        for message in messages {
+            let answer = self.take(alloc, message)?;
+            add_answer(&mut answers, answer)?;
+        }
+        Ok(answers)
+    }
+
+    /// Shows findings in an open document, in place of those that it shows, and gives what is told
+    /// of it; none where it isn't open, or where a label doesn't stand in its text.
+    ///
+    /// # Errors
+    ///
+    /// Want of memory: all is as it was.
+    pub fn show(
+        &mut self,
+        alloc: Global,
+        uri: String,
+        found: Vec<OxcDiagnostic>,
+    ) -> Result<Option<Answer>, AllocError>
+        ensures shown { IfOk result (ShowsAs self.old.agreed (string_bytes uri) found.items
+            (document_of self.old (string_bytes uri))
+            (document_of self.old) (document_of self.new)) }
+        ensures phase { self.new.phase ≡ self.old.phase }
+        ensures agreed { self.new.agreed ≡ self.old.agreed }
+        ensures err { OnErr result (IsKept self.old self.new) }
+    {
+        let Some(document) = self.documents.get(uri.as_str()) else {
+            return Ok(None);
+        };
+        match document.with_found(alloc, found)? {
+            None => Ok(None),
+            Some(next) => {
+                let answer = self.put(alloc, uri, next)?;
+                Ok(Some(answer))
+            }
+        }
+    }
+
+    /// An open document.
+    pub fn document(&self, uri: &str) -> Option<&OpenText>
+        ensures { option_copied result ≡ document_of self.now uri.now }
+    {
+        self.documents.get(uri)
+    }
+
+    /// The URIs of the open documents, in the order of their bytes.
+    ///
+    /// # Errors
+    ///
+    /// Want of memory.
+    pub fn uris(&self, alloc: Global) -> Result<Vec<String>, AllocError>
+        ensures { IfOk result (λ uris. map string_bytes uris.items ≡ open_uris self.now) }
+    {
+        let mut uris = Vec::new(alloc);
+        for uri in self.documents.keys() {
+            uris.push(String::from_str(alloc, uri.as_str())?)?;
+        }
+        Ok(uris)
+    }
+
+    /// Whether the client said `exit`.
+    pub fn is_ended(&self) -> bool
+        ensures { IsTrue result ↔ IsExit self.now.phase }
+    {
+        matches!(self.phase, Phase::Exited(_))
+    }
+
+    /// Whether it said `shutdown` before that.
+    pub fn is_well_ended(&self) -> bool
+        ensures { IsTrue result ↔ (self.now.phase ≡ Phase.Exited true) }
+    {
+        matches!(self.phase, Phase::Exited(true))
+    }
+
+    /// Answers a request.
+    fn request(&mut self, id: Id, method: Method) -> Answer
+        ensures answer { result ≡ requested self.old.phase id method }
+        ensures phase { self.new.phase ≡ request_phase self.old.phase method }
+        ensures agreed { self.new.agreed ≡ begun self.old.phase self.old.agreed method }
+        ensures documents { self.new.documents ≡ self.old.documents }
+    {
+        match self.phase {
+            Phase::New => match method {
+                Method::Initialize(wanted) => {
+                    self.phase = Phase::Running;
+                    self.agreed = Agreed {
+                        encoding: wanted.encoding,
+                        related: wanted.related,
+                    };
+                    Answer::Capabilities(id, wanted)
+                }
+                Method::Shutdown => Answer::Error(Some(id), Code::NotInitialized),
+                Method::Unknown => Answer::Error(Some(id), Code::NotInitialized),
+            },
+            Phase::Running => match method {
+                Method::Initialize(_) => Answer::Error(Some(id), Code::InvalidRequest),
+                Method::Shutdown => {
+                    self.phase = Phase::ShutDown;
+                    Answer::Null(id)
+                }
+                Method::Unknown => Answer::Error(Some(id), Code::MethodNotFound),
+            },
+            Phase::ShutDown => Answer::Error(Some(id), Code::InvalidRequest),
+            Phase::Exited(_) => Answer::Error(Some(id), Code::InvalidRequest),
+        }
+    }
+
+    /// Takes a notification.
+    fn notify(&mut self, alloc: Global, notice: Notice) -> Result<Option<Answer>, AllocError>
+        ensures step { IfOk result (IsStep self.old (Message.Notification notice) self.new) }
+        ensures once { IfOk result (λ told. answered told ≡ []) }
+        ensures err { OnErr result (IsKept self.old self.new) }
+    {
+        match notice {
+            Notice::Exit => {
+                self.phase = Phase::Exited(matches!(self.phase, Phase::ShutDown));
+                Ok(None)
+            }
+            notice => match self.phase {
+                Phase::Running => self.edit(alloc, notice),
+                _ => Ok(None),
+            },
+        }
+    }
+
+    /// Takes a notification while the session runs.
+    fn edit(&mut self, alloc: Global, notice: Notice) -> Result<Option<Answer>, AllocError>
+        ensures told { IfOk result (IsNoticed self.old.agreed notice
+            (document_of self.old) (document_of self.new)) }
+        ensures once { IfOk result (λ told. answered told ≡ []) }
+        ensures phase { self.new.phase ≡ self.old.phase }
+        ensures agreed { self.new.agreed ≡ self.old.agreed }
+        ensures err { OnErr result (IsKept self.old self.new) }
+    {
+        match notice {
+            Notice::Exit => Ok(None),
+            Notice::Unknown => Ok(None),
+            Notice::Saved => Ok(None),
+            Notice::Malformed => Ok(Some(Answer::Refused(Refused::Malformed))),
+            Notice::Opened(uri, version, text) => self.open(alloc, uri, version, text.as_str()),
+            Notice::Closed(uri) => {
+                let answer = self.close(alloc, uri.as_str())?;
+                Ok(Some(answer))
+            }
+            Notice::Changed(uri, version, changes) => {
+                let answer = self.change(alloc, uri, version, changes.as_slice())?;
+                Ok(Some(answer))
+            }
+        }
+    }
+
+    /// Opens a document, if its text fits.
+    fn open(
+        &mut self,
+        alloc: Global,
+        uri: String,
+        version: i32,
+        text: &str,
+    ) -> Result<Option<Answer>, AllocError>
+        ensures told { IfOk result (IsOpened self.old.agreed (string_bytes uri) version text.now
+            (document_of self.old) (document_of self.new)) }
+        ensures once { IfOk result (λ told. answered told ≡ []) }
+        ensures phase { self.new.phase ≡ self.old.phase }
+        ensures agreed { self.new.agreed ≡ self.old.agreed }
+        ensures err { OnErr result (IsKept self.old self.new) }
+    {
+        if !fits(text) {
+            return Ok(Some(Answer::Refused(Refused::TooLong)));
+        }
+        let document = OpenText::open(alloc, self.agreed.encoding, version, text)?;
+        self.insert(uri, document)?;
+        Ok(None)
+    }
+
+    /// Puts a document in place of the one of its URI.
+    fn insert(&mut self, uri: String, document: OpenText) -> Result<(), AllocError>
+        ensures only { OnOk result (OnlyAt (string_bytes uri) (Some document)
+            (document_of self.old) (document_of self.new)) }
+        ensures phase { self.new.phase ≡ self.old.phase }
+        ensures agreed { self.new.agreed ≡ self.old.agreed }
+        ensures err { OnErr result (IsKept self.old self.new) }
+    {
+        self.documents.insert(uri, document)?;
+        Ok(())
+    }
+
+    /// Puts a document in place of the one of its URI, and gives what is told of it.
+    fn put(&mut self, alloc: Global, uri: String, document: OpenText) -> Result<Answer, AllocError>
+        ensures only { OnOk result (OnlyAt (string_bytes uri) (Some document)
+            (document_of self.old) (document_of self.new)) }
+        ensures published { IfOk result (PublishesOpen self.old.agreed (string_bytes uri) document) }
+        ensures phase { self.new.phase ≡ self.old.phase }
+        ensures agreed { self.new.agreed ≡ self.old.agreed }
+        ensures err { OnErr result (IsKept self.old self.new) }
+    {
+        let params = published_open(alloc, self.agreed, uri.as_str(), &document)?;
+        self.insert(uri, document)?;
+        Ok(Answer::Published(params))
+    }
+
+    /// Closes a document, and tells that nothing is found in it.
+    fn close(&mut self, alloc: Global, uri: &str) -> Result<Answer, AllocError>
+        ensures told { IfOk result (λ told. IsClosed self.old.agreed uri.now
+            (document_of self.old) (document_of self.new) (Some told)) }
+        ensures once { IfOk result (λ told. answered_by told ≡ []) }
+        ensures phase { self.new.phase ≡ self.old.phase }
+        ensures agreed { self.new.agreed ≡ self.old.agreed }
+        ensures err { OnErr result (IsKept self.old self.new) }
+    {
+        let params = published_none(alloc, self.agreed, uri)?;
+        let _text = self.documents.remove(uri);
+        Ok(Answer::Published(params))
+    }
+
+    /// Changes a document.
+    fn change(
+        &mut self,
+        alloc: Global,
+        uri: String,
+        version: i32,
+        changes: &[Change],
+    ) -> Result<Answer, AllocError>
+        ensures told { IfOk result (λ told. IsChanged self.old.agreed (string_bytes uri) version
+            changes.now (document_of self.old (string_bytes uri))
+            (document_of self.old) (document_of self.new) (Some told)) }
+        ensures once { IfOk result (λ told. answered_by told ≡ []) }
+        ensures phase { self.new.phase ≡ self.old.phase }
+        ensures agreed { self.new.agreed ≡ self.old.agreed }
+        ensures err { OnErr result (IsKept self.old self.new) }
+    {
+        let Some(document) = self.documents.get(uri.as_str()) else {
+            return Ok(Answer::Refused(Refused::NotOpen));
+        };
+        match document.edited(alloc, version, changes)? {
+            Edit::Made(next) => {
+                let answer = self.put(alloc, uri, next)?;
+                Ok(answer)
+            }
+            Edit::Faulty(refusal) => Ok(Answer::Refused(Refused::Faulty(refusal))),
+        }
+    }
+}
+
+/// What a client is told of an open document.
+fn published_open(
+    alloc: Global,
+    agreed: Agreed,
+    uri: &str,
+    document: &OpenText,
+) -> Result<Params, AllocError>
+    ensures { IfOk result (λ params. view params.value
+        ≡ published_value (seen_open agreed uri.now document.now) document.now.found) }
+{
+    let client = document.client();
+    let file = OpenFile {
+        uri,
+        version: Some(client.version()),
+        encoding: client.encoding(),
+        related: agreed.related,
+        places: client.places(),
+    };
+    let value = published(alloc, &file, document.found())?;
+    Ok(Params { value })
+}
+
+/// What a client is told of a closed document.
+fn published_none(alloc: Global, agreed: Agreed, uri: &str) -> Result<Params, AllocError>
+    ensures { IfOk result (λ params. view params.value
+        ≡ published_value (seen_closed agreed uri.now) []) }
+{
+    let places = TextPlaces::new(alloc, "")?;
+    let file = OpenFile {
+        uri,
+        version: None,
+        encoding: agreed.encoding,
+        related: agreed.related,
+        places: &places,
+    };
+    let value = published(alloc, &file, &[])?;
+    Ok(Params { value })
+}
+
+/// Appends an answer, if there is one.
+fn add_answer(answers: &mut Vec<Answer>, answer: Option<Answer>) -> Result<(), AllocError>
+    ensures { OnOk result (flat_map answered_by answers.new.items
+        ≡ flat_map answered_by answers.old.items ++ answered answer) }
+{
+    match answer {
+        None => Ok(()),
+        Some(answer) => {
+            answers.push(answer)?;
+            Ok(())
+        }
+    }
+}
