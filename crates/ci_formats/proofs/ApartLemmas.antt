@@ -1,9 +1,9 @@
 -- Texts that stand behind their lengths are told apart.
-use Rattle.std.proofs.Common.{◌≡◌, ℕ, ◌^◌, ◌<◌, List, [], ◌∷◌, ◌++◌, length, take, drop, Option, Some, None, unwrap_or, codes, decimal, refl, sym, ap, ◌∙◌, inr, arith, append_assoc}
+use Rattle.std.proofs.Common.{◌≡◌, ℕ, ◌^◌, ◌<◌, List, ◌∷◌, ◌++◌, length, take, drop, Option, Some, None, unwrap_or, codes, decimal, refl, sym, ap, ◌∙◌, inr, arith, append_assoc}
 use Rattle.std.proofs.lemmas.List.{drop_at, take_at}
 use Rattle.escapes.specs.Cuts.{cut_at, number_of}
 use Rattle.escapes.proofs.CutLemmas.{cut_here, decimal_free, number_back}
-use Rattle.ci_formats.specs.Fingerprint.{AreToldApart, Hashed, IsSmall, hashed_text, marked, measured}
+use Rattle.ci_formats.specs.Fingerprint.{AreToldApart, marked, measured}
 
 abbrev Pair : Type 0
 Pair = List ℕ × List ℕ

@@ -1,8 +1,8 @@
 -- Names that are gathered from the front, and what is given along findings.
 use Rattle.std.proofs.Common.{◌≡◌, ℕ, suc, ◌+◌, ◌<◌, ◌≤◌, Bool, true, false, cond, not, ◌||◌, if◌then◌else◌, Bor, List, [], ◌∷◌, ◌++◌, append_assoc, append-nil, length, map, take, drop, get_or, filter, refl, sym, ap, ap₂, ◌∙◌, arith, drop-cons}
-use Rattle.std.specs.List.{list_any, flat_map}
+use Rattle.std.specs.List.{list_any}
 use Rattle.std.specs.Str.{bytes_eq}
-use Rattle.std.proofs.lemmas.List.{take_more, map_push, drop_all, take_all}
+use Rattle.std.proofs.lemmas.List.{take_more, map_push, drop_all}
 use Rattle.std.proofs.lemmas.List.Folds.{list_any-append}
 use Rattle.std.proofs.lemmas.Slice.Eq.{bytes_eq-Decides}
 use Rattle.ci_findings.specs.declared.finding.Finding.{Finding}

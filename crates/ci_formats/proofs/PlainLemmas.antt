@@ -1,6 +1,6 @@
 -- What is written has no float, and isn't nested deep.
 use Rattle.std.proofs.Common.{◌≡◌, ℕ, ◌≤◌, List, [], ◌∷◌, false, refl, arith}
-use Rattle.serde_json.specs.Data.{Data, Items, array, depth, items_depth}
+use Rattle.serde_json.specs.Data.{Data, Items, depth, items_depth}
 use Rattle.serde_json.specs.View.{items_of}
 use Rattle.serde_json.specs.Written.{has_float, items_have_float}
 use Rattle.ci_findings.specs.Finding.{FindingParts}

@@ -1,5 +1,5 @@
 -- Findings by their files, and words that the formats share.
-use Rattle.std.specs.Prelude.{ℕ, not, if◌then◌else◌, Bool, List, [], ◌∷◌, ◌++◌, filter, Option, unwrap_or, codes}
+use Rattle.std.specs.Prelude.{ℕ, not, if◌then◌else◌, Bool, List, [], ◌∷◌, ◌++◌, filter, Option, unwrap_or}
 use Rattle.std.specs.List.{list_any}
 use Rattle.std.specs.Str.{bytes_eq}
 use Rattle.ci_findings.specs.Finding.{FindingParts}

@@ -1,5 +1,5 @@
 -- The XML of JUnit: a suite for each file, a case for each finding.
-use Rattle.std.specs.Prelude.{ℕ, ◌+◌, ◌==◌, ◌&&◌, ◌||◌, not, if◌then◌else◌, Bool, false, List, [], ◌∷◌, ◌++◌, Option, Some, None, unwrap_or, codes, decimal}
+use Rattle.std.specs.Prelude.{ℕ, ◌+◌, ◌==◌, ◌&&◌, ◌||◌, not, if◌then◌else◌, Bool, false, List, [], ◌∷◌, ◌++◌, Option, unwrap_or, codes, decimal}
 use Rattle.std.specs.List.{count_by, flat_map, list_any}
 use Rattle.std.specs.Str.{bytes_eq}
 use Rattle.ci_findings.specs.Finding.{FindingParts}

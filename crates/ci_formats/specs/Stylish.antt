@@ -1,5 +1,5 @@
 -- A table for people: each file's findings below its name, in columns as wide as their widest cells.
-use Rattle.std.specs.Prelude.{ℕ, ◌+◌, ◌-◌, ◌==◌, if◌then◌else◌, Bool, true, false, max, List, [], ◌∷◌, ◌++◌, filter, fold, length, Option, Some, None, unwrap_or, codes, decimal, replicate}
+use Rattle.std.specs.Prelude.{ℕ, ◌-◌, ◌==◌, if◌then◌else◌, Bool, true, false, max, List, [], ◌∷◌, ◌++◌, filter, fold, length, Option, Some, None, unwrap_or, codes, decimal, replicate}
 use Rattle.std.specs.List.{count_by, flat_map}
 use Rattle.oxc_protocol.specs.declared.protocol.Severity.{Severity}
 use Rattle.oxc_protocol.specs.declared.protocol.Severity.TheVariants.{Error, Warning, Advice}

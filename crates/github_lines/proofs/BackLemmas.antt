@@ -1,18 +1,14 @@
 -- The parts of a line that was written are those of its annotation.
-use Rattle.std.proofs.Common.{◌≡◌, ◌≢◌, ℕ, zero, suc, ◌+◌, ◌^◌, ◌<◌, ◌≤◌, Bool, true, false, not, ◌==◌, ◌||◌, List, [], ◌∷◌, ◌++◌, length, take, drop, get_or, Option, Some, None, option_map, IfSome, MatchOption, codes, decimal, refl, sym, ap, ap₂, ◌∙◌, subst, inl, inr, ◌⊎◌, arith, append_assoc, append-nil}
-use Rattle.std.specs.List.{position, position_or_len, list_any, list_all}
+use Rattle.std.proofs.Common.{◌≡◌, ◌≢◌, ℕ, ◌^◌, ◌<◌, ◌≤◌, Bool, true, false, not, ◌==◌, ◌||◌, List, [], ◌∷◌, ◌++◌, length, take, drop, get_or, Option, Some, None, option_map, MatchOption, codes, decimal, refl, sym, ap, ap₂, ◌∙◌, subst, inl, inr, ◌⊎◌, arith, append_assoc, append-nil}
+use Rattle.std.specs.List.{position, position_or_len, list_any}
 use Rattle.std.specs.Option.{is_some, option_and_then}
-use Rattle.std.specs.Str.{IsCharBoundary}
-use Rattle.std.proofs.lemmas.Bool.{cases_eq, cases_lt, ne_eqb, eq-eqb, eqb-true, lt-ltb, le-ltb, or_parts, or_from}
+use Rattle.std.proofs.lemmas.Bool.{cases_lt, eq-eqb, eqb-true, lt-ltb, le-ltb, or_parts, or_from}
 use Rattle.std.proofs.lemmas.List.{length-append, take_at, get_or_at, get_or_append_left, drop_at}
 use Rattle.std.proofs.lemmas.List.Sums.{position_or_len_is, passes_at_first, prefix_len-le-length}
 use Rattle.std.proofs.lemmas.Str.{IsCharBoundary-before_ascii, IsCharBoundary-end}
-use Rattle.std.proofs.lemmas.Str.Parse.{digit_at}
-use Rattle.std.proofs.lemmas.Fmt.{decimal_is_IsNumeral}
-use Rattle.escapes.specs.Cuts.{cut_at, behind, without_last}
+use Rattle.escapes.specs.Cuts.{behind}
 use Rattle.escapes.proofs.CutLemmas.{behind_front, cut_here, decimal_free, free_at, number_back, last_taken}
 use Rattle.escapes.proofs.EscapeLemmas.{none_append}
-use Rattle.github_lines.specs.declared.percent.Field.{Field}
 use Rattle.github_lines.specs.declared.percent.Field.TheVariants.{Message, Property}
 use Rattle.github_lines.specs.declared.annotation.Level.{Level}
 use Rattle.github_lines.specs.declared.annotation.Level.TheVariants.{Error, Warning, Notice}

@@ -1,5 +1,5 @@
 -- The workflow command of GitHub that a finding is.
-use Rattle.std.specs.Prelude.{ℕ, ◌==◌, ◌&&◌, ◌||◌, if◌then◌else◌, Bool, true, false, List, [], ◌++◌, length, Option, Some, None, codes, decimal, string_bytes}
+use Rattle.std.specs.Prelude.{ℕ, ◌==◌, ◌||◌, if◌then◌else◌, Bool, true, false, List, [], ◌++◌, length, Option, Some, None, codes, decimal, string_bytes}
 use Rattle.std.specs.List.{flat_map}
 use Rattle.std.specs.Option.{is_some}
 use Rattle.oxc_span.specs.Views.{text_bytes}

@@ -1,6 +1,5 @@
 -- Texts inside a workflow command, with their escapes turned back.
-use Rattle.std.specs.Prelude.{◌≡◌, ℕ, ◌==◌, ◌&&◌, ◌||◌, if◌then◌else◌, Bool, false, List, [], ◌∷◌, ◌++◌, ◌+◌, ◌<◌, length, take, drop, slice_index, Option, Some, None, MatchOption}
-use Rattle.std.specs.List.{list_any}
+use Rattle.std.specs.Prelude.{◌≡◌, ℕ, ◌==◌, ◌&&◌, ◌||◌, if◌then◌else◌, Bool, List, [], ◌∷◌, ◌++◌, ◌+◌, ◌<◌, length, take, drop, slice_index, Option, Some, None, MatchOption}
 use Rattle.std.specs.Str.{IsCharBoundary}
 use Rattle.github_lines.specs.declared.percent.Field.{Field}
 use Rattle.github_lines.specs.declared.percent.Field.TheVariants.{Message, Property}

@@ -50,10 +50,7 @@ fn findings(alloc: Global) -> Result<Vec<Finding>, AllocError> {
             "src/a.js",
             (at(3, 10), at(3, 11)),
             Severity::Warning,
-            (
-                Some("eslint(no-undef)"),
-                "'x' isn't <defined> & \"used\".",
-            ),
+            (Some("eslint(no-undef)"), "'x' isn't <defined> & \"used\"."),
         ),
         ("./b.py", (row, nowhere), Severity::Error, (None, "Oops")),
         (

@@ -1,4 +1,4 @@
-use Rattle.std.proofs.Common.{◌≡◌, ◌++◌, map, string_bytes, take, drop}
+use Rattle.std.proofs.Common.{◌≡◌, map, drop}
 use Rattle.ci_findings.specs.Finding.{finding_parts}
 use Rattle.ci_formats.specs.Files.{names_of}
 use Rattle.ci_formats.proofs.FilesLemmas.{gathered}

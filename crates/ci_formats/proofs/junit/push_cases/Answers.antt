@@ -1,4 +1,4 @@
-use Rattle.std.proofs.Common.{◌∙◌, ◌++◌, ◌+◌, [], append_assoc, append-nil, ap, drop, map, string_bytes, sym, take}
+use Rattle.std.proofs.Common.{◌∙◌, ◌++◌, ◌+◌, append_assoc, append-nil, ap, drop, map, string_bytes, sym, take}
 use Rattle.ci_findings.specs.Finding.{finding_parts}
 use Rattle.ci_formats.specs.Files.{along}
 use Rattle.ci_formats.specs.Junit.{case_on}

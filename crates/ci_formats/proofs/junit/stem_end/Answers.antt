@@ -1,4 +1,4 @@
-use Rattle.std.proofs.Common.{◌≡◌, ◌+◌, ◌∙◌, ap, drop, get_or, sym}
+use Rattle.std.proofs.Common.{◌∙◌, ap, get_or, sym}
 use Rattle.ci_formats.specs.Junit.{ends_stem}
 use Rattle.ci_formats.proofs.StemLemmas.{behind, stem_goes, stem_stops}
 use Rattle.ci_formats.proofs.junit.stem_end.Goals as goal

@@ -1,4 +1,4 @@
-use Rattle.std.proofs.Common.{◌≡◌, ◌++◌, map, string_bytes, take, filter}
+use Rattle.std.proofs.Common.{◌≡◌, map, take, filter}
 use Rattle.ci_findings.specs.Finding.{finding_parts}
 use Rattle.ci_formats.specs.Files.{is_on}
 use Rattle.ci_formats.proofs.stylish.findings_on.Given as goal

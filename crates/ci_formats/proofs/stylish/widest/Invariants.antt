@@ -1,4 +1,4 @@
-use Rattle.std.proofs.Common.{◌≡◌, ◌++◌, map, string_bytes, take}
+use Rattle.std.proofs.Common.{◌≡◌, map, take}
 use Rattle.ci_findings.specs.Finding.{finding_parts}
 use Rattle.ci_formats.specs.Stylish.{widest}
 use Rattle.ci_formats.proofs.stylish.widest.Given as goal
