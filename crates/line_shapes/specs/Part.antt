@@ -1,7 +1,7 @@
 -- The parts of a shape, and what they find in a text.
-use Rattle.std.specs.Prelude.{ℕ, ◌==◌, ◌||◌, if◌then◌else◌, Bool, true, false, List, [], ◌∷◌, take, drop, slice_index, Option, Some, None, option_map, option_and_then}
+use Rattle.std.specs.Prelude.{ℕ, ◌==◌, ◌||◌, ◌&&◌, if◌then◌else◌, Bool, true, false, List, [], ◌∷◌, take, drop, slice_index, Option, Some, None, option_map, option_and_then}
 use Rattle.std.specs.List.{prefix_len}
-use Rattle.line_shapes.specs.declared.bytes.Kind.TheVariants.{Blank, InRule, InProgram}
+use Rattle.line_shapes.specs.declared.bytes.Kind.TheVariants.{Blank, Digit, InRule, InProgram}
 use Rattle.line_shapes.specs.declared.level.Severity.{Severity}
 use Rattle.line_shapes.specs.declared.level.Level.{Level}
 use Rattle.line_shapes.specs.declared.part.Part.{Part}
@@ -100,9 +100,16 @@ abbrev pub begins_with_byte : ℕ → List ℕ → Bool
 begins_with_byte byte [] = false
 begins_with_byte byte (x ∷ xs) = x == byte
 
--- by its first byte, a text may begin with these parts
+-- by its first byte, a text may begin with the first of these parts
+abbrev pub may_stand : List Part → List ℕ → Bool
+may_stand [] text = true
+may_stand (Byte byte ∷ parts) text = begins_with_byte byte text
+may_stand (Blanks ∷ parts) text = is_in Blank (slice_index text 0)
+may_stand (Decimal figure ∷ parts) text = is_in Digit (slice_index text 0)
+may_stand (part ∷ parts) text = true
+
+-- the same of a byte and the part behind it
 abbrev pub may_begin : List Part → List ℕ → Bool
-may_begin [] text = true
-may_begin (Byte byte ∷ parts) text = begins_with_byte byte text
-may_begin (Blanks ∷ parts) text = is_in Blank (slice_index text 0)
-may_begin (part ∷ parts) text = true
+may_begin (Byte byte ∷ parts) [] = false
+may_begin (Byte byte ∷ parts) (x ∷ xs) = x == byte && may_stand parts xs
+may_begin parts text = may_stand parts text

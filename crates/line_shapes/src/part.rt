@@ -3,7 +3,8 @@ ghost use Rattle.std.specs.Prelude.{◌≡◌, ◌≤◌, length, slice_index, o
 ghost use Rattle.line_shapes.specs.declared.part.Part.TheVariants.{Decimal, Level, Program};
 ghost use Rattle.line_shapes.specs.Part.{before as seen_before, behind as seen_behind, byte_taken};
 ghost use Rattle.line_shapes.specs.Part.{fit as fits_there, begins_with_byte, is_program_start};
-ghost use Rattle.line_shapes.specs.Part.{may_begin, message_taken, seen, taken as taken_by};
+ghost use Rattle.line_shapes.specs.Part.{may_begin, may_stand, message_taken, seen};
+ghost use Rattle.line_shapes.specs.Part.{taken as taken_by};
 ghost use Rattle.line_shapes.specs.Part.{with_code, with_letter};
 
 use crate::bytes::{Kind, capitals_and_digits, cop_len, is_in, is_letter, number_at, run, run_of};
@@ -103,13 +104,27 @@ pub fn fit<'a>(parts: &[Part], found: Found<'a>) -> Option<Found<'a>>
     }
 }
 
-/// Whether the first part may stand at the beginning of a text, by its first byte.
+/// Whether the first two parts may stand at the beginning of a text, by its first two bytes.
 fn begins(parts: &[Part], text: &[u8]) -> bool
     ensures { result ≡ may_begin parts.now text.now }
 {
     match parts {
+        [Part::Byte(byte), rest @ ..] => match text {
+            [first, more @ ..] => *first == *byte && stands(rest, more),
+            [] => false,
+        },
+        _ => stands(parts, text),
+    }
+}
+
+/// Whether the first part may stand at the beginning of a text, by its first byte.
+fn stands(parts: &[Part], text: &[u8]) -> bool
+    ensures { result ≡ may_stand parts.now text.now }
+{
+    match parts {
         [Part::Byte(byte), ..] => is_first(text, *byte),
         [Part::Blanks, ..] => is_in(Kind::Blank, first_of(text)),
+        [Part::Decimal(_), ..] => is_in(Kind::Digit, first_of(text)),
         _ => true,
     }
 }
