@@ -14,6 +14,8 @@ mod labels;
 mod reading;
 mod reports;
 mod resolving;
+#[cfg(test)]
+mod tests;
 mod texts;
 
 pub use asked::names_of;
