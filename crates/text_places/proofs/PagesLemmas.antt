@@ -11,7 +11,8 @@ use Rattle.std.proofs.lemmas.List.Concat.{flat_map-append}
 use Rattle.std.proofs.lemmas.List.Sums.{sum_by-append, sum_by-cons}
 use Rattle.std.proofs.lemmas.Str.{IsUtf8-append, IsUtf8-string_bytes, IsUtf8-nil}
 use Rattle.source_location.specs.Breaks.{LineBreak, break_at, break_with, breaks_of, moved}
-use Rattle.source_location.specs.Rows.{row_of, row_start}
+use Rattle.oxc_windows.specs.Rows.{row_of}
+use Rattle.source_location.specs.Rows.{row_start}
 use Rattle.source_location.specs.Index.{Fits}
 use Rattle.source_location.proofs.BreaksLemmas.{breaks_valid, breaks_found, few_breaks}
 use Rattle.source_location.proofs.RowsLemmas.{row_le, row_start-le, row_start_after, ends_from_row}
