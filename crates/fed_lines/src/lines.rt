@@ -27,7 +27,9 @@ pub struct Lines<'s> {
     held: Vec<Vec<u8>>,
     /// That no piece is known is known.
     quiet: bool,
-    ghost unknown: { (quiet && is_some (known_piece (map shape_parts shapes.now) (option_map (λ line. line.items) name) (map (λ line. line.items) held.items))) ≡ false },
+    ghost unknown: { (quiet
+        && is_some (known_piece (map shape_parts shapes.now) (option_map (λ line. line.items) name)
+        (map (λ line. line.items) held.items))) ≡ false },
 }
 
 /// The piece that begins with the first of these lines, if no line behind them can change it.
