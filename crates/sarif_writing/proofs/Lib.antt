@@ -1,0 +1,4 @@
+pub mod PlainLemmas
+pub mod ListLemmas
+pub mod RuleLemmas
+pub mod StandingLemmas

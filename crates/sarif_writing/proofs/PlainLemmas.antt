@@ -1,0 +1,239 @@
+-- A log has no float, and isn't nested deep.
+use Rattle.std.proofs.Common.{◌≡◌, ℕ, suc, ◌≤◌, List, [], ◌∷◌, map, Bool, true, false, codes, Option, Some, None, option_map, unwrap_or, Ordering, Less, Equal, Greater, nat_cmp, refl, arith, sym, ap, ◌∙◌}
+use Rattle.std.specs.Cmp.Lexicographic.{slice_cmp}
+use Rattle.std.specs.Ordering.{match_ordering}
+use Rattle.std.specs.Prelude.{IfSome, is_none, is_some, ◌&&◌, ◌++◌, slice_get, zero, drop, take, if◌then◌else◌}
+use Rattle.std.specs.List.{remove}
+use Rattle.serde_json.specs.Data.{Data, string, array, object, item, no_items, Items, Members, no_members, member, put, depth, items_depth, members_depth}
+use Rattle.serde_json.specs.View.{items_of}
+use Rattle.serde_json.specs.Written.{has_float, items_have_float, members_have_float}
+use Rattle.codespan.specs.Texts.{NamedText}
+use Rattle.documents.specs.Written.{put_some, text_value, whole_number}
+use Rattle.documents.proofs.KeyLemmas.{either_false}
+use Rattle.oxc_span.specs.Label.{Label}
+use Rattle.oxc_protocol.specs.Parts.{OxcParts}
+use Rattle.render_files.specs.Given.{GivenReport}
+use Rattle.render_files.specs.Shown.{placed_labels}
+use Rattle.sarif_writing.specs.Rules.{and_rule, and_rules, place_in, rule_of, rule_value, rules_of}
+use Rattle.sarif_writing.specs.Written.{artifact_value, breaks_value, file_location, head_place, label_location, level_text, log_of, log_value, message_value, place_members, reference_value, region_place, region_value, result_value, rule_place, run_of, run_value, said_members, some_array, tool_value}
+
+-- no float in it, and arrays and objects nest so deep at most
+record IsPlain (most : ℕ) (it : Data) : Type 0 where
+  whole : has_float it ≡ false
+  shallow : depth it ≤ most
+
+record ArePlainItems (most : ℕ) (its : Items) : Type 0 where
+  whole : items_have_float its ≡ false
+  shallow : items_depth its ≤ most
+
+record ArePlain (most : ℕ) (ms : Members) : Type 0 where
+  whole : members_have_float ms ≡ false
+  shallow : members_depth ms ≤ most
+
+-- each of a list
+EachPlain : ℕ → List Data → Type 0
+EachPlain most [] = Unit {0}
+EachPlain most (d ∷ ds) = IsPlain most d × EachPlain most ds
+
+OnePlain : ℕ → Option Data → Type 0
+OnePlain most None = Unit {0}
+OnePlain most (Some d) = IsPlain most d
+
+-- ---- members and items
+
+put_at : (o : Ordering) (most : ℕ) (k l : List ℕ) (d e : Data) (ms : Members) → IsPlain most d → IsPlain most e → ArePlain most ms
+    → ArePlain most (put k d ms)
+    → ArePlain most (match_ordering o (member k d (member l e ms)) (member l d ms) (member l e (put k d ms)))
+put_at Less most k l d e ms new first rest more = record {
+  whole = rw (new.whole, first.whole) rest.whole;
+  shallow = omega (arith, new.shallow, first.shallow, rest.shallow);
+}
+put_at Equal most k l d e ms new first rest more = record {
+  whole = rw new.whole rest.whole;
+  shallow = omega (arith, new.shallow, rest.shallow);
+}
+put_at Greater most k l d e ms new first rest more = record {
+  whole = rw first.whole more.whole;
+  shallow = omega (arith, first.shallow, more.shallow);
+}
+
+plain_put : (most : ℕ) (k : List ℕ) (d : Data) (ms : Members) → IsPlain most d → ArePlain most ms → ArePlain most (put k d ms)
+plain_put most k d no_members new rest = record { whole = rw new.whole refl; shallow = omega (arith, new.shallow) }
+plain_put most k d (member l e ms) new rest =
+    let parts = either_false (has_float e) (members_have_float ms) rest.whole in
+    let first : IsPlain most e = record { whole = parts.0; shallow = omega (arith, rest.shallow) } in
+    let others : ArePlain most ms = record { whole = parts.1; shallow = omega (arith, rest.shallow) } in
+    put_at (slice_cmp nat_cmp k l) most k l d e ms new first others (plain_put most k d ms new others)
+
+plain_put_some : (most : ℕ) (k : List ℕ) (o : Option Data) (ms : Members) → OnePlain most o → ArePlain most ms → ArePlain most (put_some k o ms)
+unfolding OnePlain
+plain_put_some most k None ms new rest = rest
+plain_put_some most k (Some d) ms new rest = plain_put most k d ms new rest
+
+plain_object : (most : ℕ) (ms : Members) → ArePlain most ms → IsPlain (suc most) (object ms)
+plain_object most ms are = record { whole = are.whole; shallow = omega (arith, are.shallow) }
+
+plain_items : (most : ℕ) (ds : List Data) → EachPlain most ds → ArePlainItems most (items_of ds)
+unfolding EachPlain
+plain_items most [] each = record { whole = refl; shallow = omega arith }
+plain_items most (d ∷ ds) each =
+    let rest = plain_items most ds each.1 in
+    record { whole = rw each.0.whole rest.whole; shallow = omega (arith, each.0.shallow, rest.shallow) }
+
+plain_array : (most : ℕ) (ds : List Data) → EachPlain most ds → IsPlain (suc most) (array (items_of ds))
+plain_array most ds each =
+    let are = plain_items most ds each in
+    record { whole = are.whole; shallow = omega (arith, are.shallow) }
+
+each_map : {A : Type 0} (most : ℕ) (f : A → Data) → ((x : A) → IsPlain most (f x)) → (xs : List A) → EachPlain most (map f xs)
+unfolding EachPlain
+each_map most f plain [] = tt
+each_map most f plain (x ∷ xs) = (plain x, each_map most f plain xs)
+
+each_push : (most : ℕ) (ds : List Data) (d : Data) → EachPlain most ds → IsPlain most d → EachPlain most (ds ++ d ∷ [])
+unfolding EachPlain
+each_push most [] d each new = (new, tt)
+each_push most (x ∷ ds) d each new = (each.0, each_push most ds d each.1 new)
+
+one_of : (most : ℕ) (ds : List Data) (at : ℕ) (other : Data) → EachPlain most ds → IsPlain most other → IsPlain most (unwrap_or (slice_get ds at) other)
+unfolding EachPlain
+one_of most [] at other each plain = plain
+one_of most (d ∷ ds) zero other each plain = each.0
+one_of most (d ∷ ds) (suc at) other each plain = one_of most ds at other each.1 plain
+
+others_of : (most : ℕ) (ds : List Data) (at : ℕ) → EachPlain most ds → EachPlain most (remove ds at)
+unfolding EachPlain
+others_of most [] zero each = tt
+others_of most [] (suc at) each = tt
+others_of most (d ∷ ds) zero each = each.1
+others_of most (d ∷ ds) (suc at) each = (each.0, others_of most ds at each.1)
+
+plain_some_array : (most : ℕ) (ds : List Data) → EachPlain most ds → OnePlain (suc most) (some_array ds)
+unfolding OnePlain
+plain_some_array most [] each = tt
+plain_some_array most (d ∷ ds) each = plain_array most (d ∷ ds) each
+
+plain_text : (most : ℕ) (it : Option (List ℕ)) → OnePlain most (text_value it)
+unfolding OnePlain
+plain_text most None = tt
+plain_text most (Some bytes) = record { whole = refl; shallow = omega arith }
+
+plain_number : (most : ℕ) (it : Option ℕ) → OnePlain most (option_map whole_number it)
+unfolding OnePlain
+plain_number most None = tt
+plain_number most (Some n) = record { whole = refl; shallow = omega arith }
+
+-- ---- rules
+
+plain_rule_members : (number url : Option (List ℕ)) → IsPlain 1 (rule_value number url)
+unfolding rule_value
+plain_rule_members number url =
+    plain_object 0 _ (plain_put_some 0 (codes "helpUri") (text_value url) (put (codes "id") (string (unwrap_or number [])) no_members) (plain_text 0 url) (record { whole = refl; shallow = omega arith }))
+
+pub plain_rule : (number url : Option (List ℕ)) → has_float (rule_value number url) ≡ false
+plain_rule number url = (plain_rule_members number url).whole
+
+one_rule : (it : OxcParts) → OnePlain 1 (rule_of it)
+unfolding OnePlain rule_of
+one_rule it =
+    elim (is_none it.code.number && is_none it.url) as (λ v. OnePlain 1 (if v then None else Some (rule_value it.code.number it.url))) [
+      | true ↦ tt
+      | false ↦ plain_rule_members it.code.number it.url
+    ]
+
+more_rules : (rules : List Data) (rule : Option Data) → EachPlain 1 rules → OnePlain 1 rule → EachPlain 1 (and_rule rules rule)
+unfolding OnePlain
+more_rules rules None each new = each
+more_rules rules (Some rule) each new =
+    elim (is_some (place_in rules rule)) as (λ v. EachPlain 1 (if v then rules else rules ++ rule ∷ [])) [
+      | true ↦ each
+      | false ↦ each_push 1 rules rule each new
+    ]
+
+each_rule : (rules : List Data) (its : List GivenReport) → EachPlain 1 rules → EachPlain 1 (and_rules rules its)
+unfolding and_rules
+each_rule rules [] each = each
+each_rule rules (it ∷ its) each = each_rule (and_rule rules (rule_of it.diagnostic)) its (more_rules rules (rule_of it.diagnostic) each (one_rule it.diagnostic))
+
+all_rules : (its : List GivenReport) → EachPlain 1 (rules_of its)
+unfolding EachPlain
+all_rules its = each_rule [] its tt
+
+-- ---- results
+
+plain_region : (files : List NamedText) (file : ℕ) (it : Label) → IsPlain 2 (region_place files file it)
+unfolding region_place reference_value region_value
+plain_region files file it = record { whole = refl; shallow = omega arith }
+
+plain_said_within : (it : Option (List ℕ)) → OnePlain 2 (option_map message_value it)
+unfolding OnePlain message_value
+plain_said_within None = tt
+plain_said_within (Some text) = record { whole = refl; shallow = omega arith }
+
+plain_label : (files : List NamedText) (file : ℕ) (it : Label) → IsPlain 3 (label_location files file it)
+unfolding label_location
+plain_label files file it =
+    plain_object 2 _ (plain_put_some 2 (codes "message") (option_map message_value it.text) (put (codes "physicalLocation") (region_place files file it) no_members)
+    (plain_said_within it.text) (plain_put 2 (codes "physicalLocation") (region_place files file it) no_members (plain_region files file it) (record { whole = refl; shallow = omega arith })))
+
+plain_file : (files : List NamedText) (file : ℕ) → IsPlain 3 (file_location files file)
+unfolding file_location reference_value
+plain_file files file = record { whole = refl; shallow = omega arith }
+
+plain_said : (rules : List Data) (it : OxcParts) → ArePlain 4 (said_members rules it)
+unfolding said_members message_value
+plain_said rules it =
+    let leveled = put (codes "level") (string (level_text it.severity)) no_members in
+    let told = put (codes "message") (message_value it.message) leveled in
+    let ruled = put_some (codes "ruleId") (text_value it.code.number) told in
+    let plain_message : IsPlain 4 (message_value it.message) = record { whole = refl; shallow = omega arith } in
+    let plain_level : ArePlain 4 leveled = record { whole = refl; shallow = omega arith } in
+    plain_put_some 4 (codes "ruleIndex") (option_map whole_number (rule_place rules it)) ruled (plain_number 4 (rule_place rules it))
+    (plain_put_some 4 (codes "ruleId") (text_value it.code.number) told (plain_text 4 it.code.number)
+    (plain_put 4 (codes "message") (message_value it.message) leveled plain_message plain_level))
+
+plain_result : (files : List NamedText) (rules : List Data) (it : GivenReport) → IsPlain 5 (result_value files rules it)
+unfolding result_value place_members
+plain_result files rules it =
+    let labels = placed_labels files it in
+    let places = map (label_location files it.file) labels in
+    let each : EachPlain 3 places = each_map 3 (label_location files it.file) (plain_label files it.file) labels in
+    let head = unwrap_or (slice_get places (head_place labels)) (file_location files it.file) in
+    let others = some_array (remove places (head_place labels)) in
+    let plain_head : IsPlain 3 head = one_of 3 places (head_place labels) (file_location files it.file) each (plain_file files it.file) in
+    let plain_one : IsPlain 4 (array (item head no_items)) = record { whole = rw plain_head.whole refl; shallow = omega (arith, plain_head.shallow) } in
+    let said = said_members rules it.diagnostic in
+    let located = put (codes "locations") (array (item head no_items)) said in
+    plain_object 4 (put_some (codes "relatedLocations") others located)
+    (plain_put_some 4 (codes "relatedLocations") others located
+    (plain_some_array 3 (remove places (head_place labels)) (others_of 3 places (head_place labels) each))
+    (plain_put 4 (codes "locations") (array (item head no_items)) said plain_one (plain_said rules it.diagnostic)))
+
+-- ---- the log
+
+plain_artifact : (it : NamedText) → IsPlain 2 (artifact_value it)
+unfolding artifact_value
+plain_artifact it = record { whole = refl; shallow = omega arith }
+
+plain_run : (tool : List ℕ) (files : List NamedText) (its : List GivenReport) → IsPlain 8 (run_value tool files its)
+unfolding run_value run_of breaks_value tool_value
+plain_run tool files its =
+    let artifacts = plain_array 2 (map artifact_value files) (each_map 2 artifact_value plain_artifact files) in
+    let results = plain_array 5 (map (result_value files (rules_of its)) its) (each_map 5 (result_value files (rules_of its)) (plain_result files (rules_of its)) its) in
+    let rules = plain_array 1 (rules_of its) (all_rules its) in
+    record {
+      whole = rw (artifacts.whole, results.whole, rules.whole) refl;
+      shallow = omega (arith, artifacts.shallow, results.shallow, rules.shallow);
+    }
+
+plain_log : (tool : List ℕ) (files : List NamedText) (its : List GivenReport) → IsPlain 10 (log_value tool files its)
+unfolding log_of
+plain_log tool files its =
+    let run = plain_run tool files its in
+    record { whole = rw run.whole refl; shallow = omega (arith, run.shallow) }
+
+pub no_float : (tool : List ℕ) (files : List NamedText) (its : List GivenReport) → has_float (log_value tool files its) ≡ false
+no_float tool files its = (plain_log tool files its).whole
+
+pub shallow : (tool : List ℕ) (files : List NamedText) (its : List GivenReport) → depth (log_value tool files its) ≤ 127
+shallow tool files its = omega (arith, (plain_log tool files its).shallow)

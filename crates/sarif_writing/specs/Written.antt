@@ -1,0 +1,151 @@
+-- The JSON value of files and reports on them as a SARIF log of one run.
+use Rattle.std.specs.Prelude.{ℕ, List, [], ◌∷◌, map, codes, Bool, if◌then◌else◌, Option, Some, None, option_map, option_and_then, unwrap_or, suc, slice_get, length, ◌<◌}
+use Rattle.std.specs.List.{All, remove}
+use Rattle.std.specs.Str.{IsCharBoundary}
+use Rattle.serde_json.specs.Data.{Data, string, array, object, item, no_items, Members, member, no_members, put}
+use Rattle.serde_json.specs.View.{items_of}
+use Rattle.documents.specs.Written.{put_some, text_value, whole_number}
+use Rattle.source_location.specs.declared.SourceLocation.{SourceLocation}
+use Rattle.source_location.specs.Locations.{location_of}
+use Rattle.source_location.specs.Index.{IndexView, index_of}
+use Rattle.codespan.specs.Texts.{NamedText, name_of, text_of}
+use Rattle.oxc_span.specs.Label.{Label, label_end}
+use Rattle.oxc_protocol.specs.Parts.{OxcParts}
+use Rattle.oxc_protocol.specs.declared.protocol.Severity.{Severity}
+use Rattle.oxc_protocol.specs.declared.protocol.Severity.TheVariants.{Advice, Warning, Error}
+use Rattle.render_files.specs.Given.{GivenReport}
+use Rattle.render_files.specs.Shown.{placed_labels}
+use Rattle.sarif_writing.specs.Rules.{place_in, rule_of, rules_of}
+
+-- ---- where labels stand
+
+-- rows and columns from 1; a column counts characters
+unfoldable pub region_value : SourceLocation → SourceLocation → Data
+region_value start end =
+    object (member (codes "endColumn") (whole_number end.column)
+    (member (codes "endLine") (whole_number end.row)
+    (member (codes "startColumn") (whole_number start.column)
+    (member (codes "startLine") (whole_number start.row) no_members))))
+
+-- a file: its place among the artifacts, and its name
+unfoldable pub reference_value : List NamedText → ℕ → Data
+reference_value files file =
+    object (member (codes "index") (whole_number file) (member (codes "uri") (string (name_of files file)) no_members))
+
+-- a file as a whole
+unfoldable pub file_location : List NamedText → ℕ → Data
+file_location files file =
+    object (member (codes "physicalLocation") (object (member (codes "artifactLocation") (reference_value files file) no_members)) no_members)
+
+unfoldable pub message_value : List ℕ → Data
+message_value text = object (member (codes "text") (string text) no_members)
+
+-- a region of a file
+unfoldable pub region_place : List NamedText → ℕ → Label → Data
+region_place files file it =
+    let text = text_of files file in
+    object (member (codes "artifactLocation") (reference_value files file)
+    (member (codes "region") (region_value (location_of text it.offset) (location_of text (label_end it))) no_members))
+
+-- a label: where it stands in its file, and what it says
+unfoldable pub label_location : List NamedText → ℕ → Label → Data
+label_location files file it =
+    object (put_some (codes "message") (option_map message_value it.text)
+    (put (codes "physicalLocation") (region_place files file it) no_members))
+
+-- the place of the first primary label
+unfoldable pub primary_place : List Label → Option ℕ
+primary_place [] = None
+primary_place (it ∷ rest) = if it.primary then Some 0 else option_map suc (primary_place rest)
+
+-- the place of the label that a report is about: the first primary one, else the first
+abbrev pub head_place : List Label → ℕ
+head_place labels = unwrap_or (primary_place labels) 0
+
+-- an array of values, where there are any
+abbrev pub some_array : List Data → Option Data
+some_array [] = None
+some_array (first ∷ rest) = Some (array (items_of (first ∷ rest)))
+
+-- the label at the head is the location, and a report without labels is about its file; the other labels are related locations
+unfoldable pub place_members : List NamedText → ℕ → List Label → Members → Members
+place_members files file labels members =
+    let places = map (label_location files file) labels in
+    let head = unwrap_or (slice_get places (head_place labels)) (file_location files file) in
+    put_some (codes "relatedLocations") (some_array (remove places (head_place labels)))
+    (put (codes "locations") (array (item head no_items)) members)
+
+-- ---- results
+
+abbrev pub level_text : Severity → List ℕ
+level_text Advice = codes "note"
+level_text Warning = codes "warning"
+level_text Error = codes "error"
+
+-- the place of a report's rule
+abbrev pub rule_place : List Data → OxcParts → Option ℕ
+rule_place rules it = option_and_then (place_in rules) (rule_of it)
+
+-- what is said: level, message, and the rule by its id and its place
+unfoldable pub said_members : List Data → OxcParts → Members
+said_members rules it =
+    put_some (codes "ruleIndex") (option_map whole_number (rule_place rules it))
+    (put_some (codes "ruleId") (text_value it.code.number)
+    (put (codes "message") (message_value it.message)
+    (put (codes "level") (string (level_text it.severity)) no_members)))
+
+unfoldable pub result_value : List NamedText → List Data → GivenReport → Data
+result_value files rules it =
+    object (place_members files it.file (placed_labels files it) (said_members rules it.diagnostic))
+
+-- ---- the log
+
+-- a file with its text
+unfoldable pub artifact_value : NamedText → Data
+artifact_value it =
+    object (member (codes "contents") (object (member (codes "text") (string it.text) no_members))
+    (member (codes "location") (object (member (codes "uri") (string it.name) no_members)) no_members))
+
+-- the breaks of rows: where CRLF stands, CR alone doesn't count
+unfoldable pub breaks_value : Data
+breaks_value = array (item (string (codes "\r\n")) (item (string (codes "\n")) (item (string (codes "\r")) no_items)))
+
+unfoldable pub tool_value : List ℕ → Data → Data
+tool_value tool rules =
+    object (member (codes "driver") (object (member (codes "name") (string tool) (member (codes "rules") rules no_members))) no_members)
+
+unfoldable pub run_of : Data → Data → Data → Data
+run_of artifacts results tool =
+    object (member (codes "artifacts") artifacts
+    (member (codes "columnKind") (string (codes "unicodeCodePoints"))
+    (member (codes "newlineSequences") breaks_value (member (codes "results") results (member (codes "tool") tool no_members)))))
+
+unfoldable pub run_value : List ℕ → List NamedText → List GivenReport → Data
+run_value tool files reports =
+    let rules = rules_of reports in
+    run_of (array (items_of (map artifact_value files))) (array (items_of (map (result_value files rules) reports)))
+    (tool_value tool (array (items_of rules)))
+
+-- a log of one run
+unfoldable pub log_of : Data → Data
+log_of run =
+    object (member (codes "$schema") (string (codes "https://json.schemastore.org/sarif-2.1.0.json"))
+    (member (codes "runs") (array (item run no_items)) (member (codes "version") (string (codes "2.1.0")) no_members)))
+
+abbrev pub log_value : List ℕ → List NamedText → List GivenReport → Data
+log_value tool files reports = log_of (run_value tool files reports)
+
+-- ---- what is known of reports that aren't refused
+
+-- both ends of a label stand between characters
+pub record Stands (text : List ℕ) (label : Label) : Type 0 where
+  pub start : IsCharBoundary text label.offset
+  pub end : IsCharBoundary text (label_end label)
+
+-- there is the file, and its labels stand in its text
+pub record StandsInFile (files : List NamedText) (it : GivenReport) : Type 0 where
+  pub held : it.file < length files
+  pub labels : All (Stands (text_of files it.file)) (placed_labels files it)
+
+abbrev pub index_in : NamedText → IndexView
+index_in file = index_of file.text

@@ -1,0 +1,16 @@
+//! Source files and reports on them, written as a SARIF log of one run.
+//!
+//! A log goes through the modules in this order:
+//!
+//! - `rules`: the rules of reports, each once, and their places
+//! - `places`: where labels stand, in rows and columns
+//! - `results`: what each report says
+//! - `written`: the log, and its text
+#![tactic(auto)]
+
+mod places;
+mod results;
+mod rules;
+mod written;
+
+pub use written::write_log;

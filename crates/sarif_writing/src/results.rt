@@ -1,0 +1,124 @@
+//! What reports say, as results.
+ghost use Rattle.std.specs.Prelude.{◌≡◌, ◌<◌, All, IfOk, OnOk, codes, map, option_map, length};
+ghost use Rattle.serde_json.specs.View.{members_view, view};
+ghost use Rattle.documents.specs.Written.{put_some, whole_number};
+ghost use Rattle.codespan.specs.Texts.{text_of};
+ghost use Rattle.source_location.specs.Index.{index_of};
+ghost use Rattle.oxc_protocol.specs.Views.{inner_parts};
+ghost use Rattle.render_files.specs.Given.{given_report};
+ghost use Rattle.render_files.specs.Shown.{placed_labels};
+ghost use Rattle.sarif_writing.specs.Rules.{ArePlaces};
+ghost use Rattle.sarif_writing.specs.Written.{Stands, StandsInFile, index_in, level_text as level_meant};
+ghost use Rattle.sarif_writing.specs.Written.{result_value as result_meant, said_members as said_meant};
+
+use crate::places::{message_value, put_places};
+use crate::rules::{Rules, put_text};
+use codespan::Files;
+use oxc_protocol::{LabeledSpan, OxcDiagnosticInner, Severity};
+use render_files::FileReport;
+use serde_json::{Map, Value, put};
+use source_location::LineIndex;
+use std::alloc::{AllocError, Global};
+
+/// The results of reports on files that are indexed, with their labels.
+#[tactic(auto, using(crate::proofs::StandingLemmas::stands_at, crate::proofs::StandingLemmas::spans_reach, crate::proofs::StandingLemmas::spans_at, crate::proofs::StandingLemmas::indexes_reach, crate::proofs::StandingLemmas::index_at, crate::proofs::StandingLemmas::labels_stand_at))]
+pub(crate) fn results_of(
+    alloc: Global,
+    files: &Files<String>,
+    indexes: &[LineIndex],
+    rules: &Rules,
+    reports: &[FileReport],
+    spans: &[Vec<LabeledSpan>],
+) -> Result<Vec<Value>, AllocError>
+    requires indexed { indexes.now ≡ map index_in files.now }
+    requires places { ArePlaces (map view rules.now.values.items) rules.now.places }
+    requires placed { map (λ labels. labels.items) spans.now
+        ≡ map (placed_labels files.now) (map given_report reports.now) }
+    requires stand { All (StandsInFile files.now) (map given_report reports.now) }
+    ensures { IfOk result (λ values. map view values.items
+        ≡ map (result_meant files.now (map view rules.now.values.items))
+        (map given_report reports.now)) }
+{
+    let mut values = Vec::with_capacity(alloc, reports.len())?;
+    for (place, report) in reports.iter().enumerate() {
+        let index = &indexes[report.file.to_u32() as usize];
+        values.push(result_value(alloc, files, index, rules, report, &spans[place])?)?;
+    }
+    Ok(values)
+}
+
+#[tactic(auto, unfolding(crate::specs::Written::result_value))]
+fn result_value(
+    alloc: Global,
+    files: &Files<String>,
+    index: &LineIndex,
+    rules: &Rules,
+    report: &FileReport,
+    labels: &[LabeledSpan],
+) -> Result<Value, AllocError>
+    requires held { report.now.file < length files.now }
+    requires indexed { index.now ≡ index_of (text_of files.now report.now.file) }
+    requires places { ArePlaces (map view rules.now.values.items) rules.now.places }
+    requires placed { labels.now ≡ placed_labels files.now (given_report report.now) }
+    requires stand { All (Stands (text_of files.now report.now.file)) labels.now }
+    ensures { IfOk result (λ value. view value
+        ≡ result_meant files.now (map view rules.now.values.items) (given_report report.now)) }
+{
+    let mut members = said_members(alloc, rules, report.diagnostic.inner())?;
+    put_places(alloc, &mut members, files, report.file, index, labels)?;
+    Ok(Value::Object(members))
+}
+
+#[tactic(auto, unfolding(crate::specs::Written::said_members))]
+fn said_members(
+    alloc: Global,
+    rules: &Rules,
+    said: &OxcDiagnosticInner,
+) -> Result<Map<String, Value>, AllocError>
+    requires { ArePlaces (map view rules.now.values.items) rules.now.places }
+    ensures { IfOk result (λ members. members_view members.entries
+        ≡ said_meant (map view rules.now.values.items) (inner_parts said.now)) }
+{
+    let mut members = Map::new(alloc);
+    put_text(
+        alloc,
+        &mut members,
+        "level",
+        Some(level_text(said.severity)),
+    )?;
+    put(
+        &mut members,
+        alloc,
+        "message",
+        message_value(alloc, said.message.as_str())?,
+    )?;
+    put_text(alloc, &mut members, "ruleId", said.code.number.as_deref())?;
+    put_place(alloc, &mut members, rules.place_for(alloc, said)?)?;
+    Ok(members)
+}
+
+/// The place of a rule, where there is one.
+fn put_place(
+    alloc: Global,
+    members: &mut Map<String, Value>,
+    place: Option<usize>,
+) -> Result<(), AllocError>
+    ensures { OnOk result (members_view members.new.entries
+        ≡ put_some (codes "ruleIndex") (option_map whole_number place)
+        (members_view members.old.entries)) }
+{
+    match place {
+        Some(place) => put(members, alloc, "ruleIndex", Value::from(place)),
+        None => Ok(()),
+    }
+}
+
+fn level_text(severity: Severity) -> &'static str
+    ensures { result.now ≡ level_meant severity }
+{
+    match severity {
+        Severity::Advice => "note",
+        Severity::Warning => "warning",
+        Severity::Error => "error",
+    }
+}

@@ -1,0 +1,156 @@
+//! A log of one run, and its text.
+ghost use Rattle.std.specs.Prelude.{◌≡◌, ◌<◌, IfOk, Some, map, length, string_bytes};
+ghost use Rattle.codespan.specs.Texts.{name_of, text_of};
+ghost use Rattle.serde_json.specs.View.{view};
+ghost use Rattle.serde_json.specs.Read.{read};
+ghost use Rattle.serde_json.specs.Written.{compact_text};
+ghost use Rattle.render_files.specs.Causes.{IsJudged};
+ghost use Rattle.render_files.specs.Given.{given_report};
+ghost use Rattle.render_files.specs.Refusal.{refusal_of};
+ghost use Rattle.sarif_writing.specs.Written.{artifact_value as artifact_meant, breaks_value as breaks_meant};
+ghost use Rattle.sarif_writing.specs.Written.{index_in, log_of, log_value as log_meant};
+ghost use Rattle.sarif_writing.specs.Written.{run_of as run_from, run_value as run_meant};
+ghost use Rattle.sarif_writing.specs.Written.{tool_value as tool_meant};
+
+use crate::results::results_of;
+use crate::rules::rules_of;
+use codespan::{FileId, Files};
+use render_files::{FileReport, ReportError, place_labels};
+use serde_json::{Value, json};
+use source_location::LineIndex;
+use std::alloc::{AllocError, Global};
+
+/// The text without spaces of the SARIF log of one run that these files and reports are.
+///
+/// Each file stands in it with its text. A report's label is the first primary one, else the first;
+/// the others are related locations. Rows and columns count from 1, and a column counts characters.
+/// A number and a URL together are a rule, which stands there once. Scope, help and note don't.
+///
+/// # Errors
+///
+/// The first report that has a fault decides, as [`ReportError`] says. `OutOfMemory` may come
+/// before any other error, and `SinkFault` never comes.
+pub fn write_log(
+    alloc: Global,
+    tool: &str,
+    files: &Files<String>,
+    reports: &[FileReport],
+) -> Result<String, ReportError>
+    ensures text { IfOk result (λ text. string_bytes text
+        ≡ compact_text (log_meant tool.now files.now (map given_report reports.now))) }
+    ensures reads_back { IfOk result (λ text. read (string_bytes text)
+        ≡ Some (log_meant tool.now files.now (map given_report reports.now))) }
+    ensures cause { IsJudged (refusal_of files.now (map given_report reports.now)) result }
+{
+    let body = run_value(alloc, tool, files, reports)?;
+    let written = log_value(alloc, body)?;
+    let text = written.to_string(alloc)?;
+    Ok(text)
+}
+
+#[tactic(auto, unfolding(crate::specs::Written::log_of))]
+fn log_value(alloc: Global, run: Value) -> Result<Value, AllocError>
+    ensures { IfOk result (λ value. view value ≡ log_of (view run)) }
+{
+    json!(in alloc; {
+        "$schema": "https://json.schemastore.org/sarif-2.1.0.json",
+        "runs": [run],
+        "version": "2.1.0"
+    })
+}
+
+fn run_value(
+    alloc: Global,
+    tool: &str,
+    files: &Files<String>,
+    reports: &[FileReport],
+) -> Result<Value, ReportError>
+    ensures value { IfOk result (λ value. view value
+        ≡ run_meant tool.now files.now (map given_report reports.now)) }
+    ensures cause { IsJudged (refusal_of files.now (map given_report reports.now)) result }
+{
+    let spans = place_labels(alloc, files, reports)?;
+    let indexes = indexes_of(alloc, files)?;
+    let rules = rules_of(alloc, reports)?;
+    let results = results_of(alloc, files, &indexes, &rules, reports, &spans)?;
+    let artifacts = artifacts_of(alloc, files)?;
+    let driver = tool_value(alloc, tool, Value::Array(rules.values))?;
+    let body = run_of(
+        alloc,
+        Value::Array(artifacts),
+        Value::Array(results),
+        driver,
+    )?;
+    Ok(body)
+}
+
+#[tactic(auto, unfolding(crate::specs::Written::run_of))]
+fn run_of(alloc: Global, artifacts: Value, results: Value, tool: Value) -> Result<Value, AllocError>
+    ensures { IfOk result (λ value. view value
+        ≡ run_from (view artifacts) (view results) (view tool)) }
+{
+    let breaks = breaks_value(alloc)?;
+    json!(in alloc; {
+        "artifacts": artifacts,
+        "columnKind": "unicodeCodePoints",
+        "newlineSequences": breaks,
+        "results": results,
+        "tool": tool
+    })
+}
+
+#[tactic(auto, unfolding(crate::specs::Written::breaks_value))]
+fn breaks_value(alloc: Global) -> Result<Value, AllocError>
+    ensures { IfOk result (λ value. view value ≡ breaks_meant) }
+{
+    json!(in alloc; ["\r\n", "\n", "\r"])
+}
+
+#[tactic(auto, unfolding(crate::specs::Written::tool_value))]
+fn tool_value(alloc: Global, tool: &str, rules: Value) -> Result<Value, AllocError>
+    ensures { IfOk result (λ value. view value ≡ tool_meant tool.now (view rules)) }
+{
+    json!(in alloc; {"driver": {"name": tool, "rules": rules}})
+}
+
+/// The index of each file.
+fn indexes_of(alloc: Global, files: &Files<String>) -> Result<Vec<LineIndex>, AllocError>
+    ensures { IfOk result (λ indexes. indexes.items ≡ map index_in files.now) }
+{
+    let mut indexes = Vec::with_capacity(alloc, files.len())?;
+    for index in 0..files.len() {
+        let Some(file) = FileId::from_index(index as u32) else {
+            unreachable!();
+        };
+        let text = files.source(file).as_str();
+        indexes.push(LineIndex::from_source_text(alloc, text)?)?;
+    }
+    Ok(indexes)
+}
+
+/// Each file with its text.
+fn artifacts_of(alloc: Global, files: &Files<String>) -> Result<Vec<Value>, AllocError>
+    ensures { IfOk result (λ values. map view values.items ≡ map artifact_meant files.now) }
+{
+    let mut values = Vec::with_capacity(alloc, files.len())?;
+    for index in 0..files.len() {
+        let Some(file) = FileId::from_index(index as u32) else {
+            unreachable!();
+        };
+        values.push(artifact_value(alloc, files, file)?)?;
+    }
+    Ok(values)
+}
+
+#[tactic(auto, unfolding(crate::specs::Written::artifact_value))]
+fn artifact_value(alloc: Global, files: &Files<String>, file: FileId) -> Result<Value, AllocError>
+    requires { file < length files.now }
+    ensures { IfOk result (λ value. view value
+        ≡ artifact_meant
+        (record { name = name_of files.now file; text = text_of files.now file })) }
+{
+    json!(in alloc; {
+        "contents": {"text": files.source(file).as_str()},
+        "location": {"uri": files.name(file)}
+    })
+}
