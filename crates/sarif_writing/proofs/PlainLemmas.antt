@@ -1,8 +1,8 @@
 -- A log has no float, and isn't nested deep.
-use Rattle.std.proofs.Common.{◌≡◌, ℕ, suc, ◌≤◌, List, [], ◌∷◌, map, Bool, true, false, codes, Option, Some, None, option_map, unwrap_or, Ordering, Less, Equal, Greater, nat_cmp, refl, arith, sym, ap, ◌∙◌}
+use Rattle.std.proofs.Common.{◌≡◌, ℕ, suc, ◌≤◌, List, [], ◌∷◌, map, true, false, codes, Option, Some, None, option_map, unwrap_or, Ordering, Less, Equal, Greater, nat_cmp, refl, arith}
 use Rattle.std.specs.Cmp.Lexicographic.{slice_cmp}
 use Rattle.std.specs.Ordering.{match_ordering}
-use Rattle.std.specs.Prelude.{IfSome, is_none, is_some, ◌&&◌, ◌++◌, slice_get, zero, drop, take, if◌then◌else◌}
+use Rattle.std.specs.Prelude.{is_none, is_some, ◌&&◌, ◌++◌, slice_get, zero, if◌then◌else◌}
 use Rattle.std.specs.List.{remove}
 use Rattle.serde_json.specs.Data.{Data, string, array, object, item, no_items, Items, Members, no_members, member, put, depth, items_depth, members_depth}
 use Rattle.serde_json.specs.View.{items_of}

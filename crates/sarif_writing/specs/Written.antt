@@ -1,5 +1,5 @@
 -- The JSON value of files and reports on them as a SARIF log of one run.
-use Rattle.std.specs.Prelude.{ℕ, List, [], ◌∷◌, map, codes, Bool, if◌then◌else◌, Option, Some, None, option_map, option_and_then, unwrap_or, suc, slice_get, length, ◌<◌}
+use Rattle.std.specs.Prelude.{ℕ, List, [], ◌∷◌, map, codes, if◌then◌else◌, Option, Some, None, option_map, option_and_then, unwrap_or, suc, slice_get, length, ◌<◌}
 use Rattle.std.specs.List.{All, remove}
 use Rattle.std.specs.Str.{IsCharBoundary}
 use Rattle.serde_json.specs.Data.{Data, string, array, object, item, no_items, Members, member, no_members, put}
