@@ -1,0 +1,48 @@
+//! The program `girzohal_lsp`: a language server over standard input and output that shows in an
+//! editor what a linter's log says of the files that are open.
+//!
+//! `girzohal_lsp [--from auto|lines|sarif] [--tool NAME] [--columns bytes|characters|utf16|cells]
+//! [--first-column 0|1] LOG`. LOG is read when a file is opened, and anew when one is saved.
+//!
+//! - `words`: what the words ask for
+//! - `matching`: which findings are of an open file
+//! - `log`: the findings that a log has for a file
+//! - `serve`: messages in, answers out
+#![tactic(auto)]
+
+mod log;
+mod matching;
+mod serve;
+mod words;
+
+pub use log::{LogFile, found_in, read_bytes};
+pub use matching::{is_named, path_of};
+pub use serve::serve;
+use std::env;
+use std::process::ExitCode;
+pub use words::{Asked, Form, read_words};
+
+const USAGE: &str =
+    "usage: girzohal_lsp [--from auto|lines|sarif] [--tool NAME] [--columns bytes|characters|utf16|cells] [--first-column 0|1] LOG\n";
+
+fn main(rt: HostRuntime) -> ExitCode {
+    let alloc = rt.alloc();
+    let Ok(mut args) = env::args(&rt) else {
+        return ExitCode::from(2);
+    };
+    let _program = args.next();
+    let Ok(words) = args.collect::<Vec<String>>(alloc) else {
+        return ExitCode::from(2);
+    };
+    let Some(asked) = read_words(&words) else {
+        let _ = eprint!(rt; "{USAGE}");
+        return ExitCode::from(2);
+    };
+    let mut input = rt.stdin();
+    let mut out = rt.stdout();
+    match serve(&rt, alloc, asked, &mut input, &mut out) {
+        Ok(true) => ExitCode::from(0),
+        Ok(false) => ExitCode::from(1),
+        Err(_) => ExitCode::from(1),
+    }
+}
