@@ -92,8 +92,8 @@ fn cr_and_lf_that_meet_are_one_break(rt: HostRuntime) -> Result<(), Fail> {
 
 /// Whether a row of a text lies there.
 fn lies(text: &EditText, line: usize, start: u32, end: u32) -> bool {
-    text.line_range(line)
-        .is_some_and(|range| range.start().to_u32() == start && range.end().to_u32() == end)
+    text.line_range(line).is_some_and(|range| range.start().to_u32() == start
+        && range.end().to_u32() == end)
 }
 
 #[test]
