@@ -32,7 +32,11 @@ pub fn json_text(alloc: Global, raw: bool, found: &FoundReports<'_>) -> Result<S
 /// # Errors
 ///
 /// `TooManyFiles` only where there are `u32::MAX` files or more, and want of memory.
-pub fn document_text(alloc: Global, raw: bool, found: &FoundReports<'_>) -> Result<String, ShowError>
+pub fn document_text(
+    alloc: Global,
+    raw: bool,
+    found: &FoundReports<'_>,
+) -> Result<String, ShowError>
     ensures text { IfOk result (λ text. IsDocumentText raw found.now.found (string_bytes text)) }
     ensures many { IsErrOf result TooManyFiles → 4294967295 ≤ length found.now.files }
 {

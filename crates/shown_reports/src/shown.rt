@@ -67,11 +67,7 @@ pub fn shown_reports(
 }
 
 /// The files, by their numbers.
-fn shown_files(
-    alloc: Global,
-    held: &[FoundFile<'_>],
-    raw: bool,
-) -> Result<Files<String>, ShowError>
+fn shown_files(alloc: Global, held: &[FoundFile<'_>], raw: bool) -> Result<Files<String>, ShowError>
     requires { All IsShort (map file_view held.now) }
     ensures files { IfOk result (λ files. files ≡ map (shown_file raw) (map file_view held.now)) }
     ensures few { IfOk result (λ files. length held.now ≤ 4294967295) }

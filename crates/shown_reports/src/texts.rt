@@ -16,12 +16,7 @@ use std::alloc::{AllocError, Global};
 /// # Errors
 ///
 /// Want of memory.
-pub fn shown_text(
-    alloc: Global,
-    raw: bool,
-    kind: Kind,
-    text: &str,
-) -> Result<String, AllocError>
+pub fn shown_text(alloc: Global, raw: bool, kind: Kind, text: &str) -> Result<String, AllocError>
     ensures { IfOk result (λ shown. string_bytes shown ≡ text_of raw kind text.now) }
 {
     if raw {
