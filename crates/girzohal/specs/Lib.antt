@@ -1,0 +1,9 @@
+pub mod Code
+pub mod Told
+pub mod Texts
+pub mod Lines
+pub mod Logs
+pub mod Reads
+pub mod Made
+pub mod Walk
+pub mod Run

@@ -1,0 +1,40 @@
+-- The reports that a SARIF log means.
+use Rattle.std.specs.Prelude.{◌≡◌, ℕ, List, Option, Some, None}
+use Rattle.found_reports.specs.Found.{Found}
+use Rattle.found_reports.specs.Held.{Held}
+use Rattle.source_store.specs.Given.{IsGiven}
+use Rattle.source_store.specs.declared.named.Spelling.TheVariants.{Uri}
+use Rattle.sarif_log.specs.declared.log.ColumnKind.{ColumnKind}
+use Rattle.sarif_log.specs.declared.log.ColumnKind.TheVariants as kind
+use Rattle.sarif_log.specs.Log.{Log}
+use Rattle.sarif_log.specs.Answer.{Answer, answer_to, no_json, refused, log as log_is}
+use Rattle.sarif.specs.Asked.{names_in}
+use Rattle.sarif.specs.Meaning.{reports_in}
+use Rattle.line_shapes.specs.declared.tables.Unit.{Unit as ColumnUnit}
+use Rattle.line_shapes.specs.declared.tables.Unit.TheVariants.{Bytes, Characters, Utf16, Cells}
+use Rattle.girzohal.specs.Told.{Told}
+
+-- columns of a log count what was asked for, where logs can count it
+abbrev pub log_columns : Option ColumnUnit → Option ColumnKind
+log_columns None = None
+log_columns (Some Bytes) = None
+log_columns (Some Characters) = Some kind.Characters
+log_columns (Some Utf16) = Some kind.Utf16
+log_columns (Some Cells) = None
+
+-- the log that a text is, with the reports that it means with what was given of the names for which it asks
+pub record ReadsLog (told : Told) (columns : Option ColumnKind) (part : List ℕ) (found : List Found) : Type 0 where
+  pub log : Log
+  pub is : answer_to part ≡ log_is log
+  pub given : List ℕ → Held
+  pub told_so : IsGiven told Uri (names_in log) given
+  pub reports : found ≡ reports_in given columns log
+
+-- a text that is answered with a fault in place of a log
+abbrev pub IsFault : Answer → Type 0
+IsFault no_json = Unit {0}
+IsFault (refused path wanted) = Unit {0}
+IsFault (log_is log) = ⊥
+
+abbrev pub IsNoLog : List ℕ → Type 0
+IsNoLog part = IsFault (answer_to part)

@@ -1,0 +1,107 @@
+-- What is made of an input.
+use Rattle.std.specs.Prelude.{◌≡◌, ⊤, ℕ, List, Bool, true, false, Option, Some, None, String, string_bytes, codes, if◌then◌else◌}
+use Rattle.std.specs.Str.{bytes_eq}
+use Rattle.std.specs.declared.alloc.Global.{Global}
+use Rattle.std.specs.declared.ops.Range.{Range}
+use Rattle.found_reports.specs.Found.{Found}
+use Rattle.report_counts.specs.Counted.{one_reaches}
+use Rattle.input_forms.specs.Begun.{begins_as}
+use Rattle.input_forms.specs.Object.{IsJsonPart}
+use Rattle.input_forms.specs.declared.begun.Begun.{Begun}
+use Rattle.input_forms.specs.declared.begun.Begun.TheVariants.{Object, OtherJson, Lines}
+use Rattle.girzohal_asked.specs.declared.Asked.{Asked}
+use Rattle.girzohal_asked.specs.declared.InputForm.{InputForm}
+use Rattle.girzohal_asked.specs.declared.InputForm.TheVariants as form
+use Rattle.girzohal.specs.Told.{Told}
+use Rattle.girzohal.specs.Texts.{IsText}
+use Rattle.girzohal.specs.Lines.{MakesLines}
+use Rattle.girzohal.specs.Logs.{log_columns}
+use Rattle.girzohal.specs.Reads.{ReadsPart, IsNonePart, around, part_of}
+use Rattle.girzohal.specs.declared.object.ObjectForm.{ObjectForm}
+use Rattle.girzohal.specs.declared.object.ObjectForm.TheVariants.{Keyed, AsDocument, AsLog}
+use Rattle.girzohal.specs.declared.fault.Fault.{Fault}
+use Rattle.girzohal.specs.declared.fault.Fault.TheVariants.{NoForm, TooManyFiles, OutOfMemory}
+
+-- what is written of reports, and whether one is at or above the level
+pub record IsWritten (asked : Asked) (found : List Found) (text : List ℕ) (reached : Bool) : Type 0 where
+  pub text_is : IsText asked found text
+  pub level : reached ≡ one_reaches asked.fail_on found
+
+-- the text and the level of the reports that are P
+abbrev pub Writes : (List Found → Type 0) → Asked → List ℕ → Bool → Type 0
+Writes P asked text reached = (found : List Found) × P found × IsWritten asked found text reached
+
+-- ---- a JSON object among other lines
+
+-- what is written of the reports of the object, and what stands around it
+pub record MakesObject (how : ObjectForm) (told : Told) (asked : Asked) (bytes text aside : List ℕ) (reached : Bool) : Type 0 where
+  pub range : Range ℕ
+  pub there : IsJsonPart bytes range
+  pub written : Writes (ReadsPart how told (log_columns asked.columns) (part_of bytes range)) asked text reached
+  pub aside_is : aside ≡ around bytes range
+
+pub record IsNoObject (how : ObjectForm) (bytes : List ℕ) : Type 0 where
+  pub range : Range ℕ
+  pub there : IsJsonPart bytes range
+  pub none : IsNonePart how (part_of bytes range)
+
+-- ---- all forms
+
+abbrev pub MakesBegun : Begun → Told → Asked → List ℕ → List ℕ → List ℕ → Bool → Type 0
+MakesBegun Object told asked bytes text aside reached = MakesObject Keyed told asked bytes text aside reached
+MakesBegun OtherJson told asked bytes text aside reached = ⊥
+MakesBegun Lines told asked bytes text aside reached = MakesLines told asked bytes text aside reached
+
+abbrev pub MakesAs : InputForm → Told → Asked → List ℕ → List ℕ → List ℕ → Bool → Type 0
+MakesAs form.Auto told asked bytes text aside reached = MakesBegun (begins_as bytes) told asked bytes text aside reached
+MakesAs form.Document told asked bytes text aside reached = MakesObject AsDocument told asked bytes text aside reached
+MakesAs form.Sarif told asked bytes text aside reached = MakesObject AsLog told asked bytes text aside reached
+MakesAs form.Lines told asked bytes text aside reached = MakesLines told asked bytes text aside reached
+
+-- the form in which a tool writes, if one is named
+abbrev pub form_by : Option (String Global) → InputForm
+form_by None = form.Auto
+form_by (Some tool) = if bytes_eq (string_bytes tool) (codes "sarif") then form.Sarif else form.Lines
+
+abbrev pub form_with : InputForm → Option (String Global) → InputForm
+form_with form.Auto tool = form_by tool
+form_with form.Document tool = form.Document
+form_with form.Sarif tool = form.Sarif
+form_with form.Lines tool = form.Lines
+
+-- the form in which an input is read: as was asked for, else as the named tool writes
+abbrev pub form_of : Asked → InputForm
+form_of asked = form_with asked.from asked.tool
+
+-- what is made of an input in the form in which it is read: the text and the level of the reports that it means, and what is none of them
+abbrev pub IsMade : Told → Asked → List ℕ → List ℕ → List ℕ → Bool → Type 0
+IsMade told asked bytes text aside reached = MakesAs (form_of asked) told asked bytes text aside reached
+
+-- ---- why nothing is made
+
+abbrev pub IsNoneBegun : Begun → List ℕ → Type 0
+IsNoneBegun Object bytes = IsNoObject Keyed bytes
+IsNoneBegun OtherJson bytes = ⊤
+IsNoneBegun Lines bytes = ⊥
+
+abbrev pub IsNoneAs : InputForm → List ℕ → Type 0
+IsNoneAs form.Auto bytes = IsNoneBegun (begins_as bytes) bytes
+IsNoneAs form.Document bytes = IsNoObject AsDocument bytes
+IsNoneAs form.Sarif bytes = IsNoObject AsLog bytes
+IsNoneAs form.Lines bytes = ⊥
+
+-- bytes aren't of the form in which they are read
+abbrev pub IsOfNoForm : Asked → List ℕ → Type 0
+IsOfNoForm asked bytes = IsNoneAs (form_of asked) bytes
+
+-- no word of the input's form
+abbrev pub IsFree : Fault → Type 0
+IsFree (NoForm why) = ⊥
+IsFree TooManyFiles = ⊤
+IsFree OutOfMemory = ⊤
+
+-- why nothing is made of bytes: they aren't of their form; the others are free
+abbrev pub HasCause : (List ℕ → Type 0) → List ℕ → Fault → Type 0
+HasCause P bytes (NoForm why) = P bytes
+HasCause P bytes TooManyFiles = ⊤
+HasCause P bytes OutOfMemory = ⊤

@@ -1,0 +1,124 @@
+-- What the end of a run means.
+use Rattle.std.specs.Prelude.{◌≡◌, ◌≢◌, ◌⊎◌, ℕ, ◌<◌, ◌≤◌, List, length, Bool, true, false, Option, codes}
+use Rattle.std.specs.Io.KnownBytes.{Appends, Keeps, Consumes, IsAtEnd}
+use Rattle.oxc_protocol.specs.Faults.{Rose}
+use Rattle.oxc_protocol.specs.Sink.{AppendsPrefix}
+use Rattle.girzohal_asked.specs.declared.Asked.{Asked}
+use Rattle.girzohal.specs.Told.{Told}
+use Rattle.girzohal.specs.Made.{IsMade, IsOfNoForm}
+use Rattle.girzohal.specs.declared.status.Status.{Status}
+use Rattle.girzohal.specs.declared.status.Status.TheVariants.{Clean, Reached, Usage, NoForm, ReadFault, SinkFault, OutOfMemory, InputTooLong, TooManyFiles}
+
+abbrev pub limit : ℕ
+limit = 67108864
+
+-- what a device told and tells of its bytes, and its count of faults before and now
+pub record Device : Type 0 where
+  pub before : Option (List ℕ)
+  pub now : Option (List ℕ)
+  pub faults_before : ℕ
+  pub faults_now : ℕ
+
+abbrev pub device : {D : Type 0} → (D → Option (List ℕ)) → (D → ℕ) → D → D → Device
+device told faults old new = record { before = told old; now = told new; faults_before = faults old; faults_now = faults new }
+
+abbrev pub HasRisen : Device → Type 0
+HasRisen it = Rose it.faults_before it.faults_now
+
+-- nothing was taken of it, or it received nothing
+abbrev pub IsKept : Device → Type 0
+IsKept it = Keeps it.before it.now
+
+-- it received these bytes; only where its faults rose, a first part of them
+abbrev pub IsTold : Device → List ℕ → Type 0
+IsTold it bytes = Appends it.before it.now bytes ⊎ (AppendsPrefix it.before it.now bytes × HasRisen it)
+
+-- the whole input was taken, to its end and within the limit, and these bytes are P
+pub record TookWhole (input : Device) (P : List ℕ → Type 0) : Type 0 where
+  pub bytes : List ℕ
+  pub taken : Consumes input.before input.now bytes
+  pub ended : IsAtEnd input.now
+  pub within : length bytes ≤ limit
+  pub is : P bytes
+
+-- more bytes than the limit were taken
+pub record TookTooMuch (input : Device) : Type 0 where
+  pub bytes : List ℕ
+  pub taken : Consumes input.before input.now bytes
+  pub past : limit < length bytes
+
+-- ---- what was written
+
+-- the texts that are made of an input: what goes to the output, what goes to the error output, and whether a report is
+-- at or above the level
+pub record Texts : Type 0 where
+  pub out : List ℕ
+  pub aside : List ℕ
+  pub reached : Bool
+
+abbrev pub IsMadeOf : Told → Asked → Texts → List ℕ → Type 0
+IsMadeOf told asked texts bytes = IsMade told asked bytes texts.out texts.aside texts.reached
+
+-- all of what is made was written
+pub record Sent (told : Told) (asked : Asked) (reached : Bool) (bytes : List ℕ) (out err : Device) : Type 0 where
+  pub texts : Texts
+  pub made : IsMadeOf told asked texts bytes
+  pub level : texts.reached ≡ reached
+  pub written : Appends out.before out.now texts.out
+  pub heard : IsTold err texts.aside
+
+-- a first part of it was written, and the output failed
+pub record SentPart (told : Told) (asked : Asked) (bytes : List ℕ) (out err : Device) : Type 0 where
+  pub texts : Texts
+  pub made : IsMadeOf told asked texts bytes
+  pub written : AppendsPrefix out.before out.now texts.out
+  pub fault : HasRisen out
+  pub heard : IsTold err texts.aside
+
+-- ---- the end of a run
+
+-- what a status says of the input, of what a store tells, and of what was written
+abbrev pub Means : Status → Asked → Device → Told → Device → Device → Type 0
+-- all was written that is made of the whole input, and no report is at or above the level
+Means Clean asked input told out err = TookWhole input (λ bytes. Sent told asked false bytes out err)
+-- all was written, and a report is at or above the level
+Means Reached asked input told out err = TookWhole input (λ bytes. Sent told asked true bytes out err)
+-- no run ends so
+Means Usage asked input told out err = ⊥
+-- the whole input isn't of its form, and a line says why
+Means NoForm asked input told out err = TookWhole input (IsOfNoForm asked) × IsKept out × ((line : List ℕ) × IsTold err line)
+-- the input failed
+Means ReadFault asked input told out err = HasRisen input × IsKept out × IsTold err (codes "girzohal: input failed\n")
+-- the output failed, and received a first part of what is made
+Means SinkFault asked input told out err = TookWhole input (λ bytes. SentPart told asked bytes out err)
+-- want of memory is free
+Means OutOfMemory asked input told out err = IsKept out × IsTold err (codes "girzohal: out of memory\n")
+-- the input is longer than a run reads
+Means InputTooLong asked input told out err = TookTooMuch input × IsKept out × IsTold err (codes "girzohal: input too long\n")
+-- the input names more files than can be numbered
+Means TooManyFiles asked input told out err = IsKept out × IsTold err (codes "girzohal: too many files\n")
+
+-- with every status but those of what is written the output is as it was
+abbrev pub IsUntouched : {O : Type 0} → Status → O → O → Type 0
+IsUntouched result old new = result ≢ Clean → result ≢ Reached → result ≢ SinkFault → new ≡ old
+
+-- ---- parts of a run
+
+-- the end of what is made of bytes
+abbrev pub Shows : Status → Asked → List ℕ → Told → Device → Device → Type 0
+Shows Clean asked bytes told out err = Sent told asked false bytes out err
+Shows Reached asked bytes told out err = Sent told asked true bytes out err
+Shows Usage asked bytes told out err = ⊥
+Shows NoForm asked bytes told out err = IsOfNoForm asked bytes × IsKept out × ((line : List ℕ) × IsTold err line)
+Shows ReadFault asked bytes told out err = ⊥
+Shows SinkFault asked bytes told out err = SentPart told asked bytes out err
+Shows OutOfMemory asked bytes told out err = IsKept out × IsTold err (codes "girzohal: out of memory\n")
+Shows InputTooLong asked bytes told out err = ⊥
+Shows TooManyFiles asked bytes told out err = IsKept out × IsTold err (codes "girzohal: too many files\n")
+
+-- the end of writing texts
+abbrev pub Sends : Status → Texts → Device → Device → Type 0
+Sends Clean texts out err = (texts.reached ≡ false) × Appends out.before out.now texts.out × IsTold err texts.aside
+Sends Reached texts out err = (texts.reached ≡ true) × Appends out.before out.now texts.out × IsTold err texts.aside
+Sends SinkFault texts out err = AppendsPrefix out.before out.now texts.out × HasRisen out × IsTold err texts.aside
+Sends other texts out err = ⊥

@@ -1,0 +1,58 @@
+// What is written of a SARIF log.
+ghost use Rattle.std.specs.Prelude.{◌≡◌, IfErr, IfOk, string_bytes};
+ghost use Rattle.girzohal.specs.Logs.{IsNoLog, ReadsLog, log_columns as columns_of};
+ghost use Rattle.girzohal.specs.Made.{HasCause, Writes};
+
+use crate::fault::{Fault, why};
+use crate::making::Written;
+use crate::object::write;
+use girzohal_asked::Asked;
+use line_shapes::tables::Unit;
+use sarif::{ColumnKind, LogError, names_of, read_log, reports_of};
+use source_store::{Spelling, Store, gather};
+use std::alloc::Global;
+
+/// What is written of a log.
+pub(crate) fn write_log<S: Store>(
+    alloc: Global,
+    asked: &Asked,
+    part: &[u8],
+    store: &S,
+) -> Result<Written, Fault>
+    ensures written { IfOk result (λ it. Writes
+        (ReadsLog (S.told store.now) (columns_of asked.now.columns) part.now) asked.now
+        (string_bytes it.text) it.reached) }
+    ensures cause { IfErr result (HasCause IsNoLog part.now) }
+{
+    let log = match read_log(alloc, part) {
+        Ok(log) => log,
+        Err(LogError::OutOfMemory) => return Err(Fault::OutOfMemory),
+        Err(LogError::NoJson { line, column }) => return Err(no_json(alloc, line, column)),
+        Err(LogError::Fault { path, wanted }) => return Err(no_log(alloc, path.as_str(), wanted)),
+    };
+    let names = names_of(alloc, &log)?;
+    let sources = gather(alloc, store, Spelling::Uri, &names)?;
+    let found = reports_of(alloc, &log, &sources, log_columns(asked.columns))?;
+    write(alloc, asked, &found)
+}
+
+/// What columns of a log count.
+fn log_columns(unit: Option<Unit>) -> Option<ColumnKind>
+    ensures { result ≡ columns_of unit }
+{
+    match unit {
+        Some(Unit::Characters) => Some(ColumnKind::Characters),
+        Some(Unit::Utf16) => Some(ColumnKind::Utf16),
+        Some(Unit::Bytes | Unit::Cells) | None => None,
+    }
+}
+
+/// Where reading as JSON stopped.
+fn no_json(alloc: Global, line: usize, column: usize) -> Fault {
+    why(format!(in alloc; "girzohal: line {line}, column {column}: input is no JSON\n"))
+}
+
+/// What was wanted of a log.
+fn no_log(alloc: Global, path: &str, wanted: &str) -> Fault {
+    why(format!(in alloc; "girzohal: {path}: wanted {wanted}\n"))
+}

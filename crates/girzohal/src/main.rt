@@ -1,0 +1,110 @@
+//! The program `girzohal`: what linters and compilers found, drawn with the sources, or in the forms that
+//! other programs read.
+//!
+//! [`run`] is the whole program over any source, store and sinks; `main` reads the words and gives it the
+//! standard streams and the disk. A run goes through the modules in this order:
+//!
+//! - `words`: what the words ask for
+//! - `surroundings`: what the environment says of colors and width
+//! - `program`: the run itself: an input is read, and what is made of it is written
+//! - `making`: what is made of an input, in its form
+//! - `object`, `logs`: of a JSON object, which is a document or a log
+//! - `lines`, `walk`: of lines that a tool prints for people
+//! - `texts`: what is written of reports
+//! - `fault`: why nothing is made
+//! - `status`: how a run ended
+#![tactic(auto)]
+
+mod fault;
+mod lines;
+mod logs;
+mod making;
+mod object;
+mod program;
+mod status;
+mod surroundings;
+#[cfg(test)]
+mod tests;
+mod texts;
+mod walk;
+mod words;
+
+use documents::{ReaderSource, Source, StderrSink, StdinSource, StdoutSink};
+use girzohal_asked::Asked;
+pub use program::run;
+use source_store::DiskStore;
+pub use status::Status;
+use std::alloc::Global;
+use std::fs::Files;
+use std::io::IsTerminal;
+use std::process::ExitCode;
+use std::{env, fs};
+use surroundings::Surroundings;
+use words::{Refusal, asked_of};
+
+fn main(rt: HostRuntime) -> ExitCode {
+    let alloc = rt.alloc();
+    let Ok(mut args) = env::args(&rt) else {
+        return usage(&rt, "a word is no UTF-8");
+    };
+    let _program = args.next();
+    let Ok(words) = args.collect::<Vec<String>>(alloc) else {
+        return ExitCode::from(Status::OutOfMemory.code());
+    };
+    match asked_of(alloc, &words) {
+        Ok(asked) => obey(&rt, alloc, asked),
+        Err(Refusal::Fault) => usage(&rt, "these words ask for nothing"),
+        Err(Refusal::OutOfMemory) => ExitCode::from(Status::OutOfMemory.code()),
+    }
+}
+
+/// Does what the words ask for, with the streams and the disk of the system.
+fn obey(rt: &HostRuntime, alloc: Global, mut asked: Asked) -> ExitCode {
+    let around = Surroundings::of(rt, rt.stdout().is_terminal());
+    asked.theme = around.theme(asked.theme);
+    asked.width = Some(around.width(asked.width));
+    let Ok(root) = rt.canonicalize(alloc, asked.root.as_str()) else {
+        return usage(rt, "there is no such root");
+    };
+    let store = DiskStore::new(rt, root.into_string(), asked.anywhere);
+    let Some(file) = file_in(&asked) else {
+        if rt.stdin().is_terminal() {
+            let _waits = eprintln!(rt; "girzohal: reading from the terminal");
+        }
+        return start(rt, alloc, &asked, &mut StdinSource::new(rt.stdin()), &store);
+    };
+    match fs::open(rt, file) {
+        Ok(opened) => start(rt, alloc, &asked, &mut ReaderSource::new(opened), &store),
+        Err(_) => {
+            let _told = eprintln!(rt; "girzohal: {file} can't be read");
+            ExitCode::from(Status::ReadFault.code())
+        }
+    }
+}
+
+/// The file that is read; none where it is standard input.
+fn file_in(asked: &Asked) -> Option<&str> {
+    match asked.file.as_deref() {
+        Some("-") | None => None,
+        Some(file) => Some(file),
+    }
+}
+
+/// Runs over an input.
+fn start<I: Source>(
+    rt: &HostRuntime,
+    alloc: Global,
+    asked: &Asked,
+    input: &mut I,
+    store: &DiskStore<'_, HostRuntime>,
+) -> ExitCode {
+    let mut out = StdoutSink::new(rt.stdout());
+    let mut err = StderrSink::new(rt.stderr());
+    ExitCode::from(run(alloc, asked, input, store, &mut out, &mut err).code())
+}
+
+/// Says why words ask for nothing.
+fn usage(rt: &HostRuntime, why: &str) -> ExitCode {
+    let _told = eprintln!(rt; "girzohal: {why}; --help says more");
+    ExitCode::from(Status::Usage.code())
+}

@@ -1,0 +1,140 @@
+// What is made of a JSON object: of a document, or of a log.
+ghost use Rattle.std.specs.Prelude.{◌≡◌, ◌≤◌, IfErr, IfOk, length, string_bytes};
+ghost use Rattle.input_forms.specs.Object.{has_files as key_files};
+ghost use Rattle.girzohal.specs.Logs.{log_columns as columns_of};
+ghost use Rattle.girzohal.specs.Made.{HasCause, IsFree, IsNoObject, IsWritten, MakesObject};
+ghost use Rattle.girzohal.specs.Made.{Writes};
+ghost use Rattle.girzohal.specs.Reads.{IsNoDocument, IsNoneKeyed, IsNonePart};
+ghost use Rattle.girzohal.specs.Reads.{ReadsDocument, ReadsKeyed, ReadsPart, around as around_range};
+
+use crate::fault::{Fault, no_form, why};
+use crate::logs::write_log;
+use crate::making::{Made, Written};
+use crate::texts::text_or_fault;
+use documents::read_document;
+use found_reports::FoundReports;
+use girzohal_asked::Asked;
+use input_forms::{has_files, json_part};
+use render_files::ReportError;
+use report_counts::one_reaches;
+use shown_reports::document_reports;
+use source_store::Store;
+use std::alloc::{AllocError, Global};
+use std::ops::Range;
+
+/// How a JSON object is read.
+#[derive(Clone, Copy)]
+pub(crate) enum ObjectForm {
+    /// As a document where it has the key `files`, else as a log.
+    Keyed,
+    /// As a document.
+    AsDocument,
+    /// As a SARIF log.
+    AsLog,
+}
+
+/// What is made of the JSON object of an input.
+pub(crate) fn make_object<S: Store>(
+    alloc: Global,
+    form: ObjectForm,
+    asked: &Asked,
+    bytes: &[u8],
+    store: &S,
+) -> Result<Made, Fault>
+    ensures made { IfOk result (λ it. MakesObject form (S.told store.now) asked.now bytes.now
+        (string_bytes it.written.text) it.aside.items it.written.reached) }
+    ensures cause { IfErr result (HasCause (IsNoObject form) bytes.now) }
+{
+    let range = json_part(bytes);
+    let part = &bytes[range.start..range.end];
+    let written = write_part(alloc, form, asked, part, store)?;
+    let aside = around(alloc, bytes, range)?;
+    Ok(Made { written, aside })
+}
+
+/// What stands around a range.
+fn around(alloc: Global, bytes: &[u8], range: Range<usize>) -> Result<Vec<u8>, AllocError>
+    requires start { range.start ≤ length bytes.now }
+    requires end { range.end ≤ length bytes.now }
+    ensures { IfOk result (λ aside. aside.items ≡ around_range bytes.now range) }
+{
+    let mut aside = Vec::new(alloc);
+    aside.extend_from_slice(&bytes[..range.start])?;
+    aside.extend_from_slice(&bytes[range.end..])?;
+    Ok(aside)
+}
+
+/// What is written of a JSON object in a form.
+fn write_part<S: Store>(
+    alloc: Global,
+    form: ObjectForm,
+    asked: &Asked,
+    part: &[u8],
+    store: &S,
+) -> Result<Written, Fault>
+    ensures written { IfOk result (λ it. Writes
+        (ReadsPart form (S.told store.now) (columns_of asked.now.columns) part.now) asked.now
+        (string_bytes it.text) it.reached) }
+    ensures cause { IfErr result (HasCause (IsNonePart form) part.now) }
+{
+    match form {
+        ObjectForm::Keyed => write_keyed(alloc, asked, part, store),
+        ObjectForm::AsDocument => write_document(alloc, asked, part),
+        ObjectForm::AsLog => write_log(alloc, asked, part, store),
+    }
+}
+
+/// What is written of a JSON object: of a document where it has the key `files`, else of a log.
+fn write_keyed<S: Store>(
+    alloc: Global,
+    asked: &Asked,
+    part: &[u8],
+    store: &S,
+) -> Result<Written, Fault>
+    ensures written { IfOk result (λ it. Writes
+        (ReadsKeyed (key_files part.now) (S.told store.now) (columns_of asked.now.columns) part.now)
+        asked.now (string_bytes it.text) it.reached) }
+    ensures cause { IfErr result (HasCause (λ text. IsNoneKeyed (key_files text) text) part.now) }
+{
+    if has_files(alloc, part)? {
+        write_document(alloc, asked, part)
+    } else {
+        write_log(alloc, asked, part, store)
+    }
+}
+
+/// What is written of a document.
+fn write_document(alloc: Global, asked: &Asked, part: &[u8]) -> Result<Written, Fault>
+    ensures written { IfOk result (λ it. Writes (ReadsDocument part.now) asked.now
+        (string_bytes it.text) it.reached) }
+    ensures cause { IfErr result (HasCause IsNoDocument part.now) }
+{
+    let Some(document) = read_document(alloc, part)? else {
+        return Err(no_form(alloc, "input is no document"));
+    };
+    match document_reports(alloc, &document) {
+        Ok(found) => write(alloc, asked, &found),
+        Err(ReportError::OutOfMemory) => Err(Fault::OutOfMemory),
+        Err(why) => Err(refused(alloc, why)),
+    }
+}
+
+/// What is written of reports.
+pub(crate) fn write(
+    alloc: Global,
+    asked: &Asked,
+    found: &FoundReports<'_>,
+) -> Result<Written, Fault>
+    ensures written { IfOk result (λ it. IsWritten asked.now found.now.found
+        (string_bytes it.text) it.reached) }
+    ensures cause { IfErr result IsFree }
+{
+    let reached = one_reaches(asked.fail_on, found);
+    let text = text_or_fault(alloc, asked, found)?;
+    Ok(Written { text, reached })
+}
+
+/// Why a report of a document is refused.
+fn refused(alloc: Global, error: ReportError) -> Fault {
+    why(format!(in alloc; "girzohal: {error}\n"))
+}

@@ -1,0 +1,100 @@
+// The whole program, over any source, store and sinks.
+ghost use Rattle.std.specs.Prelude.{◌≡◌, string_bytes};
+ghost use Rattle.girzohal.specs.Run.{IsTold, IsUntouched, Means, Sends, Shows, device};
+
+use crate::fault::Fault;
+use crate::making::{Made, make};
+use crate::status::Status;
+use documents::{Reading, Source, read_all};
+use girzohal_asked::Asked;
+use oxc_protocol::{Failed, Sink, write_all};
+use source_store::Store;
+use std::alloc::Global;
+
+/// The most bytes that a run reads, 64 MiB.
+const LIMIT: usize = 67_108_864;
+
+/// Reads an input to its end and writes what was asked for of the reports that it means, with the
+/// sources that a store has, to `out`; what is none of them goes to `err`, and a line that says why
+/// nothing is written.
+pub fn run<I: Source, S: Store, O: Sink, E: Sink>(
+    alloc: Global,
+    asked: &Asked,
+    input: &mut I,
+    store: &S,
+    out: &mut O,
+    err: &mut E,
+) -> Status
+    // What each status means: with `Clean` and `Reached` the output received exactly what is made of
+    // the reports that the whole input means, with what the store gave, which is what it tells where
+    // it tells something; `Reached` exactly where one is at or above the level.
+    ensures means { Means result asked.now (device I.left I.faults input.old input.new)
+        (S.told store.now) (device O.received O.faults out.old out.new)
+        (device E.received E.faults err.old err.new) }
+
+    // With every status but `Clean`, `Reached` and `SinkFault` the output is as it was, whether it
+    // tells what it received or not.
+    ensures untouched { IsUntouched result out.old out.new }
+{
+    match read_all(alloc, input, LIMIT) {
+        Reading::Whole(bytes) => show(alloc, asked, &bytes, store, out, err),
+        Reading::TooLong => fail(err, "girzohal: input too long\n", Status::InputTooLong),
+        Reading::Fault => fail(err, "girzohal: input failed\n", Status::ReadFault),
+        Reading::OutOfMemory => fail(err, "girzohal: out of memory\n", Status::OutOfMemory),
+    }
+}
+
+/// Writes what was asked for of the reports that bytes mean.
+fn show<S: Store, O: Sink, E: Sink>(
+    alloc: Global,
+    asked: &Asked,
+    bytes: &[u8],
+    store: &S,
+    out: &mut O,
+    err: &mut E,
+) -> Status
+    ensures shows { Shows result asked.now bytes.now (S.told store.now)
+        (device O.received O.faults out.old out.new)
+        (device E.received E.faults err.old err.new) }
+    ensures untouched { IsUntouched result out.old out.new }
+{
+    match make(alloc, asked, bytes, store) {
+        Ok(made) => send(&made, out, err),
+        Err(Fault::NoForm(line)) => fail(err, line.as_str(), Status::NoForm),
+        Err(Fault::TooManyFiles) => {
+            fail(err, "girzohal: too many files\n", Status::TooManyFiles)
+        }
+        Err(Fault::OutOfMemory) => fail(err, "girzohal: out of memory\n", Status::OutOfMemory),
+    }
+}
+
+/// Writes what is made of an input.
+fn send<O: Sink, E: Sink>(made: &Made, out: &mut O, err: &mut E) -> Status
+    ensures { Sends result
+        (record { out = string_bytes made.now.written.text; aside = made.now.aside.items; reached = made.now.written.reached })
+        (device O.received O.faults out.old out.new)
+        (device E.received E.faults err.old err.new) }
+{
+    tell(err, &made.aside);
+    match write_all(out, made.written.text.as_bytes()) {
+        Ok(()) if made.written.reached => Status::Reached,
+        Ok(()) => Status::Clean,
+        Err(Failed) => Status::SinkFault,
+    }
+}
+
+/// Says why nothing is written, and gives the status that stands for it.
+fn fail<E: Sink>(err: &mut E, line: &str, status: Status) -> Status
+    ensures told { IsTold (device E.received E.faults err.old err.new) line.now }
+    ensures status { result ≡ status }
+{
+    tell(err, line.as_bytes());
+    status
+}
+
+/// Writes bytes to a sink. One that fails receives a first part of them, and nothing else changes.
+fn tell<E: Sink>(err: &mut E, bytes: &[u8])
+    ensures { IsTold (device E.received E.faults err.old err.new) bytes.now }
+{
+    let _told = write_all(err, bytes);
+}

@@ -1,0 +1,78 @@
+// What the environment says of colors and of the width.
+use girzohal_asked::ThemeChoice;
+use std::env;
+
+/// How wide a drawing is where nothing says it, in columns.
+const WIDTH: usize = 80;
+
+/// What the environment says.
+#[derive(Clone, Copy)]
+pub(crate) struct Surroundings {
+    /// Whether the output is a terminal.
+    terminal: bool,
+    /// Whether `FORCE_COLOR` is set, and neither empty nor `0`.
+    forced: bool,
+    /// Whether `NO_COLOR` is set and not empty.
+    refused: bool,
+    /// Whether `TERM` is `dumb`.
+    dumb: bool,
+    /// The number that `COLUMNS` is.
+    columns: Option<usize>,
+}
+
+impl Surroundings {
+    /// What the environment of the program says.
+    pub(crate) fn of(rt: &HostRuntime, terminal: bool) -> Surroundings {
+        let columns = match env::var(rt, "COLUMNS") {
+            Ok(text) => text.as_str().parse::<usize>().ok(),
+            Err(_) => None,
+        };
+        Surroundings {
+            terminal,
+            forced: is_set_but(rt, "FORCE_COLOR", "0"),
+            refused: is_set_but(rt, "NO_COLOR", ""),
+            dumb: is(rt, "TERM", "dumb"),
+            columns,
+        }
+    }
+
+    /// The theme of a choice: of `Auto` one with colors where they are forced, or where a person looks
+    /// who doesn't refuse them.
+    pub(crate) fn theme(self, choice: ThemeChoice) -> ThemeChoice {
+        match choice {
+            ThemeChoice::Auto if self.has_colors() => ThemeChoice::Unicode,
+            ThemeChoice::Auto => ThemeChoice::UnicodeNocolor,
+            chosen => chosen,
+        }
+    }
+
+    fn has_colors(self) -> bool {
+        self.forced || self.terminal && !self.refused && !self.dumb
+    }
+
+    /// The width of a drawing.
+    pub(crate) fn width(self, asked: Option<usize>) -> usize {
+        match asked {
+            Some(width) => width,
+            None => self.columns.unwrap_or(WIDTH),
+        }
+    }
+}
+
+/// Whether a variable is set to something that is neither empty nor this text. What is no UTF-8 is
+/// something.
+fn is_set_but(rt: &HostRuntime, name: &str, text: &str) -> bool {
+    match env::var(rt, name) {
+        Ok(value) => !value.as_str().is_empty() && value.as_str() != text,
+        Err(env::VarError::NotPresent) => false,
+        Err(_) => true,
+    }
+}
+
+/// Whether a variable is this text.
+fn is(rt: &HostRuntime, name: &str, text: &str) -> bool {
+    match env::var(rt, name) {
+        Ok(value) => value.as_str() == text,
+        Err(_) => false,
+    }
+}

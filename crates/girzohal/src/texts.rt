@@ -1,0 +1,57 @@
+// What is written of reports.
+ghost use Rattle.std.specs.Prelude.{◌≡◌, IfErr, IfOk, string_bytes};
+ghost use Rattle.ci_texts.specs.Texts.{ci_text as ci_text_of};
+ghost use Rattle.girzohal.specs.Made.{IsFree};
+ghost use Rattle.girzohal.specs.Texts.{IsText};
+
+use crate::fault::{Fault, fault_of};
+use ci_texts::{CiFormat, ci_text};
+use found_reports::FoundReports;
+use girzohal_asked::{Asked, OutputForm};
+use report_texts::{document_text, drawing_text, json_text};
+use shown_reports::ShowError;
+use std::alloc::Global;
+
+/// What is written of reports, as it was asked for.
+fn text_of(alloc: Global, asked: &Asked, found: &FoundReports<'_>) -> Result<String, ShowError>
+    ensures { IfOk result (λ text. IsText asked.now found.now.found (string_bytes text)) }
+{
+    match asked.to {
+        OutputForm::Drawing => drawing_text(alloc, asked, found),
+        OutputForm::Json => json_text(alloc, asked.raw, found),
+        OutputForm::Document => document_text(alloc, asked.raw, found),
+        OutputForm::Problems => ci(alloc, CiFormat::Problems, asked.raw, found),
+        OutputForm::Github => ci(alloc, CiFormat::Github, asked.raw, found),
+        OutputForm::Gitlab => ci(alloc, CiFormat::Gitlab, asked.raw, found),
+        OutputForm::Checkstyle => ci(alloc, CiFormat::Checkstyle, asked.raw, found),
+        OutputForm::Junit => ci(alloc, CiFormat::Junit, asked.raw, found),
+        OutputForm::Stylish => ci(alloc, CiFormat::Stylish, asked.raw, found),
+    }
+}
+
+/// What is written of reports for a CI system.
+fn ci(
+    alloc: Global,
+    format: CiFormat,
+    raw: bool,
+    found: &FoundReports<'_>,
+) -> Result<String, ShowError>
+    ensures { IfOk result (λ text. string_bytes text ≡ ci_text_of format raw found.now.found) }
+{
+    Ok(ci_text(alloc, format, raw, found)?)
+}
+
+/// The same, or why nothing is made.
+pub(crate) fn text_or_fault(
+    alloc: Global,
+    asked: &Asked,
+    found: &FoundReports<'_>,
+) -> Result<String, Fault>
+    ensures text { IfOk result (λ text. IsText asked.now found.now.found (string_bytes text)) }
+    ensures cause { IfErr result IsFree }
+{
+    match text_of(alloc, asked, found) {
+        Ok(text) => Ok(text),
+        Err(why) => Err(fault_of(why)),
+    }
+}
