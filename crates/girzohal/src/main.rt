@@ -4,6 +4,7 @@
 //! [`run`] is the whole program over any source, store and sinks; `main` reads the words and gives it the
 //! standard streams and the disk. A run goes through the modules in this order:
 //!
+//! - `help`: what is said of the words
 //! - `words`: what the words ask for
 //! - `surroundings`: what the environment says of colors and width
 //! - `program`: the run itself: an input is read, and what is made of it is written
@@ -16,6 +17,7 @@
 #![tactic(auto)]
 
 mod fault;
+mod help;
 mod lines;
 mod logs;
 mod making;
@@ -31,6 +33,7 @@ mod words;
 
 use documents::{ReaderSource, Source, StderrSink, StdinSource, StdoutSink};
 use girzohal_asked::Asked;
+use help::told_of;
 pub use program::run;
 use source_store::DiskStore;
 pub use status::Status;
@@ -51,6 +54,10 @@ fn main(rt: HostRuntime) -> ExitCode {
     let Ok(words) = args.collect::<Vec<String>>(alloc) else {
         return ExitCode::from(Status::OutOfMemory.code());
     };
+    if let Some(text) = told_of(&words) {
+        let _told = println!(rt; "{text}");
+        return ExitCode::SUCCESS;
+    }
     match asked_of(alloc, &words) {
         Ok(asked) => obey(&rt, alloc, asked),
         Err(Refusal::Fault) => usage(&rt, "these words ask for nothing"),

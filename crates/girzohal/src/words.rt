@@ -1,5 +1,8 @@
 // What the words ask for.
 use girzohal_asked::{Asked, InputForm, OutputForm, ThemeChoice};
+use line_shapes::parse::{ShapeError, parse};
+use line_shapes::tables::Unit;
+use line_shapes::tools::{columns_of_tool, tool_shapes};
 use oxc_plan::TabWidth;
 use report_counts::Level;
 use std::alloc::{AllocError, Global};
@@ -28,7 +31,11 @@ pub(crate) fn asked_of(alloc: Global, words: &[String]) -> Result<Asked, Refusal
             continue;
         }
         if !word.as_str().starts_with("--") {
-            asked.file = Some(String::from_str(alloc, word.as_str())?);
+            asked = with_file(alloc, asked, word.as_str())?;
+            continue;
+        }
+        if let Some((name, value)) = word.as_str().split_once('=') {
+            asked = set(alloc, asked, name, value)?;
             continue;
         }
         let Some(value) = words.next() else {
@@ -36,6 +43,15 @@ pub(crate) fn asked_of(alloc: Global, words: &[String]) -> Result<Asked, Refusal
         };
         asked = set(alloc, asked, word.as_str(), value.as_str())?;
     }
+    Ok(asked)
+}
+
+/// With the file that is read, of which there is one at most.
+fn with_file(alloc: Global, mut asked: Asked, name: &str) -> Result<Asked, Refusal> {
+    if asked.file.is_some() {
+        return Err(Refusal::Fault);
+    }
+    asked.file = Some(String::from_str(alloc, name)?);
     Ok(asked)
 }
 
@@ -62,9 +78,51 @@ fn set(alloc: Global, mut asked: Asked, word: &str, value: &str) -> Result<Asked
         "--tabs" => asked.tabs = tabs_of(value)?,
         "--fail-on" => asked.fail_on = level_named(value)?,
         "--most" => asked.most = Some(number_of(value)?),
+        "--columns" => asked.columns = Some(unit_named(value)?),
+        "--first-column" => asked.first_column = Some(first_named(value)?),
+        "--tool" => return with_tool(alloc, asked, value),
+        "--shape" => return with_shape(alloc, asked, value),
         _ => return Err(Refusal::Fault),
     }
     Ok(asked)
+}
+
+/// With one more shape of the user's own.
+fn with_shape(alloc: Global, mut asked: Asked, text: &str) -> Result<Asked, Refusal> {
+    match parse(alloc, text) {
+        Ok(shape) => asked.shapes.push(shape)?,
+        Err(ShapeError::OutOfMemory) => return Err(Refusal::OutOfMemory),
+        Err(_) => return Err(Refusal::Fault),
+    }
+    Ok(asked)
+}
+
+/// With the tool that wrote the input, if anything is known of one with this name.
+fn with_tool(alloc: Global, mut asked: Asked, name: &str) -> Result<Asked, Refusal> {
+    let shapes = tool_shapes(alloc, name)?;
+    if shapes.is_empty() && columns_of_tool(name).is_none() {
+        return Err(Refusal::Fault);
+    }
+    asked.tool = Some(String::from_str(alloc, name)?);
+    Ok(asked)
+}
+
+fn unit_named(name: &str) -> Result<Unit, Refusal> {
+    match name {
+        "bytes" => Ok(Unit::Bytes),
+        "characters" => Ok(Unit::Characters),
+        "utf16" => Ok(Unit::Utf16),
+        "cells" => Ok(Unit::Cells),
+        _ => Err(Refusal::Fault),
+    }
+}
+
+fn first_named(name: &str) -> Result<u32, Refusal> {
+    match name {
+        "0" => Ok(0),
+        "1" => Ok(1),
+        _ => Err(Refusal::Fault),
+    }
 }
 
 fn form_named(name: &str) -> Result<InputForm, Refusal> {

@@ -1,0 +1,32 @@
+# Completions of girzohal for bash. Read it from ~/.bashrc, or put it below share/bash-completion/completions as `girzohal`.
+_girzohal() {
+    local word=${COMP_WORDS[COMP_CWORD]} before=${COMP_WORDS[COMP_CWORD - 1]} values=
+    COMPREPLY=()
+    case $before in
+    --from) values="auto document sarif lines" ;;
+    --to) values="drawing json document problems github gitlab checkstyle junit stylish" ;;
+    --tool) values="clang gcc rustc cargo flake8 shellcheck pylint mypy eslint tsc" ;;
+    --columns) values="bytes characters utf16 cells" ;;
+    --first-column) values="0 1" ;;
+    --theme) values="auto none unicode unicode_nocolor" ;;
+    --width) values="auto 80 100 120" ;;
+    --tabs) values="2 4 8" ;;
+    --fail-on) values="error warning advice never" ;;
+    --shape | --most) return ;;
+    --root)
+        mapfile -t COMPREPLY < <(compgen -d -- "$word")
+        return
+        ;;
+    *)
+        if [[ $word == -* ]]; then
+            values="--from --to --tool --shape --only-findings --columns --first-column --theme --width --tabs --root
+                --anywhere --fail-on --most --quiet --raw --help --version"
+        else
+            mapfile -t COMPREPLY < <(compgen -f -- "$word")
+            return
+        fi
+        ;;
+    esac
+    mapfile -t COMPREPLY < <(compgen -W "$values" -- "$word")
+}
+complete -o filenames -F _girzohal girzohal
