@@ -1,0 +1,233 @@
+#!/usr/bin/env python3
+"""Tries the built girzohal_lsp. usage: try_lsp.py PROGRAM [FOLDER]
+
+PROGRAM is what `rt build` or `rt run` left in crates/girzohal_lsp/out. A transcript of a client goes in as a whole and in
+random cuttings, and the answers are compared; each fault of a frame ends the program; a document that is changed by many
+ranges is compared with a plain replay. With FOLDER (real logs, and `src/cart.c`) and Neovim installed, its own client opens
+a file and types above, in and below what a log found (tools/try_lsp.lua), and what it shows is printed and checked."""
+import json
+import os
+import random
+import shutil
+import subprocess
+import sys
+import tempfile
+import time
+
+PROGRAM = os.path.abspath(sys.argv[1])
+HERE = os.path.dirname(os.path.abspath(__file__))
+
+
+def frame(value, head=None):
+    body = value if isinstance(value, bytes) else json.dumps(value, ensure_ascii=False).encode()
+    return (head or b"Content-Length: %d\r\n\r\n" % len(body)) + body
+
+
+def messages_in(data):
+    """The messages of a whole output, each behind its own head."""
+    out = []
+    while data:
+        head, data = data.split(b"\r\n\r\n", 1)
+        length = int(head.split(b":")[1])
+        out.append(json.loads(data[:length].decode()))
+        data = data[length:]
+    return out
+
+
+def request(number, method, params=None):
+    return {"jsonrpc": "2.0", "id": number, "method": method, "params": params or {}}
+
+
+def notice(method, params=None):
+    return {"jsonrpc": "2.0", "method": method, "params": params or {}}
+
+
+def run(words, data):
+    return subprocess.run([PROGRAM] + words, input=data, capture_output=True, timeout=60)
+
+
+def check(what, holds):
+    print(("ok      " if holds else "FAILED  ") + what)
+    if not holds:
+        check.failed += 1
+
+
+check.failed = 0
+
+
+def place_of(text, offset, encoding):
+    before = text[:offset]
+    line = before.count("\n")
+    row = before[before.rfind("\n") + 1:]
+    unit = {"utf-8": len(row.encode()), "utf-16": len(row.encode("utf-16-le")) // 2, "utf-32": len(row)}[encoding]
+    return {"line": line, "character": unit}
+
+
+LOG = "a.c:1:5: error: one [-Wone]\na.c:2:3: warning: two\nb/c.c:1:1: note: alone\n"
+URI = "file:///x%20y/a.c"
+
+
+def session(folder):
+    log = os.path.join(folder, "log.txt")
+    open(log, "w").write(LOG)
+    start = [
+        frame(request(1, "textDocument/hover")),
+        frame(notice("textDocument/didOpen", {"textDocument": {"uri": URI, "version": 1, "text": "early"}})),
+        frame(request("a", "initialize", {"capabilities": {"general": {"positionEncodings": ["utf-7", "utf-32", "utf-8"]},
+                                                            "textDocument": {"publishDiagnostics": {"relatedInformation": True}}}})),
+        frame(notice("initialized")),
+        frame(notice("textDocument/didOpen", {"textDocument": {"uri": URI, "version": 1, "text": "int x;\n\U0001f4a3 y\n"}})),
+        frame(notice("textDocument/didChange", {"textDocument": {"uri": URI, "version": 2}, "contentChanges": [
+            {"range": {"start": {"line": 0, "character": 0}, "end": {"line": 0, "character": 0}}, "text": "é"},
+            {"range": {"start": {"line": 1, "character": 0}, "end": {"line": 1, "character": 1}}, "text": ""}]})),
+        frame(notice("textDocument/didChange", {"textDocument": {"uri": URI, "version": 3}, "contentChanges": [
+            {"text": "gone"}, {"range": {"start": {"line": 0, "character": 2}, "end": {"line": 0, "character": 1}}, "text": ""}]})),
+        frame(notice("textDocument/didChange", {"textDocument": {"uri": "file:///none", "version": 3}, "contentChanges": []})),
+        frame(b'{"no json'), frame(b""), frame(request(None, "x/y")),
+        frame(request(7, "x/y"), b"content-type: application/vscode-jsonrpc; charset=utf-8\r\nCONTENT-LENGTH:   60\r\nX: :y\r\n\r\n"),
+        frame(request(8, "initialize")),
+        frame(notice("textDocument/didClose", {"textDocument": {"uri": URI}})),
+        frame(request(9, "shutdown")), frame(request(10, "x")), frame(notice("exit")),
+    ]
+    body = json.dumps(request(7, "x/y"), ensure_ascii=False).encode()
+    start[11] = frame(body, b"content-type: application/vscode-jsonrpc; charset=utf-8\r\nCONTENT-LENGTH:   %d\r\nX: :y\r\n\r\n" % len(body))
+    return log, start
+
+
+def try_messages(folder):
+    log, start = session(folder)
+    data = b"".join(start)
+    whole = run(["--tool", "gcc", log], data)
+    out = messages_in(whole.stdout)
+    answers = [(m.get("id"), m.get("error", {}).get("code")) for m in out if "method" not in m]
+    check("each request is answered once, in order", answers == [
+        (1, -32002), ("a", None), (None, -32700), (None, -32700), (7, -32601), (8, -32600), (9, None), (10, -32600)])
+    agreed = [m["result"] for m in out if m.get("id") == "a"][0]
+    check("the first encoding that is known is agreed on", agreed["capabilities"].get("positionEncoding") == "utf-32")
+    told = [m["params"] for m in out if m.get("method") == "textDocument/publishDiagnostics"]
+    check("what was found is published, moves, and is closed", [len(t["diagnostics"]) for t in told] == [2, 2, 0])
+    first, moved = told[0]["diagnostics"], told[1]["diagnostics"]
+    check("the error is where the log says", first[0]["range"]["start"] == {"line": 0, "character": 4} and first[0]["severity"] == 1)
+    check("it moved with its text", moved[0]["range"]["start"] == {"line": 0, "character": 5})
+    said = [m["params"]["message"] for m in out if m.get("method") == "window/logMessage"]
+    check("faulty changes are told", len(said) == 2 and "contentChanges[1]" in said[0] and "no open document" in said[1])
+    check("the status is that of a session that ended well", whole.returncode == 0)
+    check("without shutdown it is 1", run([log], frame(notice("exit"))).returncode == 1)
+    for seed in range(40):
+        chance = random.Random(seed)
+        child = subprocess.Popen([PROGRAM, "--tool", "gcc", log], stdin=subprocess.PIPE, stdout=subprocess.PIPE)
+        at = 0
+        while at < len(data):
+            count = chance.choice([1, 2, 7, 60, 300])
+            try:
+                child.stdin.write(data[at:at + count])
+                child.stdin.flush()
+            except BrokenPipeError:
+                break
+            at += count
+            time.sleep(0.0003)
+        stdout, _ = child.communicate()
+        if stdout != whole.stdout or child.returncode != 0:
+            check(f"cutting {seed}", False)
+    check("40 random cuttings give the same", True)
+    for bad in [b"\n", b"Content-Length: 12a\r\n", b"X: y\r\n\r\n", b"Content-Length: 8388609\r\n\r\n", b"a:" + b"b" * 5000,
+                b"Content-Length: 1\r\nContent-Length: 1\r\n\r\n", b"Content-Length: 1 \r\n\r\n", b"Content-Length 1\r\n\r\n"]:
+        got = run([log], bad)
+        check(f"{bad[:24]} ends it", got.returncode == 1 and got.stdout == b"")
+
+
+def try_replay(folder, seed, encoding):
+    """Many notifications with several ranges each, one of them faulty, against a plain replay."""
+    chance = random.Random(seed)
+    log = os.path.join(folder, "empty.txt")
+    open(log, "w").write("".join(f"a.c:{row}: error: row\n" for row in range(1, 200)))
+    text = "".join(chance.choice(["a", "é", "\U0001f600", "b\n", "\n", " x"]) for _ in range(120))
+    wanted = text
+    data = frame(request(1, "initialize", {"capabilities": {"general": {"positionEncodings": [encoding]}}}))
+    data += frame(notice("textDocument/didOpen", {"textDocument": {"uri": URI, "version": 0, "text": text}}))
+    faulty = chance.randrange(40)
+    for number in range(40):
+        changes, now = [], wanted
+        for _ in range(chance.randrange(1, 5)):
+            start = chance.randrange(len(now) + 1)
+            end = min(len(now), start + chance.randrange(0, 6))
+            piece = "".join(chance.choice(["z", "ß", "\U0001f4a3", "\n", "q"]) for _ in range(chance.randrange(0, 6)))
+            changes.append({"range": {"start": place_of(now, start, encoding), "end": place_of(now, end, encoding)}, "text": piece})
+            now = now[:start] + piece + now[end:]
+        if number == faulty:
+            changes.append({"range": {"start": {"line": 1, "character": 0}, "end": {"line": 0, "character": 0}}, "text": ""})
+        else:
+            wanted = now
+        data += frame(notice("textDocument/didChange", {"textDocument": {"uri": URI, "version": number + 1}, "contentChanges": changes}))
+    # the log has a finding on each row: read anew, it shows where each row begins and ends, blanks aside, in the client's units
+    data += frame(notice("textDocument/didSave", {"textDocument": {"uri": URI}}))
+    data += frame(request(2, "shutdown")) + frame(notice("exit"))
+    out = messages_in(run(["--tool", "gcc", log], data).stdout)
+    said = [m for m in out if m.get("method") == "window/logMessage"]
+    told = [m for m in out if m.get("method") == "textDocument/publishDiagnostics"]
+    rows = wanted.split("\n")
+    shown = [d["range"] for d in told[-1]["params"]["diagnostics"]][:len(rows)]
+    meant = [{"start": {"line": n, "character": len(row) - len(row.lstrip(" "))},
+              "end": {"line": n, "character": place_of(row.rstrip(" "), len(row.rstrip(" ")), encoding)["character"]}}
+             for n, row in enumerate(rows)]
+    same = [(a, b) for a, b, row in zip(shown, meant, rows) if a != b and row.strip(" ")]
+    if same:
+        print(seed, encoding, same[:2])
+    return not same and len(said) == 1 and len(told) == 41 and told[-1]["params"]["version"] == (40 if faulty != 39 else 39)
+
+
+def looks_of(folder, words, file):
+    environment = dict(os.environ, LSP_PROGRAM=PROGRAM, LSP_WORDS="\n".join(words), LSP_FILE=file)
+    got = subprocess.run(["nvim", "--headless", "--clean", "-c", "luafile " + os.path.join(HERE, "try_lsp.lua")],
+                         env=environment, cwd=folder, capture_output=True, timeout=120)
+    looks = {}
+    for line in (got.stdout + got.stderr).decode(errors="replace").replace("\r", "").split("\n"):
+        if " | {" in line:
+            name, value = line.split(" | ", 1)
+            looks[name.strip()] = json.loads(value)
+    return looks
+
+
+def covered(look):
+    """What the shown findings cover, a text each."""
+    out = []
+    for start, column, end, last, message, _ in look["shown"]:
+        lines = [line.encode() for line in look["text"]]
+        if start == end:
+            out.append((message.split("\n")[0], lines[start][column:last].decode(errors="replace") if start < len(lines) else ""))
+        else:
+            out.append((message.split("\n")[0], "several lines"))
+    return out
+
+
+def try_neovim(folder, logs):
+    shutil.copy(os.path.join(logs, "src", "cart.c"), os.path.join(folder, "cart.c"))
+    os.chmod(os.path.join(folder, "cart.c"), 0o644)
+    sarif = os.path.join(folder, "clang16.sarif")
+    with open(os.path.join(logs, "clang16.sarif"), encoding="utf-8") as log, open(sarif, "w", encoding="utf-8") as out:
+        out.write(log.read().replace("file:///project/", ""))
+    for words in (["--tool", "clang", os.path.join(logs, "clang.txt")], ["--tool", "gcc", os.path.join(logs, "gcc.txt")],
+                  [sarif]):
+        looks = looks_of(folder, words, os.path.join(folder, "cart.c"))
+        print("--", os.path.basename(words[-1]), {name: len(look["shown"]) for name, look in looks.items()})
+        names = ["opened", "a line above", "past ASCII in front", "in the mark", "below", "undone", "emptied"]
+        check("Neovim looked each time", list(looks) == names and all(look["came"] for look in looks.values()))
+        if list(looks) != names:
+            continue
+        first = covered(looks["opened"])
+        check("it shows findings", len(first) > 0)
+        for name in ("a line above", "past ASCII in front"):
+            check(f"after '{name}' they cover the same texts", covered(looks[name]) == first)
+        check("the mark that was typed over covers what was typed", covered(looks["in the mark"])[0] == (first[0][0], "X\U0001f4a3"))
+        check("what was undone is as before", covered(looks["undone"]) == covered(looks["in the mark"]))
+        check("nothing with a range is left of an emptied file", all(s[0] == s[2] == 0 and s[1] == s[3] == 0 for s in looks["emptied"]["shown"]))
+        for what in first[:4]:
+            print("       ", what)
+
+
+with tempfile.TemporaryDirectory() as place:
+    try_messages(place)
+    check("30 replays", all(try_replay(place, seed, ["utf-8", "utf-16", "utf-32"][seed % 3]) for seed in range(30)))
+    if len(sys.argv) > 2 and shutil.which("nvim"):
+        try_neovim(place, os.path.abspath(sys.argv[2]))
+sys.exit(1 if check.failed else 0)
