@@ -1,6 +1,6 @@
 // What the words ask for.
 use girzohal_asked::{Asked, InputForm, OutputForm, ThemeChoice};
-use line_shapes::parse::{ShapeError, parse};
+use line_shapes::parse::{OwnShape, ShapeError, parse};
 use line_shapes::tables::Unit;
 use line_shapes::tools::{columns_of_tool, tool_shapes};
 use oxc_plan::TabWidth;
@@ -87,13 +87,18 @@ fn set(alloc: Global, mut asked: Asked, word: &str, value: &str) -> Result<Asked
     Ok(asked)
 }
 
-/// With one more shape of the user's own.
-fn with_shape(alloc: Global, mut asked: Asked, text: &str) -> Result<Asked, Refusal> {
+/// With one more shape of the user's own, as its text says it.
+fn with_shape(alloc: Global, asked: Asked, text: &str) -> Result<Asked, Refusal> {
     match parse(alloc, text) {
-        Ok(shape) => asked.shapes.push(shape)?,
-        Err(ShapeError::OutOfMemory) => return Err(Refusal::OutOfMemory),
-        Err(_) => return Err(Refusal::Fault),
+        Ok(shape) => Ok(with_own(asked, shape)?),
+        Err(ShapeError::OutOfMemory) => Err(Refusal::OutOfMemory),
+        Err(_) => Err(Refusal::Fault),
     }
+}
+
+/// With one more shape.
+fn with_own(mut asked: Asked, shape: OwnShape) -> Result<Asked, AllocError> {
+    asked.shapes.push(shape)?;
     Ok(asked)
 }
 
