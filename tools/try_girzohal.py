@@ -86,7 +86,7 @@ class Tries:
         self.ends("at most one", 1, "--most", "1", given=LINE * 3, out=b"2 more")
         self.ends("a level", 1, "--fail-on", "warning", given=log)
         self.ends("no level", 0, "--fail-on", "never")
-        self.ends("a shape", 1, "--shape", "{name}|{line}|{message}", given=b"a.c|2|oops\n", out=b"oops")
+        self.ends("a shape", 0, "--shape", "{name}|{line}|{message}", given=b"a.c|2|oops\n", out=b"oops")
         said = self.ends("findings alone", 1, "--only-findings", given=b"hello\n" + LINE)
         self.check("--only-findings: the other lines are left out", b"hello" not in said.stdout)
         self.ends("other lines", 1, given=b"hello\n" + LINE, out=b"hello")
