@@ -25,8 +25,6 @@ mod object;
 mod program;
 mod status;
 mod surroundings;
-#[cfg(test)]
-mod tests;
 mod texts;
 mod walk;
 mod words;

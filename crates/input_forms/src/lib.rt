@@ -7,8 +7,6 @@
 
 mod begun;
 mod object;
-#[cfg(test)]
-mod tests;
 
 pub use begun::{Begun, begins_as};
 pub use object::{has_files, json_part};
