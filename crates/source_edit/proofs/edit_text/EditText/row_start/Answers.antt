@@ -1,6 +1,7 @@
 use Rattle.std.proofs.Common.{arith, length, get_or, ap, sym, ◌∙◌, ◌≡◌, ◌<◌, ◌≤◌}
 use Rattle.source_location.specs.Breaks.{breaks_of}
-use Rattle.source_location.specs.Rows.{line_starts, row_start}
+use Rattle.source_location.specs.Rows.{line_starts}
+use Rattle.oxc_windows.specs.Rows.{row_start}
 use Rattle.std.proofs.lemmas.List.{get_or_default, get_or_past}
 use Rattle.source_edit.proofs.edit_text.EditText.row_start.Goals as goal
 
