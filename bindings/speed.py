@@ -6,7 +6,9 @@ usage: speed.py [DOCUMENT..]     (many multi wide unicode deep big; all where no
 It wants the archive of `sh bindings/test.sh` (out/llvm/libgirzohal.a), cc, cargo and valgrind. The documents are those of
 tools/cost.py, with labels by bytes. For each: what `files_text` takes in the library (compiled into the function `draw` of
 crates/girzohal_c), what `girzohal_draw` takes of which that is a part, and what `draw` of the Rust crate takes, with the ratios
-of both to the first. Both have to draw the same."""
+of both to the first. Both have to draw the same.
+
+glibc copies long texts by `rep movsb`, one instruction, of which valgrind counts each byte: so it is told to copy by vectors."""
 import os
 import re
 import struct
@@ -21,6 +23,7 @@ import cost as documents  # noqa: E402
 from examples import SEVERITIES  # noqa: E402
 
 NONE = 2**64 - 1
+BY_VECTORS = "glibc.cpu.x86_rep_movsb_threshold=0x7fffffffffffffff:glibc.cpu.x86_rep_stosb_threshold=0x7fffffffffffffff"
 
 
 def row_starts(source):
@@ -71,7 +74,7 @@ def counts(program, given, drawing, names):
     """What each of the functions takes with all that it calls."""
     kept = drawing + ".counts"
     subprocess.run(["valgrind", "--tool=callgrind", "--callgrind-out-file=" + kept, program, given, drawing],
-                   check=True, stderr=subprocess.DEVNULL)
+                   check=True, stderr=subprocess.DEVNULL, env={**os.environ, "GLIBC_TUNABLES": BY_VECTORS})
     said = subprocess.run(["callgrind_annotate", "--inclusive=yes", "--threshold=100", kept], capture_output=True, text=True).stdout
     found = []
     for name in names:

@@ -5,7 +5,7 @@
 # usage: sh bindings/test.sh [-v] [--within SECONDS]
 # -v shows what the parts say, also where they pass. Where `rt ci` has just proved this checkout, the archives are built over
 # what it left; else `rt lib` proves what has no kept work, which may take an hour from nothing. With --within that gets so many
-# seconds for each compiler, and all is skipped where they don't suffice.
+# seconds for each compiler, and all is skipped where they don't suffice. `.ci/run` calls this behind `rt ci`.
 
 # a part is a function that `part` calls
 # shellcheck disable=SC2317
@@ -92,6 +92,30 @@ installed() {
     "$out/elsewhere" | cmp - c/example.txt
 }
 
+# the pages' examples, as they stand there
+shown_c() {
+    python3 shown.py README.md c >"$out/shown.c" || return 1
+    ${CC:-cc} -O2 -Wall -Wextra -I"$out/prefix/include" -o "$out/shown_c" "$out/shown.c" "$out/prefix/lib/libgirzohal.a" || return 1
+    "$out/shown_c" | cmp - c/example.txt
+}
+
+shown_rust() {
+    mkdir -p "$out/shown/src/bin"
+    printf '[package]\nname = "shown"\nversion = "0.0.0"\nedition = "2021"\n\n[dependencies]\ngirzohal = { path = "%s" }\n' \
+        "$PWD/rust" >"$out/shown/Cargo.toml"
+    python3 shown.py ../README.md rust >"$out/shown/src/bin/front.rs" || return 1
+    python3 shown.py README.md rust >"$out/shown/src/bin/page.rs" || return 1
+    for it in front page; do
+        (cd "$out/shown" && GIRZOHAL_LIB=$out/llvm CARGO_TARGET_DIR=$out/rust cargo run --offline --quiet --bin "$it") >"$out/shown.txt" || return 1
+        cmp "$out/shown.txt" c/example.txt || return 1
+    done
+}
+
+shown_python() {
+    python3 shown.py README.md python >"$out/shown.py" || return 1
+    PYTHONPATH=python PYTHONDONTWRITEBYTECODE=1 GIRZOHAL_LIBRARY=$out/llvm/libgirzohal.so python3 "$out/shown.py" | cmp - c/example.txt
+}
+
 # the archive with requests for memory that can be made to fail
 starved() {
     mkdir -p "$out/starved" && objcopy --redefine-sym malloc=girzohal_starving_malloc \
@@ -103,6 +127,12 @@ starved() {
 }
 
 valgrind_calls() { valgrind -q --leak-check=full --error-exitcode=9 "$out/llvm/calls"; }
+
+# whether the compiler's sanitizers link and run here
+sanitizes() {
+    echo 'int main(void) { return 0; }' >"$out/probe.c"
+    ${CC:-cc} -fsanitize=address,undefined -o "$out/probe" "$out/probe.c" 2>/dev/null && "$out/probe" 2>/dev/null
+}
 
 sanitized() {
     ${CC:-cc} -O1 -g -fsanitize=address,undefined -fno-sanitize-recover=all -std=c99 -Ic -pthread -D_POSIX_C_SOURCE=200809L \
@@ -136,6 +166,8 @@ if ! has rt || ! has python3; then
 fi
 archives
 
+# what is built below, and not left from an earlier run
+rm -f "$out"/*/libgirzohal.a "$out"/*/libgirzohal.so
 if has "${CC:-cc}" && has make; then
     part "libraries for C" make_c llvm all
     part "an archive for C by Rattle's own compiler" make_c rattle all
@@ -149,28 +181,47 @@ if has "${CC:-cc}" && has make; then
         skip "C and C++" "there is no ${CXX:-c++}"
     fi
     part "make install" installed
+    part "the page's example in C" shown_c
     if has valgrind; then part "valgrind" valgrind_calls; else skip valgrind "there is no valgrind"; fi
-    part "address and undefined behavior sanitizers" sanitized
-    has objcopy && part "an archive that starves" starved
+    if sanitizes; then
+        part "address and undefined behavior sanitizers" sanitized
+    else
+        skip "address and undefined behavior sanitizers" "${CC:-cc} has none"
+    fi
+    if has objcopy; then part "an archive that starves" starved; else skip "an archive that starves" "there is no objcopy"; fi
 else
     skip "C and C++" "there is no ${CC:-cc} or no make"
 fi
 
-if has cargo && has "${CC:-cc}"; then
+if has cargo && [ -f "$out/llvm/libgirzohal.a" ]; then
     part "Rust" rust "$out/llvm"
-    part "Rust without memory" rust "$out/starved" "--features starved --test starved"
+    part "the pages' examples in Rust" shown_rust
+    if [ -f "$out/starved/libgirzohal.a" ]; then
+        part "Rust without memory" rust "$out/starved" "--features starved --test starved"
+    else
+        skip "Rust without memory" "there is no archive that starves"
+    fi
 else
-    skip Rust "there is no cargo"
+    skip Rust "there is no cargo, or no library"
 fi
 
-part "Python" python "$out/llvm/libgirzohal.so"
-part "Python without memory" python "$out/starved/libgirzohal.so"
+if [ -f "$out/llvm/libgirzohal.so" ]; then
+    part "Python" python "$out/llvm/libgirzohal.so"
+    part "the page's example in Python" shown_python
+    if [ -f "$out/starved/libgirzohal.so" ]; then
+        part "Python without memory" python "$out/starved/libgirzohal.so"
+    else
+        skip "Python without memory" "there is no library that starves"
+    fi
+else
+    skip Python "there is no shared library"
+fi
 
 headers=
 has node && headers=$(node -p 'require("path").resolve(process.execPath, "../../include/node")')
-if [ -n "$headers" ] && [ -f "$headers/node_api.h" ]; then
+if [ -n "$headers" ] && [ -f "$headers/node_api.h" ] && [ -f "$out/llvm/libgirzohal.a" ]; then
     part "Node" node_module "$headers"
 else
-    skip Node "there is no node with its headers"
+    skip Node "there is no node with its headers, or no library"
 fi
 finish
