@@ -1,6 +1,6 @@
 -- Names of which reports ask, and that these decide the reports.
 use Rattle.std.proofs.Common.{◌≡◌, ℕ, ◌<◌, Bool, true, false, cond, List, [], ◌∷◌, ◌++◌, length, map, Option, Some, None, option_map, ◌||◌, refl, sym, ap, ap₂, ◌∙◌, ◌+◌, get_or, subst, take}
-use Rattle.std.specs.List.{All, AllByRecursion, flat_map, list_any}
+use Rattle.std.specs.List.{All, AllByRecursion, filter, flat_map, list_any}
 use Rattle.std.specs.Str.{bytes_eq}
 use Rattle.std.proofs.lemmas.List.Elements.{All-head, All-tail}
 use Rattle.std.proofs.lemmas.Slice.Eq.{bytes_eq-Decides}
@@ -9,9 +9,10 @@ use Rattle.std.proofs.lemmas.List.{append-nil, map-append, take_more}
 use Rattle.found_reports.specs.Found.{NamedHeld}
 use Rattle.found_reports.specs.Held.{Held}
 use Rattle.sarif_log.specs.declared.log.ColumnKind.{ColumnKind}
-use Rattle.sarif_log.specs.Log.{ArtifactLocation, Log, Names, Run}
-use Rattle.sarif_findings.specs.Findings.{Finding, Spot, findings_in}
-use Rattle.sarif.specs.Asked.{DecideReports, and_name, and_names, asked_at, asked_by, finding_names, names_in, run_names, spot_names}
+use Rattle.sarif_log.specs.Log.{ArtifactLocation, Invocation, Location, Log, LogResult, Names, Notification, Run}
+use Rattle.sarif_findings.specs.Findings.{Finding, Spot, driver_strings, findings_in, found_by, found_in, is_finding, noted_by, noted_in, notes_of, spot_at, strings_of}
+use Rattle.sarif_findings.specs.Rules.{Strings}
+use Rattle.sarif.specs.Asked.{DecideReports, and_name, and_names, asked_at, asked_by, finding_names, invocation_names, location_names, names_in, note_names, result_names, run_names, spot_names}
 use Rattle.sarif.specs.Labels.{Placed, placed}
 use Rattle.sarif.specs.Meaning.{finding_reports, reports_among, reports_in, run_reports}
 use Rattle.sarif.specs.Naming.{location_in, resolved}
@@ -41,6 +42,56 @@ and_names_more view f start now new xs i x within here before more =
 pub and_names_both : {Y : Type 0} (f : Y → List (List ℕ)) (start mid new : List (List ℕ)) (xs ys : List Y) → mid ≡ and_names start (flat_map f xs) → new ≡ and_names mid (flat_map f ys) → new ≡ and_names start (flat_map f (xs ++ ys))
 and_names_both f start mid new xs ys first second =
     second ∙ (ap (λ zs. and_names zs (flat_map f ys)) first ∙ (sym (and_names_append start (flat_map f xs) (flat_map f ys)) ∙ ap (and_names start) (sym (flat_map-append f xs ys))))
+
+-- ---- findings ask for what stands in the log
+
+spots_ask : (names : Names) (strings : Strings) (its : List Location) → flat_map (spot_names names) (map (spot_at strings) its) ≡ flat_map (location_names names) its
+spots_ask names strings [] = refl
+spots_ask names strings (it ∷ its) = ap (λ rest. location_names names it ++ rest) (spots_ask names strings its)
+
+note_asks : (names : Names) (strings : Strings) (it : Notification) → finding_names names (noted_by strings it) ≡ note_names names it
+unfolding finding_names noted_by
+note_asks names strings it = ap (flat_map (spot_names names)) (append-nil (map (spot_at strings) it.locations)) ∙ spots_ask names strings it.locations
+
+notes_ask : (names : Names) (strings : Strings) (its : List Notification) → flat_map (finding_names names) (map (noted_by strings) its) ≡ flat_map (note_names names) its
+notes_ask names strings [] = refl
+notes_ask names strings (it ∷ its) = ap₂ (λ first rest. first ++ rest) (note_asks names strings it) (notes_ask names strings its)
+
+invocations_ask : (names : Names) (strings : Strings) (its : List Invocation) → flat_map (finding_names names) (flat_map (noted_in strings) its) ≡ flat_map (invocation_names names) its
+unfolding invocation_names
+invocations_ask names strings [] = refl
+invocations_ask names strings (it ∷ its) =
+    flat_map-append (finding_names names) (noted_in strings it) (flat_map (noted_in strings) its)
+    ∙ ap₂ (λ first rest. first ++ rest) (notes_ask names strings (notes_of it)) (invocations_ask names strings its)
+
+result_asks : (names : Names) (run : Run) (it : LogResult) → finding_names names (found_in run it) ≡ flat_map (location_names names) (it.locations ++ it.related)
+unfolding finding_names found_in found_by
+result_asks names run it =
+    ap (flat_map (spot_names names)) (sym (map-append (spot_at (strings_of run it)) it.locations it.related))
+    ∙ spots_ask names (strings_of run it) (it.locations ++ it.related)
+
+results_ask : (names : Names) (run : Run) (its : List LogResult) → flat_map (finding_names names) (map (found_in run) (filter is_finding its)) ≡ flat_map (result_names names) its
+unfolding result_names
+results_ask names run [] = refl
+results_ask names run (it ∷ its) =
+    let asked = flat_map (location_names names) (it.locations ++ it.related) in
+    elim (is_finding it) as (λ b. flat_map (finding_names names) (map (found_in run) (cond b (it ∷ filter is_finding its) (filter is_finding its))) ≡ cond b asked [] ++ flat_map (result_names names) its)
+    [ true ↦ ap₂ (λ first rest. first ++ rest) (result_asks names run it) (results_ask names run its) | false ↦ results_ask names run its ]
+
+-- what a tool says of its own run, and then the results
+pub run_asks : (run : Run) → run_names run ≡ flat_map (invocation_names run.names) run.invocations ++ flat_map (result_names run.names) run.results
+unfolding run_names findings_in
+run_asks run =
+    flat_map-append (finding_names run.names) (flat_map (noted_in (driver_strings run)) run.invocations) (map (found_in run) (filter is_finding run.results))
+    ∙ ap₂ (λ first rest. first ++ rest) (invocations_ask run.names (driver_strings run) run.invocations) (results_ask run.names run run.results)
+
+-- the names of a run
+pub and_run_names : (run : Run) (start mid new : List (List ℕ)) → mid ≡ and_names start (flat_map (invocation_names run.names) run.invocations)
+    → new ≡ and_names mid (flat_map (result_names run.names) run.results) → new ≡ and_names start (run_names run)
+and_run_names run start mid new first second =
+    let notes = flat_map (invocation_names run.names) run.invocations in
+    let results = flat_map (result_names run.names) run.results in
+    second ∙ (ap (λ xs. and_names xs results) first ∙ (sym (and_names_append start notes results) ∙ ap (and_names start) (sym (run_asks run))))
 
 -- ---- what is told of all the names together is told of each
 

@@ -4,8 +4,8 @@ use Rattle.std.specs.List.{list_any}
 use Rattle.std.specs.Str.{bytes_eq}
 use Rattle.found_reports.specs.Held.{Held}
 use Rattle.sarif_log.specs.declared.log.ColumnKind.{ColumnKind}
-use Rattle.sarif_log.specs.Log.{ArtifactLocation, Log, Names, Run}
-use Rattle.sarif_findings.specs.Findings.{Finding, Spot, findings_in}
+use Rattle.sarif_log.specs.Log.{ArtifactLocation, Invocation, Location, Log, LogResult, Names, Notification, Run}
+use Rattle.sarif_findings.specs.Findings.{Finding, Spot, findings_in, is_finding, notes_of}
 use Rattle.sarif.specs.Meaning.{reports_in}
 use Rattle.sarif.specs.Naming.{location_in, resolved}
 
@@ -25,6 +25,23 @@ finding_names names finding = flat_map (spot_names names) (finding.locations ++ 
 
 unfoldable pub run_names : Run → List (List ℕ)
 run_names run = flat_map (finding_names run.names) (findings_in run)
+
+-- ---- the same by what stands in the log, without what is said there
+
+abbrev pub location_names : Names → Location → List (List ℕ)
+location_names names it = asked_at names it.artifact
+
+abbrev pub note_names : Names → Notification → List (List ℕ)
+note_names names it = flat_map (location_names names) it.locations
+
+unfoldable pub invocation_names : Names → Invocation → List (List ℕ)
+invocation_names names it = flat_map (note_names names) (notes_of it)
+
+-- none where the result is no finding
+unfoldable pub result_names : Names → LogResult → List (List ℕ)
+result_names names it = if is_finding it then flat_map (location_names names) (it.locations ++ it.related) else []
+
+-- ---- all names
 
 -- these names and one more, unless it is there
 abbrev pub and_name : List (List ℕ) → List ℕ → List (List ℕ)

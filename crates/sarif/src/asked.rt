@@ -1,15 +1,17 @@
 //! The names of which the reports of a log ask.
-ghost use Rattle.std.specs.Prelude.{◌≡◌, flat_map, map, string_bytes, IfOk, OnOk};
+ghost use Rattle.std.specs.Prelude.{◌≡◌, ◌++◌, flat_map, map, string_bytes, IfOk, OnOk};
 ghost use Rattle.std.specs.List.{list_any};
 ghost use Rattle.std.specs.Str.{bytes_eq};
-ghost use Rattle.sarif_log.specs.Log.{artifact_location_view, log_view, names_view, run_view};
-ghost use Rattle.sarif_findings.specs.Findings.{finding_view, spot_view};
-ghost use Rattle.sarif.specs.Asked.{DecideReports, and_name, and_names, asked_at, finding_names};
-ghost use Rattle.sarif.specs.Asked.{names_in, run_names, spot_names};
+ghost use Rattle.sarif_log.specs.Log.{artifact_location_view, invocation_view, location_view};
+ghost use Rattle.sarif_log.specs.Log.{log_result_view, log_view, names_view, notification_view};
+ghost use Rattle.sarif_log.specs.Log.{run_view};
+ghost use Rattle.sarif.specs.Asked.{DecideReports, and_name, and_names, asked_at};
+ghost use Rattle.sarif.specs.Asked.{invocation_names, location_names, names_in, note_names};
+ghost use Rattle.sarif.specs.Asked.{result_names, run_names};
 
 use crate::resolving::{location_in, resolved};
-use sarif_findings::{Finding, Spot, findings_of};
-use sarif_log::{ArtifactLocation, Log, Names, Run};
+use sarif_findings::is_finding;
+use sarif_log::{ArtifactLocation, Invocation, Location, Log, LogResult, Names, Notification, Run};
 use std::alloc::{AllocError, Global};
 
 /// The names of which [`crate::reports_of`] asks, each once: sources that tell the same of these
@@ -32,63 +34,134 @@ pub fn names_of(alloc: Global, log: &Log) -> Result<Vec<String>, AllocError>
 }
 
 /// Adds the names of a run.
-#[tactic(auto, unfolding(crate::specs::Asked::run_names, sarif_log::specs::Log::run_view))]
+#[tactic(auto, unfolding(sarif_log::specs::Log::run_view))]
 fn push_run_names(alloc: Global, run: &Run, names: &mut Vec<String>) -> Result<(), AllocError>
     ensures { OnOk result (map string_bytes names.new.items
         ≡ and_names (map string_bytes names.old.items) (run_names (run_view run.now))) }
 {
-    let findings = findings_of(alloc, run)?;
-    push_findings_names(alloc, &run.names, &findings, names)
+    push_invocations_names(alloc, &run.names, &run.invocations, names)?;
+    push_results_names(alloc, &run.names, &run.results, names)
 }
 
-/// Adds the names of findings.
+/// Adds the names of what a tool says of its own run, call by call.
 #[tactic(auto, using(crate::proofs::AskedLemmas::and_names_none))]
-fn push_findings_names(
+fn push_invocations_names(
     alloc: Global,
     those: &Names,
-    findings: &[Finding<'_>],
+    invocations: &[Invocation],
     names: &mut Vec<String>,
 ) -> Result<(), AllocError>
     ensures { OnOk result (map string_bytes names.new.items
         ≡ and_names (map string_bytes names.old.items)
-        (flat_map (finding_names (names_view those.now)) (map finding_view findings.now))) }
+        (flat_map (invocation_names (names_view those.now))
+        (map invocation_view invocations.now))) }
 {
-    for finding in findings {
-        push_finding_names(alloc, those, finding, names)?;
+    for invocation in invocations {
+        push_invocation_names(alloc, those, invocation, names)?;
     }
     Ok(())
 }
 
-/// Adds the names of a finding.
-#[tactic(auto, using(crate::proofs::AskedLemmas::and_names_none), unfolding(crate::specs::Asked::finding_names, sarif_findings::specs::Findings::finding_view))]
-fn push_finding_names(
+/// Adds the names of what a tool says of one of its calls.
+fn push_invocation_names(
     alloc: Global,
     those: &Names,
-    finding: &Finding<'_>,
+    it: &Invocation,
     names: &mut Vec<String>,
 ) -> Result<(), AllocError>
     ensures { OnOk result (map string_bytes names.new.items
         ≡ and_names (map string_bytes names.old.items)
-        (finding_names (names_view those.now) (finding_view finding.now))) }
+        (invocation_names (names_view those.now) (invocation_view it.now))) }
 {
-    push_spots_names(alloc, those, &finding.locations, names)?;
-    push_spots_names(alloc, those, &finding.related, names)
+    push_notes_names(alloc, those, &it.configuration, names)?;
+    push_notes_names(alloc, those, &it.execution, names)
+}
+
+/// Adds the names of notifications.
+#[tactic(auto, using(crate::proofs::AskedLemmas::and_names_none), unfolding(sarif_log::specs::Log::notification_view))]
+fn push_notes_names(
+    alloc: Global,
+    those: &Names,
+    notes: &[Notification],
+    names: &mut Vec<String>,
+) -> Result<(), AllocError>
+    ensures { OnOk result (map string_bytes names.new.items
+        ≡ and_names (map string_bytes names.old.items)
+        (flat_map (note_names (names_view those.now)) (map notification_view notes.now))) }
+{
+    for note in notes {
+        push_locations_names(alloc, those, &note.locations, names)?;
+    }
+    Ok(())
+}
+
+/// Adds the names of those results that are findings.
+#[tactic(auto, using(crate::proofs::AskedLemmas::and_names_none))]
+fn push_results_names(
+    alloc: Global,
+    those: &Names,
+    results: &[LogResult],
+    names: &mut Vec<String>,
+) -> Result<(), AllocError>
+    ensures { OnOk result (map string_bytes names.new.items
+        ≡ and_names (map string_bytes names.old.items)
+        (flat_map (result_names (names_view those.now)) (map log_result_view results.now))) }
+{
+    for it in results {
+        push_result_names(alloc, those, it, names)?;
+    }
+    Ok(())
+}
+
+/// Adds the names of a result, if it is a finding.
+#[tactic(auto, using(crate::proofs::AskedLemmas::and_names_none), unfolding(crate::specs::Asked::result_names))]
+fn push_result_names(
+    alloc: Global,
+    those: &Names,
+    it: &LogResult,
+    names: &mut Vec<String>,
+) -> Result<(), AllocError>
+    ensures { OnOk result (map string_bytes names.new.items
+        ≡ and_names (map string_bytes names.old.items)
+        (result_names (names_view those.now) (log_result_view it.now))) }
+{
+    if !is_finding(it) {
+        return Ok(());
+    }
+    push_both_names(alloc, those, it, names)
+}
+
+/// Adds the names of a result's locations, and of the related ones.
+#[tactic(auto, unfolding(sarif_log::specs::Log::log_result_view))]
+fn push_both_names(
+    alloc: Global,
+    those: &Names,
+    it: &LogResult,
+    names: &mut Vec<String>,
+) -> Result<(), AllocError>
+    ensures { OnOk result (map string_bytes names.new.items
+        ≡ and_names (map string_bytes names.old.items)
+        (flat_map (location_names (names_view those.now))
+        ((log_result_view it.now).locations ++ (log_result_view it.now).related))) }
+{
+    push_locations_names(alloc, those, &it.locations, names)?;
+    push_locations_names(alloc, those, &it.related, names)
 }
 
 /// Adds the names of locations.
 #[tactic(auto, using(crate::proofs::AskedLemmas::and_names_none))]
-fn push_spots_names(
+fn push_locations_names(
     alloc: Global,
     those: &Names,
-    spots: &[Spot<'_>],
+    locations: &[Location],
     names: &mut Vec<String>,
 ) -> Result<(), AllocError>
     ensures { OnOk result (map string_bytes names.new.items
         ≡ and_names (map string_bytes names.old.items)
-        (flat_map (spot_names (names_view those.now)) (map spot_view spots.now))) }
+        (flat_map (location_names (names_view those.now)) (map location_view locations.now))) }
 {
-    for spot in spots {
-        push_location_names(alloc, those, &spot.location.artifact, names)?;
+    for location in locations {
+        push_location_names(alloc, those, &location.artifact, names)?;
     }
     Ok(())
 }

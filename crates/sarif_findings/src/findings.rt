@@ -254,9 +254,10 @@ fn level_by(kind: Option<ResultKind>, own: Option<Level>, rules: Option<Level>) 
     }
 }
 
-/// Whether a result is to be shown.
+/// Whether a result is a finding: some suppression of it isn't accepted or there is none, it isn't
+/// absent, and it neither passed nor didn't apply.
 #[tactic(auto, unfolding(crate::specs::Findings::is_finding, sarif_log::specs::Log::log_result_view))]
-fn is_finding(found: &LogResult) -> bool
+pub fn is_finding(found: &LogResult) -> bool
     ensures { result ≡ counts_as_finding (log_result_view found.now) }
 {
     !is_suppressed(&found.suppressions) && !is_absent(found.baseline) && !is_passed(found.kind)

@@ -10,4 +10,4 @@ mod findings;
 mod rules;
 
 pub use fill::filled;
-pub use findings::{Finding, Spot, findings_of};
+pub use findings::{Finding, Spot, findings_of, is_finding};

@@ -1,6 +1,7 @@
 -- The rows of a text.
-use Rattle.std.specs.Prelude.{ℕ, zero, suc, ◌+◌, ◌-◌, ◌≤◌, ◌==◌, ◌&&◌, nat_eq, nat_lt, min, length, take, Bool, List, [], ◌∷◌, if◌then◌else◌}
-use Rattle.std.specs.List.{starts_with}
+use Rattle.std.specs.Prelude.{ℕ, zero, suc, ◌+◌, ◌-◌, ◌≤◌, ◌==◌, ◌&&◌, nat_eq, nat_le, nat_lt, not, slice_index, min, length, take, Bool, List, [], ◌∷◌, if◌then◌else◌}
+use Rattle.std.specs.Borrow.{Bor}
+use Rattle.std.specs.List.{list_all, starts_with}
 use Rattle.std.specs.Str.{IsUtf8, IsCharBoundary}
 use Rattle.sarif_spans.specs.declared.rows.Row.{Row}
 
@@ -12,6 +13,13 @@ stands text bytes = nat_lt 0 (length text) && starts_with nat_eq bytes text
 abbrev pub break_len : List (List ℕ) → List ℕ → ℕ
 break_len [] bytes = 0
 break_len (text ∷ breaks) bytes = if stands text bytes then length text else break_len breaks bytes
+
+abbrev pub is_printed : ℕ → Bool
+is_printed byte = nat_le 0x20 byte && nat_lt byte 0x7F
+
+-- no break begins with a printed character of ASCII
+abbrev pub begin_unprinted : List (Bor (List ℕ)) → Bool
+begin_unprinted breaks = list_all (λ text. not (is_printed (slice_index text.now 0))) breaks
 
 abbrev pub mark : List ℕ
 mark = 0xEF ∷ 0xBB ∷ 0xBF ∷ []

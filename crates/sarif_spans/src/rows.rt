@@ -1,6 +1,7 @@
 //! The rows of a text.
-ghost use Rattle.std.specs.Prelude.{◌≡◌, map, min, All, IfOk};
-ghost use Rattle.sarif_spans.specs.Rows.{BeginsWithText, IsRowOf, break_len};
+ghost use Rattle.std.specs.Prelude.{◌≡◌, map, min, slice_index, true, All, IfOk, IsTrue};
+ghost use Rattle.sarif_spans.specs.Rows.{BeginsWithText, IsRowOf, begin_unprinted, break_len};
+ghost use Rattle.sarif_spans.specs.Rows.{is_printed as printed};
 ghost use Rattle.sarif_spans.specs.Rows.{mark_len as mark_width, rows_in};
 
 use std::alloc::{AllocError, Global};
@@ -29,8 +30,9 @@ pub fn rows_of(alloc: Global, text: &str, breaks: &[&str]) -> Result<Vec<Row>, A
     let mut rows = Vec::new(alloc);
     let mut start = mark_len(text);
     let mut at = 0;
+    let passes = pass_printed(breaks);
     while at < text.len() {
-        let width = break_at(breaks, &text.as_bytes()[at..]);
+        let width = width_at(passes, breaks, &text.as_bytes()[at..]);
         if width == 0 {
             at += 1;
         } else {
@@ -49,6 +51,46 @@ fn row_between(start: usize, end: usize) -> Row
     Row {
         start: start.min(end),
         end,
+    }
+}
+
+/// How long the first of the breaks is that stands at the beginning, or 0. Where the breaks pass
+/// printed characters, these are passed without a look at the breaks.
+#[tactic(auto, using(crate::proofs::RowLemmas::printed_none, crate::proofs::RowLemmas::begins_with_none))]
+fn width_at(passes: bool, breaks: &[&str], rest: &[u8]) -> usize
+    requires { IsTrue passes → begin_unprinted breaks.now ≡ true }
+    ensures value { result ≡ break_len (map (λ it. it.now) breaks.now) rest.now }
+    ensures whole { BeginsWithText rest.now result }
+{
+    if passes && is_printed(first_of(rest)) {
+        return 0;
+    }
+    break_at(breaks, rest)
+}
+
+/// Whether no break begins with a printed character of ASCII.
+fn pass_printed(breaks: &[&str]) -> bool
+    ensures { result ≡ begin_unprinted breaks.now }
+{
+    breaks
+        .iter()
+        .all(|text| !is_printed(first_of(text.as_bytes())))
+}
+
+/// Whether a byte is a printed character of ASCII.
+fn is_printed(byte: u8) -> bool
+    ensures { result ≡ printed byte }
+{
+    0x20 <= byte && byte < 0x7F
+}
+
+/// The first byte, or 0 where there is none.
+fn first_of(bytes: &[u8]) -> u8
+    ensures { result ≡ slice_index bytes.now 0 }
+{
+    match bytes.first() {
+        Some(byte) => *byte,
+        None => 0,
     }
 }
 

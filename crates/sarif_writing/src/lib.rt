@@ -11,6 +11,8 @@
 mod places;
 mod results;
 mod rules;
+#[cfg(test)]
+mod tests;
 mod written;
 
 pub use written::write_log;

@@ -1,5 +1,6 @@
 //! Where labels stand, in rows and columns.
-ghost use Rattle.std.specs.Prelude.{◌≡◌, ◌<◌, IfOk, OnOk, All, codes, map, option_map, length, slice_get};
+ghost use Rattle.std.specs.Prelude.{◌≡◌, ◌<◌, IfOk, OnOk, All, codes, map, option_map, length};
+ghost use Rattle.std.specs.Prelude.{slice_get};
 ghost use Rattle.std.specs.List.{remove};
 ghost use Rattle.std.specs.Option.{option_copied};
 ghost use Rattle.serde_json.specs.Data.{array, item, no_items};
@@ -8,9 +9,12 @@ ghost use Rattle.documents.specs.Written.{put_some};
 ghost use Rattle.codespan.specs.Texts.{text_of};
 ghost use Rattle.source_location.specs.Index.{index_of};
 ghost use Rattle.sarif_writing.specs.Written.{Stands, file_location as file_meant};
-ghost use Rattle.sarif_writing.specs.Written.{head_place as head_meant, label_location as label_meant};
-ghost use Rattle.sarif_writing.specs.Written.{message_value as message_meant, place_members, some_array};
-ghost use Rattle.sarif_writing.specs.Written.{reference_value as reference_meant, region_value as region_meant};
+ghost use Rattle.sarif_writing.specs.Written.{head_place as head_meant};
+ghost use Rattle.sarif_writing.specs.Written.{label_location as label_meant};
+ghost use Rattle.sarif_writing.specs.Written.{message_value as message_meant, place_members};
+ghost use Rattle.sarif_writing.specs.Written.{some_array};
+ghost use Rattle.sarif_writing.specs.Written.{reference_value as reference_meant};
+ghost use Rattle.sarif_writing.specs.Written.{region_value as region_meant};
 ghost use Rattle.sarif_writing.specs.Written.{region_place as region_place_meant};
 
 use codespan::{FileId, Files};

@@ -8,8 +8,10 @@ ghost use Rattle.oxc_protocol.specs.Views.{inner_parts};
 ghost use Rattle.render_files.specs.Given.{given_report};
 ghost use Rattle.render_files.specs.Shown.{placed_labels};
 ghost use Rattle.sarif_writing.specs.Rules.{ArePlaces};
-ghost use Rattle.sarif_writing.specs.Written.{Stands, StandsInFile, index_in, level_text as level_meant};
-ghost use Rattle.sarif_writing.specs.Written.{result_value as result_meant, said_members as said_meant};
+ghost use Rattle.sarif_writing.specs.Written.{Stands, StandsInFile, index_in};
+ghost use Rattle.sarif_writing.specs.Written.{level_text as level_meant};
+ghost use Rattle.sarif_writing.specs.Written.{result_value as result_meant};
+ghost use Rattle.sarif_writing.specs.Written.{said_members as said_meant};
 
 use crate::places::{message_value, put_places};
 use crate::rules::{Rules, put_text};
