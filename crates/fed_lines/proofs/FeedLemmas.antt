@@ -12,7 +12,8 @@ use Rattle.tool_lines.specs.Marks.{are_marks, begins_blank, is_numbered}
 use Rattle.line_shapes.specs.Place.{Place, place}
 use Rattle.line_shapes.specs.Shape.{ShapeParts, first_own}
 use Rattle.tool_lines.specs.Lines.{ArePieces, PieceParts, FindingParts, BegunParts, announced, announced_by, announced_len, bare, begun, begun_of, behind, below_at, coded_below, head, in_trail, inline, may_trail, inline_or, text_below, is_heading, is_kept, name_behind, piece, piece_of, spoken, told, trail_len}
-use Rattle.fed_lines.specs.Feed.{Comes, Ends, StaysOpen, goes_on, IsFirst, last_piece, announced_end, ends_trails, known_piece, piece_behind, piece_or, run_end, so_long, trail_end}
+use Rattle.fed_lines.specs.declared.whole.Cut.{Cut}
+use Rattle.fed_lines.specs.Feed.{AreCut, Comes, Ends, IsEnding, IsFed, Leaves, StaysOpen, cut_of, goes_on, IsFirst, last_piece, announced_end, ends_trails, known_piece, piece_behind, piece_or, run_end, so_long, trail_end}
 
 some_is : {A : Type 0} (a b : A) → Some a ≡ Some b → a ≡ b
 some_is a b e = ap (λ o. unwrap_or o a) e
@@ -394,3 +395,55 @@ goes_so shapes a b l here next last line sort r ea eb el es er goes =
     ap (λ x. goes_on shapes (begun shapes x (Some b)).sort l line) (sym ea)
     ∙ (ap (λ x. goes_on shapes (begun shapes here (Some x)).sort l line) (sym eb)
     ∙ (ap (λ x. goes_on shapes (begun shapes here (Some next)).sort x line) (sym el) ∙ (ap (λ s. goes_on shapes s last line) (sym es) ∙ (sym er ∙ goes))))
+
+-- cuts stand for their pieces
+cut_known : (o : Option PieceParts) (cut : Cut) → Some cut ≡ option_map cut_of o → (p : PieceParts) × (o ≡ Some p) × (cut ≡ cut_of p)
+cut_known None cut is = elim (none-some cut (sym is)) [ ]
+cut_known (Some p) cut is = (p, refl, some_is cut (cut_of p) is)
+
+cut_push : (given : List PieceParts) (p : PieceParts) (cuts pushed : List Cut) (cut : Cut) → map cut_of given ≡ cuts → cut ≡ cut_of p → pushed ≡ cuts ++ cut ∷ [] → map cut_of (given ++ p ∷ []) ≡ pushed
+cut_push given p cuts pushed cut same is e =
+    map-append cut_of given (p ∷ []) ∙ (ap (λ cs. cs ++ cut_of p ∷ []) same ∙ (ap (λ c. cuts ++ c ∷ []) (sym is) ∙ sym e))
+
+pub fed_step : (shapes : List ShapeParts) (whole : List (List ℕ)) (cuts pushed : List Cut) (name later : Option (List ℕ)) (held left extra : List (List ℕ)) (cut : Cut)
+    → Some cut ≡ option_map cut_of (known_piece shapes name held) → cut.lines ≤ length held → Leaves name held (known_piece shapes name held) later left → pushed ≡ cuts ++ cut ∷ []
+    → IsFed shapes whole cuts name (held ++ extra) → IsFed shapes whole pushed later (left ++ extra)
+fed_step shapes whole cuts pushed name later held left extra cut known within leaves e it =
+    let k = cut_known (known_piece shapes name held) cut known in
+    record {
+      pieces = it.pieces ++ k.0 ∷ [];
+      cut = cut_push it.pieces k.0 cuts pushed cut it.cut k.2 e;
+      come = comes_step shapes whole it.pieces name later held left extra k.0 (sym k.1) (subst (λ (c : Cut). c.lines ≤ length held) k.2 within) (subst (λ o. Leaves name held o later left) k.1 leaves) it.come;
+    }
+
+pub ending_step : (shapes : List ShapeParts) (whole : List (List ℕ)) (cuts pushed : List Cut) (name later : Option (List ℕ)) (held left : List (List ℕ)) (cut : Cut)
+    → Some cut ≡ option_map cut_of (last_piece shapes name held) → Leaves name held (last_piece shapes name held) later left → pushed ≡ cuts ++ cut ∷ []
+    → IsEnding shapes whole cuts name held → IsEnding shapes whole pushed later left
+ending_step shapes whole cuts pushed name later held left cut is leaves e it =
+    let k = cut_known (last_piece shapes name held) cut is in
+    record {
+      pieces = it.pieces ++ k.0 ∷ [];
+      cut = cut_push it.pieces k.0 cuts pushed cut it.cut k.2 e;
+      end = ends_step shapes whole it.pieces name later held left k.0 (sym k.1) (subst (λ o. Leaves name held o later left) k.1 leaves) it.end;
+    }
+
+pub fed_ends : (shapes : List ShapeParts) (whole : List (List ℕ)) (cuts : List Cut) (name : Option (List ℕ)) (held : List (List ℕ)) → IsFed shapes whole cuts name held → IsEnding shapes whole cuts name held
+fed_ends shapes whole cuts name held it = record { pieces = it.pieces; cut = it.cut; end = comes_ends shapes whole it.pieces name held it.come }
+
+nothing_last : (shapes : List ShapeParts) (name : Option (List ℕ)) (held : List (List ℕ)) → None ≡ option_map cut_of (last_piece shapes name held) → length held ≡ 0
+nothing_last shapes name [] is = refl
+nothing_last shapes name (line ∷ lines) is = elim (none-some (cut_of (piece shapes name (line ∷ lines))) is) [ ]
+
+pub all_cut : (shapes : List ShapeParts) (whole : List (List ℕ)) (cuts : List Cut) (name : Option (List ℕ)) (held : List (List ℕ)) → None ≡ option_map cut_of (last_piece shapes name held) → IsEnding shapes whole cuts name held → AreCut shapes whole cuts
+all_cut shapes whole cuts name held none it =
+    record { pieces = it.pieces; cut = it.cut; are = subst (λ ps. ArePieces shapes None whole ps) (append-nil it.pieces) (it.end [] (nothing_last shapes name held none)) }
+
+-- no line, no piece
+pub fed_none : (shapes : List ShapeParts) (lines : List (List ℕ)) (cuts : List Cut) → cuts ≡ [] → IsFed shapes lines cuts None lines
+fed_none shapes lines cuts none = record { pieces = []; cut = sym none; come = λ more ps are. are }
+
+pub fed_shorter : (name later : Option (List ℕ)) (held left : List (List ℕ)) (o : Option PieceParts) (cut : Cut) → Some cut ≡ option_map cut_of o → 1 ≤ cut.lines → cut.lines ≤ length held → Leaves name held o later left → length left < length held
+fed_shorter name later held left None cut is some within leaves = elim (none-some cut (sym is)) [ ]
+fed_shorter name later held left (Some p) cut is some within leaves =
+    let same : cut ≡ cut_of p = some_is cut (cut_of p) is in
+    fewer p.lines held left (subst (λ (c : Cut). 1 ≤ c.lines) same some) (subst (λ (c : Cut). c.lines ≤ length held) same within) leaves.1

@@ -1,6 +1,7 @@
 -- The pieces of lines that come one at a time.
-use Rattle.std.specs.Prelude.{◌≡◌, ℕ, ◌+◌, ◌==◌, ◌||◌, ◌&&◌, not, if◌then◌else◌, Bool, false, List, [], ◌∷◌, ◌++◌, length, drop, Option, Some, None}
+use Rattle.std.specs.Prelude.{◌≡◌, ℕ, ◌+◌, ◌==◌, ◌||◌, ◌&&◌, not, if◌then◌else◌, Bool, false, List, [], ◌∷◌, ◌++◌, length, drop, map, Option, Some, None}
 use Rattle.std.specs.Option.{is_some}
+use Rattle.fed_lines.specs.declared.whole.Cut.{Cut}
 use Rattle.tool_lines.specs.declared.lines.Sort.{Sort}
 use Rattle.tool_lines.specs.declared.lines.Sort.TheVariants.{Kept, Heading, Below, Announced, Inline}
 use Rattle.line_shapes.specs.Shape.{ShapeParts}
@@ -95,3 +96,25 @@ goes_on shapes Inline last line = in_trail shapes last (Some line) && not (ends_
 -- where the first piece of these lines isn't known, it isn't with this line behind them
 abbrev pub StaysOpen : List ShapeParts → List (List ℕ) → List ℕ → Type 0
 StaysOpen shapes lines line = (name : Option (List ℕ)) → known_piece shapes name lines ≡ None → known_piece shapes name (lines ++ line ∷ []) ≡ None
+
+-- what a piece takes of the lines
+abbrev pub cut_of : PieceParts → Cut
+cut_of p = record { sort = p.begun.sort; lines = p.lines }
+
+-- whatever stands behind these lines, their first pieces are cut so, and then come the pieces of what is held
+pub record IsFed (shapes : List ShapeParts) (whole : List (List ℕ)) (cuts : List Cut) (name : Option (List ℕ)) (left : List (List ℕ)) : Type 0 where
+  pub pieces : List PieceParts
+  pub cut : map cut_of pieces ≡ cuts
+  pub come : Comes shapes whole pieces name left
+
+-- the same where no line is to come
+pub record IsEnding (shapes : List ShapeParts) (whole : List (List ℕ)) (cuts : List Cut) (name : Option (List ℕ)) (left : List (List ℕ)) : Type 0 where
+  pub pieces : List PieceParts
+  pub cut : map cut_of pieces ≡ cuts
+  pub end : Ends shapes whole pieces name left
+
+-- the pieces of these lines are cut so
+pub record AreCut (shapes : List ShapeParts) (lines : List (List ℕ)) (cuts : List Cut) : Type 0 where
+  pub pieces : List PieceParts
+  pub cut : map cut_of pieces ≡ cuts
+  pub are : ArePieces shapes None lines pieces

@@ -6,5 +6,6 @@
 
 mod ends;
 mod lines;
+pub mod whole;
 
 pub use lines::Lines;
