@@ -4,8 +4,8 @@ _girzohal() {
     COMPREPLY=()
     case $before in
     --from) values="auto document sarif lines" ;;
-    --to) values="drawing json document problems github gitlab checkstyle junit stylish" ;;
-    --tool) values="clang gcc rustc cargo flake8 shellcheck pylint mypy eslint tsc" ;;
+    --to) values="drawing json document sarif problems github gitlab checkstyle junit stylish" ;;
+    --tool) values="clang gcc rustc cargo flake8 shellcheck pylint mypy eslint tsc sarif" ;;
     --columns) values="bytes characters utf16 cells" ;;
     --first-column) values="0 1" ;;
     --theme) values="auto none unicode unicode_nocolor" ;;

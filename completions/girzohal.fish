@@ -1,7 +1,7 @@
 # Completions of girzohal for fish. Put it into ~/.config/fish/completions.
 complete -c girzohal -l from -x -a 'auto document sarif lines' -d 'What the input is'
-complete -c girzohal -l to -x -a 'drawing json document problems github gitlab checkstyle junit stylish' -d 'What is written'
-complete -c girzohal -l tool -x -a 'clang gcc rustc cargo flake8 shellcheck pylint mypy eslint tsc' -d 'Who wrote the input'
+complete -c girzohal -l to -x -a 'drawing json document sarif problems github gitlab checkstyle junit stylish' -d 'What is written'
+complete -c girzohal -l tool -x -a 'clang gcc rustc cargo flake8 shellcheck pylint mypy eslint tsc sarif' -d 'Who wrote the input'
 complete -c girzohal -l shape -x -d 'A shape of lines to try first'
 complete -c girzohal -l only-findings -d 'Leave out lines that are no findings'
 complete -c girzohal -l columns -x -a 'bytes characters utf16 cells' -d 'What a column counts'

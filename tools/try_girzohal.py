@@ -38,7 +38,7 @@ LOG = {
 }
 DOCUMENT = {"files": [{"name": "a.c", "source": SOURCE.decode()}],
             "reports": [{"file": 0, "message": "look here", "labels": [{"start": [2, 5], "end": [2, 9]}]}]}
-FORMS = ("drawing", "json", "document", "problems", "github", "gitlab", "checkstyle", "junit", "stylish")
+FORMS = ("drawing", "json", "document", "sarif", "problems", "github", "gitlab", "checkstyle", "junit", "stylish")
 
 
 class Tries:
@@ -78,6 +78,12 @@ class Tries:
         self.ends("a file", 1, "in.txt", given=b"", out=b"no such name")
         self.ends("standard input by name", 1, "-", out=b"no such name")
         self.ends("a value behind =", 1, "--theme=none", out=b"no such name")
+        self.ends("a value with = in it", 0, "--shape={name}={line}={message}", given=b"a.c=2=oops\n", out=b"oops")
+        self.ends("a file behind --", 1, "--theme", "none", "--", "in.txt", given=b"", out=b"no such name")
+        self.ends("a file that looks like an option", 4, "--", "--theme", given=b"", err=b"--theme can't be read")
+        self.ends("standard input behind --", 1, "--", "-", out=b"no such name")
+        self.ends("the last of two themes", 1, "--theme", "unicode", "--theme=none", out=b"no such name")
+        self.ends("a file among options", 1, "--theme", "none", "in.txt", "--quiet", given=b"", out=b"no such name")
         self.ends("the last value counts", 1, "--tabs", "1", "--tabs", "16")
         for word in ("--quiet", "-q"):
             said = self.ends("no count", 1, word)
@@ -92,7 +98,16 @@ class Tries:
         self.ends("other lines", 1, given=b"hello\n" + LINE, out=b"hello")
         self.ends("columns of bytes", 1, "--columns", "bytes")
         self.ends("columns from 0", 1, "--first-column", "0")
+        self.ends("columns that a log counts", 0, "--from", "sarif", "--columns", "utf16", given=log, out=b"look here")
+        self.ends("columns that a log can't count", 3, "--columns", "bytes", given=log, err=b"columns")
+        self.ends("columns of bytes beside a document", 1, "--columns", "bytes", given=document, out=b"look here")
         self.ends("a tool", 1, "--tool", "clang")
+        for tool in ("clang", "gcc", "rustc", "cargo", "flake8", "shellcheck", "pylint", "mypy", "eslint", "tsc"):
+            said = self.ends("a tool's lines, though they look like JSON", 1, "--tool", tool, given=b"{\n" + LINE, out=b"no such name")
+        self.ends("a tool that writes logs", 0, "--tool", "sarif", given=log, out=b"look here")
+        self.ends("a tool that writes logs, of lines", 3, "--tool", "sarif")
+        self.ends("a form besides the tool", 0, "--tool", "clang", "--from", "sarif", given=log, out=b"look here")
+        self.ends("a form before the tool", 0, "--from", "auto", "--tool", "clang", given=log, out=b"look here")
         self.ends("a root", 1, "--root", "sub", given=b"b.c:1:1: error: here\n", out=b"below")
         self.ends("raw texts", 1, "--raw", given=b"a.c:2:5: error: no \x1b[31mname\n")
 
@@ -120,7 +135,35 @@ class Tries:
                ("--unknown",), ("--theme",), ("a", "b"), ("--quiet=yes",)]
         for words in bad:
             said = self.ends("a fault of the words", 2, *words, err=b"--help")
-            self.check(f"one line: {' '.join(words)}", said.stderr.count(b"\n") == 1 and said.stdout == b"", said)
+            self.check(f"two lines: {' '.join(words)}", said.stderr.count(b"\n") == 2 and said.stdout == b"", said)
+        self.try_faults()
+
+    def try_faults(self):
+        """The first wrong word is named, with what was wanted."""
+        faults = [
+            (("--width", "x"), "--width: wanted a number from 1, or auto, not 'x'"),
+            (("--theme", "none", "--theme=pink", "--what"), "--theme: wanted auto, none, unicode or unicode_nocolor, not 'pink'"),
+            (("--what", "--theme", "pink"), "--what: there is no such option"),
+            (("-x",), "-x: there is no such option"),
+            (("--what=3",), "--what=3: there is no such option"),
+            (("--tabs", "17"), "--tabs: wanted a number from 1 to 16, not '17'"),
+            (("in.txt", "--most"), "--most: wanted a number from 0 behind it"),
+            (("--quiet=yes",), "--quiet: stands alone, not with 'yes'"),
+            (("a", "--quiet", "b", "--tabs", "0"), "b: is a second file, and one is read"),
+            (("--", "--quiet", "--raw"), "--raw: is a second file, and one is read"),
+            (("--from", "sarif", "--columns", "bytes"), "--columns: wanted characters or utf16 of a SARIF log, not 'bytes'"),
+            (("--tool=sarif", "--columns=cells"), "--columns: wanted characters or utf16 of a SARIF log, not 'cells'"),
+            (("--root", "nowhere"), "--root: wanted a folder, not 'nowhere'"),
+            (("--shape", "{nothing}"), "--shape: wanted parts that are known"),
+            (("--shape", "{name}{name"), "--shape: wanted a brace that closes"),
+            (("--shape", "{line}"), "--shape: wanted {name} or {word}"),
+            (("--theme", "\x1b[31mred"), "not '?[31mred'"),
+        ]
+        for words, line in faults:
+            said = self.ends("a fault is named", 2, *words, given=b"", err=line.encode())
+            self.check(f"it begins so: {' '.join(words)}", said.stderr.startswith(b"girzohal: "), said)
+        self.ends("help among wrong words", 0, "--theme", "pink", "--help", out=b"usage: girzohal")
+        self.ends("help as a value", 2, "--theme", "--help", err=b"not '--help'")
 
     # ---- bad inputs
 
@@ -192,6 +235,8 @@ class Tries:
             return [json.loads(line) for line in text.splitlines()]
         if form == "document":
             return json.loads(text)["reports"]
+        if form == "sarif":
+            return json.loads(text)["runs"][0]["results"]
         if form == "gitlab":
             return json.loads(text)
         if form == "checkstyle":
@@ -218,9 +263,26 @@ class Tries:
                 if found is not None:
                     counts[form] = len(found)
             self.check(f"{os.path.basename(path)}: all formats have as many findings: {counts}", len(set(counts.values())) == 1)
+        self.try_logs()
         said = self.run("--to", "gitlab", given=LINE * 3)
         prints = [it["fingerprint"] for it in json.loads(said.stdout or b"[]")]
         self.check("equal findings have fingerprints of their own", len(prints) == 3 and len(set(prints)) == 3, said)
+
+    def try_logs(self):
+        """A log that is written says what was read, and is read again as the same."""
+        said = self.run("--to", "sarif")
+        run = json.loads(said.stdout)["runs"][0]
+        region = run["results"][0]["locations"][0]["physicalLocation"]["region"]
+        self.check("a log: the place", (region["startLine"], region["startColumn"]) == (2, 5), said)
+        self.check("a log: the rule", run["results"][0]["ruleId"] == "x" and run["tool"]["driver"]["rules"][0]["id"] == "x", said)
+        self.check("a log: its tool", run["tool"]["driver"]["name"] == "girzohal", said)
+        named = json.loads(self.run("--to", "sarif", "--tool", "clang").stdout)
+        self.check("a log: the tool that is named", named["runs"][0]["tool"]["driver"]["name"] == "clang")
+        lost = json.loads(self.run("--to", "sarif", given=b"lost.c:7:3: error: here\n").stdout)["runs"][0]
+        place = lost["results"][0]["locations"][0]["physicalLocation"]["artifactLocation"]["uri"]
+        self.check("a log: a finding without a source keeps its file", place == "lost.c")
+        self.ends("a log that is read again: its place, with its tool as scope", 1, "--to", "problems", given=said.stdout,
+                  out=b"a.c:2:5:2:9: error[girzohal(x)]: no such name")
 
     def try_all(self):
         with tempfile.TemporaryDirectory() as self.room:

@@ -24,7 +24,7 @@ use Rattle.report_counts.specs.Counted.{one_reaches}
 use Rattle.report_texts.specs.Texts.{ending_text, first_drawings}
 use Rattle.girzohal_asked.specs.declared.Asked.{Asked}
 use Rattle.girzohal_asked.specs.declared.OutputForm.{OutputForm}
-use Rattle.girzohal_asked.specs.declared.OutputForm.TheVariants.{Drawing, Json, Document, Problems, Github, Gitlab, Checkstyle, Junit, Stylish}
+use Rattle.girzohal_asked.specs.declared.OutputForm.TheVariants.{Drawing, Json, Document, Sarif, Problems, Github, Gitlab, Checkstyle, Junit, Stylish}
 use Rattle.girzohal.specs.Texts.{IsText}
 use Rattle.girzohal.specs.Told.{Told}
 
@@ -109,6 +109,7 @@ abbrev pub is_drawing : OutputForm → Bool
 is_drawing Drawing = true
 is_drawing Json = false
 is_drawing Document = false
+is_drawing Sarif = false
 is_drawing Problems = false
 is_drawing Github = false
 is_drawing Gitlab = false

@@ -1,7 +1,5 @@
 -- What is made of an input.
-use Rattle.std.specs.Prelude.{◌≡◌, ⊤, ℕ, List, Bool, true, false, Option, Some, None, String, string_bytes, codes, if◌then◌else◌}
-use Rattle.std.specs.Str.{bytes_eq}
-use Rattle.std.specs.declared.alloc.Global.{Global}
+use Rattle.std.specs.Prelude.{◌≡◌, ⊤, ℕ, List, Bool, true, false, Option, Some, None}
 use Rattle.std.specs.declared.ops.Range.{Range}
 use Rattle.found_reports.specs.Found.{Found}
 use Rattle.report_counts.specs.Counted.{one_reaches}
@@ -9,6 +7,8 @@ use Rattle.input_forms.specs.Begun.{begins_as}
 use Rattle.input_forms.specs.Object.{IsJsonPart}
 use Rattle.input_forms.specs.declared.begun.Begun.{Begun}
 use Rattle.input_forms.specs.declared.begun.Begun.TheVariants.{Object, OtherJson, Lines}
+use Rattle.line_shapes.specs.declared.tables.Unit.{Unit as ColumnUnit}
+use Rattle.line_shapes.specs.declared.tables.Unit.TheVariants.{Bytes, Characters, Utf16, Cells}
 use Rattle.girzohal_asked.specs.declared.Asked.{Asked}
 use Rattle.girzohal_asked.specs.declared.InputForm.{InputForm}
 use Rattle.girzohal_asked.specs.declared.InputForm.TheVariants as form
@@ -47,8 +47,16 @@ pub record IsNoObject (how : ObjectForm) (bytes : List ℕ) : Type 0 where
 
 -- ---- all forms
 
+-- an object that may be a document or a log: no log's columns count bytes or cells
+abbrev pub object_form : Option ColumnUnit → ObjectForm
+object_form None = Keyed
+object_form (Some Bytes) = AsDocument
+object_form (Some Characters) = Keyed
+object_form (Some Utf16) = Keyed
+object_form (Some Cells) = AsDocument
+
 abbrev pub MakesBegun : Begun → Told → Asked → List ℕ → List ℕ → List ℕ → Bool → Type 0
-MakesBegun Object told asked bytes text aside reached = MakesObject Keyed told asked bytes text aside reached
+MakesBegun Object told asked bytes text aside reached = MakesObject (object_form asked.columns) told asked bytes text aside reached
 MakesBegun OtherJson told asked bytes text aside reached = ⊥
 MakesBegun Lines told asked bytes text aside reached = MakesLines told asked bytes text aside reached
 
@@ -58,41 +66,26 @@ MakesAs form.Document told asked bytes text aside reached = MakesObject AsDocume
 MakesAs form.Sarif told asked bytes text aside reached = MakesObject AsLog told asked bytes text aside reached
 MakesAs form.Lines told asked bytes text aside reached = MakesLines told asked bytes text aside reached
 
--- the form in which a tool writes, if one is named
-abbrev pub form_by : Option (String Global) → InputForm
-form_by None = form.Auto
-form_by (Some tool) = if bytes_eq (string_bytes tool) (codes "sarif") then form.Sarif else form.Lines
-
-abbrev pub form_with : InputForm → Option (String Global) → InputForm
-form_with form.Auto tool = form_by tool
-form_with form.Document tool = form.Document
-form_with form.Sarif tool = form.Sarif
-form_with form.Lines tool = form.Lines
-
--- the form in which an input is read: as was asked for, else as the named tool writes
-abbrev pub form_of : Asked → InputForm
-form_of asked = form_with asked.from asked.tool
-
--- what is made of an input in the form in which it is read: the text and the level of the reports that it means, and what is none of them
+-- what is made of an input in the form that was asked for: the text and the level of the reports that it means, and what is none of them
 abbrev pub IsMade : Told → Asked → List ℕ → List ℕ → List ℕ → Bool → Type 0
-IsMade told asked bytes text aside reached = MakesAs (form_of asked) told asked bytes text aside reached
+IsMade told asked bytes text aside reached = MakesAs asked.from told asked bytes text aside reached
 
 -- ---- why nothing is made
 
-abbrev pub IsNoneBegun : Begun → List ℕ → Type 0
-IsNoneBegun Object bytes = IsNoObject Keyed bytes
-IsNoneBegun OtherJson bytes = ⊤
-IsNoneBegun Lines bytes = ⊥
+abbrev pub IsNoneBegun : Begun → Option ColumnUnit → List ℕ → Type 0
+IsNoneBegun Object columns bytes = IsNoObject (object_form columns) bytes
+IsNoneBegun OtherJson columns bytes = ⊤
+IsNoneBegun Lines columns bytes = ⊥
 
-abbrev pub IsNoneAs : InputForm → List ℕ → Type 0
-IsNoneAs form.Auto bytes = IsNoneBegun (begins_as bytes) bytes
-IsNoneAs form.Document bytes = IsNoObject AsDocument bytes
-IsNoneAs form.Sarif bytes = IsNoObject AsLog bytes
-IsNoneAs form.Lines bytes = ⊥
+abbrev pub IsNoneAs : InputForm → Option ColumnUnit → List ℕ → Type 0
+IsNoneAs form.Auto columns bytes = IsNoneBegun (begins_as bytes) columns bytes
+IsNoneAs form.Document columns bytes = IsNoObject AsDocument bytes
+IsNoneAs form.Sarif columns bytes = IsNoObject AsLog bytes
+IsNoneAs form.Lines columns bytes = ⊥
 
 -- bytes aren't of the form in which they are read
 abbrev pub IsOfNoForm : Asked → List ℕ → Type 0
-IsOfNoForm asked bytes = IsNoneAs (form_of asked) bytes
+IsOfNoForm asked bytes = IsNoneAs asked.from asked.columns bytes
 
 -- no word of the input's form
 abbrev pub IsFree : Fault → Type 0

@@ -119,6 +119,7 @@ fn is_drawing(form: OutputForm) -> bool
         OutputForm::Drawing => true,
         OutputForm::Json
         | OutputForm::Document
+        | OutputForm::Sarif
         | OutputForm::Problems
         | OutputForm::Github
         | OutputForm::Gitlab

@@ -4,8 +4,8 @@
 //! [`run`] is the whole program over any source, store and sinks; `main` reads the words and gives it the
 //! standard streams and the disk. A run goes through the modules in this order:
 //!
-//! - `help`: what is said of the words
-//! - `words`: what the words ask for
+//! - `help`: what the program says of itself
+//! - `words`: why words ask for nothing
 //! - `surroundings`: what the environment says of colors and width
 //! - `program`: the run itself: an input is read, and what is made of it is written
 //! - `making`: what is made of an input, in its form
@@ -31,7 +31,8 @@ mod words;
 
 use documents::{ReaderSource, Source, StderrSink, StdinSource, StdoutSink};
 use girzohal_asked::Asked;
-use help::told_of;
+use girzohal_words::{Refusal, Request, WordFault, read_words};
+use help::{HELP, MORE, VERSION};
 pub use program::run;
 use source_store::DiskStore;
 pub use status::Status;
@@ -41,25 +42,33 @@ use std::io::IsTerminal;
 use std::process::ExitCode;
 use std::{env, fs};
 use surroundings::Surroundings;
-use words::{Refusal, asked_of};
+use words::lines_of;
 
 fn main(rt: HostRuntime) -> ExitCode {
     let alloc = rt.alloc();
     let Ok(mut args) = env::args(&rt) else {
-        return usage(&rt, "a word is no UTF-8");
+        let more = MORE;
+        let _told = eprintln!(rt; "girzohal: a word is no UTF-8\n{more}");
+        return ExitCode::from(Status::Usage.code());
     };
     let _program = args.next();
     let Ok(words) = args.collect::<Vec<String>>(alloc) else {
         return ExitCode::from(Status::OutOfMemory.code());
     };
-    if let Some(text) = told_of(&words) {
-        let _told = println!(rt; "{text}");
-        return ExitCode::SUCCESS;
-    }
-    match asked_of(alloc, &words) {
-        Ok(asked) => obey(&rt, alloc, asked),
-        Err(Refusal::Fault) => usage(&rt, "these words ask for nothing"),
+    match read_words(alloc, &words) {
+        Ok(Request::Help) => tell(&rt, HELP),
+        Ok(Request::Version) => tell(&rt, VERSION),
+        Ok(Request::Run(asked)) => obey(&rt, alloc, asked),
+        Err(Refusal::Fault(fault)) => refuse(&rt, alloc, fault),
         Err(Refusal::OutOfMemory) => ExitCode::from(Status::OutOfMemory.code()),
+    }
+}
+
+/// Says what was asked.
+fn tell(rt: &HostRuntime, text: &str) -> ExitCode {
+    match println!(rt; "{text}") {
+        Ok(()) => ExitCode::SUCCESS,
+        Err(_) => ExitCode::from(Status::SinkFault.code()),
     }
 }
 
@@ -69,7 +78,7 @@ fn obey(rt: &HostRuntime, alloc: Global, mut asked: Asked) -> ExitCode {
     asked.theme = around.theme(asked.theme);
     asked.width = Some(around.width(asked.width));
     let Ok(root) = rt.canonicalize(alloc, asked.root.as_str()) else {
-        return usage(rt, "there is no such root");
+        return refuse(rt, alloc, WordFault::Value("--root", asked.root.as_str()));
     };
     let store = DiskStore::new(rt, root.into_string(), asked.anywhere);
     let Some(file) = file_in(&asked) else {
@@ -108,8 +117,11 @@ fn start<I: Source>(
     ExitCode::from(run(alloc, asked, input, store, &mut out, &mut err).code())
 }
 
-/// Says why words ask for nothing.
-fn usage(rt: &HostRuntime, why: &str) -> ExitCode {
-    let _told = eprintln!(rt; "girzohal: {why}; --help says more");
+/// Says which word is wrong, and why.
+fn refuse(rt: &HostRuntime, alloc: Global, fault: WordFault<'_>) -> ExitCode {
+    let Ok(lines) = lines_of(alloc, fault) else {
+        return ExitCode::from(Status::OutOfMemory.code());
+    };
+    let _told = eprint!(rt; "{lines}");
     ExitCode::from(Status::Usage.code())
 }

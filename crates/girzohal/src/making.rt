@@ -1,13 +1,14 @@
 // What is made of an input: its text, and whether a report is at or above the level.
 ghost use Rattle.std.specs.Prelude.{◌≡◌, IfErr, IfOk, string_bytes};
 ghost use Rattle.girzohal.specs.Made.{HasCause, IsMade, IsOfNoForm};
-ghost use Rattle.girzohal.specs.Made.{form_by as form_by_tool, form_of as form_asked};
+ghost use Rattle.girzohal.specs.Made.{object_form as form_of_object};
 
 use crate::fault::{Fault, no_form};
 use crate::lines::make_lines;
 use crate::object::{ObjectForm, make_object};
 use girzohal_asked::{Asked, InputForm};
 use input_forms::{Begun, begins_as};
+use line_shapes::tables::Unit;
 use source_store::Store;
 use std::alloc::Global;
 
@@ -40,9 +41,9 @@ pub(crate) fn make<S: Store>(
         (string_bytes it.written.text) it.aside.items it.written.reached) }
     ensures cause { IfErr result (HasCause (IsOfNoForm asked.now) bytes.now) }
 {
-    match form_of(asked) {
+    match asked.from {
         InputForm::Auto => match begins_as(bytes) {
-            Begun::Object => make_object(alloc, ObjectForm::Keyed, asked, bytes, store),
+            Begun::Object => make_object(alloc, object_form(asked.columns), asked, bytes, store),
             Begun::OtherJson => Err(no_form(
                 alloc,
                 "JSON of no known form; lines and SARIF are read, and documents",
@@ -55,25 +56,12 @@ pub(crate) fn make<S: Store>(
     }
 }
 
-/// The form in which an input is read: as was asked for, else as the named tool writes.
-fn form_of(asked: &Asked) -> InputForm
-    ensures { result ≡ form_asked asked.now }
+/// How a JSON object is read that may be a document or a log: no log's columns count bytes or cells.
+fn object_form(columns: Option<Unit>) -> ObjectForm
+    ensures { result ≡ form_of_object columns }
 {
-    match asked.from {
-        InputForm::Auto => form_by(&asked.tool),
-        InputForm::Document => InputForm::Document,
-        InputForm::Sarif => InputForm::Sarif,
-        InputForm::Lines => InputForm::Lines,
-    }
-}
-
-/// The form in which a tool writes, if one is named.
-fn form_by(tool: &Option<String>) -> InputForm
-    ensures { result ≡ form_by_tool tool.now }
-{
-    match tool {
-        Some(tool) if tool.as_str() == "sarif" => InputForm::Sarif,
-        Some(_) => InputForm::Lines,
-        None => InputForm::Auto,
+    match columns {
+        None | Some(Unit::Characters | Unit::Utf16) => ObjectForm::Keyed,
+        Some(Unit::Bytes | Unit::Cells) => ObjectForm::AsDocument,
     }
 }

@@ -15,6 +15,7 @@ use documents::read_document;
 use found_reports::FoundReports;
 use girzohal_asked::Asked;
 use input_forms::{has_files, json_part};
+use line_shapes::tables::Unit;
 use render_files::ReportError;
 use report_counts::one_reaches;
 use shown_reports::document_reports;
@@ -110,7 +111,7 @@ fn write_document(alloc: Global, asked: &Asked, part: &[u8]) -> Result<Written, 
     ensures cause { IfErr result (HasCause IsNoDocument part.now) }
 {
     let Some(document) = read_document(alloc, part)? else {
-        return Err(no_form(alloc, "input is no document"));
+        return Err(no_form(alloc, no_document(asked.columns)));
     };
     match document_reports(alloc, &document) {
         Ok(found) => write(alloc, asked, &found),
@@ -132,6 +133,16 @@ pub(crate) fn write(
     let reached = one_reaches(asked.fail_on, found);
     let text = text_or_fault(alloc, asked, found)?;
     Ok(Written { text, reached })
+}
+
+/// Why an object is no document; a log is none where its columns are to count what it can't.
+fn no_document(columns: Option<Unit>) -> &'static str {
+    match columns {
+        None | Some(Unit::Characters | Unit::Utf16) => "input is no document",
+        Some(Unit::Bytes | Unit::Cells) => {
+            "input is no document; a log's columns are characters or utf16, see --columns"
+        }
+    }
 }
 
 /// Why a report of a document is refused.

@@ -8,7 +8,7 @@ use crate::fault::{Fault, fault_of};
 use ci_texts::{CiFormat, ci_text};
 use found_reports::FoundReports;
 use girzohal_asked::{Asked, OutputForm};
-use report_texts::{document_text, drawing_text, json_text};
+use report_texts::{document_text, drawing_text, json_text, sarif_text};
 use shown_reports::ShowError;
 use std::alloc::Global;
 
@@ -20,6 +20,7 @@ fn text_of(alloc: Global, asked: &Asked, found: &FoundReports<'_>) -> Result<Str
         OutputForm::Drawing => drawing_text(alloc, asked, found),
         OutputForm::Json => json_text(alloc, asked.raw, found),
         OutputForm::Document => document_text(alloc, asked.raw, found),
+        OutputForm::Sarif => sarif_text(alloc, asked, found),
         OutputForm::Problems => ci(alloc, CiFormat::Problems, asked.raw, found),
         OutputForm::Github => ci(alloc, CiFormat::Github, asked.raw, found),
         OutputForm::Gitlab => ci(alloc, CiFormat::Gitlab, asked.raw, found),

@@ -29,6 +29,8 @@ pub enum OutputForm {
     Json,
     /// A document of files and reports.
     Document,
+    /// A SARIF log of one run.
+    Sarif,
     /// A line for each report, as compilers write them.
     Problems,
     /// Annotations of GitHub's runners.

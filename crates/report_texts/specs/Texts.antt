@@ -1,5 +1,6 @@
 -- What is written of reports.
-use Rattle.std.specs.Prelude.{◌≡◌, ℕ, ◌-◌, ◌++◌, ◌∷◌, List, [], length, take, min, unwrap_or, Bool, true, false, if◌then◌else◌, Option, Some, None}
+use Rattle.std.specs.Prelude.{◌≡◌, ℕ, ◌-◌, ◌++◌, ◌∷◌, List, [], length, take, min, unwrap_or, Bool, true, false, if◌then◌else◌, Option, Some, None, String, string_bytes, codes}
+use Rattle.std.specs.declared.alloc.Global.{Global}
 use Rattle.std.specs.List.{flat_map}
 use Rattle.serde_json.specs.Written.{compact_text}
 use Rattle.oxc_handlers.specs.declared.theme.GraphicalTheme.{GraphicalTheme}
@@ -9,6 +10,7 @@ use Rattle.oxc_handlers.specs.JsonText.{json_of}
 use Rattle.oxc_handlers.specs.Report.{drawn, plan_of}
 use Rattle.documents.specs.Document.{Document}
 use Rattle.documents.specs.Written.{document_value}
+use Rattle.sarif_writing.specs.Written.{log_value}
 use Rattle.found_reports.specs.Found.{Found}
 use Rattle.found_reports.specs.Kept.{FoundParts}
 use Rattle.shown_reports.specs.Shown.{IsShown, shown_view}
@@ -72,3 +74,16 @@ pub record IsDocumentText (raw : Bool) (found : List Found) (text : List ℕ) : 
   pub found_there : parts.found ≡ found
   pub shown : IsShown raw parts document
   pub is : text ≡ compact_text (document_value document.files document.reports)
+
+-- the name by which a log is written
+abbrev pub tool_name : Option (String Global) → List ℕ
+tool_name None = codes "girzohal"
+tool_name (Some tool) = string_bytes tool
+
+-- the text of a SARIF log of these reports
+pub record IsSarifText (asked : Asked) (found : List Found) (text : List ℕ) : Type 0 where
+  pub parts : FoundParts
+  pub document : Document
+  pub found_there : parts.found ≡ found
+  pub shown : IsShown asked.raw parts document
+  pub is : text ≡ compact_text (log_value (tool_name asked.tool) document.files document.reports)

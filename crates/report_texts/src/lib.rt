@@ -1,13 +1,14 @@
-//! What is written of reports: drawings, JSON, a document.
+//! What is written of reports: drawings, JSON, a document, a SARIF log.
 //!
 //! - [`drawing_text`]: reports drawn, and how many there are; [`first_drawings`] and [`ending_text`] are
 //!   its two parts.
 //! - [`json_text`]: each report as a line of JSON.
 //! - [`document_text`]: the reports and their files as a document.
+//! - [`sarif_text`]: the same as a SARIF log.
 #![tactic(auto)]
 
 mod drawing;
 mod texts;
 
 pub use drawing::{drawing_text, ending_text, first_drawings};
-pub use texts::{document_text, json_text};
+pub use texts::{document_text, json_text, sarif_text};

@@ -1,0 +1,23 @@
+//! The options that have a value, all of them in this file.
+
+/// Each option that has a value, and what is wanted as its value.
+pub(crate) const SETTINGS: [(&str, &str); 12] = [
+    ("--from", "auto, document, sarif or lines"),
+    (
+        "--to",
+        "drawing, json, document, sarif, problems, github, gitlab, checkstyle, junit or stylish",
+    ),
+    (
+        "--tool",
+        "clang, gcc, rustc, cargo, flake8, shellcheck, pylint, mypy, eslint, tsc, sarif or another tool that is known",
+    ),
+    ("--shape", "a shape as '{name}:{line}: {message}'"),
+    ("--columns", "bytes, characters, utf16 or cells"),
+    ("--first-column", "0 or 1"),
+    ("--root", "a folder"),
+    ("--theme", "auto, none, unicode or unicode_nocolor"),
+    ("--width", "a number from 1, or auto"),
+    ("--tabs", "a number from 1 to 16"),
+    ("--most", "a number from 0"),
+    ("--fail-on", "error, warning, advice or never"),
+];
