@@ -1,5 +1,5 @@
 -- Names of which reports ask, and that these decide the reports.
-use Rattle.std.proofs.Common.{◌≡◌, ℕ, ◌<◌, Bool, true, false, cond, List, [], ◌∷◌, ◌++◌, length, map, Option, Some, None, option_map, ◌||◌, refl, sym, ap, ap₂, ◌∙◌, ◌+◌, get_or, subst, take}
+use Rattle.std.proofs.Common.{◌≡◌, ℕ, ◌<◌, true, false, cond, List, [], ◌∷◌, ◌++◌, length, map, Option, Some, None, option_map, ◌||◌, refl, sym, ap, ap₂, ◌∙◌, ◌+◌, get_or, subst, take}
 use Rattle.std.specs.List.{All, AllByRecursion, filter, flat_map, list_any}
 use Rattle.std.specs.Str.{bytes_eq}
 use Rattle.std.proofs.lemmas.List.Elements.{All-head, All-tail}

@@ -1,5 +1,5 @@
 -- Labels stand in the texts that their spans are of.
-use Rattle.std.proofs.Common.{◌≡◌, ℕ, ◌+◌, ◌-◌, ◌<◌, ◌≤◌, ◌^◌, Bool, true, false, cond, List, [], ◌∷◌, ◌++◌, length, Option, refl, subst, arith}
+use Rattle.std.proofs.Common.{◌≡◌, ℕ, ◌<◌, ◌≤◌, ◌^◌, Bool, true, false, cond, List, [], ◌∷◌, ◌++◌, length, Option, refl, subst, arith}
 use Rattle.std.specs.List.{All}
 use Rattle.std.specs.Str.{IsCharBoundary}
 use Rattle.std.specs.declared.ops.Range.{Range}

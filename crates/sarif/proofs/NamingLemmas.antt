@@ -1,5 +1,5 @@
 -- Bases before a URI, one by one.
-use Rattle.std.proofs.Common.{◌≡◌, ℕ, ◌+◌, ◌-◌, ◌<◌, zero, suc, List, [], ◌∷◌, ◌++◌, Option, Some, None, refl, arith}
+use Rattle.std.proofs.Common.{◌≡◌, ℕ, ◌-◌, ◌<◌, zero, suc, List, [], ◌∷◌, ◌++◌, Option, Some, None, refl, arith}
 use Rattle.sarif_log.specs.Log.{UriBase}
 use Rattle.sarif.specs.Naming.{front_of, next_base, resolved_in, with_base}
 

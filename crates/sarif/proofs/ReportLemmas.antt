@@ -1,12 +1,12 @@
 -- Locations one by one, and those behind one.
-use Rattle.std.proofs.Common.{◌≡◌, ℕ, ◌+◌, ◌-◌, ◌<◌, ◌≤◌, zero, suc, List, [], ◌∷◌, ◌++◌, length, map, take, drop, get_or, refl, ap, ap₂, sym, ◌∙◌, arith, length-append, length-drop, Option, Some, None, Result, Ok, Err}
+use Rattle.std.proofs.Common.{◌≡◌, ℕ, ◌+◌, ◌-◌, ◌<◌, ◌≤◌, zero, suc, List, [], ◌∷◌, ◌++◌, length, map, take, drop, get_or, refl, ap, ap₂, sym, ◌∙◌, arith, length-append, length-drop, Some, None, Result, Ok, Err}
 use Rattle.std.proofs.Math.Seq.{drop-append_seam, take-append_seam, take-length}
 use Rattle.std.proofs.lemmas.List.{drop-map, length-map, map-append, take-append-drop, take-map}
 use Rattle.std.specs.Result.{OnOk}
 use Rattle.found_reports.specs.Found.{Found, NamedHeld, found_on}
 use Rattle.sarif_findings.specs.Findings.{Finding}
 use Rattle.sarif.specs.Labels.{Placed}
-use Rattle.sarif.specs.Meaning.{main_diagnostic, nowhere, reports_among, reports_at, where_named}
+use Rattle.sarif.specs.Meaning.{main_diagnostic, nowhere, reports_among, reports_at}
 use Rattle.sarif.specs.Reading.{Reading}
 use Rattle.sarif.specs.Views.{placed_view, seated}
 use Rattle.sarif.specs.declared.known.Known.{Known}

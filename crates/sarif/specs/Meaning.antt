@@ -1,6 +1,5 @@
 -- The reports that a log means.
-use Rattle.std.specs.Prelude.{ℕ, ◌^◌, Bool, true, not, List, [], ◌∷◌, ◌++◌, map, filter, flat_map, nat_lt, if◌then◌else◌, Option, Some, None, option_and_then, unwrap_or}
-use Rattle.std.specs.Option.{option_or}
+use Rattle.std.specs.Prelude.{ℕ, ◌^◌, true, not, List, [], ◌∷◌, ◌++◌, map, filter, flat_map, nat_lt, if◌then◌else◌, Option, Some, None, option_and_then, unwrap_or}
 use Rattle.std.specs.declared.ops.Range.{Range}
 use Rattle.oxc_span.specs.Label.{Label}
 use Rattle.oxc_protocol.specs.Parts.{OxcParts}

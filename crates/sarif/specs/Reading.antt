@@ -1,5 +1,5 @@
 -- How a run is read: what its names, rows and columns are.
-use Rattle.std.specs.Prelude.{ℕ, Bool, ◌==◌, not, List, [], ◌∷◌, filter, length, if◌then◌else◌, Option, Some, None, unwrap_or}
+use Rattle.std.specs.Prelude.{ℕ, Bool, ◌==◌, not, List, [], ◌∷◌, filter, length, Option, unwrap_or}
 use Rattle.std.specs.Option.{option_or}
 use Rattle.sarif_log.specs.declared.log.ColumnKind.{ColumnKind}
 use Rattle.sarif_log.specs.declared.log.ColumnKind.TheVariants.{Characters}

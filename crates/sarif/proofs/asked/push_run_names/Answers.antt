@@ -2,7 +2,7 @@
 use Rattle.std.proofs.Common.{◌≡◌, map, string_bytes}
 use Rattle.std.proofs.lemmas.Result.{on_ok_weaker}
 use Rattle.std.specs.List.{flat_map}
-use Rattle.sarif_log.specs.Log.{invocation_view, log_result_view, names_view, run_view}
+use Rattle.sarif_log.specs.Log.{log_result_view, run_view}
 use Rattle.sarif.specs.Asked.{and_names, invocation_names, result_names, run_names}
 use Rattle.sarif.proofs.AskedLemmas.{and_run_names}
 use Rattle.sarif.proofs.asked.push_run_names.Goals as goal

@@ -1,6 +1,5 @@
 -- One location more, with its file.
 use Rattle.std.proofs.Common.{map, rules}
-use Rattle.std.proofs.lemmas.Grind.{common_steps}
 use Rattle.sarif_log.specs.Log.{location_view}
 use Rattle.sarif_findings.specs.Findings.{spot_view}
 use Rattle.sarif.specs.Labels.{placed}

@@ -1,5 +1,5 @@
 -- Those so far stand at their seats, and each seat is that of what its location stands for.
-use Rattle.std.proofs.Common.{◌≡◌, ◌++◌, All, drop, length, map, take}
+use Rattle.std.proofs.Common.{◌≡◌, ◌++◌, All, map, take}
 use Rattle.sarif_findings.specs.Findings.{spot_view}
 use Rattle.sarif.specs.Labels.{placed}
 use Rattle.sarif.specs.Views.{IsFiled, IsSeated, IsTold, placed_view, reading_view}

@@ -1,5 +1,5 @@
 -- One base less, before the name so far.
-use Rattle.std.proofs.Common.{◌≡◌, ◌∙◌, map, string_bytes, sym, arith}
+use Rattle.std.proofs.Common.{◌∙◌, map, string_bytes, sym, arith}
 use Rattle.std.proofs.lemmas.Grind.{common_steps}
 use Rattle.std.proofs.lemmas.List.{map-append}
 use Rattle.sarif_log.specs.Log.{artifact_location_view, uri_base_view}
