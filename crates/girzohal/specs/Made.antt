@@ -40,10 +40,10 @@ pub record MakesObject (how : ObjectForm) (told : Told) (asked : Asked) (bytes t
   pub written : Writes (ReadsPart how told (log_columns asked.columns) (part_of bytes range)) asked text reached
   pub aside_is : aside ≡ around bytes range
 
-pub record IsNoObject (how : ObjectForm) (bytes : List ℕ) : Type 0 where
+pub record IsNoObject (how : ObjectForm) (bytes line : List ℕ) : Type 0 where
   pub range : Range ℕ
   pub there : IsJsonPart bytes range
-  pub none : IsNonePart how (part_of bytes range)
+  pub none : IsNonePart how (part_of bytes range) line
 
 -- ---- all forms
 
@@ -79,20 +79,24 @@ IsMade told asked bytes text aside reached = MakesAs (form_of asked) told asked 
 
 -- ---- why nothing is made
 
-abbrev pub IsNoneBegun : Begun → List ℕ → Type 0
-IsNoneBegun Object bytes = IsNoObject Keyed bytes
-IsNoneBegun OtherJson bytes = ⊤
-IsNoneBegun Lines bytes = ⊥
+-- what is said of JSON of no known form
+abbrev pub other_json_line : List ℕ
+other_json_line = codes "girzohal: JSON of no known form; lines and SARIF are read, and documents\n"
 
-abbrev pub IsNoneAs : InputForm → List ℕ → Type 0
-IsNoneAs form.Auto bytes = IsNoneBegun (begins_as bytes) bytes
-IsNoneAs form.Document bytes = IsNoObject AsDocument bytes
-IsNoneAs form.Sarif bytes = IsNoObject AsLog bytes
-IsNoneAs form.Lines bytes = ⊥
+abbrev pub IsNoneBegun : Begun → List ℕ → List ℕ → Type 0
+IsNoneBegun Object bytes line = IsNoObject Keyed bytes line
+IsNoneBegun OtherJson bytes line = line ≡ other_json_line
+IsNoneBegun Lines bytes line = ⊥
 
--- bytes aren't of the form in which they are read
-abbrev pub IsOfNoForm : Asked → List ℕ → Type 0
-IsOfNoForm asked bytes = IsNoneAs (form_of asked) bytes
+abbrev pub IsNoneAs : InputForm → List ℕ → List ℕ → Type 0
+IsNoneAs form.Auto bytes line = IsNoneBegun (begins_as bytes) bytes line
+IsNoneAs form.Document bytes line = IsNoObject AsDocument bytes line
+IsNoneAs form.Sarif bytes line = IsNoObject AsLog bytes line
+IsNoneAs form.Lines bytes line = ⊥
+
+-- bytes aren't of the form in which they are read, and the line says why
+abbrev pub IsOfNoForm : Asked → List ℕ → List ℕ → Type 0
+IsOfNoForm asked bytes line = IsNoneAs (form_of asked) bytes line
 
 -- no word of the input's form
 abbrev pub IsFree : Fault → Type 0
@@ -100,8 +104,12 @@ IsFree (NoForm why) = ⊥
 IsFree TooManyFiles = ⊤
 IsFree OutOfMemory = ⊤
 
--- why nothing is made of bytes: they aren't of their form; the others are free
-abbrev pub HasCause : (List ℕ → Type 0) → List ℕ → Fault → Type 0
-HasCause P bytes (NoForm why) = P bytes
-HasCause P bytes TooManyFiles = ⊤
-HasCause P bytes OutOfMemory = ⊤
+-- a fault's line is P; the others are free
+abbrev pub Says : (List ℕ → Type 0) → Fault → Type 0
+Says P (NoForm why) = P (string_bytes why)
+Says P TooManyFiles = ⊤
+Says P OutOfMemory = ⊤
+
+-- why nothing is made of bytes: they aren't of their form, as the line says; the others are free
+abbrev pub HasCause : (List ℕ → List ℕ → Type 0) → List ℕ → Fault → Type 0
+HasCause P bytes fault = Says (P bytes) fault

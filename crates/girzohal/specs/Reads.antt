@@ -1,5 +1,5 @@
 -- The reports that a JSON object means.
-use Rattle.std.specs.Prelude.{◌≡◌, ◌⊎◌, ℕ, List, ◌++◌, take, drop, slice_range, Bool, true, false, Option, Some, None}
+use Rattle.std.specs.Prelude.{◌≡◌, ◌⊎◌, ℕ, List, ◌++◌, take, drop, slice_range, codes, Bool, true, false, Option, Some, None}
 use Rattle.std.specs.declared.ops.Range.{Range}
 use Rattle.render_files.specs.declared.places.ReportError.{ReportError}
 use Rattle.render_files.specs.Refusal.{refusal_of}
@@ -29,17 +29,18 @@ pub record IsRefused (part : List ℕ) : Type 0 where
   pub why : ReportError
   pub refusal : refusal_of document.files document.reports ≡ Some why
 
-abbrev pub IsNoDocument : List ℕ → Type 0
-IsNoDocument part = (document_of part ≡ None) ⊎ IsRefused part
+-- a text is no document, as the line says, or one of which a report is refused
+abbrev pub IsNoDocument : List ℕ → List ℕ → Type 0
+IsNoDocument part line = ((document_of part ≡ None) × (line ≡ codes "girzohal: input is no document\n")) ⊎ IsRefused part
 
 -- a document where there is the key `files`, else a log
 abbrev pub ReadsKeyed : Bool → Told → Option ColumnKind → List ℕ → List Found → Type 0
 ReadsKeyed true told columns part found = ReadsDocument part found
 ReadsKeyed false told columns part found = ReadsLog told columns part found
 
-abbrev pub IsNoneKeyed : Bool → List ℕ → Type 0
-IsNoneKeyed true part = IsNoDocument part
-IsNoneKeyed false part = IsNoLog part
+abbrev pub IsNoneKeyed : Bool → List ℕ → List ℕ → Type 0
+IsNoneKeyed true part line = IsNoDocument part line
+IsNoneKeyed false part line = IsNoLog part line
 
 -- what a JSON object in a form means
 abbrev pub ReadsPart : ObjectForm → Told → Option ColumnKind → List ℕ → List Found → Type 0
@@ -47,10 +48,11 @@ ReadsPart Keyed told columns part found = ReadsKeyed (has_files part) told colum
 ReadsPart AsDocument told columns part found = ReadsDocument part found
 ReadsPart AsLog told columns part found = ReadsLog told columns part found
 
-abbrev pub IsNonePart : ObjectForm → List ℕ → Type 0
-IsNonePart Keyed part = IsNoneKeyed (has_files part) part
-IsNonePart AsDocument part = IsNoDocument part
-IsNonePart AsLog part = IsNoLog part
+-- it means nothing, and the line says why
+abbrev pub IsNonePart : ObjectForm → List ℕ → List ℕ → Type 0
+IsNonePart Keyed part line = IsNoneKeyed (has_files part) part line
+IsNonePart AsDocument part line = IsNoDocument part line
+IsNonePart AsLog part line = IsNoLog part line
 
 -- ---- the object among other lines
 

@@ -1,13 +1,14 @@
 // What is made of a JSON object: of a document, or of a log.
-ghost use Rattle.std.specs.Prelude.{◌≡◌, ◌≤◌, IfErr, IfOk, length, string_bytes};
+ghost use Rattle.std.specs.Prelude.{◌≡◌, ⊤, ◌≤◌, IfErr, IfOk, length};
+ghost use Rattle.std.specs.Prelude.{string_bytes};
 ghost use Rattle.input_forms.specs.Object.{has_files as key_files};
 ghost use Rattle.girzohal.specs.Logs.{log_columns as columns_of};
 ghost use Rattle.girzohal.specs.Made.{HasCause, IsFree, IsNoObject, IsWritten, MakesObject};
-ghost use Rattle.girzohal.specs.Made.{Writes};
+ghost use Rattle.girzohal.specs.Made.{Says, Writes};
 ghost use Rattle.girzohal.specs.Reads.{IsNoDocument, IsNoneKeyed, IsNonePart};
 ghost use Rattle.girzohal.specs.Reads.{ReadsDocument, ReadsKeyed, ReadsPart, around as around_range};
 
-use crate::fault::{Fault, no_form, why};
+use crate::fault::{Fault, no_form};
 use crate::logs::write_log;
 use crate::making::{Made, Written};
 use crate::texts::text_or_fault;
@@ -135,6 +136,11 @@ pub(crate) fn write(
 }
 
 /// Why a report of a document is refused.
-fn refused(alloc: Global, error: ReportError) -> Fault {
-    why(format!(in alloc; "girzohal: {error}\n"))
+fn refused(alloc: Global, error: ReportError) -> Fault
+    ensures { Says (λ _. ⊤) result }
+{
+    match format!(in alloc; "girzohal: {error}\n") {
+        Ok(line) => Fault::NoForm(line),
+        Err(_) => Fault::OutOfMemory,
+    }
 }
