@@ -96,6 +96,10 @@ class Tries:
         said = self.ends("findings alone", 1, "--only-findings", given=b"hello\n" + LINE)
         self.check("--only-findings: the other lines are left out", b"hello" not in said.stdout)
         self.ends("other lines", 1, given=b"hello\n" + LINE, out=b"hello")
+        for text in (b"", b"make all\n", b"make\n\n", b"make"):
+            said = self.run(given=text)
+            wanted = text if text.endswith(b"\n") or not text else text + b"\n"
+            self.check(f"a last LF ends a line, and begins none: {text!r}", said.stdout == wanted, said)
         self.ends("columns of bytes", 1, "--columns", "bytes")
         self.ends("columns from 0", 1, "--first-column", "0")
         self.ends("columns that a log counts", 0, "--from", "sarif", "--columns", "utf16", given=log, out=b"look here")

@@ -15,7 +15,7 @@ pub shown_means : (result : Status) (asked : Asked) (told : Told) (input out err
 shown_means Clean asked told input out err bytes taken ended within shows = whole_of input bytes taken ended within shows
 shown_means Reached asked told input out err bytes taken ended within shows = whole_of input bytes taken ended within shows
 shown_means Usage asked told input out err bytes taken ended within shows = absurd shows
-shown_means NoForm asked told input out err bytes taken ended within shows = (whole_of input bytes taken ended within shows.0, shows.1, shows.2)
+shown_means NoForm asked told input out err bytes taken ended within shows = (whole_of input bytes taken ended within shows.0, shows.1)
 shown_means ReadFault asked told input out err bytes taken ended within shows = absurd shows
 shown_means SinkFault asked told input out err bytes taken ended within shows = whole_of input bytes taken ended within shows
 shown_means OutOfMemory asked told input out err bytes taken ended within shows = shows

@@ -1,5 +1,5 @@
 -- The reports that lines mean, which a tool prints for people.
-use Rattle.std.specs.Prelude.{◌≡◌, ℕ, ◌-◌, List, [], ◌∷◌, ◌++◌, length, map, take, drop, option_map, String, string_bytes, Option, Some, None, unwrap_or, Bool, true, false, if◌then◌else◌}
+use Rattle.std.specs.Prelude.{◌≡◌, ℕ, ◌-◌, ◌==◌, List, [], ◌∷◌, ◌++◌, length, map, take, drop, option_map, String, string_bytes, Option, Some, None, unwrap_or, Bool, true, false, if◌then◌else◌}
 use Rattle.std.specs.List.{flat_map}
 use Rattle.std.specs.Str.Lossy.{utf8_lossy}
 use Rattle.std.specs.declared.alloc.Global.{Global}
@@ -12,6 +12,7 @@ use Rattle.source_store.specs.declared.named.Spelling.TheVariants.{Path}
 use Rattle.line_shapes.specs.declared.tools.Columns.{Columns}
 use Rattle.line_shapes.specs.declared.tables.Unit.TheVariants.{Characters}
 use Rattle.line_shapes.specs.declared.parse.OwnShape.{OwnShape}
+use Rattle.line_shapes.specs.Bytes.{before_last}
 use Rattle.line_shapes.specs.Shape.{ShapeParts}
 use Rattle.line_shapes.specs.Tools as tools
 use Rattle.tool_lines.specs.declared.lines.Sort.{Sort}
@@ -37,9 +38,17 @@ abbrev pub tool_parts : Option (String Global) → List ShapeParts
 tool_parts None = []
 tool_parts (Some tool) = tools.shapes_of (string_bytes tool)
 
--- the lines of a text without its paint
+-- a text without an LF at its end
+abbrev pub without_lf : List ℕ → List ℕ
+without_lf text = unwrap_or (before_last 0x0A text) text
+
+-- the lines of a text: a last LF ends one, and begins none
+unfoldable pub lines_in_text : List ℕ → List (List ℕ)
+lines_in_text text = if length text == 0 then [] else lines_in (without_lf text)
+
+-- those of a text without its paint
 abbrev pub lines_of : List ℕ → List (List ℕ)
-lines_of bytes = lines_in (unpainted bytes)
+lines_of bytes = lines_in_text (unpainted bytes)
 
 -- the user's own shapes, and then those of the tool
 abbrev pub shapes_of : Asked → List ShapeParts

@@ -1,5 +1,5 @@
 -- The reports that a SARIF log means.
-use Rattle.std.specs.Prelude.{◌≡◌, ℕ, List, Option, Some, None}
+use Rattle.std.specs.Prelude.{◌≡◌, ⊤, ℕ, ◌++◌, List, Option, Some, None, codes}
 use Rattle.found_reports.specs.Found.{Found}
 use Rattle.found_reports.specs.Held.{Held}
 use Rattle.source_store.specs.Given.{IsGiven}
@@ -30,11 +30,15 @@ pub record ReadsLog (told : Told) (columns : Option ColumnKind) (part : List ℕ
   pub told_so : IsGiven told Uri (names_in log) given
   pub reports : found ≡ reports_in given columns log
 
--- a text that is answered with a fault in place of a log
-abbrev pub IsFault : Answer → Type 0
-IsFault no_json = Unit {0}
-IsFault (refused path wanted) = Unit {0}
-IsFault (log_is log) = ⊥
+-- the line that says what was wanted of a log, and where
+abbrev pub no_log_line : List ℕ → List ℕ → List ℕ
+no_log_line path wanted = codes "girzohal: " ++ path ++ codes ": wanted " ++ wanted ++ codes "\n"
 
-abbrev pub IsNoLog : List ℕ → Type 0
-IsNoLog part = IsFault (answer_to part)
+-- a text is answered with a fault in place of a log; the line says what was wanted, and is free of what is no JSON
+abbrev pub IsFault : Answer → List ℕ → Type 0
+IsFault no_json line = ⊤
+IsFault (refused path wanted) line = line ≡ no_log_line path wanted
+IsFault (log_is log) line = ⊥
+
+abbrev pub IsNoLog : List ℕ → List ℕ → Type 0
+IsNoLog part line = IsFault (answer_to part) line

@@ -1,5 +1,5 @@
 -- What is made of an input.
-use Rattle.std.specs.Prelude.{◌≡◌, ⊤, ℕ, List, Bool, true, false, Option, Some, None}
+use Rattle.std.specs.Prelude.{◌≡◌, ⊤, ℕ, List, Bool, true, false, Option, Some, None, string_bytes, codes}
 use Rattle.std.specs.declared.ops.Range.{Range}
 use Rattle.found_reports.specs.Found.{Found}
 use Rattle.report_counts.specs.Counted.{one_reaches}
@@ -40,10 +40,10 @@ pub record MakesObject (how : ObjectForm) (told : Told) (asked : Asked) (bytes t
   pub written : Writes (ReadsPart how told (log_columns asked.columns) (part_of bytes range)) asked text reached
   pub aside_is : aside ≡ around bytes range
 
-pub record IsNoObject (how : ObjectForm) (bytes : List ℕ) : Type 0 where
+pub record IsNoObject (how : ObjectForm) (columns : Option ColumnUnit) (bytes line : List ℕ) : Type 0 where
   pub range : Range ℕ
   pub there : IsJsonPart bytes range
-  pub none : IsNonePart how (part_of bytes range)
+  pub none : IsNonePart how columns (part_of bytes range) line
 
 -- ---- all forms
 
@@ -72,20 +72,24 @@ IsMade told asked bytes text aside reached = MakesAs asked.from told asked bytes
 
 -- ---- why nothing is made
 
-abbrev pub IsNoneBegun : Begun → Option ColumnUnit → List ℕ → Type 0
-IsNoneBegun Object columns bytes = IsNoObject (object_form columns) bytes
-IsNoneBegun OtherJson columns bytes = ⊤
-IsNoneBegun Lines columns bytes = ⊥
+-- what is said of JSON of no known form
+abbrev pub other_json_line : List ℕ
+other_json_line = codes "girzohal: JSON of no known form; lines and SARIF are read, and documents\n"
 
-abbrev pub IsNoneAs : InputForm → Option ColumnUnit → List ℕ → Type 0
-IsNoneAs form.Auto columns bytes = IsNoneBegun (begins_as bytes) columns bytes
-IsNoneAs form.Document columns bytes = IsNoObject AsDocument bytes
-IsNoneAs form.Sarif columns bytes = IsNoObject AsLog bytes
-IsNoneAs form.Lines columns bytes = ⊥
+abbrev pub IsNoneBegun : Begun → Option ColumnUnit → List ℕ → List ℕ → Type 0
+IsNoneBegun Object columns bytes line = IsNoObject (object_form columns) columns bytes line
+IsNoneBegun OtherJson columns bytes line = line ≡ other_json_line
+IsNoneBegun Lines columns bytes line = ⊥
 
--- bytes aren't of the form in which they are read
-abbrev pub IsOfNoForm : Asked → List ℕ → Type 0
-IsOfNoForm asked bytes = IsNoneAs asked.from asked.columns bytes
+abbrev pub IsNoneAs : InputForm → Option ColumnUnit → List ℕ → List ℕ → Type 0
+IsNoneAs form.Auto columns bytes line = IsNoneBegun (begins_as bytes) columns bytes line
+IsNoneAs form.Document columns bytes line = IsNoObject AsDocument columns bytes line
+IsNoneAs form.Sarif columns bytes line = IsNoObject AsLog columns bytes line
+IsNoneAs form.Lines columns bytes line = ⊥
+
+-- bytes aren't of the form in which they are read, and the line says why
+abbrev pub IsOfNoForm : Asked → List ℕ → List ℕ → Type 0
+IsOfNoForm asked bytes line = IsNoneAs asked.from asked.columns bytes line
 
 -- no word of the input's form
 abbrev pub IsFree : Fault → Type 0
@@ -93,8 +97,12 @@ IsFree (NoForm why) = ⊥
 IsFree TooManyFiles = ⊤
 IsFree OutOfMemory = ⊤
 
--- why nothing is made of bytes: they aren't of their form; the others are free
-abbrev pub HasCause : (List ℕ → Type 0) → List ℕ → Fault → Type 0
-HasCause P bytes (NoForm why) = P bytes
-HasCause P bytes TooManyFiles = ⊤
-HasCause P bytes OutOfMemory = ⊤
+-- a fault's line is P; the others are free
+abbrev pub Says : (List ℕ → Type 0) → Fault → Type 0
+Says P (NoForm why) = P (string_bytes why)
+Says P TooManyFiles = ⊤
+Says P OutOfMemory = ⊤
+
+-- why nothing is made of bytes: they aren't of their form, as the line says; the others are free
+abbrev pub HasCause : (List ℕ → List ℕ → Type 0) → List ℕ → Fault → Type 0
+HasCause P bytes fault = Says (P bytes) fault

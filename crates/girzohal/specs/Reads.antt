@@ -1,11 +1,13 @@
 -- The reports that a JSON object means.
-use Rattle.std.specs.Prelude.{◌≡◌, ◌⊎◌, ℕ, List, ◌++◌, take, drop, slice_range, Bool, true, false, Option, Some, None}
+use Rattle.std.specs.Prelude.{◌≡◌, ◌⊎◌, ℕ, List, ◌++◌, take, drop, slice_range, codes, Bool, true, false, Option, Some, None}
 use Rattle.std.specs.declared.ops.Range.{Range}
 use Rattle.render_files.specs.declared.places.ReportError.{ReportError}
 use Rattle.render_files.specs.Refusal.{refusal_of}
 use Rattle.documents.specs.Document.{Document, document_of}
 use Rattle.found_reports.specs.Found.{Found}
 use Rattle.shown_reports.specs.Given.{found_document}
+use Rattle.line_shapes.specs.declared.tables.Unit.{Unit as ColumnUnit}
+use Rattle.line_shapes.specs.declared.tables.Unit.TheVariants.{Bytes, Characters, Utf16, Cells}
 use Rattle.sarif_log.specs.declared.log.ColumnKind.{ColumnKind}
 use Rattle.input_forms.specs.Object.{has_files}
 use Rattle.girzohal.specs.declared.object.ObjectForm.{ObjectForm}
@@ -29,17 +31,29 @@ pub record IsRefused (part : List ℕ) : Type 0 where
   pub why : ReportError
   pub refusal : refusal_of document.files document.reports ≡ Some why
 
-abbrev pub IsNoDocument : List ℕ → Type 0
-IsNoDocument part = (document_of part ≡ None) ⊎ IsRefused part
+-- what is said of an object that is no document: a log is none where columns are to count what a log's can't
+abbrev pub no_document : Option ColumnUnit → List ℕ
+no_document None = codes "input is no document"
+no_document (Some Characters) = codes "input is no document"
+no_document (Some Utf16) = codes "input is no document"
+no_document (Some Bytes) = codes "input is no document; a log's columns are characters or utf16, see --columns"
+no_document (Some Cells) = codes "input is no document; a log's columns are characters or utf16, see --columns"
+
+abbrev pub no_document_line : Option ColumnUnit → List ℕ
+no_document_line columns = codes "girzohal: " ++ no_document columns ++ codes "\n"
+
+-- a text is no document, as the line says, or one of which a report is refused
+abbrev pub IsNoDocument : Option ColumnUnit → List ℕ → List ℕ → Type 0
+IsNoDocument columns part line = ((document_of part ≡ None) × (line ≡ no_document_line columns)) ⊎ IsRefused part
 
 -- a document where there is the key `files`, else a log
 abbrev pub ReadsKeyed : Bool → Told → Option ColumnKind → List ℕ → List Found → Type 0
 ReadsKeyed true told columns part found = ReadsDocument part found
 ReadsKeyed false told columns part found = ReadsLog told columns part found
 
-abbrev pub IsNoneKeyed : Bool → List ℕ → Type 0
-IsNoneKeyed true part = IsNoDocument part
-IsNoneKeyed false part = IsNoLog part
+abbrev pub IsNoneKeyed : Bool → Option ColumnUnit → List ℕ → List ℕ → Type 0
+IsNoneKeyed true columns part line = IsNoDocument columns part line
+IsNoneKeyed false columns part line = IsNoLog part line
 
 -- what a JSON object in a form means
 abbrev pub ReadsPart : ObjectForm → Told → Option ColumnKind → List ℕ → List Found → Type 0
@@ -47,10 +61,11 @@ ReadsPart Keyed told columns part found = ReadsKeyed (has_files part) told colum
 ReadsPart AsDocument told columns part found = ReadsDocument part found
 ReadsPart AsLog told columns part found = ReadsLog told columns part found
 
-abbrev pub IsNonePart : ObjectForm → List ℕ → Type 0
-IsNonePart Keyed part = IsNoneKeyed (has_files part) part
-IsNonePart AsDocument part = IsNoDocument part
-IsNonePart AsLog part = IsNoLog part
+-- it means nothing, and the line says why
+abbrev pub IsNonePart : ObjectForm → Option ColumnUnit → List ℕ → List ℕ → Type 0
+IsNonePart Keyed columns part line = IsNoneKeyed (has_files part) columns part line
+IsNonePart AsDocument columns part line = IsNoDocument columns part line
+IsNonePart AsLog columns part line = IsNoLog part line
 
 -- ---- the object among other lines
 

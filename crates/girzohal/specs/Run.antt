@@ -75,6 +75,12 @@ pub record SentPart (told : Told) (asked : Asked) (bytes : List ℕ) (out err : 
   pub fault : HasRisen out
   pub heard : IsTold err texts.aside
 
+-- bytes aren't of their form, and the error output was told why
+pub record Refuses (asked : Asked) (bytes : List ℕ) (err : Device) : Type 0 where
+  pub line : List ℕ
+  pub why : IsOfNoForm asked bytes line
+  pub heard : IsTold err line
+
 -- ---- the end of a run
 
 -- what a status says of the input, of what a store tells, and of what was written
@@ -85,8 +91,8 @@ Means Clean asked input told out err = TookWhole input (λ bytes. Sent told aske
 Means Reached asked input told out err = TookWhole input (λ bytes. Sent told asked true bytes out err)
 -- no run ends so
 Means Usage asked input told out err = ⊥
--- the whole input isn't of its form, and a line says why
-Means NoForm asked input told out err = TookWhole input (IsOfNoForm asked) × IsKept out × ((line : List ℕ) × IsTold err line)
+-- the whole input isn't of its form, and a line of this says why
+Means NoForm asked input told out err = TookWhole input (λ bytes. Refuses asked bytes err) × IsKept out
 -- the input failed
 Means ReadFault asked input told out err = HasRisen input × IsKept out × IsTold err (codes "girzohal: input failed\n")
 -- the output failed, and received a first part of what is made
@@ -109,7 +115,7 @@ abbrev pub Shows : Status → Asked → List ℕ → Told → Device → Device 
 Shows Clean asked bytes told out err = Sent told asked false bytes out err
 Shows Reached asked bytes told out err = Sent told asked true bytes out err
 Shows Usage asked bytes told out err = ⊥
-Shows NoForm asked bytes told out err = IsOfNoForm asked bytes × IsKept out × ((line : List ℕ) × IsTold err line)
+Shows NoForm asked bytes told out err = Refuses asked bytes err × IsKept out
 Shows ReadFault asked bytes told out err = ⊥
 Shows SinkFault asked bytes told out err = SentPart told asked bytes out err
 Shows OutOfMemory asked bytes told out err = IsKept out × IsTold err (codes "girzohal: out of memory\n")

@@ -1,12 +1,11 @@
 // Why nothing is made of an input.
-ghost use Rattle.girzohal.specs.Made.{IsFree};
+ghost use Rattle.std.specs.Prelude.{◌≡◌, ◌++◌, codes};
+ghost use Rattle.girzohal.specs.Made.{IsFree, Says};
 
 use shown_reports::ShowError;
 use std::alloc::{AllocError, Global};
 
 /// Why nothing is made of an input.
-ghost use Rattle.girzohal.specs.Made.{IsFree};
-
 #[derive(Drop)]
 pub(crate) enum Fault {
     /// The input isn't of its form: the line that says why.
@@ -39,13 +38,10 @@ pub(crate) fn fault_of(error: ShowError) -> Fault
 }
 
 /// That an input isn't of its form.
-pub(crate) fn no_form(alloc: Global, text: &str) -> Fault {
-    why(format!(in alloc; "girzohal: {text}\n"))
-}
-
-/// A line that says why an input isn't of its form.
-pub(crate) fn why(line: Result<String, AllocError>) -> Fault {
-    match line {
+pub(crate) fn no_form(alloc: Global, text: &str) -> Fault
+    ensures { Says (λ line. line ≡ codes "girzohal: " ++ text.now ++ codes "\n") result }
+{
+    match format!(in alloc; "girzohal: {text}\n") {
         Ok(line) => Fault::NoForm(line),
         Err(_) => Fault::OutOfMemory,
     }

@@ -12,6 +12,7 @@ ghost use Rattle.girzohal.specs.Lines.{columns_of as columns_meant};
 ghost use Rattle.girzohal.specs.Lines.{is_drawing as is_drawn, is_kept as is_kept_sort, kept_if};
 ghost use Rattle.girzohal.specs.Lines.{kept_line, kept_run, kept_text, own_parts};
 ghost use Rattle.girzohal.specs.Lines.{shapes_of as shapes_meant, tool_columns as columns_known};
+ghost use Rattle.girzohal.specs.Lines.{lines_in_text, without_lf as lf_less};
 ghost use Rattle.girzohal.specs.Lines.{tool_parts};
 ghost use Rattle.girzohal.specs.Made.{IsFree};
 
@@ -23,6 +24,7 @@ use found_reports::{FoundReports, ListedSources};
 use girzohal_asked::{Asked, OutputForm};
 use harmless::{Kind, harmless};
 use line_reports::{names_of, reports_of};
+use line_shapes::bytes::before_last;
 use line_shapes::shape::Shape;
 use line_shapes::tables::Unit;
 use line_shapes::tools::{Columns, columns_of_tool, tool_shapes};
@@ -58,12 +60,34 @@ pub(crate) fn make_lines<S: Store>(
     ensures cause { IfErr result IsFree }
 {
     let text = without_paint(alloc, bytes)?;
-    let lines = lines_of(alloc, &text)?;
+    let lines = text_lines(alloc, &text)?;
     let shapes = shapes_of(alloc, asked)?;
     let pieces = pieces_of(alloc, &lines, &shapes)?;
     let names = names_of(alloc, &pieces)?;
     let sources = gather(alloc, store, Spelling::Path, &names)?;
     write_pieces(alloc, asked, &lines, &pieces, &sources)
+}
+
+/// The lines of a text: a last LF ends one, and begins none.
+#[tactic(auto, unfolding(crate::specs::Lines::lines_in_text))]
+fn text_lines<'a>(alloc: Global, text: &'a [u8]) -> Result<Vec<&'a [u8]>, AllocError>
+    ensures { IfOk result (λ lines. map (λ line. line.now) lines.items
+        ≡ lines_in_text text.entry.now) }
+{
+    if text.is_empty() {
+        return Ok(Vec::new(alloc));
+    }
+    lines_of(alloc, without_lf(text))
+}
+
+/// A text without an LF at its end.
+fn without_lf(text: &[u8]) -> &[u8]
+    ensures { result.now ≡ lf_less text.now }
+{
+    match before_last(text, b'\n') {
+        Some(front) => front,
+        None => text,
+    }
 }
 
 /// What is made of the pieces of lines, with these sources.

@@ -1,9 +1,10 @@
 // What is written of a SARIF log.
-ghost use Rattle.std.specs.Prelude.{◌≡◌, IfErr, IfOk, string_bytes};
+ghost use Rattle.std.specs.Prelude.{◌≡◌, ⊤, IfErr, IfOk, string_bytes};
 ghost use Rattle.girzohal.specs.Logs.{IsNoLog, ReadsLog, log_columns as columns_of};
-ghost use Rattle.girzohal.specs.Made.{HasCause, Writes};
+ghost use Rattle.girzohal.specs.Logs.{no_log_line};
+ghost use Rattle.girzohal.specs.Made.{HasCause, Says, Writes};
 
-use crate::fault::{Fault, why};
+use crate::fault::Fault;
 use crate::making::Written;
 use crate::object::write;
 use girzohal_asked::Asked;
@@ -48,11 +49,21 @@ fn log_columns(unit: Option<Unit>) -> Option<ColumnKind>
 }
 
 /// Where reading as JSON stopped.
-fn no_json(alloc: Global, line: usize, column: usize) -> Fault {
-    why(format!(in alloc; "girzohal: line {line}, column {column}: input is no JSON\n"))
+fn no_json(alloc: Global, line: usize, column: usize) -> Fault
+    ensures { Says (λ _. ⊤) result }
+{
+    match format!(in alloc; "girzohal: line {line}, column {column}: input is no JSON\n") {
+        Ok(line) => Fault::NoForm(line),
+        Err(_) => Fault::OutOfMemory,
+    }
 }
 
 /// What was wanted of a log.
-fn no_log(alloc: Global, path: &str, wanted: &str) -> Fault {
-    why(format!(in alloc; "girzohal: {path}: wanted {wanted}\n"))
+fn no_log(alloc: Global, path: &str, wanted: &str) -> Fault
+    ensures { Says (λ said. said ≡ no_log_line path.now wanted.now) result }
+{
+    match format!(in alloc; "girzohal: {path}: wanted {wanted}\n") {
+        Ok(line) => Fault::NoForm(line),
+        Err(_) => Fault::OutOfMemory,
+    }
 }

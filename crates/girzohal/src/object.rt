@@ -1,13 +1,15 @@
 // What is made of a JSON object: of a document, or of a log.
-ghost use Rattle.std.specs.Prelude.{◌≡◌, ◌≤◌, IfErr, IfOk, length, string_bytes};
+ghost use Rattle.std.specs.Prelude.{◌≡◌, ⊤, ◌≤◌, IfErr, IfOk, length};
+ghost use Rattle.std.specs.Prelude.{string_bytes};
 ghost use Rattle.input_forms.specs.Object.{has_files as key_files};
 ghost use Rattle.girzohal.specs.Logs.{log_columns as columns_of};
 ghost use Rattle.girzohal.specs.Made.{HasCause, IsFree, IsNoObject, IsWritten, MakesObject};
-ghost use Rattle.girzohal.specs.Made.{Writes};
+ghost use Rattle.girzohal.specs.Made.{Says, Writes};
 ghost use Rattle.girzohal.specs.Reads.{IsNoDocument, IsNoneKeyed, IsNonePart};
+ghost use Rattle.girzohal.specs.Reads.{no_document as said_of_none};
 ghost use Rattle.girzohal.specs.Reads.{ReadsDocument, ReadsKeyed, ReadsPart, around as around_range};
 
-use crate::fault::{Fault, no_form, why};
+use crate::fault::{Fault, no_form};
 use crate::logs::write_log;
 use crate::making::{Made, Written};
 use crate::texts::text_or_fault;
@@ -44,7 +46,7 @@ pub(crate) fn make_object<S: Store>(
 ) -> Result<Made, Fault>
     ensures made { IfOk result (λ it. MakesObject form (S.told store.now) asked.now bytes.now
         (string_bytes it.written.text) it.aside.items it.written.reached) }
-    ensures cause { IfErr result (HasCause (IsNoObject form) bytes.now) }
+    ensures cause { IfErr result (HasCause (IsNoObject form asked.now.columns) bytes.now) }
 {
     let range = json_part(bytes);
     let part = &bytes[range.start..range.end];
@@ -76,7 +78,7 @@ fn write_part<S: Store>(
     ensures written { IfOk result (λ it. Writes
         (ReadsPart form (S.told store.now) (columns_of asked.now.columns) part.now) asked.now
         (string_bytes it.text) it.reached) }
-    ensures cause { IfErr result (HasCause (IsNonePart form) part.now) }
+    ensures cause { IfErr result (HasCause (IsNonePart form asked.now.columns) part.now) }
 {
     match form {
         ObjectForm::Keyed => write_keyed(alloc, asked, part, store),
@@ -95,7 +97,8 @@ fn write_keyed<S: Store>(
     ensures written { IfOk result (λ it. Writes
         (ReadsKeyed (key_files part.now) (S.told store.now) (columns_of asked.now.columns) part.now)
         asked.now (string_bytes it.text) it.reached) }
-    ensures cause { IfErr result (HasCause (λ text. IsNoneKeyed (key_files text) text) part.now) }
+    ensures cause { IfErr result (HasCause
+        (λ text. IsNoneKeyed (key_files text) asked.now.columns text) part.now) }
 {
     if has_files(alloc, part)? {
         write_document(alloc, asked, part)
@@ -108,7 +111,7 @@ fn write_keyed<S: Store>(
 fn write_document(alloc: Global, asked: &Asked, part: &[u8]) -> Result<Written, Fault>
     ensures written { IfOk result (λ it. Writes (ReadsDocument part.now) asked.now
         (string_bytes it.text) it.reached) }
-    ensures cause { IfErr result (HasCause IsNoDocument part.now) }
+    ensures cause { IfErr result (HasCause (IsNoDocument asked.now.columns) part.now) }
 {
     let Some(document) = read_document(alloc, part)? else {
         return Err(no_form(alloc, no_document(asked.columns)));
@@ -136,7 +139,9 @@ pub(crate) fn write(
 }
 
 /// Why an object is no document; a log is none where its columns are to count what it can't.
-fn no_document(columns: Option<Unit>) -> &'static str {
+fn no_document(columns: Option<Unit>) -> &'static str
+    ensures { result.now ≡ said_of_none columns }
+{
     match columns {
         None | Some(Unit::Characters | Unit::Utf16) => "input is no document",
         Some(Unit::Bytes | Unit::Cells) => {
@@ -146,6 +151,11 @@ fn no_document(columns: Option<Unit>) -> &'static str {
 }
 
 /// Why a report of a document is refused.
-fn refused(alloc: Global, error: ReportError) -> Fault {
-    why(format!(in alloc; "girzohal: {error}\n"))
+fn refused(alloc: Global, error: ReportError) -> Fault
+    ensures { Says (λ _. ⊤) result }
+{
+    match format!(in alloc; "girzohal: {error}\n") {
+        Ok(line) => Fault::NoForm(line),
+        Err(_) => Fault::OutOfMemory,
+    }
 }
