@@ -100,12 +100,20 @@ abbrev pub begins_with_byte : ℕ → List ℕ → Bool
 begins_with_byte byte [] = false
 begins_with_byte byte (x ∷ xs) = x == byte
 
--- by its first byte, a text may begin with the first of these parts
+-- parts may stand at the beginning of a text, by its first byte, where the first of them is a byte
+abbrev pub may_start : List Part → List ℕ → Bool
+may_start [] text = true
+may_start (Byte byte ∷ parts) text = begins_with_byte byte text
+may_start (part ∷ parts) text = true
+
+-- a text may begin with the first of these parts, by its first byte and the one behind the run that this part takes
 abbrev pub may_stand : List Part → List ℕ → Bool
 may_stand [] text = true
 may_stand (Byte byte ∷ parts) text = begins_with_byte byte text
-may_stand (Blanks ∷ parts) text = is_in Blank (slice_index text 0)
-may_stand (Decimal figure ∷ parts) text = is_in Digit (slice_index text 0)
+may_stand (AnyBlanks ∷ parts) text = may_start parts (drop (prefix_len (is_in Blank) text) text)
+may_stand (Blanks ∷ parts) text = is_in Blank (slice_index text 0) && may_start parts (drop (prefix_len (is_in Blank) text) text)
+may_stand (Decimal figure ∷ parts) text = is_in Digit (slice_index text 0) && may_start parts (drop (prefix_len (is_in Digit) text) text)
+may_stand (Program ∷ parts) text = is_program_start (slice_index text 0) && may_start parts (drop (prefix_len (is_in InProgram) text) text)
 may_stand (part ∷ parts) text = true
 
 -- the same of a byte and the part behind it

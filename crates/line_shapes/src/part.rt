@@ -1,9 +1,11 @@
 //! The parts of a shape, and what they find in a text.
-ghost use Rattle.std.specs.Prelude.{◌≡◌, ◌≤◌, length, slice_index, option_map};
+ghost use Rattle.std.specs.Prelude.{◌≡◌, ◌≤◌, drop, length, slice_index, option_map};
+ghost use Rattle.std.specs.List.{prefix_len};
+ghost use Rattle.line_shapes.specs.Bytes.{is_in as belongs};
 ghost use Rattle.line_shapes.specs.declared.part.Part.TheVariants.{Decimal, Level, Program};
 ghost use Rattle.line_shapes.specs.Part.{before as seen_before, behind as seen_behind, byte_taken};
 ghost use Rattle.line_shapes.specs.Part.{fit as fits_there, begins_with_byte, is_program_start};
-ghost use Rattle.line_shapes.specs.Part.{may_begin, may_stand, message_taken, seen};
+ghost use Rattle.line_shapes.specs.Part.{may_begin, may_stand, may_start, message_taken, seen};
 ghost use Rattle.line_shapes.specs.Part.{taken as taken_by};
 ghost use Rattle.line_shapes.specs.Part.{with_code, with_letter};
 
@@ -105,7 +107,7 @@ pub fn fit<'a>(parts: &[Part], found: Found<'a>) -> Option<Found<'a>>
 }
 
 /// Whether the first two parts may stand at the beginning of a text, by its first two bytes.
-fn begins(parts: &[Part], text: &[u8]) -> bool
+pub(crate) fn begins(parts: &[Part], text: &[u8]) -> bool
     ensures { result ≡ may_begin parts.now text.now }
 {
     match parts {
@@ -117,14 +119,40 @@ fn begins(parts: &[Part], text: &[u8]) -> bool
     }
 }
 
-/// Whether the first part may stand at the beginning of a text, by its first byte.
+/// Whether the first part may stand at the beginning of a text, by its first byte, and the next
+/// one behind it.
 fn stands(parts: &[Part], text: &[u8]) -> bool
     ensures { result ≡ may_stand parts.now text.now }
 {
     match parts {
         [Part::Byte(byte), ..] => is_first(text, *byte),
-        [Part::Blanks, ..] => is_in(Kind::Blank, first_of(text)),
-        [Part::Decimal(_), ..] => is_in(Kind::Digit, first_of(text)),
+        [Part::AnyBlanks, rest @ ..] => starts_behind(rest, Kind::Blank, text),
+        [Part::Blanks, rest @ ..] => {
+            is_in(Kind::Blank, first_of(text)) && starts_behind(rest, Kind::Blank, text)
+        }
+        [Part::Decimal(_), rest @ ..] => {
+            is_in(Kind::Digit, first_of(text)) && starts_behind(rest, Kind::Digit, text)
+        }
+        [Part::Program, rest @ ..] => {
+            begins_program(first_of(text)) && starts_behind(rest, Kind::InProgram, text)
+        }
+        _ => true,
+    }
+}
+
+/// Whether these parts may stand behind the bytes of a kind that a text begins with.
+fn starts_behind(parts: &[Part], kind: Kind, text: &[u8]) -> bool
+    ensures { result ≡ may_start parts.now (drop (prefix_len (belongs kind) text.now) text.now) }
+{
+    starts(parts, text.split_at(run(kind, text)).1)
+}
+
+/// Whether the first part may stand at the beginning of a text, where it is a byte.
+fn starts(parts: &[Part], text: &[u8]) -> bool
+    ensures { result ≡ may_start parts.now text.now }
+{
+    match parts {
+        [Part::Byte(byte), ..] => is_first(text, *byte),
         _ => true,
     }
 }

@@ -1,7 +1,8 @@
 //! Where a finding is: a lead, a name, and what stands behind it.
 ghost use Rattle.std.specs.Prelude.{◌≡◌, ◌≤◌, ◌<◌, nat_le, if◌then◌else◌, false};
-ghost use Rattle.std.specs.Prelude.{Some, None, option_map, length, take, slice_index, map};
-ghost use Rattle.line_shapes.specs.Part.{seen};
+ghost use Rattle.std.specs.Prelude.{Some, None, option_map, option_and_then, length, take};
+ghost use Rattle.std.specs.Prelude.{slice_index, map};
+ghost use Rattle.line_shapes.specs.Part.{before as seen_before, fit as fits_there, seen};
 ghost use Rattle.line_shapes.specs.Name.{first_fault as fault_first, is_angle as begins_angle};
 ghost use Rattle.line_shapes.specs.Least.{IsLeastPlace};
 ghost use Rattle.line_shapes.specs.Place.{IsNextMark, may_follow, may_name as may_be_name};
@@ -12,7 +13,7 @@ ghost use Rattle.line_shapes.specs.Place.{in_angles as angled_place, placed};
 
 use crate::bytes::{Kind, is_in};
 use crate::name::{NameKind, angle_len, begins_name, ends_name, first_fault, is_angle};
-use crate::part::{Found, Part, fit};
+use crate::part::{Found, Part, begins, fit};
 use crate::tables::{AFTERS, LEADS};
 use memchr::memchr3;
 
@@ -38,14 +39,27 @@ fn in_leads<'a>(mut leads: &[(&str, &[Part], NameKind)], line: &'a [u8]) -> Opti
         ≡ place_in_leads (map (λ lead. (lead.1.now, lead.2)) leads.entry.now) line.now }
 {
     while let [lead, rest @ ..] = leads {
-        if let Some(begun) = fit(lead.1, Found::before(line)) {
-            if let Some(placed) = in_lead(begun, lead.2) {
-                return Some(placed);
-            }
+        if let Some(placed) = behind_lead(lead.1, lead.2, line) {
+            return Some(placed);
         }
         leads = rest;
     }
     None
+}
+
+/// The place behind a lead.
+#[tactic(auto, using(crate::proofs::PartLemmas::not_begun))]
+fn behind_lead<'a>(lead: &[Part], kind: NameKind, line: &'a [u8]) -> Option<Placed<'a>>
+    ensures { option_map placed result
+        ≡ option_and_then (place_in_lead kind) (fits_there lead.now (seen_before line.now)) }
+{
+    if lead.is_empty() {
+        in_lead(Found::before(line), kind)
+    } else if begins(lead, line) {
+        in_lead(fit(lead, Found::before(line))?, kind)
+    } else {
+        None
+    }
 }
 
 /// The place behind a lead that has the shortest name.
@@ -184,10 +198,22 @@ pub fn first_fit<'a>(mut shapes: &[(&str, &[Part])], found: Found<'a>) -> Option
         ≡ fits_first (map (λ shape. shape.1.now) shapes.entry.now) (seen found.entry) }
 {
     while let [shape, rest @ ..] = shapes {
-        if let Some(found) = fit(shape.1, found) {
+        if let Some(found) = fit_begun(shape.1, &found) {
             return Some(found);
         }
         shapes = rest;
     }
     None
+}
+
+/// The same as `fit`. What was found so far isn't copied for a shape that can't begin.
+#[tactic(auto, using(crate::proofs::PartLemmas::not_begun))]
+fn fit_begun<'a>(shape: &[Part], found: &Found<'a>) -> Option<Found<'a>>
+    ensures { option_map seen result ≡ fits_there shape.now (seen found.now) }
+{
+    if begins(shape, found.rest) {
+        fit(shape, *found)
+    } else {
+        None
+    }
 }

@@ -8,7 +8,7 @@ ghost use Rattle.line_shapes.specs.Shape.{first_own as own_among, first_named as
 ghost use Rattle.line_shapes.specs.Shape.{shape_parts};
 
 use crate::name::{NameKind, is_name};
-use crate::part::{Found, Part, fit};
+use crate::part::{Found, Part, begins, fit};
 use crate::place::Placed;
 use crate::said::whole;
 
@@ -35,6 +35,7 @@ pub fn first_own<'a>(mut shapes: &[Shape<'_>], line: &'a [u8]) -> Option<Placed<
 }
 
 /// The place of a line that is these parts, a name, and those parts, with the shortest name.
+#[tactic(auto, using(crate::proofs::PartLemmas::not_begun))]
 pub fn named<'a>(
     lead: &[Part],
     kind: NameKind,
@@ -43,8 +44,12 @@ pub fn named<'a>(
 ) -> Option<Placed<'a>>
     ensures { option_map placed result ≡ own_place kind lead.now after.now line.now }
 {
-    let begun = fit(lead, Found::before(line))?;
-    named_behind(kind, after, begun)
+    if begins(lead, line) {
+        let begun = fit(lead, Found::before(line))?;
+        named_behind(kind, after, begun)
+    } else {
+        None
+    }
 }
 
 /// The place behind the lead.
