@@ -26,9 +26,12 @@ error_element f =
     codes "<error" ++ place_attributes f ++ attribute (codes "severity") (severity_word f.severity) ++ attribute (codes "message") f.message
     ++ source_attribute f.code ++ codes "/>\n"
 
-unfoldable pub file_element : List FindingParts → List ℕ → List ℕ
-file_element findings name =
-    codes "<file" ++ attribute (codes "name") name ++ codes ">\n" ++ flat_map error_element (filter (is_on name) findings) ++ codes "</file>\n"
+-- a file with these findings
+unfoldable pub file_with : List ℕ → List FindingParts → List ℕ
+file_with name own = codes "<file" ++ attribute (codes "name") name ++ codes ">\n" ++ flat_map error_element own ++ codes "</file>\n"
+
+abbrev pub file_element : List FindingParts → List ℕ → List ℕ
+file_element findings name = file_with name (filter (is_on name) findings)
 
 unfoldable pub checkstyle_of : List FindingParts → List ℕ
 checkstyle_of findings =

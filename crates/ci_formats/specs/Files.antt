@@ -1,8 +1,16 @@
 -- Findings by their files, and words that the formats share.
-use Rattle.std.specs.Prelude.{ℕ, not, if◌then◌else◌, Bool, List, [], ◌∷◌, ◌++◌, filter, Option, unwrap_or}
+use Rattle.std.specs.Prelude.{◌≡◌, ℕ, not, if◌then◌else◌, Bool, List, [], ◌∷◌, ◌++◌, Vec, filter, map, Option, unwrap_or}
+use Rattle.std.specs.Borrow.{Bor}
+use Rattle.std.specs.BTreeMap.{BTreeMap, get}
+use Rattle.std.specs.BTreeSet.{BTreeSet, contains}
+use Rattle.std.specs.Cmp.Lexicographic.{slice_cmp}
+use Rattle.std.specs.declared.cmp.Ordering.{Ordering}
 use Rattle.std.specs.List.{list_any}
+use Rattle.std.specs.Option.{option_map_or}
+use Rattle.std.specs.Ordering.{nat_cmp}
 use Rattle.std.specs.Str.{bytes_eq}
-use Rattle.ci_findings.specs.Finding.{FindingParts}
+use Rattle.ci_findings.specs.declared.finding.Finding.{Finding}
+use Rattle.ci_findings.specs.Finding.{FindingParts, finding_parts}
 
 -- a finding is on the file of this name
 abbrev pub is_on : List ℕ → FindingParts → Bool
@@ -25,3 +33,24 @@ along give earlier (f ∷ rest) = give earlier f ++ along give (earlier ++ f ∷
 -- a row or a column, 0 where it isn't known
 abbrev pub or_zero : Option ℕ → ℕ
 or_zero number = unwrap_or number 0
+
+-- ---- names in maps and sets
+
+abbrev pub name_order : Bor (List ℕ) → Bor (List ℕ) → Ordering
+name_order x y = slice_cmp nat_cmp x.now y.now
+
+-- the set has these names
+abbrev pub Knows : BTreeSet (Bor (List ℕ)) → List (List ℕ) → Type 0
+Knows set names = (name : Bor (List ℕ)) → contains name_order set name ≡ list_any (bytes_eq name.now) names
+
+-- what stands under a name
+abbrev pub own_in : {X Y : Type 0} → BTreeMap (Bor (List ℕ)) (Vec X Y) → Bor (List ℕ) → List X
+own_in files name = option_map_or (λ own. own.items) (get name_order files name) []
+
+-- the findings under a name
+abbrev pub own_parts : {Y : Type 0} → BTreeMap (Bor (List ℕ)) (Vec (Bor Finding) Y) → Bor (List ℕ) → List FindingParts
+own_parts files name = map (λ it. finding_parts it.now) (own_in files name)
+
+-- under each name stand its findings
+abbrev pub AreByFile : {Y : Type 0} → BTreeMap (Bor (List ℕ)) (Vec (Bor Finding) Y) → List FindingParts → Type 0
+AreByFile files findings = (name : Bor (List ℕ)) → own_parts files name ≡ filter (is_on name.now) findings

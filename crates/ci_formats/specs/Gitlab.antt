@@ -9,6 +9,7 @@ use Rattle.oxc_protocol.specs.declared.protocol.Severity.{Severity}
 use Rattle.oxc_protocol.specs.declared.protocol.Severity.TheVariants.{Error, Warning, Advice}
 use Rattle.escapes.specs.Cuts.{behind}
 use Rattle.ci_findings.specs.Finding.{FindingParts}
+use Rattle.ci_formats.specs.declared.gitlab.IssueKey.{IssueKey}
 use Rattle.ci_formats.specs.Files.{along}
 use Rattle.ci_formats.specs.Fingerprint.{fingerprint}
 
@@ -24,9 +25,24 @@ path_of name = unwrap_or (behind (codes "./") name) name
 abbrev pub code_of : Option (List ℕ) → List ℕ
 code_of code = unwrap_or code []
 
+-- what the fingerprint of a finding is made of
+pub record IssueParts : Type 0 where
+  pub message : List ℕ
+  pub code : List ℕ
+  pub path : List ℕ
+
+abbrev pub issue_parts : FindingParts → IssueParts
+issue_parts f = record { message = f.message; code = code_of f.code; path = path_of f.name }
+
+abbrev pub key_parts : IssueKey → IssueParts
+key_parts key = record { message = key.message.now; code = key.code.now; path = key.path.now }
+
+abbrev pub are_same_parts : IssueParts → IssueParts → Bool
+are_same_parts a b = bytes_eq b.message a.message && (bytes_eq b.code a.code && bytes_eq b.path a.path)
+
 -- two findings would have one fingerprint: path, code and message are the same
 abbrev pub is_same_issue : FindingParts → FindingParts → Bool
-is_same_issue f other = bytes_eq other.message f.message && (bytes_eq (code_of other.code) (code_of f.code) && bytes_eq (path_of other.name) (path_of f.name))
+is_same_issue f other = are_same_parts (issue_parts f) (issue_parts other)
 
 -- the rows of a finding: the first where its row isn't known, and one where its end isn't
 abbrev pub begin_of : FindingParts → ℕ

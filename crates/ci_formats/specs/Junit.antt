@@ -1,10 +1,14 @@
 -- The XML of JUnit: a suite for each file, a case for each finding.
-use Rattle.std.specs.Prelude.{ℕ, ◌+◌, ◌==◌, ◌&&◌, ◌||◌, not, if◌then◌else◌, Bool, false, List, [], ◌∷◌, ◌++◌, Option, unwrap_or, codes, decimal}
+use Rattle.std.specs.Prelude.{◌≡◌, ℕ, ◌+◌, ◌==◌, ◌&&◌, ◌||◌, not, if◌then◌else◌, Bool, false, List, [], ◌∷◌, ◌++◌, Vec, length, map, Option, unwrap_or, codes, decimal}
+use Rattle.std.specs.Borrow.{Bor}
+use Rattle.std.specs.BTreeMap.{BTreeMap}
 use Rattle.std.specs.List.{count_by, flat_map, list_any}
 use Rattle.std.specs.Str.{bytes_eq}
-use Rattle.ci_findings.specs.Finding.{FindingParts}
+use Rattle.ci_findings.specs.Finding.{FindingParts, finding_parts}
+use Rattle.ci_formats.specs.declared.junit.Case.{Case}
+use Rattle.ci_formats.specs.declared.junit.CaseKey.{CaseKey}
 use Rattle.ci_formats.specs.Checkstyle.{severity_word}
-use Rattle.ci_formats.specs.Files.{along, is_on, names_of, or_zero}
+use Rattle.ci_formats.specs.Files.{along, is_on, names_of, or_zero, own_in}
 use Rattle.ci_formats.specs.Xml.{attribute, number_attribute, shown, xml_head}
 
 -- a byte is `.` or `/`
@@ -30,43 +34,61 @@ code_or_finding code = unwrap_or code (codes "finding")
 unfoldable pub case_name : FindingParts → List ℕ
 case_name f = code_or_finding f.code ++ codes " at " ++ decimal (or_zero f.start.row) ++ codes ":" ++ decimal (or_zero f.start.column)
 
+-- what the name and the class of a case are made of
+pub record CaseParts : Type 0 where
+  pub row : ℕ
+  pub column : ℕ
+  pub code : List ℕ
+  pub stem : List ℕ
+
+abbrev pub case_parts : FindingParts → CaseParts
+case_parts f = record { row = or_zero f.start.row; column = or_zero f.start.column; code = code_or_finding f.code; stem = stem f.name }
+
+abbrev pub key_parts : CaseKey → CaseParts
+key_parts key = record { row = key.row; column = key.column; code = key.code.now; stem = key.stem.now }
+
+abbrev pub are_same_parts : CaseParts → CaseParts → Bool
+are_same_parts a b = (b.row == a.row) && ((b.column == a.column) && (bytes_eq b.code a.code && bytes_eq b.stem a.stem))
+
 -- two findings would have cases of one name in one class
 abbrev pub is_same_case : FindingParts → FindingParts → Bool
-is_same_case f other =
-    (or_zero other.start.row == or_zero f.start.row) && ((or_zero other.start.column == or_zero f.start.column)
-    && (bytes_eq (code_or_finding other.code) (code_or_finding f.code) && bytes_eq (stem other.name) (stem f.name)))
+is_same_case f other = are_same_parts (case_parts f) (case_parts other)
 
--- the second of one name and each after it is numbered, from 2
+-- the second of one name and each after it show their number
 unfoldable pub number_text : ℕ → List ℕ
-number_text before = if before == 0 then [] else codes " (" ++ decimal (before + 1) ++ codes ")"
+number_text number = if number == 1 then [] else codes " (" ++ decimal number ++ codes ")"
 
 unfoldable pub case_attributes : ℕ → FindingParts → List ℕ
-case_attributes before f =
-    attribute (codes "classname") (stem f.name) ++ attribute (codes "file") f.name ++ attribute (codes "name") (case_name f ++ number_text before)
+case_attributes number f =
+    attribute (codes "classname") (stem f.name) ++ attribute (codes "file") f.name ++ attribute (codes "name") (case_name f ++ number_text number)
 
 unfoldable pub failure_element : FindingParts → List ℕ
 failure_element f =
     codes "<failure" ++ attribute (codes "type") (severity_word f.severity) ++ attribute (codes "message") f.message ++ codes ">" ++ shown f.message
     ++ codes "</failure>"
 
+-- the case of a finding that has this number among those of its name
+unfoldable pub case_text : ℕ → FindingParts → List ℕ
+case_text number f = codes "<testcase" ++ case_attributes number f ++ codes ">" ++ failure_element f ++ codes "</testcase>\n"
+
 -- the case of a finding behind the earlier ones
-unfoldable pub case_element : List FindingParts → FindingParts → List ℕ
-case_element earlier f =
-    codes "<testcase" ++ case_attributes (count_by (is_same_case f) earlier) f ++ codes ">" ++ failure_element f ++ codes "</testcase>\n"
+abbrev pub case_element : List FindingParts → FindingParts → List ℕ
+case_element earlier f = case_text (count_by (is_same_case f) earlier + 1) f
 
 -- where it is on the file of this name
 abbrev pub case_on : List ℕ → List FindingParts → FindingParts → List ℕ
 case_on name earlier f = if is_on name f then case_element earlier f else []
 
-unfoldable pub suite_attributes : List FindingParts → List ℕ → List ℕ
-suite_attributes findings name =
-    attribute (codes "name") name ++ number_attribute (codes "tests") (count_by (is_on name) findings) ++ number_attribute (codes "failures") (count_by (is_on name) findings)
-    ++ number_attribute (codes "errors") 0
+unfoldable pub totals : List ℕ → ℕ → List ℕ
+totals name count =
+    attribute (codes "name") name ++ number_attribute (codes "tests") count ++ number_attribute (codes "failures") count ++ number_attribute (codes "errors") 0
+
+unfoldable pub suite_with : List ℕ → ℕ → List ℕ → List ℕ
+suite_with name count cases = codes "<testsuite" ++ totals name count ++ codes ">\n" ++ cases ++ codes "</testsuite>\n"
 
 -- the suite of a file
-unfoldable pub suite_element : List FindingParts → List ℕ → List ℕ
-suite_element findings name =
-    codes "<testsuite" ++ suite_attributes findings name ++ codes ">\n" ++ along (case_on name) [] findings ++ codes "</testsuite>\n"
+abbrev pub suite_element : List FindingParts → List ℕ → List ℕ
+suite_element findings name = suite_with name (count_by (is_on name) findings) (along (case_on name) [] findings)
 
 -- the suite where nothing was found: one case that passes
 abbrev pub passing_suite : List ℕ
@@ -78,3 +100,32 @@ suites_of (f ∷ rest) = flat_map (suite_element (f ∷ rest)) (names_of (f ∷ 
 
 unfoldable pub junit_of : List FindingParts → List ℕ
 junit_of findings = xml_head ++ codes "<testsuites>\n" ++ suites_of findings ++ codes "</testsuites>\n"
+
+-- ---- numbered findings
+
+-- a finding, and its number among those of its name
+pub record Numbered : Type 0 where
+  pub finding : FindingParts
+  pub number : ℕ
+
+abbrev pub numbered : Case → Numbered
+numbered case = record { finding = finding_parts case.finding.now; number = case.number }
+
+abbrev pub numbered_text : Numbered → List ℕ
+numbered_text it = case_text it.number it.finding
+
+-- the findings on the file of a name, numbered along all findings
+abbrev pub numbered_on : List ℕ → List FindingParts → FindingParts → List Numbered
+numbered_on name earlier f = if is_on name f then record { finding = f; number = count_by (is_same_case f) earlier + 1 } ∷ [] else []
+
+-- the cases under a name
+abbrev pub own_cases : {Y : Type 0} → BTreeMap (Bor (List ℕ)) (Vec Case Y) → Bor (List ℕ) → List Numbered
+own_cases files name = map numbered (own_in files name)
+
+-- under each name stand its findings, numbered
+abbrev pub AreCasesByFile : {Y : Type 0} → BTreeMap (Bor (List ℕ)) (Vec Case Y) → List FindingParts → Type 0
+AreCasesByFile files findings = (name : Bor (List ℕ)) → own_cases files name ≡ along (numbered_on name.now) [] findings
+
+-- a suite of these cases
+abbrev pub suite_of : List ℕ → List Numbered → List ℕ
+suite_of name own = suite_with name (length own) (flat_map numbered_text own)

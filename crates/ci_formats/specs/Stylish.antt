@@ -58,8 +58,11 @@ row_text widths f =
 unfoldable pub rows_text : List FindingParts → List ℕ
 rows_text findings = flat_map (row_text (widths_of findings)) findings
 
-unfoldable pub file_text : List FindingParts → List ℕ → List ℕ
-file_text findings name = name ++ codes "\n" ++ rows_text (filter (is_on name) findings) ++ codes "\n"
+unfoldable pub table_text : List ℕ → List FindingParts → List ℕ
+table_text name own = name ++ codes "\n" ++ rows_text own ++ codes "\n"
+
+abbrev pub file_text : List FindingParts → List ℕ → List ℕ
+file_text findings name = table_text name (filter (is_on name) findings)
 
 -- a number of things
 abbrev pub plural : ℕ → List ℕ

@@ -1,15 +1,15 @@
 // The XML of Checkstyle.
-ghost use Rattle.std.specs.Prelude.{◌≡◌, ◌++◌, IfOk, OnOk, filter, map, string_bytes};
+ghost use Rattle.std.specs.Prelude.{◌≡◌, ◌++◌, IfOk, OnOk, map, string_bytes};
 ghost use Rattle.std.specs.List.{flat_map};
 ghost use Rattle.std.specs.Option.{option_copied};
 ghost use Rattle.ci_findings.specs.Finding.{finding_parts};
 ghost use Rattle.ci_formats.specs.Checkstyle.{checkstyle_of, error_element, file_element};
-ghost use Rattle.ci_formats.specs.Checkstyle.{place_attributes};
+ghost use Rattle.ci_formats.specs.Checkstyle.{file_with, place_attributes};
 ghost use Rattle.ci_formats.specs.Checkstyle.{severity_word as word_of_severity};
 ghost use Rattle.ci_formats.specs.Checkstyle.{source_attribute};
-ghost use Rattle.ci_formats.specs.Files.{is_on as stands_on};
+ghost use Rattle.ci_formats.specs.Files.{names_of as names_in, own_parts};
 
-use crate::files::{is_on, names_of, or_zero};
+use crate::files::{ByFile, by_file, names_of, or_zero, own};
 use crate::xml::{push_attribute, push_number};
 use ci_findings::Finding;
 use oxc_protocol::Severity;
@@ -25,64 +25,66 @@ pub fn checkstyle_text(alloc: Global, findings: &[Finding]) -> Result<String, Al
     ensures { IfOk result (λ text. string_bytes text
         ≡ checkstyle_of (map finding_parts findings.now)) }
 {
-    let names = names_of(alloc, findings)?;
     let mut text = String::new(alloc);
     text.push_str("<?xml version=\"1.0\" encoding=\"UTF-8\"?>\n")?;
     text.push_str("<checkstyle version=\"4.3\">\n")?;
-    push_files(alloc, &mut text, findings, &names)?;
+    push_found(alloc, &mut text, findings)?;
     text.push_str("</checkstyle>\n")?;
     Ok(text)
 }
 
-/// Appends the files of these names.
-fn push_files(
-    alloc: Global,
-    out: &mut String,
-    findings: &[Finding],
-    names: &[&str],
-) -> Result<(), AllocError>
+/// Appends each file.
+fn push_found(alloc: Global, out: &mut String, findings: &[Finding]) -> Result<(), AllocError>
     ensures { OnOk result (string_bytes out.new ≡ string_bytes out.old
         ++ flat_map (file_element (map finding_parts findings.now))
-        (map (λ name. name.now) names.now)) }
+        (names_in (map finding_parts findings.now))) }
+{
+    let names = names_of(alloc, findings)?;
+    let files = by_file(alloc, findings)?;
+    push_files(alloc, out, &files, &names)
+}
+
+/// Appends the files of these names.
+fn push_files<'a>(
+    alloc: Global,
+    out: &mut String,
+    files: &ByFile<'a, &'a Finding>,
+    names: &[&'a str],
+) -> Result<(), AllocError>
+    ensures { OnOk result (string_bytes out.new ≡ string_bytes out.old
+        ++ flat_map (λ name. file_with name.now (own_parts files.now name)) names.now) }
 {
     for name in names {
-        push_file(alloc, out, findings, name)?;
+        push_file(alloc, out, name, own(files, name))?;
     }
     Ok(())
 }
 
-/// Appends a file.
-#[tactic(auto, unfolding(crate::specs::Checkstyle::file_element))]
+/// Appends a file with these findings.
+#[tactic(auto, unfolding(crate::specs::Checkstyle::file_with))]
 fn push_file(
     alloc: Global,
     out: &mut String,
-    findings: &[Finding],
     name: &str,
+    own: &[&Finding],
 ) -> Result<(), AllocError>
-    ensures { OnOk result (string_bytes out.new
-        ≡ string_bytes out.old ++ file_element (map finding_parts findings.now) name.now) }
+    ensures { OnOk result (string_bytes out.new ≡ string_bytes out.old
+        ++ file_with name.now (map (λ it. finding_parts it.now) own.now)) }
 {
     out.push_str("<file")?;
     push_attribute(alloc, out, "name", name)?;
     out.push_str(">\n")?;
-    push_errors(alloc, out, findings, name)?;
+    push_errors(alloc, out, own)?;
     out.push_str("</file>\n")
 }
 
-/// Appends the findings on the file of a name.
-fn push_errors(
-    alloc: Global,
-    out: &mut String,
-    findings: &[Finding],
-    name: &str,
-) -> Result<(), AllocError>
-    ensures { OnOk result (string_bytes out.new ≡ string_bytes out.old ++ flat_map error_element
-        (filter (stands_on name.now) (map finding_parts findings.now))) }
+/// Appends findings.
+fn push_errors(alloc: Global, out: &mut String, findings: &[&Finding]) -> Result<(), AllocError>
+    ensures { OnOk result (string_bytes out.new ≡ string_bytes out.old
+        ++ flat_map error_element (map (λ it. finding_parts it.now) findings.now)) }
 {
     for finding in findings {
-        if is_on(name, finding) {
-            push_error(alloc, out, finding)?;
-        }
+        push_error(alloc, out, finding)?;
     }
     Ok(())
 }

@@ -1,14 +1,20 @@
-// The files that findings are on.
-ghost use Rattle.std.specs.Prelude.{◌≡◌, IfOk, OnOk, map};
-ghost use Rattle.std.specs.List.{list_any};
-ghost use Rattle.std.specs.Str.{bytes_eq};
+// The files that findings are on, and what stands on each.
+ghost use Rattle.std.specs.Prelude.{◌≡◌, ◌++◌, ◌∷◌, [], ℕ, List, IfOk, OnOk, Some, cond, map};
+ghost use Rattle.std.specs.Borrow.{Bor};
+ghost use Rattle.std.specs.BTreeMap.{get};
+ghost use Rattle.std.specs.Option.{option_copied, option_map_or};
+ghost use Rattle.std.specs.Ordering.{is_eq};
 ghost use Rattle.ci_findings.specs.Finding.{finding_parts};
-ghost use Rattle.ci_formats.specs.Files.{is_on as stands_on, names_of as names_in};
+ghost use Rattle.ci_formats.specs.Files.{AreByFile, Knows, name_order, names_of as names_in};
 ghost use Rattle.ci_formats.specs.Files.{or_zero as number_or_zero};
-ghost use Rattle.ci_formats.specs.Files.{with_name};
+ghost use Rattle.ci_formats.specs.Files.{own_in, with_name};
 
 use ci_findings::Finding;
 use std::alloc::{AllocError, Global};
+use std::collections::{BTreeMap, BTreeSet};
+
+/// What stands on each file, by its name.
+pub(crate) type ByFile<'a, T> = BTreeMap<&'a str, Vec<T>>;
 
 /// The names of the files, each once, in the order of their first findings.
 pub(crate) fn names_of(alloc: Global, findings: &[Finding]) -> Result<Vec<&str>, AllocError>
@@ -16,42 +22,73 @@ pub(crate) fn names_of(alloc: Global, findings: &[Finding]) -> Result<Vec<&str>,
         ≡ names_in (map finding_parts findings.now)) }
 {
     let mut names = Vec::new(alloc);
+    let mut known = BTreeSet::new(alloc);
     for finding in findings {
-        push_new(&mut names, finding.name.as_str())?;
+        push_new(&mut names, &mut known, finding.name.as_str())?;
     }
     Ok(names)
 }
 
-/// Appends a name, unless it is one of these.
-fn push_new<'a>(names: &mut Vec<&'a str>, name: &'a str) -> Result<(), AllocError>
-    ensures { OnOk result (map (λ it. it.now) names.new.items
+/// Appends a name, unless it is one of those that are known.
+fn push_new<'a>(
+    names: &mut Vec<&'a str>,
+    known: &mut BTreeSet<&'a str>,
+    name: &'a str,
+) -> Result<(), AllocError>
+    requires { Knows known.old (map (λ it. it.now) names.old.items) }
+    ensures names { OnOk result (map (λ it. it.now) names.new.items
         ≡ with_name (map (λ it. it.now) names.old.items) name.entry.now) }
+    ensures known { OnOk result (Knows known.new (map (λ it. it.now) names.new.items)) }
 {
-    if !is_among(names, name) {
+    if known.insert(name)? {
         names.push(name)?;
     }
     Ok(())
 }
 
-/// Whether a name is one of these.
-fn is_among(names: &[&str], name: &str) -> bool
-    ensures { result ≡ list_any (bytes_eq name.now) (map (λ it. it.now) names.now) }
+/// The findings on each file, by its name.
+pub(crate) fn by_file<'a>(
+    alloc: Global,
+    findings: &'a [Finding],
+) -> Result<ByFile<'a, &'a Finding>, AllocError>
+    ensures { IfOk result (λ files. AreByFile files (map finding_parts findings.entry.now)) }
 {
-    has_name(names, name)
+    let mut files: ByFile<'a, &'a Finding> = BTreeMap::new(alloc);
+    for finding in findings {
+        put_on(&mut files, finding.name.as_str(), finding)?;
+    }
+    Ok(files)
 }
 
-/// Whether a name is one of these.
-fn has_name(names: &[&str], name: &str) -> bool
-    ensures { result ≡ list_any (λ it. bytes_eq name.now it.now) names.now }
+/// Puts an item on the file of a name, behind those that are there.
+pub(crate) fn put_on<'a, T: Drop>(
+    files: &mut ByFile<'a, T>,
+    name: &'a str,
+    item: T,
+) -> Result<(), AllocError>
+    ensures { OnOk result ((other : Bor (List ℕ)) → own_in files.new other
+        ≡ cond (is_eq (name_order name.entry other)) (own_in files.old name.entry ++ item ∷ [])
+        (own_in files.old other)) }
 {
-    names.iter().any(|known| name == *known)
+    files.entry(name)?.or_default().push(item)?;
+    Ok(())
 }
 
-/// Whether a finding is on the file of a name.
-pub(crate) fn is_on(name: &str, finding: &Finding) -> bool
-    ensures { result ≡ stands_on name.now (finding_parts finding.now) }
+/// What stands on the file of a name.
+pub(crate) fn own<'b, 'a, T>(files: &'b ByFile<'a, T>, name: &'a str) -> &'b [T]
+    ensures { result.now ≡ own_in files.entry.now name.entry }
 {
-    finding.name.as_str() == name
+    listed(files.get(&name))
+}
+
+/// The items of a list, none where there is no list.
+fn listed<'b, T>(list: Option<&'b Vec<T>>) -> &'b [T]
+    ensures { result.now ≡ option_map_or (λ own. own.items) (option_copied list.entry) [] }
+{
+    match list {
+        Some(list) => list.as_slice(),
+        None => &[],
+    }
 }
 
 /// A row or a column, 0 where it isn't known.

@@ -1,21 +1,30 @@
 // The JSON of GitLab's code quality reports.
 ghost use Rattle.std.specs.Prelude.{◌≡◌, IfOk, Some, codes, map, string_bytes, unwrap_or};
-ghost use Rattle.std.specs.List.{count_by};
 ghost use Rattle.serde_json.specs.Read.{read};
 ghost use Rattle.serde_json.specs.View.{view};
 ghost use Rattle.ci_findings.specs.Finding.{finding_parts};
 ghost use Rattle.ci_formats.specs.Gitlab.{begin_of, code_of as code_for, gitlab_of, gitlab_value};
 ghost use Rattle.ci_formats.specs.Gitlab.{grade as grade_of};
-ghost use Rattle.ci_formats.specs.Gitlab.{is_same_issue as is_alike, issue_value as issue_of};
+ghost use Rattle.ci_formats.specs.Gitlab.{issue_parts, issue_value as issue_of, key_parts};
 ghost use Rattle.ci_formats.specs.Gitlab.{last_of, location_value as location_of};
 ghost use Rattle.ci_formats.specs.Gitlab.{path_of as path_for};
 
+use crate::counted::count_once;
 use crate::fingerprints::fingerprint;
 use ci_findings::Finding;
 use escapes::behind;
 use oxc_protocol::Severity;
 use serde_json::{Value, json};
 use std::alloc::{AllocError, Global};
+use std::collections::BTreeMap;
+
+/// What the fingerprint of a finding is made of.
+#[derive(Clone, Copy, PartialEq, Eq, PartialOrd, Ord)]
+pub struct IssueKey<'a> {
+    pub message: &'a str,
+    pub code: &'a str,
+    pub path: &'a str,
+}
 
 /// The JSON of a code quality report of GitLab: an array of the findings, in order.
 ///
@@ -38,31 +47,23 @@ fn report(alloc: Global, findings: &[Finding]) -> Result<Value, AllocError>
     ensures { IfOk result (λ value. view value ≡ gitlab_value (map finding_parts findings.now)) }
 {
     let mut issues = Vec::with_capacity(alloc, findings.len())?;
-    for (index, finding) in findings.iter().enumerate() {
-        let before = count_alike(&findings[..index], finding);
+    let mut counts = BTreeMap::new(alloc);
+    for finding in findings {
+        let before = count_once(&mut counts, issue_key(finding))?;
         issues.push(issue(alloc, before, finding)?)?;
     }
     Ok(Value::Array(issues))
 }
 
-/// How many findings would have the fingerprint of this one.
-fn count_alike(findings: &[Finding], finding: &Finding) -> usize
-    ensures { result ≡ count_by (is_alike (finding_parts finding.now))
-        (map finding_parts findings.now) }
+/// What the fingerprint of a finding is made of.
+fn issue_key(finding: &Finding) -> IssueKey<'_>
+    ensures { key_parts result ≡ issue_parts (finding_parts finding.now) }
 {
-    findings
-        .iter()
-        .filter(|other| is_same_issue(finding, other))
-        .count()
-}
-
-/// Whether two findings would have one fingerprint.
-fn is_same_issue(finding: &Finding, other: &Finding) -> bool
-    ensures { result ≡ is_alike (finding_parts finding.now) (finding_parts other.now) }
-{
-    other.message.as_str() == finding.message.as_str()
-        && code_of(other) == code_of(finding)
-        && path_of(other) == path_of(finding)
+    IssueKey {
+        message: finding.message.as_str(),
+        code: code_of(finding),
+        path: path_of(finding),
+    }
 }
 
 /// A finding as JSON, before which this many of its fingerprint stand.

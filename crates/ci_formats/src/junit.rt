@@ -1,23 +1,42 @@
 // The XML of JUnit.
-ghost use Rattle.std.specs.Prelude.{◌≡◌, ◌++◌, ◌≤◌, [], false, IfOk, OnOk, length, map, string_bytes};
-ghost use Rattle.std.specs.Prelude.{◌-◌, ◌<◌, ◌^◌, slice_index, take, true};
-ghost use Rattle.std.specs.List.{count_by, flat_map, list_any};
+ghost use Rattle.std.specs.Prelude.{◌≡◌, ◌++◌, ◌≤◌, false, IfOk, OnOk, length, map, string_bytes};
+ghost use Rattle.std.specs.Prelude.{◌<◌, slice_index, take, true};
+ghost use Rattle.std.specs.List.{flat_map, list_any};
 ghost use Rattle.std.specs.Str.{IsCharBoundary};
 ghost use Rattle.ci_findings.specs.Finding.{finding_parts};
-ghost use Rattle.ci_formats.specs.Files.{along, is_on as stands_on};
-ghost use Rattle.ci_formats.specs.Junit.{case_attributes, case_element, case_name, case_on};
-ghost use Rattle.ci_formats.specs.Junit.{code_or_finding as code_or_word, failure_element};
-ghost use Rattle.ci_formats.specs.Junit.{ends_stem as ends_stem_by};
-ghost use Rattle.ci_formats.specs.Junit.{is_part_end, is_same_case as is_alike, junit_of};
-ghost use Rattle.ci_formats.specs.Junit.{number_text, stem as stem_of_path, suite_attributes};
-ghost use Rattle.ci_formats.specs.Junit.{suite_element, suites_of};
+ghost use Rattle.ci_formats.specs.Files.{names_of as names_in};
+ghost use Rattle.ci_formats.specs.Junit.{AreCasesByFile, case_attributes, case_name, case_parts};
+ghost use Rattle.ci_formats.specs.Junit.{case_text, code_or_finding as code_or_word};
+ghost use Rattle.ci_formats.specs.Junit.{ends_stem as ends_stem_by, failure_element, is_part_end};
+ghost use Rattle.ci_formats.specs.Junit.{junit_of, key_parts, number_text, numbered};
+ghost use Rattle.ci_formats.specs.Junit.{numbered_text, own_cases, stem as stem_of_path, suite_of};
+ghost use Rattle.ci_formats.specs.Junit.{suite_element, suites_of, totals};
 
 use crate::checkstyle::severity_word;
-use crate::files::{is_on, names_of, or_zero};
+use crate::counted::count_once;
+use crate::files::{ByFile, names_of, or_zero, own, put_on};
 use crate::xml::{push_attribute, push_number, push_shown};
 use ci_findings::Finding;
 use itoa::Buffer;
 use std::alloc::{AllocError, Global};
+use std::collections::BTreeMap;
+
+/// What the name and the class of a case are made of.
+#[derive(Clone, Copy, PartialEq, Eq, PartialOrd, Ord)]
+pub struct CaseKey<'a> {
+    pub row: u32,
+    pub column: u32,
+    pub code: &'a str,
+    pub stem: &'a str,
+}
+
+/// The case of a finding.
+#[derive(Clone, Copy)]
+pub struct Case<'a> {
+    pub finding: &'a Finding,
+    /// Its number among those of its name and class, from 1.
+    pub number: usize,
+}
 
 /// The XML of JUnit: a suite for each file, in the order of its first finding, and in it a failing
 /// case for each of its findings; where there is no finding, one case that passes.
@@ -51,144 +70,122 @@ fn push_suites(alloc: Global, out: &mut String, findings: &[Finding]) -> Result<
     if findings.is_empty() {
         return out.push_str(PASSING);
     }
+    push_found(alloc, out, findings)
+}
+
+/// Appends the suite of each file.
+fn push_found(alloc: Global, out: &mut String, findings: &[Finding]) -> Result<(), AllocError>
+    ensures { OnOk result (string_bytes out.new ≡ string_bytes out.old
+        ++ flat_map (suite_element (map finding_parts findings.now))
+        (names_in (map finding_parts findings.now))) }
+{
     let names = names_of(alloc, findings)?;
-    push_named(alloc, out, findings, &names)
+    let cases = cases_by_file(alloc, findings)?;
+    push_named(alloc, out, &cases, &names)
+}
+
+/// The cases of each file, by its name.
+fn cases_by_file<'a>(
+    alloc: Global,
+    findings: &'a [Finding],
+) -> Result<ByFile<'a, Case<'a>>, AllocError>
+    ensures { IfOk result (λ files. AreCasesByFile files (map finding_parts findings.entry.now)) }
+{
+    let mut files: ByFile<'a, Case<'a>> = BTreeMap::new(alloc);
+    let mut counts = BTreeMap::new(alloc);
+    for finding in findings {
+        let before = count_once(&mut counts, case_key(finding))?;
+        let number = before + 1;
+        put_on(&mut files, finding.name.as_str(), Case { finding, number })?;
+    }
+    Ok(files)
+}
+
+/// What the name and the class of a finding's case are made of.
+fn case_key(finding: &Finding) -> CaseKey<'_>
+    ensures { key_parts result ≡ case_parts (finding_parts finding.now) }
+{
+    CaseKey {
+        row: or_zero(finding.start.row),
+        column: or_zero(finding.start.column),
+        code: code_or_finding(finding),
+        stem: stem(finding.name.as_str()),
+    }
 }
 
 /// Appends the suites of files of these names.
-fn push_named(
+fn push_named<'a>(
     alloc: Global,
     out: &mut String,
-    findings: &[Finding],
-    names: &[&str],
+    cases: &ByFile<'a, Case<'a>>,
+    names: &[&'a str],
 ) -> Result<(), AllocError>
     ensures { OnOk result (string_bytes out.new ≡ string_bytes out.old
-        ++ flat_map (suite_element (map finding_parts findings.now))
-        (map (λ name. name.now) names.now)) }
+        ++ flat_map (λ name. suite_of name.now (own_cases cases.now name)) names.now) }
 {
     for name in names {
-        push_suite(alloc, out, findings, name)?;
+        push_suite(alloc, out, name, own(cases, name))?;
     }
     Ok(())
 }
 
-/// Appends the suite of a file.
-#[tactic(auto, unfolding(crate::specs::Junit::suite_element))]
+/// Appends a suite of these cases.
+#[tactic(auto, unfolding(crate::specs::Junit::suite_with))]
 fn push_suite(
     alloc: Global,
     out: &mut String,
-    findings: &[Finding],
     name: &str,
+    cases: &[Case<'_>],
 ) -> Result<(), AllocError>
-    ensures { OnOk result (string_bytes out.new
-        ≡ string_bytes out.old ++ suite_element (map finding_parts findings.now) name.now) }
+    ensures { OnOk result (string_bytes out.new ≡ string_bytes out.old
+        ++ suite_of name.now (map numbered cases.now)) }
 {
     out.push_str("<testsuite")?;
-    push_totals(alloc, out, findings, name)?;
+    push_totals(alloc, out, name, cases.len())?;
     out.push_str(">\n")?;
-    push_cases(alloc, out, findings, name)?;
+    push_cases(alloc, out, cases)?;
     out.push_str("</testsuite>\n")
 }
 
 /// Appends the name of a suite and its totals.
-#[tactic(auto, unfolding(crate::specs::Junit::suite_attributes))]
-fn push_totals(
-    alloc: Global,
-    out: &mut String,
-    findings: &[Finding],
-    name: &str,
-) -> Result<(), AllocError>
+#[tactic(auto, unfolding(crate::specs::Junit::totals))]
+fn push_totals(alloc: Global, out: &mut String, name: &str, count: usize) -> Result<(), AllocError>
     ensures { OnOk result (string_bytes out.new
-        ≡ string_bytes out.old ++ suite_attributes (map finding_parts findings.now) name.now) }
+        ≡ string_bytes out.old ++ totals name.now count) }
 {
-    let count = count_on(findings, name);
     push_attribute(alloc, out, "name", name)?;
     push_number(out, "tests", count)?;
     push_number(out, "failures", count)?;
     push_number(out, "errors", 0)
 }
 
-/// How many findings are on the file of a name.
-fn count_on(findings: &[Finding], name: &str) -> usize
-    ensures { result ≡ count_by (stands_on name.now) (map finding_parts findings.now) }
-{
-    findings
-        .iter()
-        .filter(|finding| is_on(name, finding))
-        .count()
-}
-
-/// Appends the cases of the findings on the file of a name.
-fn push_cases(
-    alloc: Global,
-    out: &mut String,
-    findings: &[Finding],
-    name: &str,
-) -> Result<(), AllocError>
+/// Appends cases.
+fn push_cases(alloc: Global, out: &mut String, cases: &[Case<'_>]) -> Result<(), AllocError>
     ensures { OnOk result (string_bytes out.new ≡ string_bytes out.old
-        ++ along (case_on name.now) [] (map finding_parts findings.now)) }
+        ++ flat_map numbered_text (map numbered cases.now)) }
 {
-    for (index, finding) in findings.iter().enumerate() {
-        push_case_on(alloc, out, name, &findings[..index], finding)?;
+    for case in cases {
+        push_case(alloc, out, case.number, case.finding)?;
     }
     Ok(())
 }
 
-/// Appends the case of a finding behind the earlier ones, where it is on the file of a name.
-fn push_case_on(
-    alloc: Global,
-    out: &mut String,
-    name: &str,
-    earlier: &[Finding],
-    finding: &Finding,
-) -> Result<(), AllocError>
-    ensures { OnOk result (string_bytes out.new ≡ string_bytes out.old
-        ++ case_on name.now (map finding_parts earlier.now) (finding_parts finding.now)) }
-{
-    if is_on(name, finding) {
-        push_case(alloc, out, earlier, finding)
-    } else {
-        Ok(())
-    }
-}
-
-/// Appends the case of a finding behind the earlier ones.
-#[tactic(auto, unfolding(crate::specs::Junit::case_element))]
+/// Appends the case of a finding that has this number among those of its name.
+#[tactic(auto, unfolding(crate::specs::Junit::case_text))]
 fn push_case(
     alloc: Global,
     out: &mut String,
-    earlier: &[Finding],
+    number: usize,
     finding: &Finding,
 ) -> Result<(), AllocError>
-    ensures { OnOk result (string_bytes out.new ≡ string_bytes out.old
-        ++ case_element (map finding_parts earlier.now) (finding_parts finding.now)) }
+    ensures { OnOk result (string_bytes out.new
+        ≡ string_bytes out.old ++ case_text number (finding_parts finding.now)) }
 {
     out.push_str("<testcase")?;
-    push_called(alloc, out, count_alike(earlier, finding), finding)?;
+    push_called(alloc, out, number, finding)?;
     out.push_str(">")?;
     push_failure(alloc, out, finding)?;
     out.push_str("</testcase>\n")
-}
-
-/// How many findings would have cases of the name and class of this one.
-fn count_alike(findings: &[Finding], finding: &Finding) -> usize
-    ensures { result ≡ count_by (is_alike (finding_parts finding.now))
-        (map finding_parts findings.now) }
-{
-    findings
-        .iter()
-        .filter(|other| is_same_case(finding, other))
-        .count()
-}
-
-/// Whether two findings would have cases of one name in one class.
-fn is_same_case(finding: &Finding, other: &Finding) -> bool
-    ensures { result ≡ is_alike (finding_parts finding.now) (finding_parts other.now) }
-{
-    or_zero(other.start.row) == or_zero(finding.start.row)
-        && or_zero(other.start.column) == or_zero(finding.start.column)
-        && code_or_finding(other) == code_or_finding(finding)
-        && stem(other.name.as_str()) == stem(finding.name.as_str())
 }
 
 /// Appends what a case is called: its class, its file and its name.
@@ -196,46 +193,43 @@ fn is_same_case(finding: &Finding, other: &Finding) -> bool
 fn push_called(
     alloc: Global,
     out: &mut String,
-    before: usize,
+    number: usize,
     finding: &Finding,
 ) -> Result<(), AllocError>
-    requires { before < 2 ^ 64 - 1 }
     ensures { OnOk result (string_bytes out.new
-        ≡ string_bytes out.old ++ case_attributes before (finding_parts finding.now)) }
+        ≡ string_bytes out.old ++ case_attributes number (finding_parts finding.now)) }
 {
-    let name = numbered_name(alloc, before, finding)?;
+    let name = numbered_name(alloc, number, finding)?;
     push_attribute(alloc, out, "classname", stem(finding.name.as_str()))?;
     push_attribute(alloc, out, "file", finding.name.as_str())?;
     push_attribute(alloc, out, "name", name.as_str())
 }
 
-/// The name of a case, before which this many of its name stand.
+/// The name of a case that has this number among those of its name.
 #[tactic(auto, unfolding(crate::specs::Junit::case_name))]
-fn numbered_name(alloc: Global, before: usize, finding: &Finding) -> Result<String, AllocError>
-    requires { before < 2 ^ 64 - 1 }
+fn numbered_name(alloc: Global, number: usize, finding: &Finding) -> Result<String, AllocError>
     ensures { IfOk result (λ name. string_bytes name
-        ≡ case_name (finding_parts finding.now) ++ number_text before) }
+        ≡ case_name (finding_parts finding.now) ++ number_text number) }
 {
     let mut name = String::from_str(alloc, code_or_finding(finding))?;
     name.push_str(" at ")?;
     name.push_str(Buffer::new().format(or_zero(finding.start.row)))?;
     name.push_str(":")?;
     name.push_str(Buffer::new().format(or_zero(finding.start.column)))?;
-    push_number_text(&mut name, before)?;
+    push_number_text(&mut name, number)?;
     Ok(name)
 }
 
 /// Appends the number of a case, unless it is the first of its name.
 #[tactic(auto, unfolding(crate::specs::Junit::number_text))]
-fn push_number_text(out: &mut String, before: usize) -> Result<(), AllocError>
-    requires { before < 2 ^ 64 - 1 }
-    ensures { OnOk result (string_bytes out.new ≡ string_bytes out.old ++ number_text before) }
+fn push_number_text(out: &mut String, number: usize) -> Result<(), AllocError>
+    ensures { OnOk result (string_bytes out.new ≡ string_bytes out.old ++ number_text number) }
 {
-    if before == 0 {
+    if number == 1 {
         return Ok(());
     }
     out.push_str(" (")?;
-    out.push_str(Buffer::new().format(before + 1))?;
+    out.push_str(Buffer::new().format(number))?;
     out.push_str(")")
 }
 

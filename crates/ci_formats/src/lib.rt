@@ -8,6 +8,7 @@
 #![tactic(auto)]
 
 mod checkstyle;
+mod counted;
 mod files;
 mod fingerprints;
 mod format;

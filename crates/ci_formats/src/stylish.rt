@@ -1,17 +1,18 @@
 // A table for people.
-ghost use Rattle.std.specs.Prelude.{◌≡◌, ◌++◌, ◌-◌, IfOk, OnOk, filter, length, map, string_bytes};
+ghost use Rattle.std.specs.Prelude.{◌≡◌, ◌++◌, ◌-◌, IfOk, OnOk, length, map, string_bytes};
 ghost use Rattle.std.specs.List.{count_by, flat_map};
 ghost use Rattle.std.specs.Option.{option_copied};
 ghost use Rattle.ci_findings.specs.Finding.{finding_parts};
-ghost use Rattle.ci_formats.specs.Files.{is_on as stands_on};
+ghost use Rattle.ci_formats.specs.Files.{names_of as names_in, own_parts};
 ghost use Rattle.ci_formats.specs.Stylish.{blanks, code_cell, cross, counted as counted_nouns, ending};
 ghost use Rattle.ci_formats.specs.Stylish.{file_text, is_error as is_error_by, level_cell};
 ghost use Rattle.ci_formats.specs.Stylish.{level_word as word_of_level, measured as measured_by};
 ghost use Rattle.ci_formats.specs.Stylish.{place_cells, pointless as without_point, row_text};
 ghost use Rattle.ci_formats.specs.Stylish.{rows_text, shares, stylish_of, summary, plural as plural_of};
 ghost use Rattle.ci_formats.specs.Stylish.{widest as widest_of, widths_of as widths_in};
+ghost use Rattle.ci_formats.specs.Stylish.{table_text};
 
-use crate::files::{is_on, names_of, or_zero};
+use crate::files::{ByFile, by_file, names_of, or_zero, own};
 use ci_findings::Finding;
 use escapes::without_last;
 use itoa::Buffer;
@@ -52,64 +53,48 @@ pub fn stylish_text(alloc: Global, findings: &[Finding]) -> Result<String, Alloc
     ensures { IfOk result (λ text. string_bytes text
         ≡ stylish_of (map finding_parts findings.now)) }
 {
-    let names = names_of(alloc, findings)?;
     let mut text = String::new(alloc);
-    push_files(alloc, &mut text, findings, &names)?;
+    push_found(alloc, &mut text, findings)?;
     push_ending(&mut text, findings)?;
     Ok(text)
 }
 
-/// Appends the tables of the files of these names.
-fn push_files(
-    alloc: Global,
-    out: &mut String,
-    findings: &[Finding],
-    names: &[&str],
-) -> Result<(), AllocError>
+/// Appends the table of each file.
+fn push_found(alloc: Global, out: &mut String, findings: &[Finding]) -> Result<(), AllocError>
     ensures { OnOk result (string_bytes out.new ≡ string_bytes out.old
         ++ flat_map (file_text (map finding_parts findings.now))
-        (map (λ name. name.now) names.now)) }
+        (names_in (map finding_parts findings.now))) }
+{
+    let names = names_of(alloc, findings)?;
+    let files = by_file(alloc, findings)?;
+    push_files(out, &files, &names)
+}
+
+/// Appends the tables of the files of these names.
+fn push_files<'a>(
+    out: &mut String,
+    files: &ByFile<'a, &'a Finding>,
+    names: &[&'a str],
+) -> Result<(), AllocError>
+    ensures { OnOk result (string_bytes out.new ≡ string_bytes out.old
+        ++ flat_map (λ name. table_text name.now (own_parts files.now name)) names.now) }
 {
     for name in names {
-        push_file(alloc, out, findings, name)?;
+        push_file(out, name, own(files, name))?;
     }
     Ok(())
 }
 
 /// Appends a file's name and its table.
-#[tactic(auto, unfolding(crate::specs::Stylish::file_text))]
-fn push_file(
-    alloc: Global,
-    out: &mut String,
-    findings: &[Finding],
-    name: &str,
-) -> Result<(), AllocError>
-    ensures { OnOk result (string_bytes out.new
-        ≡ string_bytes out.old ++ file_text (map finding_parts findings.now) name.now) }
+#[tactic(auto, unfolding(crate::specs::Stylish::table_text))]
+fn push_file(out: &mut String, name: &str, own: &[&Finding]) -> Result<(), AllocError>
+    ensures { OnOk result (string_bytes out.new ≡ string_bytes out.old
+        ++ table_text name.now (map (λ it. finding_parts it.now) own.now)) }
 {
-    let own = findings_on(alloc, findings, name)?;
     out.push_str(name)?;
     out.push_str("\n")?;
-    push_rows(out, &own)?;
+    push_rows(out, own)?;
     out.push_str("\n")
-}
-
-/// The findings on the file of a name.
-fn findings_on<'a>(
-    alloc: Global,
-    findings: &'a [Finding],
-    name: &str,
-) -> Result<Vec<&'a Finding>, AllocError>
-    ensures { IfOk result (λ own. map (λ it. finding_parts it.now) own.items
-        ≡ filter (stands_on name.now) (map finding_parts findings.entry.now)) }
-{
-    let mut own = Vec::new(alloc);
-    for finding in findings {
-        if is_on(name, finding) {
-            own.push(finding)?;
-        }
-    }
-    Ok(own)
 }
 
 /// Appends the rows of a table.

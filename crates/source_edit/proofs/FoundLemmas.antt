@@ -9,7 +9,8 @@ use Rattle.std.proofs.lemmas.List.FromFn.{length-range_with_len, get_or-range_wi
 use Rattle.memchr.specs.Find.{is_byte2, places_from, places}
 use Rattle.source_edit.specs.Edits.{Change, edited}
 use Rattle.source_edit.specs.Starts.{starts_between, ends_row}
-use Rattle.source_edit.proofs.StartsLemmas.{is_start, between_are, back_starts, edited_length}
+use Rattle.text_places.proofs.EndLemmas.{is_start}
+use Rattle.source_edit.proofs.StartsLemmas.{between_are, back_starts, edited_length}
 
 -- no fewer places lie before a later one
 one_le : (x a b : ℕ) → a ≤ b → cond {A = ℕ} (nat_lt x a) 1 0 ≤ cond {A = ℕ} (nat_lt x b) 1 0

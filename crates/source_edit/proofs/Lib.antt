@@ -1,4 +1,3 @@
-mod RangesLemmas
 mod StartsLemmas
 mod StepsLemmas
 mod FoundLemmas

@@ -1,107 +1,18 @@
 -- Where rows start, told by two bytes at each place, and so near an edit and far from it.
-use Rattle.std.proofs.Common.{◌≡◌, ℕ, ◌+◌, ◌-◌, ◌<◌, ◌≤◌, Bool, true, false, cond, ◌&&◌, nat_le, nat_lt, List, [], ◌∷◌, ◌++◌, length, map, take, drop, get_or, slice_range, Some, None, refl, sym, ap, subst, ◌∙◌, arith, suc, zero, count_by, add-one, append_assoc, append-nil, ◌==◌, if◌then◌else◌}
-use Rattle.std.specs.List.{filter, filter_map, range_with_len, cons_option}
+use Rattle.std.proofs.Common.{◌≡◌, ℕ, ◌+◌, ◌-◌, ◌<◌, ◌≤◌, Bool, true, false, cond, ◌&&◌, nat_le, nat_lt, List, ◌++◌, length, map, take, drop, get_or, slice_range, sym, ap, ◌∙◌, arith, count_by, append_assoc, append-nil, ◌==◌, if◌then◌else◌}
+use Rattle.std.specs.List.{filter, range_with_len}
+use Rattle.std.proofs.lemmas.Bool.{le-ltb, lt-ltb}
 use Rattle.std.proofs.lemmas.Bool.Decides.{nat_tests}
-use Rattle.std.proofs.lemmas.List.{map-append, get_or_past, get_or_append_left, get_or-append-add, get_or-take, get_or-drop, length-append, length-take, length-drop, take_at, drop_at}
+use Rattle.std.proofs.lemmas.List.{get_or_append_left, get_or-append-add, get_or-take, get_or-drop, length-append, length-take, length-drop, take_at, drop_at}
 use Rattle.std.proofs.lemmas.List.Elements.{filter-append}
 use Rattle.std.proofs.lemmas.List.Sums.{sum_by-append}
-use Rattle.source_location.specs.Breaks.{LineBreak, break_at}
-use Rattle.oxc_windows.specs.Breaks.{breaks_before, breaks_of}
+use Rattle.oxc_windows.specs.Breaks.{breaks_of}
 use Rattle.source_location.specs.Rows.{line_starts}
-use Rattle.source_location.proofs.BreaksLemmas.{breaks_before_more, breaks_before_start}
 use Rattle.source_location.proofs.CutLemmas.{range_with_len-append}
-use Rattle.source_location.proofs.Counting.{range_with_len_push}
 use Rattle.source_edit.specs.Edits.{Change, edited}
 use Rattle.source_edit.specs.Starts.{starts_between, ends_row}
-use Rattle.source_edit.proofs.RangesLemmas.{filter-same, filter-moved, filter-all, filter-none, count-all, count-none}
-
--- whether a row starts at a place
-abbrev pub is_start : List ℕ → ℕ → Bool
-is_start text place = if place == 0 then true else ends_row (get_or text (place - 1) 0) (get_or text place 0)
-
--- the row start behind a CRLF whose CR is the last byte so far
-pending : ℕ → ℕ → ℕ → List ℕ
-pending byte after start = if byte == 13 then (if after == 10 then start ∷ [] else []) else []
-
-one_more : (lf cr crlf_before lf_after : Bool) (n : ℕ) → (lf ≡ true → cr ≡ true → ⊥)
-    → cond crlf_before (cond lf ((n + 1) ∷ []) []) [] ++ map (λ (b : LineBreak). b.end + 1)
-    (cons_option (cond lf (cond crlf_before None (Some (record { start = n; end = n }))) (cond cr (cond lf_after (Some (record { start = n; end = n + 1 })) (Some (record { start = n; end = n }))) None)) [])
-    ≡ cond (cond lf true (cond cr (cond lf_after false true) false)) ((n + 1) ∷ []) [] ++ cond cr (cond lf_after ((n + 1 + 1) ∷ []) []) []
-one_more true true p a n apart = absurd (apart refl refl)
-one_more true false true true n apart = refl
-one_more true false true false n apart = refl
-one_more true false false true n apart = refl
-one_more true false false false n apart = refl
-one_more false true true true n apart = refl
-one_more false true true false n apart = refl
-one_more false true false true n apart = refl
-one_more false true false false n apart = refl
-one_more false false true true n apart = refl
-one_more false false true false n apart = refl
-one_more false false false true n apart = refl
-one_more false false false false n apart = refl
-
-not_both : (byte : ℕ) → (byte == 10) ≡ true → (byte == 13) ≡ true → ⊥
-not_both byte a b = grind (arith, nat_tests)
-
--- one byte more, by what its break adds
-starts_more : (text : List ℕ) (n : ℕ) → pending (get_or text (n - 1) 0) (get_or text n 0) (n + 1) ++ map (λ (b : LineBreak). b.end + 1) (filter_map (break_at text) (n ∷ []))
-    ≡ filter (is_start text) ((n + 1) ∷ []) ++ pending (get_or text n 0) (get_or text (n + 1) 0) (n + 1 + 1)
-unfolding pending
-starts_more text n =
-    let byte = get_or text n 0 in
-    let back : n + 1 - 1 ≡ n = omega arith in
-    let later : (n + 1 == 0) ≡ false = grind (arith, nat_tests) in
-    one_more (byte == 10) (byte == 13) (get_or text (n - 1) 0 == 13) (get_or text (n + 1) 0 == 10) n (not_both byte)
-    ∙ rw (later, back) refl
-
-none_pending : (lf cr : Bool) (l : List ℕ) → (lf ≡ true → cr ≡ true → ⊥) → cond cr (cond lf l []) [] ≡ []
-none_pending true true l apart = absurd (apart refl refl)
-none_pending true false l apart = refl
-none_pending false true l apart = refl
-none_pending false false l apart = refl
-
-pending_end : (cr : Bool) (l : List ℕ) → cond cr (cond {A = List ℕ} (0 == 10) l []) [] ≡ []
-pending_end true l = refl
-pending_end false l = refl
-
-abbrev Known : List ℕ → ℕ → Type 0
-Known text n = map (λ (b : LineBreak). b.end + 1) (breaks_before text n) ≡ filter (is_start text) (range_with_len 1 n) ++ pending (get_or text (n - 1) 0) (get_or text n 0) (n + 1)
-
-known_more : (text : List ℕ) (n : ℕ) → Known text n → Known text (n + 1)
-known_more text n known =
-    let f : LineBreak → ℕ = λ b. b.end + 1 in
-    let found = filter_map (break_at text) (n ∷ []) in
-    let rows = filter (is_start text) (range_with_len 1 n) in
-    let next = filter (is_start text) ((n + 1) ∷ []) in
-    let back : n ≡ n + 1 - 1 = omega arith in
-    let left = pending (get_or text n 0) (get_or text (n + 1) 0) (n + 1 + 1) in
-    ap (map f) (breaks_before_more text n)
-    ∙ map-append f (breaks_before text n) found
-    ∙ ap (λ l. l ++ map f found) known
-    ∙ append_assoc rows (pending (get_or text (n - 1) 0) (get_or text n 0) (n + 1)) (map f found)
-    ∙ ap (λ l. rows ++ l) (starts_more text n)
-    ∙ sym (append_assoc rows next left)
-    ∙ ap (λ l. l ++ left) (sym (filter-append (is_start text) (range_with_len 1 n) ((n + 1) ∷ [])) ∙ ap (filter (is_start text)) (sym (range_with_len_push 1 n (n + 1) (omega arith)) ∙ ap (range_with_len 1) (sym (add-one n))))
-    ∙ ap (λ k. filter (is_start text) (range_with_len 1 (n + 1)) ++ pending (get_or text k 0) (get_or text (n + 1) 0) (n + 1 + 1)) back
-
-starts_before : (text : List ℕ) (n : ℕ) → Known text n
-unfolding pending
-starts_before text zero =
-    ap (map (λ (b : LineBreak). b.end + 1)) (breaks_before_start text)
-    ∙ sym (none_pending (get_or text 0 0 == 10) (get_or text 0 0 == 13) ((0 + 1) ∷ []) (not_both (get_or text 0 0)))
-starts_before text (suc n) = subst (Known text) (add-one n) (known_more text n (starts_before text n))
-
--- the row starts of a text are the places at which a row starts
-pub starts_are : (text : List ℕ) → line_starts (breaks_of text) ≡ filter (is_start text) (range_with_len 0 (length text + 1))
-unfolding breaks_of breaks_before pending
-starts_are text =
-    let n = length text in
-    let known : Known text n = starts_before text n in
-    let past : get_or text n 0 ≡ 0 = get_or_past text n 0 (omega arith) in
-    let none : pending (get_or text (n - 1) 0) (get_or text n 0) (n + 1) ≡ [] = rw past (pending_end (get_or text (n - 1) 0 == 13) ((n + 1) ∷ [])) in
-    ap (λ l. 0 ∷ l) (known ∙ ap (λ l. filter (is_start text) (range_with_len 1 n) ++ l) none ∙ append-nil (filter (is_start text) (range_with_len 1 n)))
-    ∙ ap (λ k. filter (is_start text) (range_with_len 0 k)) (sym (add-one n))
+use Rattle.text_places.proofs.RangesLemmas.{filter-same, filter-moved, filter-all, filter-none, count-all, count-none}
+use Rattle.text_places.proofs.EndLemmas.{is_start, starts_are}
 
 -- those before a range, those in it or at one of its ends, and those behind it
 abbrev pub front_starts : List ℕ → ℕ → List ℕ
@@ -130,12 +41,6 @@ split text from to le within =
     ∙ ap (λ n. filter test (range_with_len n (to - from + 1)) ++ filter test (range_with_len (0 + from + (to - from + 1)) (length text - to))) near
     ∙ ap (λ n. near_starts text from to ++ filter test (range_with_len n (length text - to))) back)
 
-below : (i z : ℕ) → i < z → nat_lt i z ≡ true
-below i z h = grind (arith, nat_tests)
-
-not_below : (i z : ℕ) → z ≤ i → nat_lt i z ≡ false
-not_below i z h = grind (arith, nat_tests)
-
 -- counts of them
 abbrev pub starts_before_place : List ℕ → ℕ → ℕ
 starts_before_place text place = count_by (λ start. nat_lt start place) (line_starts (breaks_of text))
@@ -154,9 +59,9 @@ front_count text from to le within =
     omega (
       arith,
       counted_split text from to from le within,
-      count-all q (is_start text) 0 from (λ i low high. below i from (omega arith)),
-      count-none q (is_start text) from (to - from + 1) (λ i low high. not_below i from low),
-      count-none q (is_start text) (to + 1) (length text - to) (λ i low high. not_below i from (omega arith)),
+      count-all q (is_start text) 0 from (λ i low high. lt-ltb i from (omega arith)),
+      count-none q (is_start text) from (to - from + 1) (λ i low high. le-ltb i from low),
+      count-none q (is_start text) (to + 1) (length text - to) (λ i low high. le-ltb i from (omega arith)),
     )
 
 pub near_count : (text : List ℕ) (from to : ℕ) → from ≤ to → to ≤ length text → starts_before_place text (to + 1) ≡ length (front_starts text from) + length (near_starts text from to)
@@ -165,9 +70,9 @@ near_count text from to le within =
     omega (
       arith,
       counted_split text from to (to + 1) le within,
-      count-all q (is_start text) 0 from (λ i low high. below i (to + 1) (omega arith)),
-      count-all q (is_start text) from (to - from + 1) (λ i low high. below i (to + 1) (omega arith)),
-      count-none q (is_start text) (to + 1) (length text - to) (λ i low high. not_below i (to + 1) low),
+      count-all q (is_start text) 0 from (λ i low high. lt-ltb i (to + 1) (omega arith)),
+      count-all q (is_start text) from (to - from + 1) (λ i low high. lt-ltb i (to + 1) (omega arith)),
+      count-none q (is_start text) (to + 1) (length text - to) (λ i low high. le-ltb i (to + 1) low),
     )
 
 -- what a search for the two counts cuts off

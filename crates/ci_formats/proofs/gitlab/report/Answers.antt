@@ -1,26 +1,39 @@
-use Rattle.std.proofs.Common.{◌∙◌, ◌++◌, [], append-nil, ap, map, sym, take}
+use Rattle.std.proofs.Common.{◌∙◌, [], ap, map, rules, take}
 use Rattle.serde_json.specs.Data.{array}
 use Rattle.serde_json.specs.View.{items_of, view}
 use Rattle.serde_json.proofs.Views.{view-Array}
+use Rattle.std.proofs.lemmas.List.{take_all}
 use Rattle.ci_findings.specs.Finding.{finding_parts}
 use Rattle.ci_formats.specs.Files.{along}
 use Rattle.ci_formats.specs.Gitlab.{gitlab_value, one_issue}
-use Rattle.ci_formats.proofs.FilesLemmas.{along_end}
+use Rattle.ci_formats.proofs.CountLemmas.{count_room, is_like_issue, issue_order, issues_before, more_issues_counted, none_counted}
 use Rattle.ci_formats.proofs.ReportLemmas.{more_issues}
 use Rattle.ci_formats.proofs.gitlab.report.Goals as goal
 
-pub loop-index-preserved : goal.loop-index-preserved
-loop-index-preserved c =
-    more_issues c.loop-index.issues.items c.push.new.self.items c.in_ok-issue.field-0 c.count_alike-before.result c.args.findings.now c.loop-index.index c.index-findings-index.result
-    (along one_issue [] (map finding_parts c.args.findings.now)) c.loop-index-test.true c.index-findings-index.is c.in_ok-push.ensures.items c.in_ok-issue.ensures c.count_alike-before.ensures
-    c.loop-index.invariant
+pub loop-finding-init : goal.loop-finding-init
+unfolding along
+loop-finding-init c = (ap (map view) c.in_ok-issues.ensures.items, none_counted issue_order is_like_issue c.new-counts.result c.new-counts.ensures.empty)
+
+pub count_once-requires : goal.count_once-requires
+count_once-requires c =
+    record { room = count_room issue_order is_like_issue c.loop-finding.counts c.issue_key.result c.args.findings.now c.loop-finding.finding-index c.loop-finding.invariant.1 c.loop-finding-test.true (search rules) }
+
+pub loop-finding-preserved : goal.loop-finding-preserved
+loop-finding-preserved c =
+    let fs = c.args.findings.now in
+    let at = c.loop-finding.finding-index in
+    let x = c.finding-item.result in
+    let counted = c.loop-finding.invariant.1 in
+    let before = issues_before c.loop-finding.counts c.issue_key.result (finding_parts x) (map finding_parts (take at fs)) c.in_ok-before.before c.issue_key.ensures counted c.in_ok-before.ensures.before in (
+      more_issues c.loop-finding.issues.items c.push.new.self.items c.in_ok-issue.field-0 c.in_ok-before.before fs at x c.loop-finding-test.true c.finding-item.is c.in_ok-push.ensures.items
+          c.in_ok-issue.ensures before c.loop-finding.invariant.0,
+      more_issues_counted c.loop-finding.counts c.count_once.new.counts c.issue_key.result fs at x c.in_ok-before.before c.loop-finding-test.true c.finding-item.is c.issue_key.ensures counted
+          c.in_ok-before.ensures.before c.in_ok-before.ensures.counted,
+    )
 
 pub returns : goal.returns
 unfolding gitlab_value
 returns c =
-    let done = map view c.loop-index.issues.items in
-    view-Array c.loop-index.issues
+    view-Array c.loop-finding.issues
     ∙ ap (λ l. array (items_of l))
-    (sym (append-nil done)
-    ∙ ap (λ l. done ++ l) (sym (along_end one_issue c.args.findings.now c.loop-index.index (map finding_parts (take c.loop-index.index c.args.findings.now)) c.loop-index-test.false))
-    ∙ c.loop-index.invariant)
+    (c.loop-finding.invariant.0 ∙ ap (λ l. along one_issue [] (map finding_parts l)) (take_all c.loop-finding.finding-index c.args.findings.now c.loop-finding-test.false))

@@ -2,7 +2,7 @@ use Rattle.std.proofs.Common.{◌≡◌, ◌+◌, ◌-◌, ◌<◌, ◌++◌, �
 use Rattle.std.specs.List.{filter}
 use Rattle.std.proofs.lemmas.List.Elements.{All-tail}
 use Rattle.source_edit.specs.Starts.{ends_row}
-use Rattle.source_edit.proofs.StartsLemmas.{is_start}
+use Rattle.text_places.proofs.EndLemmas.{is_start}
 use Rattle.source_edit.proofs.FoundLemmas.{joined, first_is, found_init, found_one, found_none, places_inside}
 use Rattle.source_edit.proofs.starts.starts_in.Goals as goal
 

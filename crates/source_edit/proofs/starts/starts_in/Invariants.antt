@@ -1,7 +1,7 @@
 use Rattle.std.proofs.Common.{◌≡◌, ◌+◌, ◌++◌, ◌<◌, length, map, All}
 use Rattle.std.specs.List.{filter}
 use Rattle.source_edit.specs.Starts.{starts_between}
-use Rattle.source_edit.proofs.StartsLemmas.{is_start}
+use Rattle.text_places.proofs.EndLemmas.{is_start}
 use Rattle.source_edit.proofs.starts.starts_in.Given as goal
 
 -- what was found, and what the search still has to give
