@@ -1,17 +1,12 @@
 // The drawings of all reports.
-ghost use Rattle.std.specs.Prelude.{◌≡◌, ◌≢◌, ◌++◌, All, None, Some, IfErr, IfOk, OnOk, map};
-ghost use Rattle.std.specs.Prelude.{string_bytes};
-ghost use Rattle.std.specs.Option.{option_copied};
+ghost use Rattle.std.specs.Prelude.{◌≡◌, ◌++◌, All, IfOk, OnOk, map, string_bytes};
 ghost use Rattle.oxc_span.specs.Views.{text_bytes};
 ghost use Rattle.oxc_protocol.specs.Code.{shown_code};
-ghost use Rattle.oxc_handlers.specs.Report.{view_parts};
 ghost use Rattle.report_arrays.specs.Texts.{optional_of};
 ghost use Rattle.array_texts.specs.Values.{named, report as report_of, severity as severity_by};
-ghost use Rattle.render_files.specs.declared.places.ReportError.{ReportError};
 ghost use Rattle.render_files.specs.Causes.{IsJudged};
 ghost use Rattle.render_files.specs.Refusal.{refusal_of};
 ghost use Rattle.render_files.specs.Rendered.{StandsInFile, drawn_report, drawn_reports};
-ghost use Rattle.render_files.specs.Shown.{placed_labels, view_of as shown_of};
 
 use crate::labels::placed;
 use crate::readers::Readers;
@@ -32,7 +27,6 @@ use std::alloc::{AllocError, Global};
 ///
 /// The refusals of [`ReportError`], by the first report that has a fault, and want of memory; never
 /// `SinkFault`.
-#[tactic(auto, using(render_files::proofs::Standing::all_stand))]
 pub fn arrays_text(
     alloc: Global,
     handler: &GraphicalReportHandler,

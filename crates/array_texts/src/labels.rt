@@ -3,7 +3,7 @@ ghost use Rattle.std.specs.Prelude.{◌≡◌, IfOk, map};
 ghost use Rattle.oxc_span.specs.Views.{text_bytes};
 ghost use Rattle.report_arrays.specs.Texts.{optional_of};
 ghost use Rattle.array_texts.specs.Values.{label as label_of};
-ghost use Rattle.render_files.specs.Refusal.{boundary_at as boundary_of, end_in, start_in};
+ghost use Rattle.render_files.specs.Refusal.{boundary_at as boundary_of};
 ghost use Rattle.render_files.specs.Shown.{placed as placed_at};
 
 use oxc_span::LabeledSpan;

@@ -1,8 +1,8 @@
 // The first report that is refused.
 ghost use Rattle.std.specs.Prelude.{◌≡◌, map};
 ghost use Rattle.array_texts.specs.Values.{label as label_of, report as report_of};
-ghost use Rattle.render_files.specs.Refusal.{first_at, outside as outside_of, refusal_in as in_report};
-ghost use Rattle.render_files.specs.Refusal.{refusal_of, reversed as reversed_of};
+ghost use Rattle.render_files.specs.Refusal.{first_at, outside as outside_of, refusal_of};
+ghost use Rattle.render_files.specs.Refusal.{refusal_in as in_report, reversed as reversed_of};
 
 use crate::labels::{end_of, start_of};
 use crate::sources::Sources;

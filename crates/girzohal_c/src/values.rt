@@ -64,7 +64,7 @@ pub(crate) fn reports_of(
     Ok(made)
 }
 
-#[tactic(auto, unfolding(crate::specs::Values::report))]
+#[tactic(auto, unfolding(array_texts::specs::Values::report))]
 fn report_of(
     alloc: Global,
     texts: &str,
