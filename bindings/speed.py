@@ -4,11 +4,12 @@
 usage: speed.py [DOCUMENT..]     (many multi wide unicode deep big; all where none is named)
 
 It wants the archive of `sh bindings/test.sh` (out/llvm/libgirzohal.a), cc, cargo and valgrind. The documents are those of
-tools/cost.py, with labels by bytes. For each: what `files_text` takes in the library (compiled into the function `draw` of
-crates/girzohal_c), what `girzohal_draw` takes of which that is a part, and what `draw` of the Rust crate takes, with the ratios
-of both to the first. Both have to draw the same.
+tools/cost.py, with labels by bytes. For each: what `files_text` takes in the library (where `girzohal_document` draws: it is compiled
+into the function `draw` of crates/girzohal_c), what `girzohal_draw` takes, and what `draw` of the Rust crate takes, with the ratios
+of both to the first. All have to draw the same.
 
 glibc copies long texts by `rep movsb`, one instruction, of which valgrind counts each byte: so it is told to copy by vectors."""
+import json
 import os
 import re
 import struct
@@ -26,16 +27,8 @@ NONE = 2**64 - 1
 BY_VECTORS = "glibc.cpu.x86_rep_movsb_threshold=0x7fffffffffffffff:glibc.cpu.x86_rep_stosb_threshold=0x7fffffffffffffff"
 
 
-def row_starts(source):
-    """Where rows begin, in characters; the rows of these documents end in LF alone."""
-    starts = [0]
-    while (end := source.find("\n", starts[-1])) >= 0:
-        starts.append(end + 1)
-    return starts
-
-
 def arrays(document):
-    """The document as the file that both programs read."""
+    """The document, with labels by bytes, as the file that both programs read."""
     texts, size, said, labels = [], 0, [], []
 
     def put(text):
@@ -47,27 +40,35 @@ def arrays(document):
         return (start, size)
 
     files = [struct.pack("<4Q", *put(each["name"]), *put(each["source"])) for each in document["files"]]
-    starts = [row_starts(each["source"]) for each in document["files"]]
-    before = [[0] for _ in starts]
-    for each, rows, sums in zip(document["files"], starts, before):
-        for start, end in zip(rows, rows[1:]):
-            sums.append(sums[-1] + len(each["source"][start:end].encode()))
+    for report in document["reports"]:
+        first = len(labels)
+        for label in report.get("labels", []):
+            labels.append(struct.pack("<2I2QI4x", *label["bytes"], *put(label.get("text")), label.get("primary", False)))
+        parts = [put(report.get(key)) for key in ("message", "scope", "number", "help", "note", "url")]
+        severity = SEVERITIES.index(report.get("severity", "error"))
+        said.append(struct.pack("<2I14Q", report["file"], severity, *sum(parts, ()), first, len(labels) - first))
+    whole = b"".join(texts)
+    return b"".join([struct.pack("<4Q", len(whole), len(files), len(said), len(labels)), whole, *files, *said, *labels])
+
+
+def by_bytes(document):
+    """The document with labels by bytes."""
+    lines = [each["source"].split("\n") for each in document["files"]]
+    before = [[0] for _ in lines]
+    for each, sums in zip(lines, before):
+        for line in each:
+            sums.append(sums[-1] + len(line.encode()) + 1)
 
     def offset(file, place):
         row, column = place
-        start = starts[file][row - 1]
-        return before[file][row - 1] + len(document["files"][file]["source"][start : start + column - 1].encode())
+        return before[file][row - 1] + len(lines[file][row - 1][: column - 1].encode())
 
-    for report in document["reports"]:
-        first, file = len(labels), report["file"]
-        for label in report.get("labels", []):
-            start, end = offset(file, label["start"]), offset(file, label["end"])
-            labels.append(struct.pack("<2I2QI4x", start, end, *put(label.get("text")), label.get("primary", False)))
-        parts = [put(report.get(key)) for key in ("message", "scope", "number", "help", "note", "url")]
-        severity = SEVERITIES.index(report.get("severity", "error"))
-        said.append(struct.pack("<2I14Q", file, severity, *sum(parts, ()), first, len(labels) - first))
-    whole = b"".join(texts)
-    return b"".join([struct.pack("<4Q", len(whole), len(files), len(said), len(labels)), whole, *files, *said, *labels])
+    def moved(file, label):
+        kept = {key: label[key] for key in label if key not in ("start", "end")}
+        return {**kept, "bytes": [offset(file, label["start"]), offset(file, label["end"])]}
+
+    reports = [{**it, "labels": [moved(it["file"], label) for label in it.get("labels", [])]} for it in document["reports"]]
+    return {**document, "version": 2, "reports": reports}
 
 
 def counts(program, given, drawing, names):
@@ -95,8 +96,11 @@ def main(wanted):
         in_rust = os.path.join(out, "rust", "release", "examples", "speed")
         for name in wanted or documents.MAKERS:
             given = os.path.join(room, name)
+            document = by_bytes(documents.MAKERS[name]())
             with open(given, "wb") as file:
-                file.write(arrays(documents.MAKERS[name]()))
+                file.write(arrays(document))
+            with open(given + ".json", "w", encoding="utf-8") as file:
+                json.dump(document, file, ensure_ascii=False)
             text, whole = counts(in_c, given, given + ".c", ("draw", "girzohal_draw"))
             (rust,) = counts(in_rust, given, given + ".rust", ("counted",))
             with open(given + ".c", "rb") as one, open(given + ".rust", "rb") as other:

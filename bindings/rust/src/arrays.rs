@@ -68,9 +68,9 @@ impl<'a> Owned<'a> {
         }
     }
 
-    /// How long a buffer is begun with.
+    /// How much room is begun with. It costs nothing where nothing is written.
     pub(crate) fn room(&self) -> usize {
-        2 * self.texts.len() + 256 * self.reports.len() + 4096
+        4 * self.texts.len() + 256 * self.reports.len() + 4096
     }
 }
 

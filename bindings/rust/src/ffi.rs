@@ -106,12 +106,22 @@ extern "C" {
     fn girzohal_version() -> u32;
 }
 
-/// Writes reports into a buffer. Gives the status, and tells the rest in the answer.
-pub(crate) fn draw(arrays: &Arrays<'_>, look: &Look, out: &mut [u8], answer: &mut Answer) -> u32 {
+/// A call that has status 0 wrote its text.
+const DONE: u32 = 0;
+
+/// Writes reports into the room behind a vector's bytes, which the text then ends. Gives the status, and tells the rest
+/// in the answer.
+pub(crate) fn draw(
+    arrays: &Arrays<'_>,
+    look: &Look,
+    out: &mut Vec<u8>,
+    answer: &mut Answer,
+) -> u32 {
+    let room = out.spare_capacity_mut();
     // SAFETY: each pointer and length are those of one slice, so they are valid, aligned and not null; `out` and
-    // `answer` are borrowed for the call alone, so they overlap nothing. The structs are laid out as the header has
-    // them, and any number in them is allowed.
-    unsafe {
+    // `answer` are borrowed for the call alone, so they overlap nothing, and the call writes to the room and reads
+    // nothing there. The structs are laid out as the header has them, and any number in them is allowed.
+    let status = unsafe {
         girzohal_draw(
             arrays.texts.as_ptr(),
             arrays.texts.len(),
@@ -122,31 +132,58 @@ pub(crate) fn draw(arrays: &Arrays<'_>, look: &Look, out: &mut [u8], answer: &mu
             arrays.labels.as_ptr(),
             arrays.labels.len(),
             look,
-            out.as_mut_ptr(),
-            out.len(),
+            room.as_mut_ptr().cast(),
+            room.len(),
             answer,
         )
-    }
+    };
+    // SAFETY: see `take`.
+    unsafe { take(status, out, answer) }
 }
 
-/// Writes the reports of a document into a buffer. Gives the status, and tells the rest in the answer.
+/// Writes the reports of a document into the room behind a vector's bytes, as [`draw`] does.
 pub(crate) fn draw_document(
     document: &[u8],
     look: &Look,
-    out: &mut [u8],
+    out: &mut Vec<u8>,
     answer: &mut Answer,
 ) -> u32 {
+    let room = out.spare_capacity_mut();
     // SAFETY: as in `draw`. The document is of any bytes.
-    unsafe {
+    let status = unsafe {
         girzohal_document(
             document.as_ptr(),
             document.len(),
             look,
-            out.as_mut_ptr(),
-            out.len(),
+            room.as_mut_ptr().cast(),
+            room.len(),
             answer,
         )
+    };
+    // SAFETY: see `take`.
+    unsafe { take(status, out, answer) }
+}
+
+/// Has the vector hold what a call wrote into its room.
+///
+/// # Safety
+///
+/// The status and the answer are those of a call that was given all of the vector's room, which with status 0 wrote
+/// the first `needed` bytes of it.
+unsafe fn take(status: u32, out: &mut Vec<u8>, answer: &Answer) -> u32 {
+    if status == DONE {
+        let len = out.len() + answer.needed;
+        debug_assert!(len <= out.capacity());
+        out.set_len(len);
     }
+    status
+}
+
+/// What calls wrote, as a text.
+pub(crate) fn text(written: Vec<u8>) -> String {
+    debug_assert!(std::str::from_utf8(&written).is_ok());
+    // SAFETY: the library writes the bytes of a text of its own, which are UTF-8; its contract says so (`utf8`).
+    unsafe { String::from_utf8_unchecked(written) }
 }
 
 /// The version of the library: major, minor and patch, a byte each.

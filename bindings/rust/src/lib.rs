@@ -228,21 +228,30 @@ fn write_document(document: &[u8], look: &ffi::Look) -> Result<String, DrawError
     })
 }
 
-/// The text that a call writes: into a buffer of this room, and once more where that was too small.
+/// The text that a call writes: into this room, and once more where that was too small.
 fn fill(
     room: usize,
-    mut call: impl FnMut(&mut [u8], &mut Answer) -> u32,
+    mut call: impl FnMut(&mut Vec<u8>, &mut Answer) -> u32,
 ) -> Result<String, DrawError> {
-    let mut out = vec![0; room];
+    let mut out = with_room(room)?;
     let mut answer = Answer::default();
     let mut status = call(&mut out, &mut answer);
     if status == 10 {
-        out = vec![0; answer.needed];
+        out = with_room(answer.needed)?;
         status = call(&mut out, &mut answer);
     }
     if status != 0 {
         return Err(DrawError::of(status, &answer));
     }
-    out.truncate(answer.needed);
-    Ok(String::from_utf8(out).expect("what is drawn is UTF-8"))
+    out.shrink_to_fit();
+    Ok(ffi::text(out))
+}
+
+/// No bytes yet, and room for so many.
+fn with_room(bytes: usize) -> Result<Vec<u8>, DrawError> {
+    let mut room = Vec::new();
+    match room.try_reserve_exact(bytes) {
+        Ok(()) => Ok(room),
+        Err(_) => Err(DrawError::OutOfMemory),
+    }
 }

@@ -1,4 +1,3 @@
-pub mod Values
 pub mod Meaning
 pub mod Answers
 pub mod Replies

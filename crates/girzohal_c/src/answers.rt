@@ -1,5 +1,6 @@
 // What a call leaves in the answer and in the buffer.
-ghost use Rattle.std.specs.Prelude.{◌≡◌, ◌⊎◌, length};
+ghost use Rattle.std.specs.Prelude.{◌≡◌, ◌⊎◌, length, take};
+ghost use Rattle.std.specs.Str.{IsUtf8};
 ghost use Rattle.girzohal_c.specs.Answers.{needs, no_answer as none_of};
 ghost use Rattle.girzohal_c.specs.Answers.{refused_answer as refused_of, wrong_answer as wrong_of};
 ghost use Rattle.girzohal_c.specs.Replies.{Gives, Tells, reply};
@@ -13,9 +14,10 @@ use report_arrays::Wrong;
 pub(crate) fn reply_with(made: Result<String, Fault>, out: &mut [u8], answer: &mut Answer) -> u32
     ensures told { Tells made (reply result answer.new out.old out.new) }
     ensures kept { (result ≡ 0) ⊎ (out.new ≡ out.old) }
+    ensures utf8 { result ≡ 0 → IsUtf8 (take answer.new.needed out.new) }
 {
     match made {
-        Ok(text) => give_text(text.as_bytes(), out, answer),
+        Ok(text) => give_text(text.as_str(), out, answer),
         Err(Fault::IsWrong(argument)) => {
             *answer = wrong_answer(argument);
             2
@@ -36,7 +38,16 @@ pub(crate) fn reply_with(made: Result<String, Fault>, out: &mut [u8], answer: &m
 }
 
 /// Writes a text to the beginning of a buffer, if it fits, and tells its length.
-fn give_text(text: &[u8], out: &mut [u8], answer: &mut Answer) -> u32
+#[tactic(auto, using(crate::proofs::Written::written_is_utf8))]
+fn give_text(text: &str, out: &mut [u8], answer: &mut Answer) -> u32
+    ensures given { Gives text.now (reply result answer.new out.old out.new) }
+    ensures kept { (result ≡ 0) ⊎ (out.new ≡ out.old) }
+    ensures utf8 { result ≡ 0 → IsUtf8 (take answer.new.needed out.new) }
+{
+    give_bytes(text.as_bytes(), out, answer)
+}
+
+fn give_bytes(text: &[u8], out: &mut [u8], answer: &mut Answer) -> u32
     ensures given { Gives text.now (reply result answer.new out.old out.new) }
     ensures kept { (result ≡ 0) ⊎ (out.new ≡ out.old) }
 {

@@ -1,13 +1,14 @@
 // The text of what the arguments mean, or why there is none.
 ghost use Rattle.std.specs.Prelude.{map};
 ghost use Rattle.render_files.specs.Given.{given_report};
-ghost use Rattle.girzohal_c.specs.Values.{named, report as report_of};
+ghost use Rattle.array_texts.specs.Values.{named, report as report_of};
 ghost use Rattle.girzohal_c.specs.Meaning.{arrays, document_meaning, meaning};
 ghost use Rattle.girzohal_c.specs.Replies.{IsTextOf, Makes};
 
 use crate::shapes::Look;
 use crate::style::{Form, Style, style_of};
 use crate::values::{files_of, reports_of};
+use array_texts::arrays_text;
 use codespan::Files;
 use documents::read_document;
 use render_files::{FileReport, ReportError, files_json, files_text};
@@ -84,7 +85,8 @@ pub(crate) fn draw_document(alloc: Global, document: &[u8], look: &Look) -> Resu
     }
 }
 
-/// The text of what arrays say of which none is wrong.
+/// The text of what arrays say of which none is wrong: drawn where it stands, or as JSON by way of
+/// files and reports of their own.
 fn draw_right(
     alloc: Global,
     texts: &str,
@@ -96,9 +98,14 @@ fn draw_right(
     ensures { IsTextOf style.now.form style.now.handler (map (named texts.now) files.now)
         (map (report_of texts.now labels.now) reports.now) result }
 {
-    let files = files_of(alloc, texts, files)?;
-    let reports = reports_of(alloc, texts, reports, labels)?;
-    draw(alloc, style, &files, &reports)
+    match style.form {
+        Form::Drawing => arrays_text(alloc, &style.handler, texts, files, reports, labels),
+        Form::Json => {
+            let files = files_of(alloc, texts, files)?;
+            let reports = reports_of(alloc, texts, reports, labels)?;
+            files_json(alloc, &files, &reports)
+        }
+    }
 }
 
 /// The text of reports.

@@ -12,7 +12,8 @@
 //! - `answers`: the status, the answer and the buffer.
 #![tactic(auto)]
 
-ghost use Rattle.std.specs.Prelude.{◌≡◌, ◌⊎◌};
+ghost use Rattle.std.specs.Prelude.{◌≡◌, ◌⊎◌, take};
+ghost use Rattle.std.specs.Str.{IsUtf8};
 ghost use Rattle.girzohal_c.specs.Meaning.{arrays, document_meaning, meaning};
 ghost use Rattle.girzohal_c.specs.Replies.{RepliesTo, reply};
 
@@ -48,6 +49,7 @@ pub extern "C" fn girzohal_draw(
     ensures replies { let it = arrays texts.now files.now reports.now labels.now in
         RepliesTo look.now (meaning it look.now) (reply result answer.new out.old out.new) }
     ensures kept { (result ≡ 0) ⊎ (out.new ≡ out.old) }
+    ensures utf8 { result ≡ 0 → IsUtf8 (take answer.new.needed out.new) }
 {
     reply_with(
         draw_arrays(alloc, texts, files, reports, labels, look),
@@ -73,6 +75,7 @@ pub extern "C" fn girzohal_document(
     ensures replies { RepliesTo look.now (document_meaning document.now look.now)
         (reply result answer.new out.old out.new) }
     ensures kept { (result ≡ 0) ⊎ (out.new ≡ out.old) }
+    ensures utf8 { result ≡ 0 → IsUtf8 (take answer.new.needed out.new) }
 {
     reply_with(draw_document(alloc, document, look), out, answer)
 }
