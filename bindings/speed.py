@@ -3,10 +3,10 @@
 
 usage: speed.py [DOCUMENT..]     (many multi wide unicode deep big; all where none is named)
 
-It wants the archive of `sh bindings/test.sh` (out/llvm/libgirzohal.a), cc, cargo and valgrind. The documents are those of
-tools/cost.py, with labels by bytes. For each: what `files_text` takes in the library (where `girzohal_document` draws: it is compiled
-into the function `draw` of crates/girzohal_c), what `girzohal_draw` takes, and what `draw` of the Rust crate takes, with the ratios
-of both to the first. All have to draw the same.
+It wants the archive of `sh bindings/test.sh` (out/llvm/libgirzohal.a), the program `report` that the gate built
+(crates/report/out/report), cc, cargo and valgrind. The documents are those of tools/cost.py, with labels by bytes. For each: what
+`files_text` takes in the program, what `girzohal_draw` takes, and what `draw` of the Rust crate takes, with the ratios of both to the
+first. All have to draw the same.
 
 glibc copies long texts by `rep movsb`, one instruction, of which valgrind counts each byte: so it is told to copy by vectors."""
 import json
@@ -24,6 +24,7 @@ import cost as documents  # noqa: E402
 from examples import SEVERITIES  # noqa: E402
 
 NONE = 2**64 - 1
+REPORT = os.path.join(HERE, "..", "crates", "report", "out", "report")
 BY_VECTORS = "glibc.cpu.x86_rep_movsb_threshold=0x7fffffffffffffff:glibc.cpu.x86_rep_stosb_threshold=0x7fffffffffffffff"
 
 
@@ -72,7 +73,7 @@ def by_bytes(document):
 
 
 def counts(program, given, drawing, names):
-    """What each of the functions takes with all that it calls."""
+    """What each of the functions takes with all that it calls: of a program that reads arrays and writes a drawing."""
     kept = drawing + ".counts"
     subprocess.run(["valgrind", "--tool=callgrind", "--callgrind-out-file=" + kept, program, given, drawing],
                    check=True, stderr=subprocess.DEVNULL, env={**os.environ, "GLIBC_TUNABLES": BY_VECTORS})
@@ -82,6 +83,15 @@ def counts(program, given, drawing, names):
         of = re.findall(rf"^\s*([\d,]+) .*?:(?:\S*::)?{name}(?:::h[0-9a-f]+)?(?:'\d+)?(?:\s|$)", said, re.M)
         found.append(max((int(it.replace(",", "")) for it in of), default=None))
     return found
+
+
+def files_text(document, room):
+    """What `files_text` takes in the program `report`, and what it draws of the document."""
+    kept = os.path.join(room, "report.counts")
+    with open(document, "rb") as given:
+        said = subprocess.run(["valgrind", "--tool=callgrind", "--callgrind-out-file=" + kept, REPORT], stdin=given, check=True,
+                              capture_output=True, env={**os.environ, "GLIBC_TUNABLES": BY_VECTORS})
+    return documents.most_of(kept, documents.DRAWING), said.stdout
 
 
 def main(wanted):
@@ -101,10 +111,11 @@ def main(wanted):
                 file.write(arrays(document))
             with open(given + ".json", "w", encoding="utf-8") as file:
                 json.dump(document, file, ensure_ascii=False)
-            text, whole = counts(in_c, given, given + ".c", ("draw", "girzohal_draw"))
+            text, drawn = files_text(given + ".json", room)
+            (whole,) = counts(in_c, given, given + ".c", ("girzohal_draw",))
             (rust,) = counts(in_rust, given, given + ".rust", ("counted",))
             with open(given + ".c", "rb") as one, open(given + ".rust", "rb") as other:
-                if one.read() != other.read():
+                if not one.read() == other.read() == drawn:
                     sys.exit(f"{name}: the drawings differ")
             print(f"{name:8} files_text {text:14,}   girzohal_draw {whole:14,} ({whole / text:.3f})   "
                   f"Rust {rust:14,} ({rust / text:.3f})", flush=True)

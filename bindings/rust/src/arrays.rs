@@ -68,9 +68,13 @@ impl<'a> Owned<'a> {
         }
     }
 
-    /// How much room is begun with. It costs nothing where nothing is written.
+    /// How much room is begun with. It costs nothing where nothing is written. Each label of a row may have lines as
+    /// long as the row, so that a wide row with many takes more than the texts are.
     pub(crate) fn room(&self) -> usize {
-        4 * self.texts.len() + 256 * self.reports.len() + 4096
+        const MOST_FOR_LABELS: usize = 16 << 20;
+        let labels = self.reports.iter().map(|report| report.labels).max();
+        let rows = self.texts.len().saturating_mul(2 * labels.unwrap_or(0));
+        4 * self.texts.len() + rows.min(MOST_FOR_LABELS) + 256 * self.reports.len() + 4096
     }
 }
 
