@@ -202,7 +202,10 @@ def are_marks(line):
 
 class Reader:
     def __init__(self, text, shapes=()):
-        self.lines = [line[:-1] if line.endswith(b"\r") else line for line in PAINT.sub(b"", text).split(b"\n")]
+        plain = PAINT.sub(b"", text)
+        # (a last LF ends a line, and begins none)
+        lines = plain.removesuffix(b"\n").split(b"\n") if plain else []
+        self.lines = [line[:-1] if line.endswith(b"\r") else line for line in lines]
         self.shapes, self.known = list(shapes), {}
 
     def line(self, at):
