@@ -157,7 +157,11 @@ fn change_alone<P: Page>(
 }
 
 impl ClientText {
-    /// Opens a document. It fails for want of memory alone.
+    /// Opens a document.
+    ///
+    /// # Errors
+    ///
+    /// Want of memory.
     pub fn open(
         alloc: Global,
         encoding: Encoding,
@@ -200,6 +204,11 @@ impl ClientText {
 
     /// Makes the changes of a notification, each on the text that the one before left: all, or
     /// none. A refusal names the first that can't be made.
+    ///
+    /// # Errors
+    ///
+    /// A range that ends before it starts, a text that would have `u32::MAX` bytes or more, or want
+    /// of memory: text and version are as they were.
     pub fn change(&mut self, version: i32, changes: &[Change]) -> Result<(), Refusal>
         ensures done { OnOk result (IsEdited self.old version changes.now self.new) }
         ensures cause { IfErr result (IsRefusal self.old.encoding self.old.text changes.now) }
@@ -211,6 +220,10 @@ impl ClientText {
     /// The same, where the bytes of the text and of what is inserted that are looked at are counted.
     /// A single change looks at what it inserts and at nine pages of 1,024 bytes at most, whatever
     /// it removes; a list of more looks at the whole text besides, which is copied.
+    ///
+    /// # Errors
+    ///
+    /// As [`ClientText::change`] has them.
     pub fn change_counted<L: Ledger>(
         &mut self,
         version: i32,
@@ -237,6 +250,10 @@ impl ClientText {
     }
 
     /// A copy of the text.
+    ///
+    /// # Errors
+    ///
+    /// Want of memory.
     pub fn to_text(&self, alloc: Global) -> Result<String, AllocError>
         ensures { IfOk result (λ text. string_bytes text ≡ self.now.text) }
     {

@@ -8,6 +8,8 @@
 mod laws;
 mod messages;
 mod ranges;
+#[cfg(test)]
+mod tests;
 mod told;
 
 pub use laws::ranges_are_ordered;

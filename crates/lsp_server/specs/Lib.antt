@@ -6,4 +6,5 @@ pub mod Documents
 pub mod Answers
 pub mod Told
 pub mod Steps
+pub mod Meant
 pub mod Bodies

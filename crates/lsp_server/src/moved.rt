@@ -178,6 +178,10 @@ fn push_diagnostic(
 }
 
 /// Findings as values of their own.
+///
+/// # Errors
+///
+/// Want of memory.
 pub fn copied_all(alloc: Global, found: &[OxcDiagnostic]) -> Result<Vec<OxcDiagnostic>, AllocError>
     ensures { IfOk result (λ copies. copies.items ≡ found.now) }
 {

@@ -1,6 +1,15 @@
 // A message's JSON.
-ghost use Rattle.std.specs.Prelude.{◌≡◌, IfOk};
-ghost use Rattle.lsp_server.specs.Bodies.{IsJson, IsReadAs};
+ghost use Rattle.std.specs.Prelude.{◌≡◌, codes, IfOk, map, option_map, Some, string_bytes};
+ghost use Rattle.std.specs.Option.{option_copied};
+ghost use Rattle.serde_json.specs.View.{items_view, view};
+ghost use Rattle.lsp_server.specs.Bodies.{IsReadAs};
+ghost use Rattle.lsp_server.specs.Meant.{asked_by, change_in, change_said, changed_in, changes_in};
+ghost use Rattle.lsp_server.specs.Meant.{changes_under, closed_by, count_under, encoding_in};
+ghost use Rattle.lsp_server.specs.Meant.{event_in, event_of, first_known as first_known_in};
+ghost use Rattle.lsp_server.specs.Meant.{first_under, method_of as method_named, name_in, name_of};
+ghost use Rattle.lsp_server.specs.Meant.{opened_in, part_in, place_in, range_in, said_by, said_in};
+ghost use Rattle.lsp_server.specs.Meant.{shows_related, small_version as small, tells, text_under};
+ghost use Rattle.lsp_server.specs.Meant.{under, version_under, wanted_of};
 
 use crate::message::{Id, Message, Method, Notice, Wanted};
 use client_text::Change;
@@ -32,24 +41,49 @@ pub fn message_in(alloc: Global, body: &[u8]) -> Result<Message, AllocError>
 }
 
 /// The message that a value is.
+#[tactic(auto, unfolding(crate::specs::Meant::said_in))]
 fn message_of(alloc: Global, value: &Value) -> Result<Message, AllocError>
-    ensures { IfOk result (λ message. IsJson message) }
+    ensures { IfOk result (λ message. said_by message ≡ Some (said_in (view value.now))) }
 {
-    let Some(method) = value.get("method").and_then(Value::as_str) else {
+    let Some(method) = text_at(Some(value), "method") else {
         return Ok(Message::Notification(Notice::Unknown));
     };
-    let Some(id) = value.get("id") else {
-        let notice = notice_of(alloc, method, value.get("params"))?;
-        return Ok(Message::Notification(notice));
-    };
+    let params = value.get("params");
+    match value.get("id") {
+        None => notification(alloc, method, params),
+        Some(id) => request(alloc, id, method, params),
+    }
+}
+
+/// A notification of this method.
+fn notification(alloc: Global, method: &str, params: Option<&Value>) -> Result<Message, AllocError>
+    ensures { IfOk result (λ message. said_by message ≡ Some (tells
+        (event_in method.now (option_map view (option_copied params.entry))))) }
+{
+    let notice = notice_of(alloc, method, params)?;
+    Ok(Message::Notification(notice))
+}
+
+/// A request of this method, if its id is one.
+fn request(
+    alloc: Global,
+    id: &Value,
+    method: &str,
+    params: Option<&Value>,
+) -> Result<Message, AllocError>
+    ensures { IfOk result (λ message. said_by message ≡ Some (asked_by
+        (name_in (view id.now)) method.now (option_map view (option_copied params.entry)))) }
+{
     match id_of(alloc, id)? {
-        Some(id) => Ok(Message::Request(id, method_of(method, value.get("params")))),
+        Some(id) => Ok(Message::Request(id, method_of(method, params))),
         None => Ok(Message::Notification(Notice::Unknown)),
     }
 }
 
 /// A request's name.
-fn id_of(alloc: Global, value: &Value) -> Result<Option<Id>, AllocError> {
+fn id_of(alloc: Global, value: &Value) -> Result<Option<Id>, AllocError>
+    ensures { IfOk result (λ id. option_map name_of id ≡ name_in (view value.now)) }
+{
     if let Some(number) = value.as_i64() {
         return Ok(Some(Id::Number(number)));
     }
@@ -61,31 +95,32 @@ fn id_of(alloc: Global, value: &Value) -> Result<Option<Id>, AllocError> {
 }
 
 /// What a request asks for.
-fn method_of(method: &str, params: Option<&Value>) -> Method {
+#[tactic(auto, unfolding(crate::specs::Meant::method_of))]
+fn method_of(method: &str, params: Option<&Value>) -> Method
+    ensures { result ≡ method_named method.now (option_map view (option_copied params.entry)) }
+{
     match method {
-        "initialize" => Method::Initialize(wanted_in(params)),
+        "initialize" => Method::Initialize(wanted_in(member(params, "capabilities"))),
         "shutdown" => Method::Shutdown,
         _ => Method::Unknown,
     }
 }
 
 /// What a client can do, as it says when it begins.
-fn wanted_in(params: Option<&Value>) -> Wanted {
-    let capabilities = member(params, "capabilities");
-    let related = member(
-        member(member(capabilities, "textDocument"), "publishDiagnostics"),
-        "relatedInformation",
-    );
-    let related = related.and_then(Value::as_bool).unwrap_or(false);
-    let newer = member(member(capabilities, "general"), "positionEncodings");
-    if let Some(encoding) = first_known(newer) {
+#[tactic(auto, unfolding(crate::specs::Meant::wanted_of))]
+fn wanted_in(capabilities: Option<&Value>) -> Wanted
+    ensures { result ≡ wanted_of (option_map view (option_copied capabilities.entry)) }
+{
+    let related = related_in(capabilities);
+    let newer = first_at(member(capabilities, "general"), "positionEncodings");
+    if let Some(encoding) = newer {
         return Wanted {
             encoding,
             is_older: false,
             related,
         };
     }
-    let older = first_known(member(capabilities, "offsetEncoding"));
+    let older = first_at(capabilities, "offsetEncoding");
     Wanted {
         encoding: older.unwrap_or(Encoding::Utf16),
         is_older: older.is_some(),
@@ -93,17 +128,39 @@ fn wanted_in(params: Option<&Value>) -> Wanted {
     }
 }
 
+/// Whether a client shows related information.
+fn related_in(capabilities: Option<&Value>) -> bool
+    ensures { result ≡ shows_related (option_map view (option_copied capabilities.entry)) }
+{
+    let told = member(member(capabilities, "textDocument"), "publishDiagnostics");
+    match member(told, "relatedInformation") {
+        Some(value) => value.as_bool().unwrap_or(false),
+        None => false,
+    }
+}
+
 /// A member of an object, if there is one.
-fn member<'a>(value: Option<&'a Value>, key: &str) -> Option<&'a Value> {
+fn member<'a>(value: Option<&'a Value>, key: &str) -> Option<&'a Value>
+    ensures { option_map view (option_copied result)
+        ≡ under key.now (option_map view (option_copied value.entry)) }
+{
     match value {
         Some(value) => value.get(key),
         None => None,
     }
 }
 
+/// The first known of the encodings under a key.
+fn first_at(value: Option<&Value>, key: &str) -> Option<Encoding>
+    ensures { result ≡ first_under key.now (option_map view (option_copied value.entry)) }
+{
+    first_known(member(value, key)?.as_array()?)
+}
+
 /// The first of a list of encodings that is known.
-fn first_known(names: Option<&Value>) -> Option<Encoding> {
-    let names = names.and_then(Value::as_array)?;
+fn first_known(names: &[Value]) -> Option<Encoding>
+    ensures { result ≡ first_known_in (items_view names.now) }
+{
     for name in names {
         if let Some(encoding) = encoding_of(name) {
             return Some(encoding);
@@ -113,7 +170,9 @@ fn first_known(names: Option<&Value>) -> Option<Encoding> {
 }
 
 /// The encoding of a name.
-fn encoding_of(name: &Value) -> Option<Encoding> {
+fn encoding_of(name: &Value) -> Option<Encoding>
+    ensures { result ≡ encoding_in (view name.now) }
+{
     match name.as_str()? {
         "utf-8" => Some(Encoding::Utf8),
         "utf-16" => Some(Encoding::Utf16),
@@ -123,21 +182,31 @@ fn encoding_of(name: &Value) -> Option<Encoding> {
 }
 
 /// What a notification tells.
-fn notice_of(alloc: Global, method: &str, params: Option<&Value>) -> Result<Notice, AllocError> {
+#[tactic(auto, unfolding(crate::specs::Meant::event_in))]
+fn notice_of(alloc: Global, method: &str, params: Option<&Value>) -> Result<Notice, AllocError>
+    ensures { IfOk result (λ notice. event_of notice
+        ≡ event_in method.now (option_map view (option_copied params.entry))) }
+{
     match method {
         "exit" => Ok(Notice::Exit),
-        "textDocument/didOpen" => opened(alloc, params),
-        "textDocument/didChange" => changed(alloc, params),
+        "textDocument/didOpen" => opened(alloc, member(params, "textDocument")),
+        "textDocument/didChange" => changed(alloc, member(params, "textDocument"), params),
         "textDocument/didSave" => Ok(Notice::Saved),
-        "textDocument/didClose" => closed(alloc, params),
+        "textDocument/didClose" => closed(alloc, member(params, "textDocument")),
         _ => Ok(Notice::Unknown),
     }
 }
 
 /// A document that is opened.
-fn opened(alloc: Global, params: Option<&Value>) -> Result<Notice, AllocError> {
-    let document = member(params, "textDocument");
-    let (Some(uri), Some(text)) = (text_at(document, "uri"), text_at(document, "text")) else {
+#[tactic(auto, unfolding(crate::specs::Meant::opened_in))]
+fn opened(alloc: Global, document: Option<&Value>) -> Result<Notice, AllocError>
+    ensures { IfOk result (λ notice. event_of notice
+        ≡ opened_in (option_map view (option_copied document.entry))) }
+{
+    let Some(uri) = text_at(document, "uri") else {
+        return Ok(Notice::Unknown);
+    };
+    let Some(text) = text_at(document, "text") else {
         return Ok(Notice::Unknown);
     };
     let uri = String::from_str(alloc, uri)?;
@@ -146,8 +215,11 @@ fn opened(alloc: Global, params: Option<&Value>) -> Result<Notice, AllocError> {
 }
 
 /// A document that is closed.
-fn closed(alloc: Global, params: Option<&Value>) -> Result<Notice, AllocError> {
-    let Some(uri) = text_at(member(params, "textDocument"), "uri") else {
+fn closed(alloc: Global, document: Option<&Value>) -> Result<Notice, AllocError>
+    ensures { IfOk result (λ notice. event_of notice ≡ closed_by
+        (text_under (codes "uri") (option_map view (option_copied document.entry)))) }
+{
+    let Some(uri) = text_at(document, "uri") else {
         return Ok(Notice::Unknown);
     };
     let uri = String::from_str(alloc, uri)?;
@@ -155,74 +227,128 @@ fn closed(alloc: Global, params: Option<&Value>) -> Result<Notice, AllocError> {
 }
 
 /// A document that changes.
-fn changed(alloc: Global, params: Option<&Value>) -> Result<Notice, AllocError> {
-    let document = member(params, "textDocument");
-    let changes = member(params, "contentChanges").and_then(Value::as_array);
-    let (Some(uri), Some(values)) = (text_at(document, "uri"), changes) else {
+#[tactic(auto, unfolding(crate::specs::Meant::changed_in))]
+fn changed(
+    alloc: Global,
+    document: Option<&Value>,
+    params: Option<&Value>,
+) -> Result<Notice, AllocError>
+    ensures { IfOk result (λ notice. event_of notice
+        ≡ changed_in (option_map view (option_copied document.entry))
+        (option_map view (option_copied params.entry))) }
+{
+    let Some(uri) = text_at(document, "uri") else {
         return Ok(Notice::Malformed);
     };
-    let Some(changes) = changes_of(alloc, values)? else {
+    let Some(changes) = changes_at(alloc, params)? else {
         return Ok(Notice::Malformed);
     };
     let uri = String::from_str(alloc, uri)?;
     Ok(Notice::Changed(uri, version_in(document), changes))
 }
 
+/// The changes that a notification tells, or none where they aren't of their form.
+fn changes_at(alloc: Global, params: Option<&Value>) -> Result<Option<Vec<Change>>, AllocError>
+    ensures { IfOk result (λ it. option_map (λ changes. map change_said changes.items) it
+        ≡ changes_under (option_map view (option_copied params.entry))) }
+{
+    match member(params, "contentChanges").and_then(Value::as_array) {
+        Some(values) => changes_of(alloc, values),
+        None => Ok(None),
+    }
+}
+
 /// The changes of a list, or none where one isn't of its form.
-fn changes_of(alloc: Global, values: &[Value]) -> Result<Option<Vec<Change>>, AllocError> {
+fn changes_of(alloc: Global, values: &[Value]) -> Result<Option<Vec<Change>>, AllocError>
+    ensures { IfOk result (λ it. option_map (λ changes. map change_said changes.items) it
+        ≡ changes_in (items_view values.now)) }
+{
     let mut changes = Vec::with_capacity(alloc, values.len())?;
     for value in values {
-        match change_of(alloc, value)? {
-            Some(change) => changes.push(change)?,
-            None => return Ok(None),
-        }
+        let Some(change) = change_of(alloc, value)? else {
+            return Ok(None);
+        };
+        changes.push(change)?;
     }
     Ok(Some(changes))
 }
 
 /// A change: a text, and the range that it replaces, or the whole without one.
-fn change_of(alloc: Global, value: &Value) -> Result<Option<Change>, AllocError> {
+#[tactic(auto, unfolding(crate::specs::Meant::change_in))]
+fn change_of(alloc: Global, value: &Value) -> Result<Option<Change>, AllocError>
+    ensures { IfOk result (λ change. option_map change_said change ≡ change_in (view value.now)) }
+{
     let Some(text) = text_at(Some(value), "text") else {
         return Ok(None);
     };
-    let range = match value.get("range") {
-        None => None,
-        Some(range) => match range_of(range) {
-            Some(range) => Some(range),
-            None => return Ok(None),
-        },
+    let Some(range) = part_of(value.get("range")) else {
+        return Ok(None);
     };
     let text = String::from_str(alloc, text)?;
     Ok(Some(Change { range, text }))
 }
 
+/// The part that gives way: the whole where no range is told.
+fn part_of(value: Option<&Value>) -> Option<Option<(Place, Place)>>
+    ensures { result ≡ part_in (option_map view (option_copied value.entry)) }
+{
+    match value {
+        Some(range) => Some(Some(range_of(range)?)),
+        None => Some(None),
+    }
+}
+
 /// The places of a range's ends.
-fn range_of(value: &Value) -> Option<(Place, Place)> {
+#[tactic(auto, unfolding(crate::specs::Meant::range_in))]
+fn range_of(value: &Value) -> Option<(Place, Place)>
+    ensures { result ≡ range_in (view value.now) }
+{
     let start = place_of(value.get("start"))?;
     let end = place_of(value.get("end"))?;
     Some((start, end))
 }
 
-fn place_of(value: Option<&Value>) -> Option<Place> {
+#[tactic(auto, unfolding(crate::specs::Meant::place_in))]
+fn place_of(value: Option<&Value>) -> Option<Place>
+    ensures { result ≡ place_in (option_map view (option_copied value.entry)) }
+{
     let line = number_at(value, "line")?;
     let unit = number_at(value, "character")?;
     Some(Place { line, unit })
 }
 
 /// A number of 32 bits; a larger one is as good as the largest.
-fn number_at(value: Option<&Value>, key: &str) -> Option<u32> {
-    let number = member(value, key).and_then(Value::as_u64)?;
+fn number_at(value: Option<&Value>, key: &str) -> Option<u32>
+    ensures { result ≡ count_under key.now (option_map view (option_copied value.entry)) }
+{
+    let number = member(value, key)?.as_u64()?;
     Some(number.min(u32::MAX as u64) as u32)
 }
 
-fn text_at<'a>(value: Option<&'a Value>, key: &str) -> Option<&'a str> {
-    member(value, key).and_then(Value::as_str)
+fn text_at<'a>(value: Option<&'a Value>, key: &str) -> Option<&'a str>
+    ensures { option_copied result
+        ≡ text_under key.now (option_map view (option_copied value.entry)) }
+{
+    member(value, key)?.as_str()
 }
 
 /// A document's version, 0 where it has none that is known.
-fn version_in(document: Option<&Value>) -> i32 {
-    let number = member(document, "version")
-        .and_then(Value::as_i64)
-        .unwrap_or(0);
-    i32::try_from(number).unwrap_or(0)
+fn version_in(document: Option<&Value>) -> i32
+    ensures { result ≡ version_under (option_map view (option_copied document.entry)) }
+{
+    match member(document, "version").and_then(Value::as_i64) {
+        Some(number) => small_version(number),
+        None => 0,
+    }
+}
+
+/// A number where it has 32 bits, and else 0.
+fn small_version(number: i64) -> i32
+    ensures { result ≡ small number }
+{
+    if i32::MIN as i64 <= number && number <= i32::MAX as i64 {
+        number as i32
+    } else {
+        0
+    }
 }
