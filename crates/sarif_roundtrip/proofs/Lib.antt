@@ -6,3 +6,5 @@ pub mod RuleLemmas
 pub mod ReportLemmas
 pub mod ReadBackLemmas
 pub mod SmallLemmas
+pub mod RowLemmas
+pub mod SpanLemmas

@@ -13,7 +13,10 @@ ghost use Rattle.sarif_log.specs.Answer.{answer_to, log as log_is};
 ghost use Rattle.sarif_writing.specs.Written.{log_value};
 ghost use Rattle.sarif_roundtrip.specs.Meant.{IsShort, log_meant};
 
+mod laws;
+
 use codespan::{FileId, Files};
+pub use laws::region_is_read_back;
 use render_files::{FileReport, ReportError};
 use sarif_writing::write_log;
 use std::alloc::Global;
