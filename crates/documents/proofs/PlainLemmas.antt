@@ -16,17 +16,17 @@ use Rattle.documents.specs.Written.{document_value, file_value, label_value, lab
 use Rattle.documents.proofs.KeyLemmas.{either_false}
 
 -- no float in it, and arrays and objects nest so deep at most
-record IsPlain (most : ℕ) (it : Data) : Type 0 where
-  whole : has_float it ≡ false
-  shallow : depth it ≤ most
+pub record IsPlain (most : ℕ) (it : Data) : Type 0 where
+  pub whole : has_float it ≡ false
+  pub shallow : depth it ≤ most
 
-record ArePlainItems (most : ℕ) (its : Items) : Type 0 where
-  whole : items_have_float its ≡ false
-  shallow : items_depth its ≤ most
+pub record ArePlainItems (most : ℕ) (its : Items) : Type 0 where
+  pub whole : items_have_float its ≡ false
+  pub shallow : items_depth its ≤ most
 
-record ArePlain (most : ℕ) (ms : Members) : Type 0 where
-  whole : members_have_float ms ≡ false
-  shallow : members_depth ms ≤ most
+pub record ArePlain (most : ℕ) (ms : Members) : Type 0 where
+  pub whole : members_have_float ms ≡ false
+  pub shallow : members_depth ms ≤ most
 
 -- ---- members
 
@@ -49,7 +49,7 @@ plain_put_at Greater most k l d e ms new first rest more = record {
 plain_none : (most : ℕ) → ArePlain most no_members
 plain_none most = record { whole = refl; shallow = omega arith }
 
-plain_put : (most : ℕ) (k : List ℕ) (d : Data) (ms : Members) → IsPlain most d → ArePlain most ms → ArePlain most (put k d ms)
+pub plain_put : (most : ℕ) (k : List ℕ) (d : Data) (ms : Members) → IsPlain most d → ArePlain most ms → ArePlain most (put k d ms)
 plain_put most k d no_members new rest = record { whole = rw new.whole refl; shallow = omega (arith, new.shallow) }
 plain_put most k d (member l e ms) new rest =
     let parts = either_false (has_float e) (members_have_float ms) rest.whole in
@@ -68,7 +68,7 @@ plain_put_some most k (Some d) ms new rest = plain_put most k d ms new rest
 
 -- ---- values
 
-plain_object : (most : ℕ) (ms : Members) → ArePlain most ms → IsPlain (suc most) (object ms)
+pub plain_object : (most : ℕ) (ms : Members) → ArePlain most ms → IsPlain (suc most) (object ms)
 plain_object most ms are = record { whole = are.whole; shallow = omega (arith, are.shallow) }
 
 plain_array : (most : ℕ) (its : Items) → ArePlainItems most its → IsPlain (suc most) (array its)

@@ -1,22 +1,19 @@
 -- The pieces of lines that come one at a time.
 use Rattle.std.proofs.Common.{◌≡◌, ℕ, suc, ◌+◌, ◌-◌, get_or, ◌<◌, ◌≤◌, ◌==◌, ◌||◌, ◌&&◌, not, if◌then◌else◌, List, [], ◌∷◌, ◌++◌, length, drop, take, map, Option, Some, None, Bool, true, false, refl, sym, ◌∙◌, ap, subst, arith, append_assoc, append-nil, length-drop}
 use Rattle.std.proofs.lemmas.Bool.Decides.{nat_tests}
-use Rattle.std.proofs.lemmas.Option.{none-some}
-use Rattle.std.proofs.lemmas.List.{drop-map, drop-append-le, map-append, length-map}
+use Rattle.std.proofs.lemmas.Option.{none-some, same_Some}
+use Rattle.std.proofs.lemmas.Bool.{and_parts, and_right, not-true, or_parts}
+use Rattle.std.proofs.lemmas.List.{drop-map, drop-append-le, map-append}
 use Rattle.std.proofs.Math.Seq.{take-append_seam}
-use Rattle.std.specs.Prelude.{IfSome, option_map, unwrap_or, option_and_then}
+use Rattle.std.specs.Prelude.{IfSome, option_map, option_and_then}
 use Rattle.std.specs.Option.{option_or, is_some, is_none}
 use Rattle.tool_lines.specs.declared.lines.Sort.{Sort}
 use Rattle.tool_lines.specs.declared.lines.Sort.TheVariants.{Kept, Heading, Below, Announced, Inline}
-use Rattle.tool_lines.specs.Marks.{are_marks, begins_blank, is_numbered}
 use Rattle.line_shapes.specs.Place.{Place, place}
 use Rattle.line_shapes.specs.Shape.{ShapeParts, first_own}
 use Rattle.tool_lines.specs.Lines.{ArePieces, PieceParts, FindingParts, BegunParts, announced, announced_by, announced_len, bare, begun, begun_of, behind, below_at, coded_below, head, in_trail, inline, may_trail, inline_or, text_below, is_heading, is_kept, name_behind, piece, piece_of, spoken, told, trail_len}
 use Rattle.fed_lines.specs.declared.whole.Cut.{Cut}
 use Rattle.fed_lines.specs.Feed.{AreCut, Comes, Ends, IsEnding, IsFed, Leaves, StaysOpen, cut_of, goes_on, IsFirst, last_piece, announced_end, ends_trails, known_piece, piece_behind, piece_or, run_end, so_long, trail_end}
-
-some_is : {A : Type 0} (a b : A) → Some a ≡ Some b → a ≡ b
-some_is a b e = ap (λ o. unwrap_or o a) e
 
 -- a line at which something begins ends a trail, whatever the next is
 some_or : {A : Type 0} (a b : Option A) → is_some b ≡ true → is_some (option_or a b) ≡ true
@@ -53,22 +50,14 @@ begins_more shapes line next begins =
 or_second : (a b : Bool) → a ≡ false → (a || b) ≡ true → b ≡ true
 or_second a b e either = subst (λ v. (v || b) ≡ true) e either
 
-not_false : (a : Bool) → not a ≡ true → a ≡ false
-not_false true e = sym e
-not_false false e = refl
-
-and_false : (a b : Bool) → b ≡ false → (a && b) ≡ false
-and_false true b e = e
-and_false false b e = refl
-
 some_length : (x : ℕ) (xs : List ℕ) → (length (x ∷ xs) == 0) ≡ false
 some_length x xs = grind (arith, nat_tests)
 
 ends_more : (shapes : List ShapeParts) (line : List ℕ) (next : Option (List ℕ)) → ends_trails shapes line ≡ true → in_trail shapes line next ≡ false
 ends_more shapes [] next ends = refl
 ends_more shapes (x ∷ xs) next ends =
-    and_false (may_trail (x ∷ xs) next) (is_kept (begun shapes (x ∷ xs) next).sort)
-    (begins_more shapes (x ∷ xs) next (not_false (is_kept (begun shapes (x ∷ xs) None).sort) (or_second (length (x ∷ xs) == 0) (not (is_kept (begun shapes (x ∷ xs) None).sort)) (some_length x xs) ends)))
+    and_right (may_trail (x ∷ xs) next) (is_kept (begun shapes (x ∷ xs) next).sort)
+    (begins_more shapes (x ∷ xs) next (not-true (is_kept (begun shapes (x ∷ xs) None).sort) (or_second (length (x ∷ xs) == 0) (not (is_kept (begun shapes (x ∷ xs) None).sort)) (some_length x xs) ends)))
 
 -- the ends of runs stay
 one_later : (n m count : ℕ) → n + 1 + count ≡ m → n + (1 + count) ≡ m
@@ -79,7 +68,7 @@ if_some true n m e = refl
 if_some false n m e = elim (none-some m e) [ ]
 
 if_some_is : (b : Bool) (n m : ℕ) → (if b then Some n else None) ≡ Some m → n ≡ m
-if_some_is true n m e = some_is n m e
+if_some_is true n m e = same_Some n m e
 if_some_is false n m e = elim (none-some m e) [ ]
 
 plus_none : (n m : ℕ) → n ≡ m → n + 0 ≡ m
@@ -91,10 +80,10 @@ trail_stays shapes n m (a ∷ []) more known =
     subst (λ v. n + (if v then 1 + trail_len shapes more else 0) ≡ m) (sym (ends_more shapes a (head more) (if_some (ends_trails shapes a) n m known))) (plus_none n m (if_some_is (ends_trails shapes a) n m known))
 trail_stays shapes n m (a ∷ (b ∷ lines)) more known =
     elim (in_trail shapes a (Some b)) as (λ v. (if v then trail_end shapes (n + 1) (b ∷ lines) else Some n) ≡ Some m → n + (if v then 1 + trail_len shapes (b ∷ (lines ++ more)) else 0) ≡ m)
-    [ true ↦ (λ so. one_later n m (trail_len shapes (b ∷ (lines ++ more))) (trail_stays shapes (n + 1) m (b ∷ lines) more so)) | false ↦ (λ so. plus_none n m (some_is n m so)) ] known
+    [ true ↦ (λ so. one_later n m (trail_len shapes (b ∷ (lines ++ more))) (trail_stays shapes (n + 1) m (b ∷ lines) more so)) | false ↦ (λ so. plus_none n m (same_Some n m so)) ] known
 
 announced_one : (n m : ℕ) (a : List ℕ) (more : List (List ℕ)) → announced_end n (a ∷ []) ≡ Some m → n + announced_len (a ∷ more) ≡ m
-announced_one n m [] more known = plus_none n m (some_is n m known)
+announced_one n m [] more known = plus_none n m (same_Some n m known)
 announced_one n m (x ∷ xs) more known =
     elim (none-some m (subst (λ v. (if v || false then Some n else None) ≡ Some m) (some_length x xs) known)) [ ]
 
@@ -103,22 +92,22 @@ announced_stays n m [] more known = elim (none-some m known) [ ]
 announced_stays n m (a ∷ []) more known = announced_one n m a more known
 announced_stays n m (a ∷ (b ∷ lines)) more known =
     elim ((length a == 0) || is_some (announced_by a b)) as (λ v. (if v then Some n else announced_end (n + 1) (b ∷ lines)) ≡ Some m → n + (if v then 0 else 1 + announced_len (b ∷ (lines ++ more))) ≡ m)
-    [ true ↦ (λ so. plus_none n m (some_is n m so)) | false ↦ (λ so. one_later n m (announced_len (b ∷ (lines ++ more))) (announced_stays (n + 1) m (b ∷ lines) more so)) ] known
+    [ true ↦ (λ so. plus_none n m (same_Some n m so)) | false ↦ (λ so. one_later n m (announced_len (b ∷ (lines ++ more))) (announced_stays (n + 1) m (b ∷ lines) more so)) ] known
 
 zero_plus : (n m : ℕ) → 0 + n ≡ m → n ≡ m
 zero_plus n m e = omega (arith, e)
 
 run_stays : (shapes : List ShapeParts) (sort : Sort) (lines more : List (List ℕ)) (m : ℕ) → run_end shapes sort lines ≡ Some m → behind shapes sort (lines ++ more) ≡ m
-run_stays shapes Kept lines more m known = some_is 0 m known
-run_stays shapes Heading lines more m known = some_is 0 m known
-run_stays shapes Below lines more m known = some_is 0 m known
+run_stays shapes Kept lines more m known = same_Some 0 m known
+run_stays shapes Heading lines more m known = same_Some 0 m known
+run_stays shapes Below lines more m known = same_Some 0 m known
 run_stays shapes Announced [] more m known = elim (none-some m known) [ ]
 run_stays shapes Announced (arrow ∷ lines) more m known = announced_stays 1 m lines more known
 run_stays shapes Inline lines more m known = zero_plus (trail_len shapes (lines ++ more)) m (trail_stays shapes 0 m lines more known)
 
 long_stays : (b : BegunParts) (o : Option ℕ) (p : PieceParts) (count : ℕ) → ((m : ℕ) → o ≡ Some m → count ≡ m) → so_long b o ≡ Some p → (let q : PieceParts = record { lines = 1 + count; begun = b } in q) ≡ p
 long_stays b None p count same known = elim (none-some p known) [ ]
-long_stays b (Some m) p count same known = ap (λ n. let q : PieceParts = record { lines = 1 + n; begun = b } in q) (same m refl) ∙ some_is (record { lines = 1 + m; begun = b }) p known
+long_stays b (Some m) p count same known = ap (λ n. let q : PieceParts = record { lines = 1 + n; begun = b } in q) (same m refl) ∙ same_Some (record { lines = 1 + m; begun = b }) p known
 
 behind_stays : (shapes : List ShapeParts) (line : List ℕ) (lines more : List (List ℕ)) (p : PieceParts) → piece_behind shapes line lines ≡ Some p
     → piece_of None (begun shapes line (head (lines ++ more))) (behind shapes (begun shapes line (head (lines ++ more))).sort (lines ++ more)) ≡ p
@@ -129,7 +118,7 @@ behind_stays shapes line (next ∷ lines) more p known =
 
 or_stays : (shapes : List ShapeParts) (line : List ℕ) (lines more : List (List ℕ)) (found : Option FindingParts) (p : PieceParts) → piece_or found (piece_behind shapes line lines) ≡ Some p
     → piece_of found (begun shapes line (head (lines ++ more))) (behind shapes (begun shapes line (head (lines ++ more))).sort (lines ++ more)) ≡ p
-or_stays shapes line lines more (Some finding) p known = some_is (record { lines = 1; begun = record { sort = Below; finding = Some finding } }) p known
+or_stays shapes line lines more (Some finding) p known = same_Some (record { lines = 1; begun = record { sort = Below; finding = Some finding } }) p known
 or_stays shapes line lines more None p known = behind_stays shapes line lines more p known
 
 one_longer : {A : Type 0} (x : A) (xs : List A) (count : ℕ) → length xs ≤ count + 1 → length (x ∷ xs) ≤ (1 + count) + 1
@@ -234,7 +223,7 @@ ends_step shapes whole given name later [] left p is leaves ends = elim (none-so
 ends_step shapes whole given name later (line ∷ lines) left p is leaves ends =
     λ ps are.
     subst (λ qs. ArePieces shapes None whole qs) (sym (append_assoc given (p ∷ []) ps))
-    (ends (p ∷ ps) (record { some = omega arith; same = some_is p (piece shapes name (line ∷ lines)) is }, subst (λ n. ArePieces shapes n (drop p.lines (line ∷ lines)) ps) leaves.0 (subst (λ ls. ArePieces shapes later ls ps) leaves.1 are)))
+    (ends (p ∷ ps) (record { some = omega arith; same = same_Some p (piece shapes name (line ∷ lines)) is }, subst (λ n. ArePieces shapes n (drop p.lines (line ∷ lines)) ps) leaves.0 (subst (λ ls. ArePieces shapes later ls ps) leaves.1 are)))
 
 pub no_last : (shapes : List ShapeParts) (name : Option (List ℕ)) (held : List (List ℕ)) → None ≡ last_piece shapes name held → length held ≡ 0
 no_last shapes name [] is = refl
@@ -282,24 +271,8 @@ if_none b n o not_b none = subst (λ v. (if v then Some n else o) ≡ None) (sym
 then_none : (b : Bool) (n : ℕ) (o : Option ℕ) → b ≡ true → o ≡ None → (if b then o else Some n) ≡ None
 then_none b n o is_b none = subst (λ v. (if v then o else Some n) ≡ None) (sym is_b) none
 
-or_false_first : (a b : Bool) → (a || b) ≡ false → a ≡ false
-or_false_first true b e = e
-or_false_first false b e = refl
-
-or_false_second : (a b : Bool) → (a || b) ≡ false → b ≡ false
-or_false_second true b e = no_going true refl e
-or_false_second false b e = e
-
 both_false : (a b : Bool) → a ≡ false → b ≡ false → (a || b) ≡ false
 both_false a b no_a no_b = subst (λ v. (v || b) ≡ false) (sym no_a) no_b
-
-and_first : (a b : Bool) → (a && b) ≡ true → a ≡ true
-and_first true b e = refl
-and_first false b e = e
-
-and_second : (a b : Bool) → (a && b) ≡ true → b ≡ true
-and_second true b e = e
-and_second false b e = no_going false e refl
 
 trail_more : (shapes : List ShapeParts) (n : ℕ) (front : List (List ℕ)) (last line : List ℕ) → trail_end shapes n (front ++ last ∷ []) ≡ None → in_trail shapes last (Some line) ≡ true → ends_trails shapes line ≡ false → trail_end shapes n (front ++ last ∷ (line ∷ [])) ≡ None
 trail_more shapes n [] last line open_yet in_it ends = then_none (in_trail shapes last (Some line)) n (trail_end shapes (n + 1) (line ∷ [])) in_it (if_none (ends_trails shapes line) (n + 1) None ends refl)
@@ -315,8 +288,8 @@ trail_more shapes n (a ∷ (b ∷ front)) last line open_yet in_it ends =
 announced_more : (n : ℕ) (front : List (List ℕ)) (last line : List ℕ) → announced_end n (front ++ last ∷ []) ≡ None → ((length line == 0) || is_some (announced_by last line)) ≡ false → announced_end n (front ++ last ∷ (line ∷ [])) ≡ None
 announced_more n [] last line open_yet goes =
     if_none ((length last == 0) || is_some (announced_by last line)) n (announced_end (n + 1) (line ∷ []))
-    (both_false (length last == 0) (is_some (announced_by last line)) (or_false_first (length last == 0) false (if_none_test ((length last == 0) || false) n None open_yet)) (or_false_second (length line == 0) (is_some (announced_by last line)) goes))
-    (if_none ((length line == 0) || false) (n + 1) None (both_false (length line == 0) false (or_false_first (length line == 0) (is_some (announced_by last line)) goes) refl) refl)
+    (both_false (length last == 0) (is_some (announced_by last line)) (or_parts (length last == 0) false (if_none_test ((length last == 0) || false) n None open_yet)).0 (or_parts (length line == 0) (is_some (announced_by last line)) goes).1)
+    (if_none ((length line == 0) || false) (n + 1) None (both_false (length line == 0) false (or_parts (length line == 0) (is_some (announced_by last line)) goes).0 refl) refl)
 announced_more n (a ∷ []) last line open_yet goes =
     if_none ((length a == 0) || is_some (announced_by a last)) n (announced_end (n + 1) (last ∷ (line ∷ []))) (if_none_test ((length a == 0) || is_some (announced_by a last)) n (announced_end (n + 1) (last ∷ [])) open_yet)
     (announced_more (n + 1) [] last line (if_none_rest ((length a == 0) || is_some (announced_by a last)) n (announced_end (n + 1) (last ∷ [])) open_yet) goes)
@@ -328,9 +301,9 @@ run_more : (shapes : List ShapeParts) (sort : Sort) (second : List ℕ) (front :
 run_more shapes Kept second front last line open_yet goes = no_going false goes refl
 run_more shapes Heading second front last line open_yet goes = no_going false goes refl
 run_more shapes Below second front last line open_yet goes = no_going false goes refl
-run_more shapes Announced second front last line open_yet goes = announced_more 1 front last line open_yet (not_false ((length line == 0) || is_some (announced_by last line)) goes)
+run_more shapes Announced second front last line open_yet goes = announced_more 1 front last line open_yet (not-true ((length line == 0) || is_some (announced_by last line)) goes)
 run_more shapes Inline second front last line open_yet goes =
-    trail_more shapes 0 (second ∷ front) last line open_yet (and_first (in_trail shapes last (Some line)) (not (ends_trails shapes line)) goes) (not_false (ends_trails shapes line) (and_second (in_trail shapes last (Some line)) (not (ends_trails shapes line)) goes))
+    trail_more shapes 0 (second ∷ front) last line open_yet (and_parts (in_trail shapes last (Some line)) (not (ends_trails shapes line)) goes).0 (not-true (ends_trails shapes line) (and_parts (in_trail shapes last (Some line)) (not (ends_trails shapes line)) goes).1)
 
 or_none_first : (found : Option FindingParts) (o : Option PieceParts) → piece_or found o ≡ None → found ≡ None
 or_none_first None o e = refl
@@ -399,7 +372,7 @@ goes_so shapes a b l here next last line sort r ea eb el es er goes =
 -- cuts stand for their pieces
 cut_known : (o : Option PieceParts) (cut : Cut) → Some cut ≡ option_map cut_of o → (p : PieceParts) × (o ≡ Some p) × (cut ≡ cut_of p)
 cut_known None cut is = elim (none-some cut (sym is)) [ ]
-cut_known (Some p) cut is = (p, refl, some_is cut (cut_of p) is)
+cut_known (Some p) cut is = (p, refl, same_Some cut (cut_of p) is)
 
 cut_push : (given : List PieceParts) (p : PieceParts) (cuts pushed : List Cut) (cut : Cut) → map cut_of given ≡ cuts → cut ≡ cut_of p → pushed ≡ cuts ++ cut ∷ [] → map cut_of (given ++ p ∷ []) ≡ pushed
 cut_push given p cuts pushed cut same is e =
@@ -445,5 +418,5 @@ fed_none shapes lines cuts none = record { pieces = []; cut = sym none; come = �
 pub fed_shorter : (name later : Option (List ℕ)) (held left : List (List ℕ)) (o : Option PieceParts) (cut : Cut) → Some cut ≡ option_map cut_of o → 1 ≤ cut.lines → cut.lines ≤ length held → Leaves name held o later left → length left < length held
 fed_shorter name later held left None cut is some within leaves = elim (none-some cut (sym is)) [ ]
 fed_shorter name later held left (Some p) cut is some within leaves =
-    let same : cut ≡ cut_of p = some_is cut (cut_of p) is in
+    let same : cut ≡ cut_of p = same_Some cut (cut_of p) is in
     fewer p.lines held left (subst (λ (c : Cut). 1 ≤ c.lines) same some) (subst (λ (c : Cut). c.lines ≤ length held) same within) leaves.1

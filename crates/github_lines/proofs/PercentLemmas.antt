@@ -99,9 +99,6 @@ before_kept field (x ∷ xs) rest plain =
 not_some : (at : ℕ) → Some at ≡ None → ⊥
 not_some at same = cc
 
-not_none : (at : ℕ) → None ≡ Some at → ⊥
-not_none at same = cc
-
 percent_at : (field : Field) (text : List ℕ) → IsUtf8 text → position_or_len is_percent text < length text → IsPercentAt field text (position_or_len is_percent text)
 percent_at field text utf8 lt =
     let at = position_or_len is_percent text in

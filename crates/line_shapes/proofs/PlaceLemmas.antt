@@ -8,7 +8,10 @@ use Rattle.std.proofs.lemmas.Grind.{common_steps}
 use Rattle.memchr.specs.Find.{IsFirstByte, is_byte3}
 use Rattle.line_shapes.specs.declared.part.Part.{Part}
 use Rattle.line_shapes.specs.declared.part.Part.TheVariants.{Byte, Decimal, Blanks}
+use Rattle.std.proofs.lemmas.Bool.{and_from, and_parts, and_right}
 use Rattle.std.proofs.lemmas.Bool.Decides.{nat_tests}
+use Rattle.base_lemmas.proofs.Choices.{if_same, option_or-none}
+pub use Rattle.base_lemmas.proofs.Lists.{slice_range-rest as rest_is}
 use Rattle.line_shapes.specs.Part.{Seen, behind, byte_taken, fit, taken, with_figure}
 use Rattle.line_shapes.specs.declared.bytes.Kind.TheVariants.{Digit, Blank, Angled}
 use Rattle.line_shapes.specs.Bytes.{is_in, number_at, some_run, value_of}
@@ -18,9 +21,6 @@ use Rattle.line_shapes.proofs.PartLemmas.{no_run}
 use Rattle.line_shapes.specs.Place.{Place, found_at, fits_behind, in_angles, in_lead, named, may_follow, may_name, first_some, first_fit, afters, placed_at, is_mark, IsNextMark}
 
 -- the next mark, from the first in what is left of the text
-pub rest_is : (text : List ℕ) (from : ℕ) → take (length text - from) (drop from text) ≡ drop from text
-rest_is text from = grind (arith, common_steps)
-
 mark_back : (text : List ℕ) (from k : ℕ) → from ≤ k → is_mark (slice_index text k) ≡ true → is_mark (slice_index (drop from text) (k - from)) ≡ true
 mark_back text from k low is =
     let back : from + (k - from) ≡ k = omega arith in subst (λ byte. is_mark byte ≡ true) (sym (get_or-drop from text (k - from) 0 ∙ ap (λ n. get_or text n 0) back)) is
@@ -58,14 +58,10 @@ no_fit (Byte byte ∷ parts) s marked unmarked = ap (option_and_then (fit parts)
 no_fit (part ∷ parts) s marked unmarked = cc
 no_fit [] s marked unmarked = cc
 
-both : (a b : Bool) → (a && b) ≡ true → (a ≡ true) × (b ≡ true)
-both true b so = (refl, so)
-both false b so = cc
-
 no_first_fit : (shapes : List (List Part)) (s : Seen) → list_all begins_marked shapes ≡ true → (is_mark (slice_index s.rest 0) ≡ true → ⊥) → first_fit shapes s ≡ None
 no_first_fit [] s marked unmarked = refl
 no_first_fit (shape ∷ shapes) s marked unmarked =
-    let parts : (begins_marked shape ≡ true) × (list_all begins_marked shapes ≡ true) = both (begins_marked shape) (list_all begins_marked shapes) marked in
+    let parts : (begins_marked shape ≡ true) × (list_all begins_marked shapes ≡ true) = and_parts (begins_marked shape) (list_all begins_marked shapes) marked in
     ap (λ found. option_or found (first_fit shapes s)) (no_fit shape s parts.0 unmarked) ∙ no_first_fit shapes s parts.1 unmarked
 
 afters_marked : list_all begins_marked afters ≡ true
@@ -185,7 +181,7 @@ unfollowed_at shape s (first ∷ rest) followed no_more = unfollowed shape s fir
 unfollowed_all : (shapes : List (List Part)) (s : Seen) (text : List ℕ) → list_all begins_followed shapes ≡ true → may_follow (slice_index text 1) ≡ false → first_fit shapes (record s { rest = text }) ≡ None
 unfollowed_all [] s text followed no_more = refl
 unfollowed_all (shape ∷ shapes) s text followed no_more =
-    let parts : (begins_followed shape ≡ true) × (list_all begins_followed shapes ≡ true) = both (begins_followed shape) (list_all begins_followed shapes) followed in
+    let parts : (begins_followed shape ≡ true) × (list_all begins_followed shapes ≡ true) = and_parts (begins_followed shape) (list_all begins_followed shapes) followed in
     ap (λ found. option_or found (first_fit shapes (record s { rest = text }))) (unfollowed_at shape s text parts.0 no_more) ∙ unfollowed_all shapes s text parts.1 no_more
 
 afters_followed : list_all begins_followed afters ≡ true
@@ -216,17 +212,13 @@ no_angle : (text : List ℕ) → is_angle text ≡ false → angle_len text ≡ 
 no_angle [] other = refl
 no_angle (x ∷ xs) other = ap (λ v. if v then angle_behind (prefix_len (is_in Angled) xs) xs else 0) other
 
-and_false : (a b : Bool) → b ≡ false → (a && b) ≡ false
-and_false true b so = so
-and_false false b so = refl
-
 or_left : (a b : Bool) → a ≡ false → (a || b) ≡ b
 or_left false b so = refl
 or_left true b so = cc
 
 no_length : (end : ℕ) → (nat_le 1 end && (0 == end)) ≡ false
 no_length zero = refl
-no_length (suc n) = and_false (nat_le 1 (suc n)) (0 == suc n) (grind (arith, nat_tests))
+no_length (suc n) = and_right (nat_le 1 (suc n)) (0 == suc n) (grind (arith, nat_tests))
 
 plain_name : (kind : NameKind) (s : Seen) (end : ℕ) → is_angle s.rest ≡ false → is_name kind s.rest end ≡ is_plain kind s.rest end
 plain_name kind s end other =
@@ -252,17 +244,13 @@ placed_is kind s end other =
     ap (λ v. if v then option_map (named s end) (fits_behind s end) else None) (plain_name kind s end other)
     ∙ tests_apart (begins_name kind s.rest) (ends_name (take end s.rest)) (nat_le end (first_fault kind s.rest)) (named s end) (fits_behind s end)
 
-never : {A : Type 0} (c : Bool) (x : A) → (if c then x else x) ≡ x
-never true x = refl
-never false x = refl
-
 before_or_past : (kind : NameKind) (s : Seen) (at end k : ℕ) → is_angle s.rest ≡ false → IsNextMark s.rest at (Some end) → nat_le end (first_fault kind s.rest) ≡ false → at ≤ k → k < length s.rest → placed_at kind s k ≡ None
 before_or_past kind s at end k other next so low high =
     elim (ltb k end) as (λ v. ltb k end ≡ v → placed_at kind s k ≡ None)
     [ true ↦ (λ is. no_place kind s k (next.0.before k low (ltb-true k end is))) | false ↦ (λ is. past_fault kind s end k other so (ltb-false k end is)) ] refl
 
 pub nothing_at : (kind : NameKind) (s : Seen) (end : ℕ) → is_angle s.rest ≡ false → None ≡ found_at kind s end → None ≡ placed_at kind s end
-nothing_at kind s end other none = sym (placed_is kind s end other ∙ (ap (λ found. if nat_le end (first_fault kind s.rest) then option_map (named s end) found else None) (sym none) ∙ never (nat_le end (first_fault kind s.rest)) None))
+nothing_at kind s end other none = sym (placed_is kind s end other ∙ (ap (λ found. if nat_le end (first_fault kind s.rest) then option_map (named s end) found else None) (sym none) ∙ if_same (nat_le end (first_fault kind s.rest)) None))
 
 pub ends_here : (kind : NameKind) (s : Seen) (at end : ℕ) (found : Seen) (all : Option Place) → is_angle s.rest ≡ false → IsNextMark s.rest at (Some end) → first_some (placed_at kind s) (range_with_len at (length s.rest - at)) ≡ all → Some found ≡ found_at kind s end
     → (if nat_le end (first_fault kind s.rest) then Some (named s end found) else None) ≡ all
@@ -287,7 +275,7 @@ angle_fault kind [] is = cc
 angle_fault kind (x ∷ xs) is = subst (λ y. first_fault kind (y ∷ xs) ≡ 0) (sym (eqb-true x 0x3C is)) (starts_fault kind xs)
 
 and_third : (a b c : Bool) → c ≡ false → (a && b && c) ≡ false
-and_third a b c so = and_false (a && b) c so
+and_third a b c so = and_right (a && b) c so
 
 none_below : (n end : ℕ) → n ≡ 0 → 1 ≤ end → nat_le end n ≡ false
 none_below n end is low = grind (arith, nat_tests)
@@ -306,19 +294,15 @@ angled_name kind s end is low = or_right (nat_le 1 end && (angle_len s.rest == e
 no_angle_at : (kind : NameKind) (s : Seen) (end : ℕ) → is_angle s.rest ≡ true → 1 ≤ end → (angle_len s.rest == end) ≡ false → placed_at kind s end ≡ None
 unfolding placed_at
 no_angle_at kind s end is low other =
-    ap (λ v. if v then option_map (named s end) (fits_behind s end) else None) (angled_name kind s end is low ∙ and_false (nat_le 1 end) (angle_len s.rest == end) other)
-
-both_hold : (a b : Bool) → a ≡ true → b ≡ true → (a && b) ≡ true
-both_hold true b so other = other
-both_hold false b so other = so
+    ap (λ v. if v then option_map (named s end) (fits_behind s end) else None) (angled_name kind s end is low ∙ and_right (nat_le 1 end) (angle_len s.rest == end) other)
 
 angle_here : (kind : NameKind) (s : Seen) (end : ℕ) → is_angle s.rest ≡ true → 1 ≤ end → (angle_len s.rest == end) ≡ true → placed_at kind s end ≡ option_map (named s end) (fits_behind s end)
 unfolding placed_at
 angle_here kind s end is low here =
-    ap (λ v. if v then option_map (named s end) (fits_behind s end) else None) (angled_name kind s end is low ∙ both_hold (nat_le 1 end) (angle_len s.rest == end) (grind (arith, nat_tests)) here)
+    ap (λ v. if v then option_map (named s end) (fits_behind s end) else None) (angled_name kind s end is low ∙ and_from (nat_le 1 end) (angle_len s.rest == end) (grind (arith, nat_tests)) here)
 
 within_true : (k whole : ℕ) → 1 ≤ k → k < whole → (nat_le 1 k && nat_lt k whole) ≡ true
-within_true k whole low high = both_hold (nat_le 1 k) (nat_lt k whole) (grind (arith, nat_tests)) (grind (arith, nat_tests))
+within_true k whole low high = and_from (nat_le 1 k) (nat_lt k whole) (grind (arith, nat_tests)) (grind (arith, nat_tests))
 
 other_end : (n k whole : ℕ) → (nat_le 1 n && nat_lt n whole) ≡ false → 1 ≤ k → k < whole → (n == k) ≡ false
 other_end n k whole out low high =
@@ -331,10 +315,6 @@ different n k apart = grind (arith, nat_tests)
 same_number : (n : ℕ) → (n == n) ≡ true
 same_number n = grind (arith, nat_tests)
 
-or_none : {A : Type 0} (o : Option A) → option_or o None ≡ o
-or_none None = refl
-or_none (Some x) = refl
-
 le_of : (n : ℕ) → nat_le 1 n ≡ true → 1 ≤ n
 le_of n so = grind (arith, nat_tests)
 
@@ -346,7 +326,7 @@ one_angle : (kind : NameKind) (s : Seen) (n : ℕ) → is_angle s.rest ≡ true 
 one_angle kind s n is same low high =
     up_to (placed_at kind s) 1 n (length s.rest) low high (λ k above below. no_angle_at kind s k is above (subst (λ m. (m == k) ≡ false) same (different n k (inr below))))
     ∙ (ap (option_or (placed_at kind s n)) (all_past (placed_at kind s) (n + 1) (length s.rest) (λ k above below. no_angle_at kind s k is (omega arith) (subst (λ m. (m == k) ≡ false) same (different n k (inl (omega arith))))))
-    ∙ (or_none (placed_at kind s n) ∙ angle_here kind s n is low (subst (λ m. (m == n) ≡ true) same (same_number n))))
+    ∙ (option_or-none (placed_at kind s n) ∙ angle_here kind s n is low (subst (λ m. (m == n) ≡ true) same (same_number n))))
 
 pub angled_lead : (kind : NameKind) (s : Seen) → is_angle s.rest ≡ true → in_lead kind s ≡ in_angles s
 unfolding in_lead in_angles
@@ -355,7 +335,7 @@ angled_lead kind s is =
     λ v. (nat_le 1 (angle_len s.rest) && nat_lt (angle_len s.rest) (length s.rest)) ≡ v
     → first_some (placed_at kind s) (range_with_len 1 (length s.rest - 1)) ≡ (if v then option_map (named s (angle_len s.rest)) (fits_behind s (angle_len s.rest)) else None)) [
       | true ↦ (λ so.
-          let parts : (nat_le 1 (angle_len s.rest) ≡ true) × (nat_lt (angle_len s.rest) (length s.rest) ≡ true) = both (nat_le 1 (angle_len s.rest)) (nat_lt (angle_len s.rest) (length s.rest)) so in
+          let parts : (nat_le 1 (angle_len s.rest) ≡ true) × (nat_lt (angle_len s.rest) (length s.rest) ≡ true) = and_parts (nat_le 1 (angle_len s.rest)) (nat_lt (angle_len s.rest) (length s.rest)) so in
           one_angle kind s (angle_len s.rest) is refl (le_of (angle_len s.rest) parts.0) (lt_of (angle_len s.rest) (length s.rest) parts.1))
       | false ↦ (λ out. all_past (placed_at kind s) 1 (length s.rest) (λ k low high. no_angle_at kind s k is low (other_end (angle_len s.rest) k (length s.rest) out low high)))
     ] refl

@@ -1,10 +1,9 @@
 -- Labels that move stand in the text after a change.
-use Rattle.std.proofs.Common.{◌≡◌, ℕ, suc, ◌+◌, ◌-◌, ◌^◌, ◌<◌, ◌≤◌, ◌==◌, ◌&&◌, not, Bool, true, false, cond, List, [], ◌∷◌, ◌++◌, append_assoc, append-nil, length, get_or, drop, Option, Some, None, option_map, refl, sym, ◌∙◌, ap, ap₂, subst, arith}
+use Rattle.std.proofs.Common.{◌≡◌, ℕ, ◌+◌, ◌-◌, ◌^◌, ◌<◌, ◌≤◌, ◌==◌, ◌&&◌, not, Bool, true, false, cond, List, [], ◌∷◌, ◌++◌, append_assoc, append-nil, length, get_or, drop, Option, Some, None, option_map, refl, sym, ◌∙◌, ap, ap₂, subst, arith}
 use Rattle.std.specs.List.{All, filter_map, cons_option}
 use Rattle.std.specs.Option.{option_to_list}
 use Rattle.std.specs.Str.{IsCharBoundary}
-use Rattle.std.proofs.Math.Seq.{drop-cons}
-use Rattle.std.proofs.lemmas.List.{drop_all}
+use Rattle.std.proofs.lemmas.List.{drop_all, drop_more}
 use Rattle.std.proofs.lemmas.List.Elements.{All-nil, All-cons, All-head, All-tail}
 use Rattle.oxc_span.specs.Label.{Label, label_end}
 use Rattle.oxc_protocol.specs.Parts.{OxcParts}
@@ -19,12 +18,6 @@ use Rattle.lsp_server.specs.Moved.{CanMove, CanMoveAll, head_goes, mark_of, move
 
 -- ---- lists without what goes
 
--- what is left begins with the next element
-rest_at : {A : Type 0} (xs : List A) (i : ℕ) (x : A) → i < length xs → x ≡ get_or xs i x → drop i xs ≡ x ∷ drop (i + 1) xs
-rest_at xs i x within is =
-    let next : suc i ≡ i + 1 = omega arith in
-    drop-cons xs i x within ∙ ap₂ (λ y n. y ∷ drop n xs) (sym is) next
-
 cons_is : {B : Type 0} (o : Option B) (ys : List B) → cons_option o ys ≡ option_to_list o ++ ys
 cons_is None ys = refl
 cons_is (Some y) ys = refl
@@ -37,7 +30,7 @@ more_kept f xs i x done more within is pushed all =
     let rest = filter_map f (drop (i + 1) xs) in
     ap (λ l. l ++ rest) pushed ∙ append_assoc done (option_to_list (f x)) rest
     ∙ ap (λ l. done ++ l) (sym (cons_is (f x) rest))
-    ∙ ap (λ l. done ++ filter_map f l) (sym (rest_at xs i x within is)) ∙ all
+    ∙ ap (λ l. done ++ filter_map f l) (sym (drop_more xs i x within ∙ ap (λ y. y ∷ drop (i + 1) xs) (sym is))) ∙ all
 
 -- all elements
 pub all_kept : {A B : Type 0} (f : A → Option B) (xs : List A) (i : ℕ) (done : List B) → length xs ≤ i

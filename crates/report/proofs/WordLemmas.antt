@@ -1,12 +1,12 @@
 -- What words say, read one after another.
-use Rattle.std.proofs.Common.{◌≡◌, ◌≢◌, ◌<◌, ◌≤◌, ◌==◌, ◌∙◌, lit<, ℕ, ◌^◌, List, [], ◌∷◌, length, map, filter_map, Bool, true, false, Option, Some, None, option_map, option_and_then, unwrap_or, String, Global, string_bytes, Result, Ok, Err, refl, sym, ap, arith}
-use Rattle.std.proofs.Math.Nat.{pow-le-pow_right}
+use Rattle.std.proofs.Common.{◌≡◌, ◌≢◌, ◌<◌, ◌≤◌, ◌∙◌, ℕ, ◌^◌, List, [], ◌∷◌, length, map, filter_map, Bool, true, false, Option, Some, None, option_map, option_and_then, unwrap_or, String, Global, string_bytes, Result, Ok, Err, refl, sym, ap, arith}
 use Rattle.std.proofs.lemmas.Grind.{common_steps}
 use Rattle.std.specs.Result.{result_ok}
 use Rattle.std.specs.List.{list_all}
-use Rattle.std.specs.Str.Parse.{ParsesUnsigned, AllDigits, digits_value, without_leading_plus}
-use Rattle.std.proofs.lemmas.Int.Digits.{digits_value-lt}
-use Rattle.std.specs.Char.{digit_value}
+use Rattle.std.specs.Str.{all_ascii_digits}
+use Rattle.std.specs.Str.Parse.{ParsesUnsigned, digits_value}
+use Rattle.std.proofs.lemmas.Str.Parse.{parse_digits, digits_value_short}
+use Rattle.numerals.proofs.NumeralLemmas.{digits_all, own}
 use Rattle.report.specs.declared.words.Command.{Command}
 use Rattle.report.specs.declared.words.Command.TheVariants.{Draw}
 use Rattle.report.specs.declared.words.Setting.{Setting}
@@ -114,25 +114,11 @@ drawing_none all is = ap (option_map drawing_of) is ∙ settled_drawing all
 
 -- ---- numbers
 
--- a byte from 48 to 57 is a digit
-digit_of_test : (byte : ℕ) → is_digit byte ≡ true → digit_value byte < 10
-digit_of_test byte is = grind (arith, common_steps)
+all_digits : (word : List ℕ) → list_all is_digit word ≡ true → all_ascii_digits word ≡ true
+all_digits word all = sym (digits_all word) ∙ all
 
-digits_of_test : (word : List ℕ) → list_all is_digit word ≡ true → AllDigits 10 word
-digits_of_test [] all = tt
-digits_of_test (byte ∷ rest) all = (digit_of_test byte (grind arith), digits_of_test rest (grind arith))
-
-no_plus : (word : List ℕ) → list_all is_digit word ≡ true → without_leading_plus word ≡ word
-no_plus [] all = refl
-no_plus (byte ∷ rest) all =
-    let plain : (byte == 43) ≡ false = grind arith in
-    rw plain
-
-short_value : (word : List ℕ) → AllDigits 10 word → length word ≤ 9 → digits_value 10 word < 2 ^ 32
-short_value word all short =
-    let below = digits_value-lt 10 word all in
-    let most : 10 ^ length word ≤ 10 ^ 9 = pow-le-pow_right (lit< tt) short in
-    omega (arith, below, most)
+short_value : (word : List ℕ) → list_all is_digit word ≡ true → length word ≤ 9 → digits_value 10 word < 2 ^ 32
+short_value word all short = omega (arith, digits_value_short own word 9 (all_digits word all) short)
 
 number_is : (word : List ℕ) → list_all is_digit word ≡ true → begins_well word ≡ true → length word ≤ 9 → number word ≡ Some (digits_value 10 word)
 number_is word all begins short = grind (arith, common_steps)
@@ -142,7 +128,9 @@ not_empty [] begins = cc
 not_empty (byte ∷ rest) begins = omega arith
 
 pub number_read : {E : Type 0} (word : List ℕ) (r : Result ℕ E) → list_all is_digit word ≡ true → begins_well word ≡ true → length word ≤ 9 → ParsesUnsigned 32 10 word r → result_ok r ≡ number word
-number_read word (Ok n) all begins short parses = rw (number_is word all begins short, parses.1, no_plus word all) refl
-number_read word (Err e) all begins short parses =
-    let digits = digits_of_test word all in
-    absurd (parses (rw (no_plus word all) ((not_empty word begins, digits), short_value word digits short)))
+number_read {E} word (Ok n) all begins short parses =
+    let read = parse_digits own {E = E} 32 word (Ok n) parses (all_digits word all) in
+    rw (number_is word all begins short, read.1) refl
+number_read {E} word (Err e) all begins short parses =
+    let refused = parse_digits own {E = E} 32 word (Err e) parses (all_digits word all) in
+    absurd (refused (not_empty word begins, short_value word all short))

@@ -13,9 +13,6 @@ map_again : {A B C : Type 0} (g : B → C) (f : A → B) (xs : List A) → map g
 map_again g f [] = refl
 map_again g f (x ∷ xs) = ap (λ l. g (f x) ∷ l) (map_again g f xs)
 
-count_mapped : {A B : Type 0} (p : B → Bool) (f : A → B) (xs : List A) → count_by p (map f xs) ≡ count_by (λ x. p (f x)) xs
-count_mapped p f xs = sym (sum-map (λ y. cond (p y) 1 0) (map f xs)) ∙ ap sum (map_again (λ y. cond (p y) 1 0) f xs) ∙ sum-map (λ x. cond (p (f x)) 1 0) xs
-
 any_mapped : {A B : Type 0} (p : B → Bool) (f : A → B) (xs : List A) → list_any p (map f xs) ≡ list_any (λ x. p (f x)) xs
 any_mapped p f [] = refl
 any_mapped p f (x ∷ xs) = ap (λ b. p (f x) || b) (any_mapped p f xs)
@@ -24,7 +21,9 @@ any_mapped p f (x ∷ xs) = ap (λ b. p (f x) || b) (any_mapped p f xs)
 pub counted : (wanted : Severity) (files : List NamedHeld) (reports : List FoundReport) (found : List Found) → map (report_view files) reports ≡ found
     → count_by (λ (r : FoundReport). is_of wanted r.diagnostic.severity) reports ≡ count_by (λ it. is_of wanted (severity_of it)) found
 counted wanted files reports found is =
-    sym (count_mapped (λ it. is_of wanted (severity_of it)) (report_view files) reports) ∙ ap (count_by (λ it. is_of wanted (severity_of it))) is
+    let one : Found → ℕ = λ it. cond (is_of wanted (severity_of it)) 1 0 in
+    sym (sum-map (λ (r : FoundReport). cond (is_of wanted r.diagnostic.severity) 1 0) reports)
+    ∙ ap sum (sym (map_again one (report_view files) reports) ∙ ap (map one) is) ∙ sum-map one found
 
 pub reached : (at : Level) (files : List NamedHeld) (reports : List FoundReport) (found : List Found) → map (report_view files) reports ≡ found
     → list_any (λ r. reaches at r.diagnostic.severity) reports ≡ one_reaches at found

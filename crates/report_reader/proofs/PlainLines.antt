@@ -7,7 +7,8 @@ use Rattle.oxc_protocol.specs.declared.protocol.Severity.TheVariants.{Error, War
 use Rattle.report_reader.specs.Seen.{Mark, Row, Head, named, bare, dashes, Snippet}
 use Rattle.report_reader.specs.Shown.{spaces, carets, bar_of, marker, mark_body, mark_cells, bars_to, hang_line, hang_of, hangs_from, marks_lines, row_front, other_front, unders, row_lines, head_text, head_line, close_line, number_width, snippet_lines, title_line, ended}
 use Rattle.report_reader.specs.WellFormed.{is_line, is_line_of, are_marks, is_next_row, are_rows, is_head, is_snippet, HasHeadSizes, HasRowSizes, HasSizes}
-use Rattle.report_reader.proofs.BytesLemmas.{all_append, not_eq, both, both_first, both_last, has_no-append, has_no-replicate, digits_have_no, decimal_digits}
+use Rattle.numerals.proofs.NumeralLemmas.{decimal_digits}
+use Rattle.report_reader.proofs.BytesLemmas.{all_append, not_eq, both, both_first, both_last, has_no-append, has_no-replicate, digits_have_no}
 use Rattle.report_reader.proofs.RunsLemmas.{AreApart, marks_apart}
 use Rattle.report_reader.proofs.HangsLemmas.{bars_have_no}
 

@@ -1,10 +1,9 @@
 -- What a text would be read as. It is total: what no report shows is read as anything.
-use Rattle.std.specs.Prelude.{Bool, ℕ, true, not, ◌&&◌, ◌||◌, ◌+◌, ◌-◌, ◌/◌, ◌==◌, ◌^◌, ◌≡◌, nat_lt, List, [], ◌∷◌, ◌++◌, Option, Some, None, is_some, drop, length, map, reverse, slice_index, if◌then◌else◌}
+use Rattle.std.specs.Prelude.{Bool, ℕ, true, not, ◌&&◌, ◌||◌, ◌+◌, ◌-◌, ◌/◌, ◌==◌, ◌≡◌, List, [], ◌∷◌, ◌++◌, Option, Some, None, is_some, drop, length, map, reverse, slice_index, if◌then◌else◌}
 use denote.Ref.{Bor}
 use Rattle.std.specs.List.{before_first, after_first, slice_split}
 use Rattle.std.specs.Option.{option_copied, option_to_list, unwrap_or, option_map}
-use Rattle.std.specs.Str.{all_ascii_digits}
-use Rattle.std.specs.Str.Parse.{digits_value}
+use Rattle.numerals.specs.Numerals.{number_in}
 use Rattle.oxc_protocol.specs.declared.protocol.Severity.{Severity}
 use Rattle.oxc_protocol.specs.declared.protocol.Severity.TheVariants.{Error, Warning, Advice}
 use Rattle.report_reader.specs.declared.lines.Line as code
@@ -38,9 +37,6 @@ cut parts = (parts.0.now, parts.1.now)
 unfoldable pub without_spaces : List ℕ → List ℕ
 without_spaces [] = []
 without_spaces (b ∷ text) = if b == 0x20 then without_spaces text else b ∷ text
-
-unfoldable pub number_in : List ℕ → Option ℕ
-number_in text = if all_ascii_digits text && nat_lt 0 (length text) && nat_lt (digits_value 10 text) (2 ^ 64) then Some (digits_value 10 text) else None
 
 -- the marks of a line
 

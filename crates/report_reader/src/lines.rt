@@ -5,7 +5,8 @@ ghost use Rattle.report_reader.specs.Reading.{head_in, line_in, line_model, seve
 ghost use Rattle.report_reader.specs.Reading.{severity_in, title_in};
 
 use crate::seen::SeenHead;
-use crate::texts::{number_of, split_behind, split_first, trimmed};
+use crate::texts::{split_behind, split_first, trimmed};
+use numerals::number_of;
 use oxc_protocol::Severity;
 use std::alloc::{AllocError, Global};
 

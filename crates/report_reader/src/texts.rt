@@ -1,8 +1,6 @@
-//! Texts cut at a character, and numbers in them.
+//! Texts cut at a character.
 ghost use Rattle.std.specs.Prelude.{◌≡◌, ◌<◌, Some, None, IfNone, option_map};
-ghost use Rattle.std.specs.List.{list_all};
-ghost use Rattle.std.specs.Char.{is_ascii_digit};
-ghost use Rattle.report_reader.specs.Reading.{back, cut, front, number_in, split_last};
+ghost use Rattle.report_reader.specs.Reading.{back, cut, front, split_last};
 ghost use Rattle.report_reader.specs.Reading.{without_spaces};
 
 /// What stands before the first such character, or all, and what stands behind it, or nothing.
@@ -30,21 +28,4 @@ pub(crate) fn trimmed(text: &str) -> &str
     ensures { result.now ≡ without_spaces text.now }
 {
     text.trim_start_matches(' ')
-}
-
-fn has_digits(bytes: &[u8]) -> bool
-    ensures { result ≡ list_all is_ascii_digit bytes.now }
-{
-    bytes.iter().all(|byte| byte.is_ascii_digit())
-}
-
-/// The number that a text of digits writes.
-pub(crate) fn number_of(text: &str) -> Option<usize>
-    ensures { result ≡ number_in text.now }
-{
-    if has_digits(text.as_bytes()) {
-        text.parse().ok()
-    } else {
-        None
-    }
 }

@@ -1,7 +1,7 @@
 -- The text of a message with its arguments in it.
 use Rattle.std.specs.Prelude.{ℕ, zero, suc, ◌+◌, ◌-◌, ◌==◌, ◌&&◌, ◌||◌, Bool, not, List, [], ◌∷◌, ◌++◌, take, drop, take_while, length, nat_lt, slice_get, slice_index, slice_range, if◌then◌else◌, Option, Some, None, option_and_then, unwrap_or}
 use Rattle.std.specs.Char.{is_ascii_digit}
-use Rattle.sarif_log.specs.Form.{number_in}
+use Rattle.numerals.specs.Numerals.{number_in}
 
 abbrev pub is_brace : ℕ → Bool
 is_brace byte = byte == 0x7B || byte == 0x7D

@@ -3,12 +3,12 @@ ghost use Rattle.std.specs.Prelude.{◌≡◌, ◌++◌, ◌<◌, ◌≤◌, ◌
 ghost use Rattle.std.specs.Prelude.{slice_index, slice_range, string_bytes, option_map};
 ghost use Rattle.std.specs.Prelude.{option_and_then, slice_get, IfOk, OnOk, IsTrue};
 ghost use Rattle.std.specs.Str.{IsCharBoundary};
-ghost use Rattle.sarif_log.specs.Form.{number_in};
+ghost use Rattle.numerals.specs.Numerals.{number_in};
 ghost use Rattle.sarif_findings.specs.Fill.{argument_in, digits_len as digits_there, filled_from};
 ghost use Rattle.sarif_findings.specs.Fill.{is_brace as is_brace_byte};
 ghost use Rattle.sarif_findings.specs.Fill.{is_placeholder as stands_placeholder, piece_at};
 
-use sarif_log::number_of;
+use numerals::number_of;
 use std::alloc::{AllocError, Global};
 
 /// A text with arguments in it: `{0}`, `{1}`.. are replaced by the arguments, those past the last

@@ -14,7 +14,8 @@ use Rattle.sarif_log.specs.declared.form.Shape.TheVariants as shape
 use Rattle.sarif_log.specs.declared.faults.Fault as code
 use Rattle.sarif_log.specs.declared.faults.Step as code_step
 use Rattle.sarif_log.specs.declared.faults.Step.TheVariants as steps
-use Rattle.sarif_log.specs.Form.{Key, keys_of, kind_under, number_in}
+use Rattle.numerals.specs.Numerals.{number_in}
+use Rattle.sarif_log.specs.Form.{Key, keys_of, kind_under}
 
 -- a step into a value
 pub data Step : Type 0 where

@@ -1,7 +1,6 @@
 -- The form of a log: for each object a table of its keys.
-use Rattle.std.specs.Prelude.{ℕ, ◌^◌, ◌&&◌, nat_lt, length, if◌then◌else◌, Option, Some, None, List, [], ◌∷◌, Bool, true, false, option_map, unwrap_or, find, codes}
-use Rattle.std.specs.Str.{bytes_eq, all_ascii_digits}
-use Rattle.std.specs.Str.Parse.{digits_value}
+use Rattle.std.specs.Prelude.{ℕ, List, [], ◌∷◌, Bool, true, false, option_map, unwrap_or, find, codes}
+use Rattle.std.specs.Str.{bytes_eq}
 use Rattle.sarif_log.specs.declared.form.Key as code
 use Rattle.sarif_log.specs.declared.form.Kind.{Kind}
 use Rattle.sarif_log.specs.declared.form.Kind.TheVariants.{Any, Text, Word, Whole, Texts, Object, Objects, Named}
@@ -125,7 +124,3 @@ kind_under object name = kind_in (keys_of object) name
 
 abbrev pub key_view : code.Key → Key
 key_view key = record { name = key.name.now; kind = key.kind; must = key.must }
-
--- the number that a text of digits writes
-unfoldable pub number_in : List ℕ → Option ℕ
-number_in text = if all_ascii_digits text && nat_lt 0 (length text) && nat_lt (digits_value 10 text) (2 ^ 64) then Some (digits_value 10 text) else None

@@ -7,7 +7,7 @@ use Rattle.json.specs.Json.{Json, null, boolean, number, string, array, object, 
 use Rattle.json.specs.Find.{get, as_str, as_number}
 use Rattle.json.specs.Value.{value_view}
 use Rattle.json.specs.declared.value.Value.{Value}
-use Rattle.sarif_log.specs.Form.{number_in}
+use Rattle.numerals.specs.Numerals.{number_in}
 use Rattle.sarif_log.specs.declared.log.Log as code_log
 use Rattle.sarif_log.specs.declared.log.Message as code_message
 use Rattle.sarif_log.specs.declared.log.ArtifactLocation as code_artifact_location

@@ -20,8 +20,8 @@ ghost use Rattle.sarif_log.specs.Faults.{unless as fault_unless, words_of as all
 ghost use Rattle.sarif_log.specs.Faults.{within as fault_within};
 
 use crate::form::{Key, Kind, Shape, Words, keys_of, kind_under};
-use crate::numbers::number_of;
 use json::Value;
+use numerals::number_of;
 use std::alloc::{AllocError, Global};
 
 /// A step into a value.

@@ -5,7 +5,6 @@ mod cut;
 mod faults;
 mod form;
 mod log;
-mod numbers;
 mod read;
 mod top;
 
@@ -17,5 +16,4 @@ pub use log::{
     Invocation, Level, Location, Log, LogResult, Message, NamedMessage, Names, Notification,
     Region, Replacement, ResultKind, Rule, RuleRef, Run, Status, Suppression, Tool, UriBase,
 };
-pub use numbers::number_of;
 pub use top::{LogError, read_log};

@@ -35,8 +35,8 @@ use crate::log::{
     Invocation, Level, Location, Log, LogResult, Message, NamedMessage, Names, Notification,
     Region, Replacement, ResultKind, Rule, RuleRef, Run, Status, Suppression, Tool, UriBase,
 };
-use crate::numbers::number_of;
 use json::Value;
+use numerals::number_of;
 use std::alloc::{AllocError, Global};
 
 /// What stands under a key.

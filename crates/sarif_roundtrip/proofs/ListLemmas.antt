@@ -1,7 +1,7 @@
 -- Lists of values that are written, as they are read.
 use Rattle.std.proofs.Common.{◌≡◌, ℕ, zero, suc, ◌+◌, ◌≤◌, List, [], ◌∷◌, map, Option, Some, None, unwrap_or, refl, ap, ap₂, arith}
 use Rattle.std.specs.Prelude.{slice_get}
-use Rattle.std.specs.List.{All, remove}
+use Rattle.std.specs.List.{All}
 use Rattle.std.proofs.lemmas.List.Elements.{All-head, All-tail}
 use Rattle.json.specs.Json.{Json}
 use Rattle.json.specs.Tree.{HasNumbers, ItemsHaveNumbers, depth, items_depth}
@@ -49,12 +49,6 @@ pub read_at : {A B : Type 0} (read : A → B) (xs : List A) (at : ℕ) (other : 
 read_at read [] at other = refl
 read_at read (x ∷ xs) zero other = refl
 read_at read (x ∷ xs) (suc at) other = read_at read xs at other
-
-pub read_others : {A B : Type 0} (read : A → B) (xs : List A) (at : ℕ) → map read (remove xs at) ≡ remove (map read xs) at
-read_others read [] zero = refl
-read_others read [] (suc at) = refl
-read_others read (x ∷ xs) zero = refl
-read_others read (x ∷ xs) (suc at) = ap (λ rest. read x ∷ rest) (read_others read xs at)
 
 -- what holds of all holds of one, and of all others
 pub holds_at : {A : Type 0} (P : A → Type 0) (xs : List A) (at : ℕ) (other : A) → All P xs → P other → P (unwrap_or (slice_get xs at) other)

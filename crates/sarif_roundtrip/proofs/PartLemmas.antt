@@ -18,7 +18,7 @@ use Rattle.sarif_writing.specs.Rules.{rule_value}
 use Rattle.sarif_writing.specs.Written.{artifact_value, file_location, label_location, message_value, reference_value, region_place, region_value}
 use Rattle.sarif_roundtrip.specs.Meant.{artifact_meant, file_meant, label_meant, message_meant, reference_meant, region_meant, rule_said}
 use Rattle.sarif_roundtrip.proofs.ListLemmas.{Fits}
-use Rattle.sarif_roundtrip.proofs.NumberLemmas.{number_back}
+use Rattle.numerals.proofs.NumeralLemmas.{number_in_decimal}
 
 -- a row and a column of 64 bits
 pub record AreSmall (it : SourceLocation) : Type 0 where
@@ -36,7 +36,7 @@ spot_faultless : (files : List NamedText) (file : ℕ) (start end : SourceLocati
     → fault_in (Object shape.Physical) (outline (spot files file start end)) ≡ None
 unfolding fault_in keys_of kind_under reference_value region_value
 spot_faultless files file start end small from upto =
-    rw (number_back file small, number_back end.column upto.column, number_back end.row upto.row, number_back start.column from.column, number_back start.row from.row) refl
+    rw (number_in_decimal file small, number_in_decimal end.column upto.column, number_in_decimal end.row upto.row, number_in_decimal start.column from.column, number_in_decimal start.row from.row) refl
 
 spot_numbers : (files : List NamedText) (file : ℕ) (start end : SourceLocation) → file < 2 ^ 64 → AreSmall start → AreSmall end
     → HasNumbers (outline (spot files file start end))
@@ -77,9 +77,9 @@ located_back : (text : Option (List ℕ)) (files : List NamedText) (file : ℕ) 
     ≡ record { artifact = reference_meant files file; region = Some (region_meant start end); message = message_meant text }
 unfolding location_of artifact_location_of region_of message_of text_at texts_at whole_at reference_value region_value message_value
 located_back None files file start end small from upto =
-    rw (number_back file small, number_back end.column upto.column, number_back end.row upto.row, number_back start.column from.column, number_back start.row from.row) refl
+    rw (number_in_decimal file small, number_in_decimal end.column upto.column, number_in_decimal end.row upto.row, number_in_decimal start.column from.column, number_in_decimal start.row from.row) refl
 located_back (Some text) files file start end small from upto =
-    rw (number_back file small, number_back end.column upto.column, number_back end.row upto.row, number_back start.column from.column, number_back start.row from.row) refl
+    rw (number_in_decimal file small, number_in_decimal end.column upto.column, number_in_decimal end.row upto.row, number_in_decimal start.column from.column, number_in_decimal start.row from.row) refl
 
 -- both ends of a label have rows and columns of 64 bits
 pub record IsSmall (text : List ℕ) (it : Label) : Type 0 where
@@ -107,7 +107,7 @@ label_back files file it small ends =
 
 file_faultless : (files : List NamedText) (file : ℕ) → file < 2 ^ 64 → fault_in (Object shape.Location) (outline (file_location files file)) ≡ None
 unfolding fault_in keys_of kind_under file_location reference_value
-file_faultless files file small = rw (number_back file small) refl
+file_faultless files file small = rw (number_in_decimal file small) refl
 
 file_numbers : (files : List NamedText) (file : ℕ) → file < 2 ^ 64 → HasNumbers (outline (file_location files file))
 unfolding file_location reference_value
@@ -122,7 +122,7 @@ file_fits files file small = record { faultless = file_faultless files file smal
 
 pub file_back : (files : List NamedText) (file : ℕ) → file < 2 ^ 64 → location_of (Some (outline (file_location files file))) ≡ file_meant files file
 unfolding location_of artifact_location_of region_of message_of text_at texts_at whole_at file_location reference_value file_meant
-file_back files file small = rw (number_back file small) refl
+file_back files file small = rw (number_in_decimal file small) refl
 
 artifact_faultless : (it : NamedText) → fault_in (Object shape.Artifact) (outline (artifact_value it)) ≡ None
 unfolding fault_in keys_of kind_under artifact_value

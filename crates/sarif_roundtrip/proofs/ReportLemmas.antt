@@ -13,7 +13,8 @@ use Rattle.render_files.specs.Given.{GivenReport}
 use Rattle.render_files.specs.Shown.{placed_labels}
 use Rattle.sarif_writing.specs.Written.{file_location, head_place, label_location, place_members, result_value, said_members}
 use Rattle.sarif_roundtrip.specs.Meant.{label_meant, result_meant, result_of, rule_from, rule_meant, rules_meant}
-use Rattle.sarif_roundtrip.proofs.ListLemmas.{Fits, each_read, holds_at, read_at, read_others}
+use Rattle.sarif_roundtrip.proofs.ListLemmas.{Fits, each_read, holds_at, read_at}
+use Rattle.sarif_writing.proofs.ListLemmas.{map_remove}
 use Rattle.sarif_roundtrip.proofs.PartLemmas.{IsSmall, file_back, file_fits, label_back, label_fits}
 use Rattle.sarif_roundtrip.proofs.ResultLemmas.{IsSmallPlace, result_back, result_fits, result_with}
 use Rattle.sarif_roundtrip.proofs.RuleLemmas.{index_same, index_small, rule_data}
@@ -82,7 +83,7 @@ report_back files rules it small index =
     let back = places_back files it small in
     let first = read_at read_location (places_of files it) head (file_location files it.file)
     ∙ ap₂ (λ places other. unwrap_or (slice_get places head) other) back (file_back files it.file small.file) in
-    let rest = read_others read_location (places_of files it) head ∙ ap (λ places. remove places head) back in
+    let rest = map_remove read_location (places_of files it) head ∙ ap (λ places. remove places head) back in
     ap (λ value. log_result_of (Some (outline value))) (report_is files rules it)
     ∙ result_back (others_of files it) (head_of files it) (index_of rules it) it.diagnostic.code.number it.diagnostic.message it.diagnostic.severity index
     ∙ ap₂ (result_of rules it.diagnostic) first rest

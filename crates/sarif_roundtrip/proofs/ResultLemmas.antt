@@ -17,7 +17,8 @@ use Rattle.documents.specs.Written.{put_some, text_value, whole_number}
 use Rattle.sarif_writing.specs.Written.{level_text, message_value, some_array}
 use Rattle.sarif_roundtrip.specs.Meant.{level_meant, no_rule_ref, text_message}
 use Rattle.sarif_roundtrip.proofs.ListLemmas.{Fits, items_fit, items_numbers, items_read, items_shallow}
-use Rattle.sarif_roundtrip.proofs.NumberLemmas.{level_back, level_fits, number_back}
+use Rattle.numerals.proofs.NumeralLemmas.{number_in_decimal}
+use Rattle.sarif_roundtrip.proofs.NumberLemmas.{level_back, level_fits}
 
 -- a result of these parts
 abbrev pub result_with : List Data → Data → Option ℕ → Option (List ℕ) → List ℕ → Severity → Data
@@ -39,12 +40,12 @@ result_faultless : (others : List Data) (head : Data) (index : Option ℕ) (numb
 unfolding fault_in keys_of kind_under message_value
 result_faultless [] head None None message severity fits all small = rw (level_fits severity, fits.faultless) refl
 result_faultless [] head None (Some number) message severity fits all small = rw (level_fits severity, fits.faultless) refl
-result_faultless [] head (Some place) None message severity fits all small = rw (level_fits severity, fits.faultless, number_back place small) refl
-result_faultless [] head (Some place) (Some number) message severity fits all small = rw (level_fits severity, fits.faultless, number_back place small) refl
+result_faultless [] head (Some place) None message severity fits all small = rw (level_fits severity, fits.faultless, number_in_decimal place small) refl
+result_faultless [] head (Some place) (Some number) message severity fits all small = rw (level_fits severity, fits.faultless, number_in_decimal place small) refl
 result_faultless (it ∷ its) head None None message severity fits all small = rw (level_fits severity, fits.faultless, (All-head IsPlace it its all).faultless, items_fit shape.Location 3 1 its (All-tail IsPlace it its all)) refl
 result_faultless (it ∷ its) head None (Some number) message severity fits all small = rw (level_fits severity, fits.faultless, (All-head IsPlace it its all).faultless, items_fit shape.Location 3 1 its (All-tail IsPlace it its all)) refl
-result_faultless (it ∷ its) head (Some place) None message severity fits all small = rw (level_fits severity, fits.faultless, (All-head IsPlace it its all).faultless, items_fit shape.Location 3 1 its (All-tail IsPlace it its all), number_back place small) refl
-result_faultless (it ∷ its) head (Some place) (Some number) message severity fits all small = rw (level_fits severity, fits.faultless, (All-head IsPlace it its all).faultless, items_fit shape.Location 3 1 its (All-tail IsPlace it its all), number_back place small) refl
+result_faultless (it ∷ its) head (Some place) None message severity fits all small = rw (level_fits severity, fits.faultless, (All-head IsPlace it its all).faultless, items_fit shape.Location 3 1 its (All-tail IsPlace it its all), number_in_decimal place small) refl
+result_faultless (it ∷ its) head (Some place) (Some number) message severity fits all small = rw (level_fits severity, fits.faultless, (All-head IsPlace it its all).faultless, items_fit shape.Location 3 1 its (All-tail IsPlace it its all), number_in_decimal place small) refl
 
 result_numbers : (others : List Data) (head : Data) (index : Option ℕ) (number : Option (List ℕ)) (message : List ℕ) (severity : Severity)
     → IsPlace head → All IsPlace others → IsSmallPlace index → HasNumbers (outline (result_with others head index number message severity))
@@ -101,9 +102,9 @@ pub result_back : (others : List Data) (head : Data) (index : Option ℕ) (numbe
 unfolding log_result_of baseline_state_at fixes_of level_at list_at locations_of message_of result_kind_at rule_ref_of suppressions_of text_at texts_at whole_at message_value
 result_back [] head None None message severity small = rw (level_back severity) refl
 result_back [] head None (Some number) message severity small = rw (level_back severity) refl
-result_back [] head (Some place) None message severity small = rw (level_back severity, number_back place small) refl
-result_back [] head (Some place) (Some number) message severity small = rw (level_back severity, number_back place small) refl
+result_back [] head (Some place) None message severity small = rw (level_back severity, number_in_decimal place small) refl
+result_back [] head (Some place) (Some number) message severity small = rw (level_back severity, number_in_decimal place small) refl
 result_back (it ∷ its) head None None message severity small = rw (level_back severity, items_read location_of its) refl
 result_back (it ∷ its) head None (Some number) message severity small = rw (level_back severity, items_read location_of its) refl
-result_back (it ∷ its) head (Some place) None message severity small = rw (level_back severity, items_read location_of its, number_back place small) refl
-result_back (it ∷ its) head (Some place) (Some number) message severity small = rw (level_back severity, items_read location_of its, number_back place small) refl
+result_back (it ∷ its) head (Some place) None message severity small = rw (level_back severity, items_read location_of its, number_in_decimal place small) refl
+result_back (it ∷ its) head (Some place) (Some number) message severity small = rw (level_back severity, items_read location_of its, number_in_decimal place small) refl

@@ -2,6 +2,7 @@
 use Rattle.std.proofs.Common.{◌≡◌, ℕ, ◌+◌, ◌^◌, ◌<◌, ◌≤◌, Bool, true, false, cond, if◌then◌else◌, ◌&&◌, IfSome, List, [], ◌∷◌, ◌++◌, length, length-append, map, Option, Some, None, is_some, is_none, option_map, option_and_then, unwrap_or, refl, sym, ap, ap₂, subst, ◌∙◌, arith}
 use Rattle.std.specs.List.{All}
 use Rattle.std.specs.Str.{bytes_eq}
+use Rattle.std.proofs.lemmas.Bool.{and_from, and_parts}
 use Rattle.std.proofs.lemmas.List.{map-append}
 use Rattle.std.proofs.lemmas.List.Elements.{All-cons, All-head, All-nil, All-tail}
 use Rattle.std.proofs.lemmas.Slice.Eq.{bytes_eq-Decides}
@@ -50,14 +51,6 @@ same_text None (Some b) same = cc
 same_text (Some a) None same = cc
 same_text (Some a) (Some b) same = ap Some ((bytes_eq-Decides a b).0 same)
 
-both_true : (a b : Bool) → a ≡ true → b ≡ true → (a && b) ≡ true
-both_true true b first second = second
-both_true false b first second = cc
-
-each_true : (a b : Bool) → (a && b) ≡ true → (a ≡ true) × (b ≡ true)
-each_true true b both = (refl, both)
-each_true false b both = absurd (cc)
-
 alike : (a b : Bool) → (a ≡ true → b ≡ true) → (b ≡ true → a ≡ true) → a ≡ b
 alike true b to from = sym (to refl)
 alike false true to from = from refl
@@ -69,7 +62,7 @@ id_of it = unwrap_or it.id []
 same_data : (it other : Rule) → is_rule it other ≡ true → rule_data it ≡ rule_data other
 unfolding rule_value
 same_data it other same =
-    let parts = each_true (bytes_eq (id_of it) (id_of other)) (is_same_text it.help_uri other.help_uri) same in
+    let parts = and_parts (bytes_eq (id_of it) (id_of other)) (is_same_text it.help_uri other.help_uri) same in
     let ids : id_of it ≡ id_of other = (bytes_eq-Decides (id_of it) (id_of other)).0 parts.0 in
     ap₂ (λ id url. rule_value (Some id) url) ids (same_text it.help_uri other.help_uri parts.1)
 
@@ -78,7 +71,7 @@ same_rule it other same =
     let said = one_rule it other same in
     let ids : id_of it ≡ id_of other = ap id_of said in
     let urls : it.help_uri ≡ other.help_uri = ap (λ rule. rule.help_uri) said in
-    both_true (bytes_eq (id_of it) (id_of other)) (is_same_text it.help_uri other.help_uri) (subst (λ id. bytes_eq (id_of it) id ≡ true) ids (bytes_same (id_of it)))
+    and_from (bytes_eq (id_of it) (id_of other)) (is_same_text it.help_uri other.help_uri) (subst (λ id. bytes_eq (id_of it) id ≡ true) ids (bytes_same (id_of it)))
     (subst (λ url. is_same_text it.help_uri url ≡ true) urls (text_same it.help_uri))
 
 texts_tell : (it other : Rule) → bytes_eq (compact_text (rule_data it)) (compact_text (rule_data other)) ≡ is_rule it other

@@ -1,33 +1,21 @@
 -- Reports that stand in their files have numbers of 64 bits.
-use Rattle.std.proofs.Common.{ℕ, ◌+◌, ◌<◌, ◌≤◌, Bool, List, [], ◌∷◌, length, get_or, take, ◌++◌, subst, refl, sym, arith}
-use Rattle.std.specs.Prelude.{nat_lt}
+use Rattle.std.proofs.Common.{ℕ, ◌+◌, ◌<◌, ◌≤◌, List, [], ◌∷◌, length, get_or, take, ◌++◌, subst, sym, arith}
 use Rattle.std.specs.List.{All}
 use Rattle.std.proofs.lemmas.List.Elements.{All-cons, All-get_or, All-head, All-nil, All-tail}
-use Rattle.std.proofs.lemmas.List.{length-map, take_more}
-use Rattle.std.proofs.lemmas.List.Sums.{count_by-le-length}
+use Rattle.std.proofs.lemmas.List.{take_more}
 use Rattle.codespan.specs.Texts.{Fits, NamedText, text_of}
 use Rattle.oxc_span.specs.Label.{Label, label_end}
-use Rattle.oxc_windows.specs.declared.breaks.LineBreak.{LineBreak}
 use Rattle.oxc_windows.specs.Rows.{row_of}
 use Rattle.source_location.specs.Breaks.{breaks_of}
 use Rattle.source_location.specs.Locations.{counted_from, location_of}
-use Rattle.source_location.specs.Rows.{line_starts}
 use Rattle.source_location.proofs.CharactersLemmas.{char_count-le-offset}
-use Rattle.source_location.proofs.IndexLemmas.{few_starts}
+use Rattle.oxc_protocol.proofs.PlaceLemmas.{row_small}
 use Rattle.render_files.specs.Given.{GivenReport}
 use Rattle.render_files.specs.Shown.{placed_labels}
 use Rattle.sarif_writing.specs.Written.{Stands, StandsInFile}
 use Rattle.sarif_roundtrip.specs.Meant.{IsShort}
 use Rattle.sarif_roundtrip.proofs.PartLemmas.{AreSmall, IsSmall}
 use Rattle.sarif_roundtrip.proofs.ReportLemmas.{IsSmallReport}
-
-abbrev ends_before : ℕ → LineBreak → Bool
-ends_before o b = nat_lt b.end o
-
-row_small : (text : List ℕ) (o : ℕ) → row_of (breaks_of text) o ≤ length text
-unfolding row_of
-row_small text o =
-    omega (arith, count_by-le-length (ends_before o) (breaks_of text), (few_starts (line_starts (breaks_of text)) text refl).1, length-map (breaks_of text) (λ (b : LineBreak). b.end + 1))
 
 location_small : (text : List ℕ) (o : ℕ) → Fits text → o ≤ length text → AreSmall (location_of text o)
 unfolding location_of

@@ -1,9 +1,9 @@
 -- Rows step by step, and where breaks may stand.
-use Rattle.std.proofs.Common.{◌≡◌, ℕ, zero, suc, ◌+◌, ◌-◌, ◌<◌, ◌≤◌, List, [], ◌∷◌, ◌++◌, length, get_or, slice_index, take, drop, min, nat_eq, nat_lt, not, map, Bool, Bor, true, false, cond, ◌&&◌, true≢false, inl, inr, refl, sym, ap, ◌∙◌, subst, arith, add-zero}
+use Rattle.std.proofs.Common.{◌≡◌, ℕ, zero, suc, ◌+◌, ◌-◌, ◌<◌, ◌≤◌, List, [], ◌∷◌, ◌++◌, length, get_or, slice_index, take, drop, min, nat_eq, nat_lt, not, map, Bor, true, false, cond, true≢false, inl, inr, refl, sym, ap, ◌∙◌, subst, arith, add-zero}
 use lib.Utf8.{encode}
 use Rattle.std.specs.List.{starts_with}
 use Rattle.std.specs.Str.{IsUtf8, IsCharBoundary}
-use Rattle.std.proofs.lemmas.Bool.{ltb-true, ne_eqb}
+use Rattle.std.proofs.lemmas.Bool.{and_parts, ltb-true, ne_eqb}
 use Rattle.std.proofs.lemmas.Bool.Decides.{leb_tells, Decides-eqb}
 use Rattle.std.proofs.lemmas.Slice.Eq.{starts_is}
 use Rattle.std.proofs.lemmas.List.Prefix.{front_fits}
@@ -104,10 +104,6 @@ begins_with_mark bytes stands = begins_with bytes mark stands mark_utf8
 
 -- ---- breaks that begin with no printed character
 
-each_true : (a b : Bool) → (a && b) ≡ true → (a ≡ true) × (b ≡ true)
-each_true true b both = (refl, both)
-each_true false b both = absurd (cc)
-
 same_first : (bytes text : List ℕ) → 0 < length text → starts_with nat_eq bytes text ≡ true → slice_index text 0 ≡ slice_index bytes 0
 same_first bytes [] some begins = absurd (omega (arith, some))
 same_first bytes (first ∷ text) some begins =
@@ -115,7 +111,7 @@ same_first bytes (first ∷ text) some begins =
 
 stands_first : (bytes text : List ℕ) → stands text bytes ≡ true → slice_index text 0 ≡ slice_index bytes 0
 stands_first bytes text there =
-    let both = each_true (nat_lt 0 (length text)) (starts_with nat_eq bytes text) there in
+    let both = and_parts (nat_lt 0 (length text)) (starts_with nat_eq bytes text) there in
     same_first bytes text (ltb-true 0 (length text) both.0) both.1
 
 no_other : (byte other : ℕ) → not (is_printed other) ≡ true → is_printed byte ≡ true → other ≡ byte → true ≡ false
@@ -125,7 +121,7 @@ pub printed_none : (breaks : List (Bor (List ℕ))) (bytes : List ℕ) → begin
     → break_len (map (λ it. it.now) breaks) bytes ≡ 0
 printed_none [] bytes plain printed = refl
 printed_none (it ∷ its) bytes plain printed =
-    let both = each_true (not (is_printed (slice_index it.now 0))) (begin_unprinted its) plain in
+    let both = and_parts (not (is_printed (slice_index it.now 0))) (begin_unprinted its) plain in
     elim (stands it.now bytes) as (λ b. b ≡ stands it.now bytes → cond b (length it.now) (break_len (map (λ it. it.now) its) bytes) ≡ 0) [
       | true ↦ λ there. absurd (true≢false (no_other (slice_index bytes 0) (slice_index it.now 0) both.0 printed (stands_first bytes it.now (sym there))))
       | false ↦ λ none. printed_none its bytes both.1 printed

@@ -1,34 +1,19 @@
 -- A log has no float, and isn't nested deep.
-use Rattle.std.proofs.Common.{◌≡◌, ℕ, suc, ◌≤◌, List, [], ◌∷◌, map, true, false, codes, Option, Some, None, option_map, unwrap_or, Ordering, Less, Equal, Greater, nat_cmp, refl, arith}
-use Rattle.std.specs.Cmp.Lexicographic.{slice_cmp}
-use Rattle.std.specs.Ordering.{match_ordering}
+use Rattle.std.proofs.Common.{◌≡◌, ℕ, suc, ◌≤◌, List, [], ◌∷◌, map, true, false, codes, Option, Some, None, option_map, unwrap_or, refl, arith}
 use Rattle.std.specs.Prelude.{is_none, is_some, ◌&&◌, ◌++◌, slice_get, zero, if◌then◌else◌}
 use Rattle.std.specs.List.{remove}
-use Rattle.serde_json.specs.Data.{Data, string, array, object, item, no_items, Items, Members, no_members, member, put, depth, items_depth, members_depth}
+use Rattle.serde_json.specs.Data.{Data, string, array, item, no_items, Members, no_members, put, depth}
 use Rattle.serde_json.specs.View.{items_of}
-use Rattle.serde_json.specs.Written.{has_float, items_have_float, members_have_float}
+use Rattle.serde_json.specs.Written.{has_float}
 use Rattle.codespan.specs.Texts.{NamedText}
 use Rattle.documents.specs.Written.{put_some, text_value, whole_number}
-use Rattle.documents.proofs.KeyLemmas.{either_false}
+use Rattle.documents.proofs.PlainLemmas.{IsPlain, ArePlainItems, ArePlain, plain_put, plain_object}
 use Rattle.oxc_span.specs.Label.{Label}
 use Rattle.oxc_protocol.specs.Parts.{OxcParts}
 use Rattle.render_files.specs.Given.{GivenReport}
 use Rattle.render_files.specs.Shown.{placed_labels}
 use Rattle.sarif_writing.specs.Rules.{and_rule, and_rules, place_in, rule_of, rule_value, rules_of}
 use Rattle.sarif_writing.specs.Written.{artifact_value, breaks_value, file_location, head_place, label_location, level_text, log_of, log_value, message_value, place_members, reference_value, region_place, region_value, result_value, rule_place, run_of, run_value, said_members, some_array, tool_value}
-
--- no float in it, and arrays and objects nest so deep at most
-record IsPlain (most : ℕ) (it : Data) : Type 0 where
-  whole : has_float it ≡ false
-  shallow : depth it ≤ most
-
-record ArePlainItems (most : ℕ) (its : Items) : Type 0 where
-  whole : items_have_float its ≡ false
-  shallow : items_depth its ≤ most
-
-record ArePlain (most : ℕ) (ms : Members) : Type 0 where
-  whole : members_have_float ms ≡ false
-  shallow : members_depth ms ≤ most
 
 -- each of a list
 EachPlain : ℕ → List Data → Type 0
@@ -41,37 +26,10 @@ OnePlain most (Some d) = IsPlain most d
 
 -- ---- members and items
 
-put_at : (o : Ordering) (most : ℕ) (k l : List ℕ) (d e : Data) (ms : Members) → IsPlain most d → IsPlain most e → ArePlain most ms
-    → ArePlain most (put k d ms)
-    → ArePlain most (match_ordering o (member k d (member l e ms)) (member l d ms) (member l e (put k d ms)))
-put_at Less most k l d e ms new first rest more = record {
-  whole = rw (new.whole, first.whole) rest.whole;
-  shallow = omega (arith, new.shallow, first.shallow, rest.shallow);
-}
-put_at Equal most k l d e ms new first rest more = record {
-  whole = rw new.whole rest.whole;
-  shallow = omega (arith, new.shallow, rest.shallow);
-}
-put_at Greater most k l d e ms new first rest more = record {
-  whole = rw first.whole more.whole;
-  shallow = omega (arith, first.shallow, more.shallow);
-}
-
-plain_put : (most : ℕ) (k : List ℕ) (d : Data) (ms : Members) → IsPlain most d → ArePlain most ms → ArePlain most (put k d ms)
-plain_put most k d no_members new rest = record { whole = rw new.whole refl; shallow = omega (arith, new.shallow) }
-plain_put most k d (member l e ms) new rest =
-    let parts = either_false (has_float e) (members_have_float ms) rest.whole in
-    let first : IsPlain most e = record { whole = parts.0; shallow = omega (arith, rest.shallow) } in
-    let others : ArePlain most ms = record { whole = parts.1; shallow = omega (arith, rest.shallow) } in
-    put_at (slice_cmp nat_cmp k l) most k l d e ms new first others (plain_put most k d ms new others)
-
 plain_put_some : (most : ℕ) (k : List ℕ) (o : Option Data) (ms : Members) → OnePlain most o → ArePlain most ms → ArePlain most (put_some k o ms)
 unfolding OnePlain
 plain_put_some most k None ms new rest = rest
 plain_put_some most k (Some d) ms new rest = plain_put most k d ms new rest
-
-plain_object : (most : ℕ) (ms : Members) → ArePlain most ms → IsPlain (suc most) (object ms)
-plain_object most ms are = record { whole = are.whole; shallow = omega (arith, are.shallow) }
 
 plain_items : (most : ℕ) (ds : List Data) → EachPlain most ds → ArePlainItems most (items_of ds)
 unfolding EachPlain

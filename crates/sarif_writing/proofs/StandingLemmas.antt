@@ -1,5 +1,5 @@
 -- Reports that aren't refused stand in their files.
-use Rattle.std.proofs.Common.{◌≡◌, ℕ, ◌+◌, ◌<◌, ◌≤◌, Bool, true, false, cond, ◌&&◌, ◌||◌, nat_le, nat_lt, List, [], ◌∷◌, length, get_or, map, Option, Some, None, All, unwrap_or, refl, sym, ap, subst, ◌∙◌, arith}
+use Rattle.std.proofs.Common.{◌≡◌, ℕ, ◌+◌, ◌<◌, ◌≤◌, Bool, true, false, cond, ◌&&◌, ◌||◌, nat_le, nat_lt, List, [], ◌∷◌, length, get_or, map, Some, None, All, unwrap_or, refl, sym, ap, subst, ◌∙◌, arith}
 use Rattle.std.specs.Option.{option_or}
 use Rattle.std.specs.Str.{IsCharBoundary}
 use Rattle.std.proofs.lemmas.Bool.{ltb-true}
@@ -10,15 +10,13 @@ use Rattle.source_location.specs.Characters.{is_char_start}
 use Rattle.source_location.specs.Locations.{is_boundary}
 use Rattle.codespan.specs.Texts.{NamedText, text_of}
 use Rattle.oxc_span.specs.Label.{Label, label_end}
-use Rattle.render_files.specs.declared.places.LabelPlace.{LabelPlace}
-use Rattle.render_files.specs.declared.places.LabelPlace.TheVariants.{Rows, Bytes}
-use Rattle.render_files.specs.declared.places.ReportError.{ReportError}
-use Rattle.render_files.specs.declared.places.ReportError.TheVariants.{UnknownFile, LabelReversed}
+use Rattle.render_files.specs.declared.places.ReportError.TheVariants.{UnknownFile}
 use Rattle.render_files.specs.declared.places.FileReport.{FileReport}
 use Rattle.render_files.specs.Given.{GivenLabel, GivenReport, given_report}
 use Rattle.render_files.specs.Refusal.{boundary_at, start_in, end_in, first_at, outside, reversed, start_offset, end_offset, refusal_in, refusal_of}
 use Rattle.render_files.specs.Shown.{placed, placed_labels}
-use Rattle.render_files.proofs.ByBytes.{end_is, both, neither, known}
+use Rattle.render_files.proofs.ByBytes.{start_is, end_is, both, neither, known}
+use Rattle.render_files.proofs.Standing.{in_order, there}
 use Rattle.render_files.proofs.ListedLemmas.{same_at}
 use Rattle.std.specs.Prelude.{Vec}
 use Rattle.std.specs.declared.alloc.Global.{Global}
@@ -41,15 +39,6 @@ boundary_of text o e = tested text o (nat_le o (length text) && is_boundary text
     tested text o true test e = (is_within (length text) o _ test, λ lt high. is_start (length text) o (get_or text o 0) lt high test)
     tested text o false test e = cc
 
-start_is : (text : List ℕ) (place : LabelPlace) (o : ℕ) → start_in text place ≡ Some o → boundary_at text o ≡ Some o
-start_is text (Rows start end) o e = end_is text (Rows start start) o e
-start_is text (Bytes start end) o e = end_is text (Bytes start start) o e
-
--- the end of a label that is not reversed is not before its start
-in_order : (report at s e : ℕ) (said : Bool) → nat_lt e s ≡ said → cond said (Some (LabelReversed report at s e)) None ≡ None → s ≤ e
-in_order report at s e true test fine = cc
-in_order report at s e false test fine = grind (arith, nat_tests)
-
 label_stands : (text : List ℕ) (report at : ℕ) (label : GivenLabel) → outside text report at label ≡ None → reversed text report at label ≡ None
     → Stands text (placed text label)
 label_stands text report at label fine turned =
@@ -71,10 +60,6 @@ labels_stand text report at (x ∷ xs) fine turned =
     let forward = neither (reversed text report at x) (first_at (reversed text report) (at + 1) xs) turned in
     All-cons (Stands text) (placed text x) (map (placed text) xs) (label_stands text report at x in_text.0 forward.0)
     (labels_stand text report (at + 1) xs in_text.1 forward.1)
-
-there : (said : Bool) (labels : Option ReportError) (file : ReportError) → cond said labels (Some file) ≡ None → said ≡ true
-there true labels file e = refl
-there false labels file e = cc
 
 stands : (files : List NamedText) (place : ℕ) (it : GivenReport) → refusal_in files place it ≡ None → StandsInFile files it
 unfolding refusal_in placed_labels

@@ -2,39 +2,26 @@
 use Rattle.std.proofs.Common.{◌≡◌, ◌⊎◌, ℕ, ◌+◌, ◌-◌, ◌^◌, ◌<◌, ◌≤◌, List, [], ◌∷◌, ◌++◌, length, take, drop, get_or, refl, sym, ap, subst, ◌∙◌, arith, suc, zero, ⊎_elim, append_assoc, append-nil, add-one, set}
 use Rattle.std.specs.Str.{IsUtf8, IsCharBoundary}
 use Rattle.std.proofs.lemmas.Bool.{cases_lt}
-use Rattle.std.proofs.lemmas.List.{drop_more, drop_at, take-append-drop, length-take-le, length-drop, take_more, take_all, length-append, get_or-append-add, get_or_append_left, get_or_past, take_at, take-append-le, length-take, get_or_at, take-take, get_or_default, get_or_push}
+use Rattle.std.proofs.lemmas.List.{drop_more, drop_at, take-append-drop, length-take-le, length-drop, take_more, take_all, length-append, get_or-append-add, get_or_append_left, get_or_past, take_at, take-append-le, get_or_at, get_or_push}
 use Rattle.std.proofs.lemmas.Str.{IsUtf8-drop, IsUtf8-append, IsUtf8-past_char, drop_past_char, length-encode, len_utf8_bounds, IsCharBoundary-start, IsCharBoundary-from_rest}
 use Rattle.std.proofs.lemmas.List.Elements.{All-push, All-same}
 use Rattle.std.specs.List.{All}
 use Rattle.std.specs.Char.{len_utf8}
 use lib.Utf8.{encode, encodes}
-use Rattle.source_location.specs.Breaks.{breaks_of}
-use Rattle.source_location.specs.Rows.{row_of}
 use Rattle.source_location.specs.Index.{Fits}
 use Rattle.std.proofs.Math.Seq.{take-add}
 use Rattle.source_location.proofs.BreaksLemmas.{few_breaks}
 use Rattle.source_location.proofs.CutLemmas.{PartsNone}
-use Rattle.text_places.specs.Bytes.{begun}
-use Rattle.text_places.specs.Pages.{most_bytes, least_bytes, bytes_in, text_of, front_of, counts_of, IsCleanAt, IsCounted, AreFilled, ArePages, IsPaged}
+use Rattle.text_places.specs.Pages.{most_bytes, least_bytes, bytes_in, text_of, front_of, counts_of, IsCleanAt, IsCounted, AreFilled, IsPaged}
 use Rattle.text_places.specs.Building.{plus, total, recounted, IsPageEnd, IsPageOf, ArePagesOf, AreSmall}
-use Rattle.text_places.specs.declared.encoding.Encoding.{Encoding}
-use Rattle.text_places.specs.declared.encoding.Encoding.TheVariants.{Utf8, Utf16, Utf32}
+use Rattle.text_places.specs.declared.encoding.Encoding.TheVariants.{Utf16, Utf32}
 use Rattle.text_places.specs.declared.page.Counts.{Counts}
 use Rattle.text_places.specs.declared.page.Page.{Page}
-use Rattle.text_places.proofs.UnitsLemmas.{begun-append, begun-nil, begun-le-length}
+use Rattle.text_places.proofs.UnitsLemmas.{begun-append, begun-le-length}
 use Rattle.text_places.proofs.EndLemmas.{rows_all}
 use Rattle.text_places.proofs.PagesLemmas.{rest-more, counts-bytes, counts-rows, text-append, text-one, text-nil, text-cons, text_utf8, split, front-more, front-all, length-breaks-append}
 
-pub rows_whole : (text : List ℕ) → row_of (breaks_of text) (length text) ≡ length (breaks_of text)
-rows_whole text = rows_all text
-
-pub few_rows : (text : List ℕ) → length (breaks_of text) ≤ length text
-few_rows text = few_breaks text
-
-pub few_units : (e : Encoding) (text : List ℕ) → IsUtf8 text → begun e text ≤ length text
-few_units e text utf8 = begun-le-length e text utf8
-
-pub ruleset whole = (rows_whole, few_rows, few_units)
+pub ruleset whole = (rows_all, few_breaks, begun-le-length)
 
 -- the pages of the front of a text, and what is left of it
 pub record ArePagesSoFar (text : List ℕ) (pages : List Page) (left : List ℕ) : Type 0 where

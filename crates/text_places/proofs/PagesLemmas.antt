@@ -1,7 +1,7 @@
 -- Pages of a text, and what is counted in them.
-use Rattle.std.proofs.Common.{◌≡◌, ◌⊎◌, ℕ, ◌+◌, ◌-◌, ◌^◌, ◌<◌, ◌≤◌, Bool, true, false, cond, ltb, leb, ◌&&◌, Option, Some, None, List, [], ◌∷◌, ◌++◌, length, map, take, drop, get_or, refl, sym, ap, subst, ◌∙◌, arith, suc, zero, ⊎_elim, append_assoc, append-nil, add-one, add-zero, ◌==◌, if◌then◌else◌}
-use Rattle.std.specs.Str.{IsUtf8, IsCharBoundary}
-use Rattle.std.specs.List.{flat_map, concat, count_by}
+use Rattle.std.proofs.Common.{◌≡◌, ◌⊎◌, ℕ, ◌+◌, ◌-◌, ◌<◌, ◌≤◌, Bool, true, false, cond, ltb, leb, ◌&&◌, Some, List, [], ◌∷◌, ◌++◌, length, map, take, drop, get_or, refl, sym, ap, subst, ◌∙◌, arith, suc, zero, ⊎_elim, append-nil, add-one, ◌==◌}
+use Rattle.std.specs.Str.{IsUtf8}
+use Rattle.std.specs.List.{concat}
 use Rattle.std.specs.List.Sorted.{IsNonDecreasingBy, IsPartitionPoint}
 use Rattle.std.proofs.Math.Seq.{take-add}
 use Rattle.std.proofs.lemmas.Bool.{cases_lt, and_parts, false_from_ne_true, eqb-true, false≢true, leb-true, leb-false, ltb-true, ltb-false}
@@ -13,19 +13,18 @@ use Rattle.std.proofs.lemmas.Str.{IsUtf8-append, IsUtf8-string_bytes, IsUtf8-nil
 use Rattle.source_location.specs.Breaks.{LineBreak, break_at, break_with, breaks_of, moved}
 use Rattle.oxc_windows.specs.Rows.{row_of}
 use Rattle.source_location.specs.Rows.{row_start}
-use Rattle.source_location.specs.Index.{Fits}
 use Rattle.source_location.proofs.BreaksLemmas.{breaks_valid, breaks_found, few_breaks}
 use Rattle.source_location.proofs.RowsLemmas.{row_le, row_start-le, row_start_after, ends_from_row}
 use Rattle.source_location.proofs.CutLemmas.{PartsNone, breaks_of-append}
 use Rattle.text_places.specs.Bytes.{begun, before}
 use Rattle.text_places.specs.Places.{line_end}
-use Rattle.text_places.specs.Pages.{bytes_in, text_of, front_of, counts_of, units_in, IsCounted, ArePages, IsInPage, IsRowPage, IsUnitPage, HasOffset, HasRowEnd, HasUnits, IsRowEnd, IsLastWithin, ends_pair}
+use Rattle.text_places.specs.Pages.{bytes_in, text_of, front_of, counts_of, units_in, ArePages, IsInPage, IsRowPage, IsUnitPage, HasOffset, HasRowEnd, HasUnits, IsRowEnd, IsLastWithin, ends_pair}
 use Rattle.text_places.specs.declared.encoding.Encoding.{Encoding}
 use Rattle.text_places.specs.declared.encoding.Encoding.TheVariants.{Utf8, Utf16, Utf32}
 use Rattle.text_places.specs.declared.page.Counts.{Counts}
 use Rattle.text_places.specs.declared.page.Page.{Page}
-use Rattle.text_places.proofs.UnitsLemmas.{begun-nil, begun-append, begun-bytes, begun-le-length, before-le, before-all, before-between}
-use Rattle.text_places.proofs.EndLemmas.{rows_all, rows_none, start_by}
+use Rattle.text_places.proofs.UnitsLemmas.{begun-nil, begun-append, begun-bytes, begun-le-length, before-le, before-all}
+use Rattle.text_places.proofs.EndLemmas.{rows_all, start_by}
 
 -- the counts
 pub counts-bytes : (xs : List ℕ) → (counts_of xs).bytes ≡ length xs

@@ -1,19 +1,20 @@
 -- Scans that pass over many bytes together.
-use Rattle.std.proofs.Common.{◌≡◌, ℕ, ◌+◌, ◌-◌, ◌^◌, ◌≤◌, ◌<◌, ◌==◌, Bool, true, false, cond, min, suc, zero, ⊎_elim, List, [], ◌∷◌, ◌++◌, length, take, drop, get_or, refl, sym, ap, ◌∙◌, arith, count_by, add-one}
+use Rattle.std.proofs.Common.{◌≡◌, ℕ, ◌+◌, ◌-◌, ◌≤◌, ◌<◌, ◌==◌, Bool, true, false, cond, min, suc, zero, List, [], ◌∷◌, length, take, drop, get_or, refl, sym, ap, ◌∙◌, arith, count_by, add-one}
 use Rattle.std.specs.Str.{IsAscii}
-use Rattle.std.proofs.lemmas.Bool.{cases_lt}
 use Rattle.std.proofs.lemmas.Bool.Decides.{nat_tests}
-use Rattle.std.proofs.lemmas.List.{take_more, take_all, length-take-le, length-drop, get_or-take, get_or-drop}
+use Rattle.std.proofs.lemmas.List.{take_more, length-take-le, length-drop, get_or-take, get_or-drop}
 use Rattle.std.proofs.lemmas.List.Sums.{sum_by-append, sum_by-cons}
 use Rattle.memchr.specs.Find.{Nowhere, NoneBefore, Passes, is_byte, is_byte2}
 use Rattle.source_location.specs.Breaks.{breaks_of}
 use Rattle.source_location.specs.Rows.{row_of}
 use Rattle.text_places.specs.Bytes.{units_begun, begun, before}
-use Rattle.text_places.specs.Pages.{ends_row, IsLastWithin}
+use Rattle.text_places.specs.Pages.{IsLastWithin}
 use Rattle.text_places.specs.declared.encoding.Encoding.{Encoding}
 use Rattle.text_places.specs.declared.encoding.Encoding.TheVariants.{Utf8, Utf16, Utf32}
 use Rattle.text_places.proofs.UnitsLemmas.{before-more, before-none}
-use Rattle.text_places.proofs.EndLemmas.{rows_more, rows_none}
+use Rattle.base_lemmas.proofs.Lists.{slice_range-rest}
+use Rattle.oxc_windows.proofs.ByteRowsLemmas.{rows_begin}
+use Rattle.text_places.proofs.EndLemmas.{rows_more}
 
 -- ASCII: a unit begins with each byte
 ascii_one : (e : Encoding) (byte : ℕ) → byte < 128 → units_begun e byte ≡ 1
@@ -46,7 +47,7 @@ lf_alone : (byte : ℕ) (lone : Bool) → (byte ≡ 13 → ⊥) → cond {A = �
 lf_alone byte lone other = grind (arith, nat_tests)
 
 lf_rows : (bytes : List ℕ) (to : ℕ) → to ≤ length bytes → ((k : ℕ) → k < to → get_or bytes k 0 ≡ 13 → ⊥) → row_of (breaks_of bytes) to ≡ count_by (λ byte. byte == 10) (take to bytes)
-lf_rows bytes zero within none = rows_none bytes
+lf_rows bytes zero within none = rows_begin bytes
 lf_rows bytes (suc n) within none =
     let h : n < length bytes = omega (arith, within) in
     let byte = get_or bytes n 0 in
@@ -88,16 +89,12 @@ rows_flat bytes at (suc n) within none =
       rows_flat bytes at n (omega (arith, within)) (λ k lt. none k (omega (arith, lt))),
     )
 
--- what is searched from a place on
-hay_is : (bytes : List ℕ) (at : ℕ) → take (length bytes - at) (drop at bytes) ≡ drop at bytes
-hay_is bytes at = take_all (length bytes - at) (drop at bytes) (omega (arith, length-drop at bytes))
-
 pub rows_skip : (bytes : List ℕ) (at skip : ℕ) → at ≤ length bytes
     → NoneBefore (Passes (is_byte2 10 13) (take (length bytes - at) (drop at bytes))) 0 (length (take (length bytes - at) (drop at bytes))) skip
     → (row_of (breaks_of bytes) (at + skip) ≡ row_of (breaks_of bytes) at) × (at + skip < length bytes)
 rows_skip bytes at skip within none =
-    let lt : at + skip < length bytes = omega (arith, none.high, ap length (hay_is bytes at), length-drop at bytes) in (
-      rows_flat bytes at skip (omega (arith, lt)) (λ k below is. none.before k (omega arith) below (ap (λ l. is_byte2 10 13 (get_or l k 0)) (hay_is bytes at) ∙ is)),
+    let lt : at + skip < length bytes = omega (arith, none.high, ap length (slice_range-rest bytes at), length-drop at bytes) in (
+      rows_flat bytes at skip (omega (arith, lt)) (λ k below is. none.before k (omega arith) below (ap (λ l. is_byte2 10 13 (get_or l k 0)) (slice_range-rest bytes at) ∙ is)),
       lt,
     )
 
@@ -105,7 +102,7 @@ pub rows_end : (bytes : List ℕ) (at : ℕ) → at ≤ length bytes
     → Nowhere (Passes (is_byte2 10 13) (take (length bytes - at) (drop at bytes))) 0 (length (take (length bytes - at) (drop at bytes)))
     → row_of (breaks_of bytes) (length bytes) ≡ row_of (breaks_of bytes) at
 rows_end bytes at within none =
-    let size : length (take (length bytes - at) (drop at bytes)) ≡ length bytes - at = ap length (hay_is bytes at) ∙ length-drop at bytes in
+    let size : length (take (length bytes - at) (drop at bytes)) ≡ length bytes - at = ap length (slice_range-rest bytes at) ∙ length-drop at bytes in
     let whole : at + (length bytes - at) ≡ length bytes = omega (arith, within) in
     ap (row_of (breaks_of bytes)) (sym whole)
-    ∙ rows_flat bytes at (length bytes - at) (omega (arith, whole)) (λ k below is. none k (omega arith) (omega (arith, below, size)) (ap (λ l. is_byte2 10 13 (get_or l k 0)) (hay_is bytes at) ∙ is))
+    ∙ rows_flat bytes at (length bytes - at) (omega (arith, whole)) (λ k below is. none k (omega arith) (omega (arith, below, size)) (ap (λ l. is_byte2 10 13 (get_or l k 0)) (slice_range-rest bytes at) ∙ is))

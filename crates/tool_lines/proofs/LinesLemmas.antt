@@ -1,6 +1,7 @@
 -- The pieces of a text.
-use Rattle.std.proofs.Common.{◌≡◌, ℕ, ◌+◌, ◌-◌, ◌<◌, ◌≤◌, ◌==◌, ◌||◌, if◌then◌else◌, List, [], ◌∷◌, ◌++◌, length, drop, take, get_or, map, Option, Some, None, Bool, true, false, refl, sym, ◌∙◌, ap, subst, arith, append_assoc}
+use Rattle.std.proofs.Common.{◌≡◌, ℕ, ◌+◌, ◌-◌, ◌<◌, ◌≤◌, ◌==◌, ◌||◌, if◌then◌else◌, List, [], ◌∷◌, ◌++◌, length, drop, take, get_or, map, Option, Some, None, true, false, refl, sym, ◌∙◌, ap, subst, arith, append_assoc}
 use Rattle.std.specs.List.{slice_split, position_or_len}
+use Rattle.std.proofs.lemmas.Bool.{false_from_ne_true}
 use Rattle.std.proofs.lemmas.Grind.{common_steps}
 use Rattle.std.proofs.lemmas.List.{take-append-drop, map-append, drop-map}
 use Rattle.std.proofs.lemmas.List.Splits.{slice_split_first, slice_split_none}
@@ -46,15 +47,11 @@ joined_runs shapes name lines [] are = nothing_left lines are
 joined_runs shapes name lines (p ∷ ps) are = ap (λ rest. take p.lines lines ++ rest) (joined_runs shapes (name_behind p.begun.sort name lines) (drop p.lines lines) ps are.1) ∙ take-append-drop p.lines lines
 
 -- one line of a text
-not_true : (b : Bool) → (b ≡ true → ⊥) → b ≡ false
-not_true true no_more = elim (no_more refl) [ ]
-not_true false no_more = refl
-
 pub line_cut : (text : List ℕ) (at : ℕ) → IsFirstByte (is_byte 0x0A) text (Some at) → lines_of text ≡ without_cr (take at text) ∷ lines_of (drop (at + 1) text)
 unfolding lines_of
 line_cut text at first =
     let here : position_or_len (is_byte 0x0A) text ≡ at =
-    position_or_len_is (is_byte 0x0A) text at 0 (let high : at < length text = first.0.high in omega arith) (λ k low. not_true (is_byte 0x0A (get_or text k 0)) (first.0.before k (omega arith) low)) (λ _. first.1) in
+    position_or_len_is (is_byte 0x0A) text at 0 (let high : at < length text = first.0.high in omega arith) (λ k low. false_from_ne_true (is_byte 0x0A (get_or text k 0)) (first.0.before k (omega arith) low)) (λ _. first.1) in
     let cut : slice_split (is_byte 0x0A) text ≡ take (position_or_len (is_byte 0x0A) text) text ∷ slice_split (is_byte 0x0A) (drop (position_or_len (is_byte 0x0A) text + 1) text) =
     slice_split_first (is_byte 0x0A) text 0 (let high : at < length text = first.0.high in omega (arith, here)) in
     ap (map without_cr) (subst (λ n. slice_split (is_byte 0x0A) text ≡ take n text ∷ slice_split (is_byte 0x0A) (drop (n + 1) text)) here cut)
@@ -62,7 +59,7 @@ line_cut text at first =
 pub line_last : (text : List ℕ) → IsFirstByte (is_byte 0x0A) text None → lines_of text ≡ without_cr text ∷ []
 unfolding lines_of
 line_last text first =
-    ap (map without_cr) (slice_split_none (is_byte 0x0A) text (All-from_get_or (λ x. is_byte 0x0A x ≡ false) text 0 (λ k within. not_true (is_byte 0x0A (get_or text k 0)) (first k (omega arith) within))))
+    ap (map without_cr) (slice_split_none (is_byte 0x0A) text (All-from_get_or (λ x. is_byte 0x0A x ≡ false) text 0 (λ k within. false_from_ne_true (is_byte 0x0A (get_or text k 0)) (first k (omega arith) within))))
 
 pub line_cut_whole : (text : List ℕ) (at : ℕ) → IsFirstByte (is_byte 0x0A) text (Some at) → lines_of text ≡ without_cr (take at text) ∷ lines_of (take (length text - (at + 1)) (drop (at + 1) text))
 line_cut_whole text at first = subst (λ rest. lines_of text ≡ without_cr (take at text) ∷ lines_of rest) (sym (rest_is text (at + 1))) (line_cut text at first)

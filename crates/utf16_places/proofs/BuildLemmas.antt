@@ -14,7 +14,7 @@ use Rattle.source_location.proofs.CutLemmas.{length-ending}
 use Rattle.source_location.proofs.IndexLemmas.{start_at}
 use Rattle.source_location.proofs.NewlinesLemmas.{first_break_boundary}
 use Rattle.source_location.proofs.RowsLemmas.{row_of-between}
-use Rattle.utf16_places.specs.Places.{line_start_of}
+use Rattle.text_places.specs.Places.{line_start_of}
 use Rattle.utf16_places.specs.declared.wide.WideCharacter.{WideCharacter}
 use Rattle.utf16_places.specs.Index.{AreWideBefore}
 use Rattle.utf16_places.proofs.LineLemmas.{starts_at, line_start-row}

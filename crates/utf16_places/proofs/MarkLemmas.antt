@@ -1,12 +1,12 @@
 -- Marking the characters past ASCII of a line.
-use Rattle.std.proofs.Common.{◌≡◌, ℕ, ◌+◌, ◌-◌, ◌≤◌, ◌<◌, Bool, true, false, not, cond, ltb, leb, List, [], ◌∷◌, ◌++◌, length, take, drop, get_or, refl, sym, ap, subst, ◌∙◌, arith, ⊎_elim, slice_range, Some, None, position}
+use Rattle.std.proofs.Common.{◌≡◌, ℕ, ◌+◌, ◌-◌, ◌≤◌, ◌<◌, true, false, not, cond, ltb, leb, List, [], ◌∷◌, ◌++◌, length, take, drop, get_or, refl, sym, ap, subst, ◌∙◌, arith, ⊎_elim, slice_range, Some, None, position}
 use Rattle.std.specs.Char.{len_utf8}
 use Rattle.std.specs.List.{position_or_len}
 use Rattle.std.specs.Str.{IsUtf8, IsCharBoundary}
 use Rattle.std.specs.Str.Pattern.{HasCharAt}
-use Rattle.std.proofs.lemmas.Bool.{cases_lt, cases_eq, false≢true}
+use Rattle.std.proofs.lemmas.Bool.{not-true, cases_lt, cases_eq}
 use Rattle.std.proofs.lemmas.Bool.Decides.{nat_tests}
-use Rattle.std.proofs.lemmas.List.{take_all, length-take, length-drop, length-append, get_or-take, get_or-drop, take_at}
+use Rattle.std.proofs.lemmas.List.{length-take, length-drop, length-append, get_or-take, get_or-drop, take_at}
 use Rattle.std.proofs.lemmas.List.Elements.{All-push}
 use Rattle.std.proofs.lemmas.List.Quantifiers.{all_pairs_push, position-Some}
 use Rattle.std.proofs.lemmas.List.Sums.{prefix_len_passes}
@@ -16,7 +16,7 @@ use Rattle.std.proofs.Math.Seq.{get_or-append_seam}
 use lib.Utf8.{encode}
 use Rattle.utf16_places.specs.Units.{units_of, utf16_units}
 use Rattle.utf16_places.specs.Bytes.{bytes_by, units_by, IsPastAsciiAt}
-use Rattle.utf16_places.specs.Places.{line_start_of}
+use Rattle.text_places.specs.Places.{line_start_of}
 use Rattle.utf16_places.specs.declared.wide.WideCharacter.{WideCharacter}
 use Rattle.utf16_places.specs.Index.{IsWideIn, AreWideBefore}
 use Rattle.utf16_places.proofs.UnitsLemmas.{begun, begun-encode, before, before-between, units-between, units-le-between, scalar_low}
@@ -58,10 +58,6 @@ past_found bytes passed at le earlier e =
           (cases_lt k passed);
     }
 
-not_true : (b : Bool) → not b ≡ true → b ≡ false
-not_true true e = absurd (false≢true e)
-not_true false e = refl
-
 nowhere_long : (n m : ℕ) → cond (ltb n m) (Some n) None ≡ None → m ≤ n
 nowhere_long n m e = grind (arith, nat_tests)
 
@@ -73,7 +69,7 @@ past_missing bytes passed le earlier e k h =
     let place : passed + (k - passed) ≡ k = omega arith in
     let long = nowhere_long (position_or_len (λ byte. leb 128 byte) (drop passed bytes)) (length (drop passed bytes)) (ap (position (λ byte. leb 128 byte)) (sym (rest_is bytes passed)) ∙ e) in
     let fails = prefix_len_passes (λ byte. not (leb 128 byte)) (drop passed bytes) (k - passed) 0 (omega (arith, long, h, ge, length-drop passed bytes)) in
-    omega (arith, low_byte _ (not_true _ fails), get_or-drop passed bytes (k - passed) 0, ap (λ i. get_or bytes i 0) place))
+    omega (arith, low_byte _ (not-true _ fails), get_or-drop passed bytes (k - passed) 0, ap (λ i. get_or bytes i 0) place))
     (cases_lt k passed)
 
 -- a character's units

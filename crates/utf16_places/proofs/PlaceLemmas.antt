@@ -1,18 +1,18 @@
 -- Places and the ways back.
-use Rattle.std.proofs.Common.{◌≡◌, ◌⊎◌, inl, inr, ◌==◌, ◌&&◌, true, false, ltb, ℕ, ◌+◌, ◌≤◌, ◌<◌, List, length, get_or, map, refl, sym, ap, subst, ◌∙◌, arith, add-one, zero, suc, ⊎_elim, slice_range, Option, Some, None}
+use Rattle.std.proofs.Common.{◌≡◌, ◌⊎◌, inl, inr, ℕ, ◌+◌, ◌≤◌, ◌<◌, List, length, get_or, map, refl, sym, ap, subst, ◌∙◌, arith, add-one, ⊎_elim, slice_range, Option, Some, None}
 use Rattle.std.specs.Str.{IsUtf8, IsCharBoundary}
-use Rattle.std.proofs.lemmas.Bool.{cases_lt, false≢true}
-use Rattle.std.proofs.lemmas.List.Folds.{list_any_at}
-use Rattle.std.proofs.lemmas.Bool.Decides.{nat_tests}
-use Rattle.std.proofs.lemmas.List.{length-map, get_or-map, get_or_past, get_or_default}
+use Rattle.std.proofs.lemmas.Bool.{cases_lt}
+use Rattle.std.proofs.lemmas.List.{length-map, get_or_past, get_or_default}
 use Rattle.std.proofs.lemmas.Str.{IsCharBoundary-before_ascii, IsCharBoundary-end}
-use Rattle.source_location.specs.Breaks.{LineBreak, break_at, breaks_of}
-use Rattle.source_location.specs.Rows.{row_of, line_starts, is_second_byte}
-use Rattle.source_location.proofs.BreaksLemmas.{breaks_valid, breaks_found, break_ends_ascii}
+use Rattle.source_location.specs.Breaks.{LineBreak, breaks_of}
+use Rattle.source_location.specs.Rows.{row_of, line_starts}
+use Rattle.source_location.proofs.BreaksLemmas.{breaks_valid, break_ends_ascii}
 use Rattle.source_location.proofs.IndexLemmas.{start_at}
-use Rattle.source_location.proofs.RowsLemmas.{row_le, row_start-le, row_start_after, row_start_first, row_of-between, ends_before_row, ends_from_row}
+use Rattle.source_location.proofs.RowsLemmas.{row_le, row_start-le, row_start_after, row_of-between, ends_from_row}
+use Rattle.text_places.specs.Places.{line_end, line_start_of}
+pub use Rattle.text_places.proofs.PlaceLemmas.{row_of-le, break_begins, line_end_is, before_break}
 use Rattle.utf16_places.specs.Units.{utf16_units}
-use Rattle.utf16_places.specs.Places.{line_start_of, utf16_place, IsBefore, IsOffsetOf, line_end, IsUpTo, IsNearest, PartsNoCrlf}
+use Rattle.utf16_places.specs.Places.{utf16_place, IsBefore, IsOffsetOf, IsUpTo, IsNearest, PartsNoCrlf}
 use Rattle.utf16_places.specs.Parts.{IsLinePart, IsCounted, IsLastIn}
 use Rattle.utf16_places.specs.declared.place.Place16.{Place16}
 use Rattle.utf16_places.specs.declared.wide.Counted.{Counted}
@@ -35,18 +35,6 @@ place_is text o place line unit = rw (line, unit) refl
 pub place_units : (text : List ℕ) (o : ℕ) → IsUtf8 text → IsCharBoundary text o → (utf16_place text o).unit + before text (line_start_of text o) ≡ before text o
 place_units text o utf8 b =
     omega (arith, place-unit text o, units-between text (line_start_of text o) o utf8 (line_start-boundary text o utf8) b (line_start-le text o))
-
--- rows ascend with offsets
-pub row_of-le : (text : List ℕ) (a b : ℕ) → a ≤ b → row_of (breaks_of text) a ≤ row_of (breaks_of text) b
-row_of-le text a b le =
-    let none : LineBreak = record { start = 0; end = 0 } in
-    let ok = (breaks_valid text).ordered in
-    let k = row_of (breaks_of text) b in
-    ⊎_elim (λ fewer. absurd (omega (
-      arith,
-      ends_before_row (breaks_of text) a ok k none fewer,
-      ends_from_row (breaks_of text) b ok k none (omega arith) (omega (arith, fewer, row_le (breaks_of text) a)),
-    ))) (λ ge. ge) (cases_lt k (row_of (breaks_of text) a))
 
 -- places ascend with boundaries
 pub ascending : (text : List ℕ) (a b : ℕ) → IsUtf8 text → IsCharBoundary text a → IsCharBoundary text b → a < b → IsBefore (utf16_place text a) (utf16_place text b)
@@ -148,26 +136,6 @@ nearest_past text place end is past = record {
   largest = λ within. absurd (omega (arith, past, within));
 }
 
-break_low : (text : List ℕ) (b : LineBreak) → break_at text b.start ≡ Some b → get_or text b.start 0 < 128
-break_low text b e = grind (arith, nat_tests)
-
--- where a line's break begins
-pub break_begins : (text : List ℕ) (line : ℕ) (d : LineBreak) → IsUtf8 text → line < length (breaks_of text)
-    → IsCharBoundary text (get_or (breaks_of text) line d).start × (row_of (breaks_of text) (get_or (breaks_of text) line d).start ≡ line)
-break_begins text line d utf8 h =
-    let b = get_or (breaks_of text) line d in
-    let ok = breaks_valid text in
-    let shape = ok.ordered.shape line d h in
-    let within = ok.within line d h in (
-      IsCharBoundary-before_ascii text b.start (omega (arith, shape, within)) (break_low text b (breaks_found text line d h).0),
-      row_of-between (length text) (breaks_of text) b.start line ok.ordered (omega arith) (starts_before text line d h)
-          (λ _. omega (arith, shape, ap (starts_at text) (add-one line), row_start_after (length text) (breaks_of text) line d h)),
-    )
-  where
-    starts_before : (text : List ℕ) (line : ℕ) (d : LineBreak) → line < length (breaks_of text) → starts_at text line ≤ (get_or (breaks_of text) line d).start
-    starts_before text zero d h = omega (arith, row_start_first (length text) (breaks_of text))
-    starts_before text (suc k) d h = omega (arith, row_start_after (length text) (breaks_of text) k d (omega arith), (breaks_valid text).ordered.apart k (suc k) d (omega arith) h)
-
 -- and its last byte
 pub break_ends : (text : List ℕ) (line : ℕ) (d : LineBreak) → IsUtf8 text → line < length (breaks_of text) → IsLastIn text line (get_or (breaks_of text) line d).end
 break_ends text line d utf8 h =
@@ -192,19 +160,6 @@ text_ends text line e =
       row = row_of-between (length text) (breaks_of text) (length text) line ok.ordered (omega (arith, e)) (row_start-le (length text) (breaks_of text) line ok) (λ more. absurd (omega (arith, more, e)));
       last = λ o within _. within;
     }
-
--- the end of a line before its break is a boundary of the line
-pub line_end_is : (text : List ℕ) (line : ℕ) → IsUtf8 text → line ≤ length (breaks_of text) → IsCharBoundary text (line_end text line) × (row_of (breaks_of text) (line_end text line) ≡ line)
-unfolding line_end
-line_end_is text line utf8 le =
-    let none : LineBreak = record { start = 0; end = 0 } in
-    ⊎_elim (λ lt. subst (λ o. IsCharBoundary text o × (row_of (breaks_of text) o ≡ line)) (sym (get_or-map (λ b. b.start) (breaks_of text) line none (length text) lt)) (break_begins text line none utf8 lt))
-    (λ ge.
-    let last = text_ends text line (omega (arith, le, ge)) in
-    subst (λ o. IsCharBoundary text o × (row_of (breaks_of text) o ≡ line))
-    (sym (get_or_past (map (λ (b : LineBreak). b.start) (breaks_of text)) line (length text) (omega (arith, ge, length-map (breaks_of text) (λ (b : LineBreak). b.start)))))
-    (last.boundary, last.row))
-    (cases_lt line (length (breaks_of text)))
 
 -- a part of a line, by a boundary of the line
 pub part_of : (text : List ℕ) (line limit start : ℕ) → IsCharBoundary text limit → row_of (breaks_of text) limit ≡ line → start ≡ starts_at text line → IsLinePart text start limit
@@ -234,31 +189,6 @@ next_start starts text line d b e h =
 pub leads_back : (text : List ℕ) (o : ℕ) (answer : Option ℕ) → IsUtf8 text → IsCharBoundary text o → IsOffsetOf text (utf16_place text o) answer → answer ≡ Some o
 leads_back text o None utf8 b is = absurd (is o b refl)
 leads_back text o (Some found) utf8 b is = ap (λ (k : ℕ). Some k) (sym (is.2 o b refl))
-
--- the last boundary of a line that is not behind its break's beginning, but for the LF of a CRLF
-pub before_break : (text : List ℕ) (o : ℕ) → o ≤ length text → is_second_byte (breaks_of text) o ≡ false → o ≤ line_end text (row_of (breaks_of text) o)
-unfolding line_end
-before_break text o within whole =
-    let none : LineBreak = record { start = 0; end = 0 } in
-    let r = row_of (breaks_of text) o in
-    ⊎_elim
-    (λ lt.
-    let b = get_or (breaks_of text) r none in
-    let upto = ends_from_row (breaks_of text) o (breaks_valid text).ordered r none (omega arith) lt in
-    let shape = (breaks_valid text).ordered.shape r none lt in
-    let begin = get_or-map (λ (b : LineBreak). b.start) (breaks_of text) r none (length text) lt in
-    ⊎_elim (λ le. omega (arith, begin, le)) (λ past. absurd (false≢true (sym whole ∙ second r none lt (omega (arith, past, upto, shape)) past))) (cases_le o b.start))
-    (λ ge. omega (arith, within, get_or_past (map (λ (b : LineBreak). b.start) (breaks_of text)) r (length text) (omega (arith, ge, length-map (breaks_of text) (λ (b : LineBreak). b.start)))))
-    (cases_lt r (length (breaks_of text)))
-  where
-    cases_le : (a b : ℕ) → (a ≤ b) ⊎ (b < a)
-    cases_le a b = ⊎_elim (λ lt. inr lt) (λ ge. inl ge) (cases_lt b a)
-
-    tests : (b : LineBreak) (o : ℕ) → b.end ≡ o → b.start < o → ((b.end == o) && ltb b.start o) ≡ true
-    tests b o e lt = grind (arith, nat_tests)
-
-    second : (k : ℕ) (d : LineBreak) → k < length (breaks_of text) → (get_or (breaks_of text) k d).end ≡ o → (get_or (breaks_of text) k d).start < o → is_second_byte (breaks_of text) o ≡ true
-    second k d h e lt = list_any_at (λ (b : LineBreak). (b.end == o) && ltb b.start o) (breaks_of text) k d h (tests (get_or (breaks_of text) k d) o e lt)
 
 -- the nearest boundary to the place of such a boundary is that boundary
 pub nearest_keeps : (text : List ℕ) (o answer : ℕ) → IsUtf8 text → PartsNoCrlf text o → IsNearest text (utf16_place text o) answer → answer ≡ o

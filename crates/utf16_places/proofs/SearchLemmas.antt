@@ -7,7 +7,7 @@ use Rattle.std.proofs.lemmas.Bool.{cases_lt}
 use Rattle.std.proofs.lemmas.Bool.Decides.{nat_tests}
 use Rattle.std.proofs.lemmas.List.{get_or_default}
 use Rattle.utf16_places.specs.Units.{utf16_units}
-use Rattle.utf16_places.specs.Places.{line_start_of}
+use Rattle.text_places.specs.Places.{line_start_of}
 use Rattle.utf16_places.specs.Index.{AreWideOf}
 use Rattle.utf16_places.specs.Parts.{IsLinePart, IsCounted}
 use Rattle.utf16_places.specs.declared.wide.WideCharacter.{WideCharacter}

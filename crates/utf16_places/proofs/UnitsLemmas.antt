@@ -1,5 +1,5 @@
 -- Counts of units, by the bytes that begin characters.
-use Rattle.std.proofs.Common.{◌≡◌, ℕ, ◌+◌, ◌-◌, ◌≤◌, ◌<◌, true, cond, ltb, ⊎_elim, List, [], ◌∷◌, ◌++◌, length, take, drop, get_or, refl, sym, ap, ◌∙◌, arith, slice_range, sum_by}
+use Rattle.std.proofs.Common.{◌≡◌, ℕ, ◌+◌, ◌-◌, ◌≤◌, ◌<◌, true, cond, ltb, List, [], ◌∷◌, ◌++◌, length, take, drop, get_or, refl, sym, ap, ◌∙◌, arith, slice_range, sum_by}
 use Rattle.std.specs.Str.{chars, IsUtf8, IsCharBoundary}
 use Rattle.std.proofs.lemmas.Bool.Decides.{nat_tests}
 use Rattle.std.proofs.lemmas.List.{length-append, length-take}
@@ -7,9 +7,10 @@ use Rattle.std.proofs.lemmas.List.Sums.{sum_by-append, sum_by_more, sum_by-cons}
 use Rattle.std.proofs.lemmas.Str.{encodes-chars, scalars-chars, IsUtf8-between}
 use Rattle.std.proofs.lemmas.Bool.{and_parts}
 use Rattle.std.proofs.lemmas.Str.{length-encode}
-use Rattle.std.specs.Char.{IsScalar, len_utf8}
+use Rattle.std.specs.Char.{len_utf8}
 use Rattle.std.proofs.Math.Seq.{take-add}
-use lib.Utf8.{scalar, scalars, scalar_cases, encode, encodes}
+use lib.Utf8.{scalar, scalars, encode, encodes}
+pub use Rattle.text_places.proofs.UnitsLemmas.{scalar_low}
 use Rattle.utf16_places.specs.Units.{units_of, utf16_units}
 
 -- the units of the character that begins with a byte, and none where no character begins with it
@@ -30,9 +31,6 @@ begun-append xs ys = sum_by-append units_begun xs ys
 pub begun-nil : begun [] ≡ 0
 unfolding begun
 begun-nil = refl
-
-pub scalar_low : (c : ℕ) → IsScalar c → c < 1114112
-scalar_low c is = ⊎_elim (λ low. omega arith) (λ high. high.1) (scalar_cases c is)
 
 pub begun-encode : (c : ℕ) → c < 1114112 → begun (encode c) ≡ units_of c
 unfolding begun encode

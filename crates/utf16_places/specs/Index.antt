@@ -7,7 +7,7 @@ use Rattle.source_location.specs.Breaks.{breaks_of}
 use Rattle.source_location.specs.Rows.{line_starts}
 use Rattle.source_location.specs.Index.{Fits}
 use Rattle.utf16_places.specs.Units.{utf16_units}
-use Rattle.utf16_places.specs.Places.{line_start_of}
+use Rattle.text_places.specs.Places.{line_start_of}
 use Rattle.utf16_places.specs.declared.wide.WideCharacter.{WideCharacter}
 
 -- a character past ASCII stands there in the text, and that many units of its row are before its end

@@ -4,7 +4,7 @@ use Rattle.std.specs.Str.{IsCharBoundary}
 use Rattle.source_location.specs.Breaks.{breaks_of}
 use Rattle.source_location.specs.Rows.{row_of}
 use Rattle.utf16_places.specs.Units.{utf16_units}
-use Rattle.utf16_places.specs.Places.{line_start_of}
+use Rattle.text_places.specs.Places.{line_start_of}
 use Rattle.utf16_places.specs.Index.{AreWideOf}
 use Rattle.utf16_places.specs.declared.wide.WideCharacter.{WideCharacter}
 use Rattle.utf16_places.specs.declared.wide.Counted.{Counted}

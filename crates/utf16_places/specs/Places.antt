@@ -1,14 +1,11 @@
 -- Lines and UTF-16 units, both from 0, and the ways back.
-use Rattle.std.specs.Prelude.{◌≡◌, ◌⊎◌, false, ℕ, ◌<◌, ◌≤◌, List, length, map, slice_index_or, slice_range, Option, MatchOption}
+use Rattle.std.specs.Prelude.{◌≡◌, ◌⊎◌, false, ℕ, ◌<◌, ◌≤◌, List, length, slice_range, Option, MatchOption}
 use Rattle.std.specs.Str.{IsCharBoundary}
 use Rattle.source_location.specs.Breaks.{breaks_of}
-use Rattle.source_location.specs.Rows.{row_of, row_start, is_second_byte}
+use Rattle.source_location.specs.Rows.{row_of, is_second_byte}
+use Rattle.text_places.specs.Places.{line_end, line_start_of}
 use Rattle.utf16_places.specs.Units.{utf16_units}
 use Rattle.utf16_places.specs.declared.place.Place16.{Place16}
-
--- where the row of an offset starts
-unfoldable pub line_start_of : List ℕ → ℕ → ℕ
-line_start_of text offset = row_start (length text) (breaks_of text) (row_of (breaks_of text) offset)
 
 -- the place of an offset: its row, and the units of the characters of the row before it
 unfoldable pub utf16_place : List ℕ → ℕ → Place16
@@ -25,10 +22,6 @@ IsOffsetOf text place answer =
     ((offset : ℕ) → IsCharBoundary text offset → ¬ (utf16_place text offset ≡ place))
     (λ found. IsCharBoundary text found × (utf16_place text found ≡ place)
     × ((offset : ℕ) → IsCharBoundary text offset → utf16_place text offset ≡ place → offset ≡ found))
-
--- where a line's break begins, and the text's end for a line without one
-unfoldable pub line_end : List ℕ → ℕ → ℕ
-line_end text line = slice_index_or (map (λ b. b.start) (breaks_of text)) line (length text)
 
 -- the offset is a boundary of the line that is not behind where its break begins, and its unit is at most the asked one
 pub record IsUpTo (text : List ℕ) (place : Place16) (offset : ℕ) : Type 0 where

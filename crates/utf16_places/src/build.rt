@@ -2,7 +2,7 @@
 ghost use Rattle.std.specs.Prelude.{◌≡◌, ◌<◌, ◌≤◌, ℕ, OnOk, length, slice_index, position, nat_le};
 ghost use Rattle.std.specs.Str.{IsCharBoundary};
 ghost use Rattle.source_location.specs.Index.{Fits};
-ghost use Rattle.utf16_places.specs.Places.{line_start_of};
+ghost use Rattle.text_places.specs.Places.{line_start_of};
 ghost use Rattle.utf16_places.specs.Index.{AreWideBefore};
 ghost use Rattle.utf16_places.specs.Bytes.{bytes_by, units_by, IsFirstPastAscii};
 
