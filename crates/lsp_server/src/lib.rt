@@ -13,6 +13,8 @@ mod message;
 mod moved;
 mod parse;
 mod server;
+#[cfg(test)]
+mod tests;
 
 pub use answers::answer_text;
 pub use documents::{Edit, OpenText};
