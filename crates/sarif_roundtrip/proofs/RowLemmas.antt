@@ -49,17 +49,8 @@ at_none bytes byte no_lf no_cr =
 
 -- ---- and which break starts there
 
-lf_starts : (text : List ℕ) (at : ℕ) → get_or text at 0 ≡ 10 → (get_or text (at - 1) 0 ≡ 13 → ⊥) → break_at text at ≡ Some (record { start = at; end = at })
-lf_starts text at lf other = grind (arith, nat_tests)
-
 lf_inside : (text : List ℕ) (at : ℕ) → get_or text at 0 ≡ 10 → get_or text (at - 1) 0 ≡ 13 → break_at text at ≡ None
 lf_inside text at lf cr = grind (arith, nat_tests)
-
-pair_starts : (text : List ℕ) (at : ℕ) → get_or text at 0 ≡ 13 → get_or text (at + 1) 0 ≡ 10 → break_at text at ≡ Some (record { start = at; end = at + 1 })
-pair_starts text at cr lf = grind (arith, nat_tests)
-
-cr_starts : (text : List ℕ) (at : ℕ) → get_or text at 0 ≡ 13 → (get_or text (at + 1) 0 ≡ 10 → ⊥) → break_at text at ≡ Some (record { start = at; end = at })
-cr_starts text at cr other = grind (arith, nat_tests)
 
 none_starts : (text : List ℕ) (at : ℕ) → (get_or text at 0 ≡ 10 → ⊥) → (get_or text at 0 ≡ 13 → ⊥) → break_at text at ≡ None
 none_starts text at no_lf no_cr = grind (arith, nat_tests)
@@ -114,7 +105,8 @@ past_pair text (suc n) at start left cr lf rest =
     let back : at + 1 - 1 ≡ at = omega arith in
     let place : at + 1 + 1 ≡ at + 2 = omega arith in
     let before : at + 2 - 1 ≡ at + 1 = omega arith in
-    let first = one_found text at (suc n) (Some it) (pair_starts text at cr lf) in
+    let starts : break_at text at ≡ Some (record { start = at; end = at + 1 }) = grind (arith, nat_tests) in
+    let first = one_found text at (suc n) (Some it) starts in
     let second = one_found text (at + 1) n None (lf_inside text (at + 1) lf (ap (λ k. get_or text k 0) back ∙ cr)) in
     past_break text n at start 2 it (omega (arith, left)) (pair_at text at (omega (arith, left)) cr lf) (omega arith) (omega (arith, left)) refl place
     (rest n (at + 2) (at + 2) (omega arith) (omega (arith, left)) (λ next some. omega (arith, some, ap (λ k. get_or text k 0) before, lf)))
@@ -136,7 +128,9 @@ along text (suc fuel) (suc n) at start few whole fine =
     ⊎_elim
     (λ lf.
     let it : LineBreak = record { start = at; end = at } in
-    let found = one_found text at n (Some it) (lf_starts text at lf (fine lf)) in
+    let uncut = fine lf in
+    let starts : break_at text at ≡ Some (record { start = at; end = at }) = grind (arith, nat_tests) in
+    let found = one_found text at n (Some it) starts in
     past_break text n at start 1 it within (width_at text at 1 within (at_lf (drop (at + 1) text) (get_or text at 0) lf)) (omega arith) (omega (arith, within)) refl refl
     (along text fuel n (at + 1) (at + 1) fewer left (λ next cr. omega (arith, before, cr, lf)))
     ∙ ap (λ its. rows_by start its (length text)) (sym found))
@@ -147,7 +141,8 @@ along text (suc fuel) (suc n) at start few whole fine =
     (λ next. past_pair text n at start left cr next (λ m place from less rest cut. along text fuel m place from (omega (arith, less, fewer)) rest cut))
     (λ other.
     let it : LineBreak = record { start = at; end = at } in
-    let found = one_found text at n (Some it) (cr_starts text at cr other) in
+    let starts : break_at text at ≡ Some (record { start = at; end = at }) = grind (arith, nat_tests) in
+    let found = one_found text at n (Some it) starts in
     past_break text n at start 1 it within (cr_at text at within cr other) (omega arith) (omega (arith, within)) refl refl
     (along text fuel n (at + 1) (at + 1) fewer left (λ next some. other next))
     ∙ ap (λ its. rows_by start its (length text)) (sym found))
