@@ -54,3 +54,5 @@ reports_depth from (suc count) = omega (arith, reports_depth (from + 1) count)
 pub shallow : (count : ℕ) → depth (generated_value count) ≤ 127
 unfolding generated_value file_value reports_value
 shallow count = omega (arith, reports_depth 1 count)
+
+pub ruleset plain_values = (no_float, shallow)

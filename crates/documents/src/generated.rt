@@ -32,7 +32,7 @@ pub fn generate(alloc: Global, count: u32) -> Result<Vec<u8>, AllocError>
     Ok(generated_text(alloc, count)?.into_bytes())
 }
 
-#[tactic(auto, using(crate::proofs::GeneratedLemmas::no_float, crate::proofs::GeneratedLemmas::shallow), unfolding(crate::specs::Generated::generated))]
+#[tactic(auto, using(crate::proofs::GeneratedLemmas::plain_values), unfolding(crate::specs::Generated::generated))]
 fn generated_text(alloc: Global, count: u32) -> Result<String, AllocError>
     requires { count ≤ 5000 }
     ensures bytes { IfOk result (λ text. string_bytes text ≡ generated count) }

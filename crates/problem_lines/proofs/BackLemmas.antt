@@ -210,3 +210,5 @@ read_some text parts info found low is line = record { back = λ p small same. a
 pub read_other : (text : List ℕ) (parts info : InfoParts) → Some parts ≡ parsed text → info ≡ unescaped parts → problem_line info ≢ text → IsRead text None
 read_other text parts info found is other =
     record { back = λ p small same. absurd (other (ap problem_line (known text parts info p found is small same) ∙ same)); only = tt }
+
+pub ruleset read_a_line = (read_none, read_some, read_other)

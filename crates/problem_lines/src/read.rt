@@ -52,7 +52,7 @@ impl From<AllocError> for ProblemError {
 /// # Errors
 ///
 /// Want of memory.
-#[tactic(auto, using(crate::proofs::BackLemmas::read_none, crate::proofs::BackLemmas::read_some, crate::proofs::BackLemmas::read_other))]
+#[tactic(auto, using(crate::proofs::BackLemmas::read_a_line))]
 pub fn read_problem(alloc: Global, line: &str) -> Result<Option<Info>, AllocError>
     ensures { IfOk result (λ answer. IsRead line.now (option_map info_parts answer)) }
 {

@@ -61,3 +61,5 @@ pub char_count-le-offset : (text : List ℕ) (from to : ℕ) → char_count (sli
 unfolding char_count
 char_count-le-offset text from to =
     omega (arith, count_by-le-length begins_char (slice_range text from to), length-take (to - from) (drop from text))
+
+pub ruleset counted_to_a_place = (char_count_begun, char_count_within, no_characters, all_characters)

@@ -56,3 +56,5 @@ counted_from_boundary text r utf8 = at (begins_with_mark text) refl
     at : (said : Bool) → begins_with_mark text ≡ said → IsCharBoundary text (counted_from text r)
     at true e = ⊎_elim (λ first. rw (counted_from_mark text r first e) (mark_boundary text utf8 e)) (λ later. rw (counted_from_later text r (omega arith)) (row_start_boundary text r utf8)) (cases_eq r 0)
     at false e = ⊎_elim (λ first. rw (counted_from_first text r first e) (IsCharBoundary-start text utf8)) (λ later. rw (counted_from_later text r (omega arith)) (row_start_boundary text r utf8)) (cases_eq r 0)
+
+pub ruleset counted_from_a_row = (counted_from_later, counted_from_mark, counted_from_first)

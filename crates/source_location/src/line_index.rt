@@ -228,7 +228,7 @@ impl LineIndex {
     }
 
     /// Where the columns of a row are counted from.
-    #[tactic(auto, using(crate::proofs::LocationsLemmas::counted_from_later, crate::proofs::LocationsLemmas::counted_from_mark, crate::proofs::LocationsLemmas::counted_from_first))]
+    #[tactic(auto, using(crate::proofs::LocationsLemmas::counted_from_a_row))]
     fn counted_start(&self, row: usize, text: &str) -> usize
         requires { self.now ≡ index_of text.now }
         ensures { result ≡ counted_from text.now row }
@@ -350,7 +350,7 @@ fn character_count(bytes: &[u8]) -> usize
 }
 
 /// The same for any row, by a walk over its bytes.
-#[tactic(auto, using(crate::proofs::CharactersLemmas::char_count_begun, crate::proofs::CharactersLemmas::char_count_within, crate::proofs::CharactersLemmas::no_characters, crate::proofs::CharactersLemmas::all_characters))]
+#[tactic(auto, using(crate::proofs::CharactersLemmas::counted_to_a_place))]
 fn boundary_after(row: &[u8], characters: usize) -> Option<usize>
     ensures { MatchOption result (char_count row.now < characters)
         (λ at. IsCharBoundary row.now at × (char_count (take at row.now) ≡ characters)) }
