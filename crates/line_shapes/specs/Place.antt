@@ -1,5 +1,5 @@
 -- Where a finding is: a lead, a name, and what stands behind it.
-use Rattle.std.specs.Prelude.{◌≡◌, ℕ, ◌-◌, ◌==◌, ◌||◌, ◌&&◌, nat_le, nat_lt, if◌then◌else◌, Bool, true, List, [], ◌∷◌, length, take, drop, map, slice_index, Option, Some, None, option_map, option_and_then}
+use Rattle.std.specs.Prelude.{◌≡◌, ℕ, ◌-◌, ◌==◌, ◌||◌, ◌&&◌, nat_le, nat_lt, if◌then◌else◌, Bool, true, false, List, [], ◌∷◌, length, take, drop, map, slice_index, Option, Some, None, option_map, option_and_then}
 use Rattle.std.specs.List.{range_with_len}
 use Rattle.std.specs.Option.{option_or}
 use Rattle.memchr.specs.Find.{IsFirst}
@@ -77,3 +77,20 @@ is_mark byte = byte == 0x3A || byte == 0x28 || byte == 0x5B
 
 abbrev pub IsNextMark : List ℕ → ℕ → Option ℕ → Type 0
 IsNextMark text from answer = IsFirst (λ at. is_mark (slice_index text at) ≡ true) from (length text) answer
+
+-- a byte that ends a number in places
+abbrev pub ends_number : ℕ → Bool
+ends_number byte = byte == 0x3A || byte == 0x2C || byte == 0x29
+
+-- a digit stands before such a byte
+abbrev pub ends_figure : ℕ → ℕ → Bool
+ends_figure last byte = is_in Digit last && ends_number byte
+
+-- the same somewhere in a text, or between a byte and the text
+abbrev pub figure_behind : ℕ → List ℕ → Bool
+figure_behind last [] = false
+figure_behind last (x ∷ xs) = ends_figure last x || figure_behind x xs
+
+-- a digit stands before `:`, `,` or `)` in a text
+abbrev pub has_figure : List ℕ → Bool
+has_figure text = figure_behind 0 text

@@ -6,9 +6,10 @@ ghost use Rattle.line_shapes.specs.Part.{before as seen_before, fit as fits_ther
 ghost use Rattle.line_shapes.specs.Name.{first_fault as fault_first, is_angle as begins_angle};
 ghost use Rattle.line_shapes.specs.Least.{IsLeastPlace};
 ghost use Rattle.line_shapes.specs.Place.{IsNextMark, may_follow, may_name as may_be_name};
-ghost use Rattle.line_shapes.specs.Place.{found_at as found_behind};
+ghost use Rattle.line_shapes.specs.Place.{ends_figure as figure_ends, found_at as found_behind};
 ghost use Rattle.line_shapes.specs.Place.{first_fit as fits_first, in_lead as place_in_lead};
 ghost use Rattle.line_shapes.specs.Place.{in_leads as place_in_leads, place as place_there};
+ghost use Rattle.line_shapes.specs.Place.{has_figure as figure_in};
 ghost use Rattle.line_shapes.specs.Place.{in_angles as angled_place, placed};
 
 use crate::bytes::{Kind, is_in};
@@ -25,12 +26,45 @@ pub struct Placed<'a> {
 }
 
 /// The place of a line.
-#[tactic(auto, unfolding(crate::specs::Place::leads))]
 pub fn place(line: &[u8]) -> Option<Placed<'_>>
     ensures place { option_map placed result ≡ place_there line.now }
     ensures least { IsLeastPlace line.now (option_map placed result) }
 {
-    in_leads(&LEADS, line)
+    placed_in(line)
+}
+
+/// The same, where a figure is looked for first.
+#[tactic(auto, unfolding(crate::specs::Place::leads), using(crate::proofs::FigureLemmas::no_place_there))]
+fn placed_in(line: &[u8]) -> Option<Placed<'_>>
+    ensures { option_map placed result ≡ place_there line.now }
+{
+    if has_figure(line) {
+        in_leads(&LEADS, line)
+    } else {
+        None
+    }
+}
+
+/// Whether a digit stands before `:`, `,` or `)` in a text, as one does in each place.
+#[tactic(auto, using(crate::proofs::FigureLemmas::one_more))]
+pub fn has_figure(mut text: &[u8]) -> bool
+    ensures { result ≡ figure_in text.entry.now }
+{
+    let mut found = false;
+    let mut last = 0;
+    while let [byte, rest @ ..] = text {
+        found = found | ends_figure(last, *byte);
+        last = *byte;
+        text = rest;
+    }
+    found
+}
+
+/// Whether a digit stands before a byte that ends a number in places.
+fn ends_figure(last: u8, byte: u8) -> bool
+    ensures { result ≡ figure_ends last byte }
+{
+    is_in(Kind::Digit, last) && matches!(byte, b':' | b',' | b')')
 }
 
 /// The place behind the first of these leads that has any.
