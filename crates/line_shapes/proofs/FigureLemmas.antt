@@ -2,7 +2,7 @@
 use Rattle.std.proofs.Common.{◌≡◌, ℕ, zero, suc, ◌+◌, ◌-◌, ◌==◌, ◌&&◌, ◌||◌, if◌then◌else◌, List, [], ◌∷◌, length, take, drop, Option, Some, None, Bool, true, false, cond, refl, sym, ap, subst, ◌∙◌, arith, eqb-true}
 use Rattle.std.specs.List.{slice_index, prefix_len, list_all, range_with_len}
 use Rattle.std.specs.Option.{option_map, option_and_then, option_or, unwrap_or}
-use Rattle.std.proofs.lemmas.Bool.{and_parts}
+use Rattle.std.proofs.lemmas.Bool.{and_parts, or_parts}
 use Rattle.line_shapes.specs.declared.bytes.Kind.TheVariants.{Digit, Blank, InProgram, InRule}
 use Rattle.line_shapes.specs.declared.level.Level.{Level}
 use Rattle.line_shapes.specs.declared.level.Severity.{Severity}
@@ -18,14 +18,6 @@ use Rattle.line_shapes.specs.Place.{Place, afters, ends_figure, ends_number, fig
 use Rattle.line_shapes.proofs.PartLemmas.{figure_rest, left, past_taken}
 use Rattle.line_shapes.proofs.PlaceLemmas.{all_past}
 
-or_second : (a b : Bool) → (a || b) ≡ false → b ≡ false
-or_second true b e = cc
-or_second false b e = e
-
-or_first : (a b : Bool) → (a || b) ≡ false → a ≡ false
-or_first true b e = cc
-or_first false b e = refl
-
 and_second : (a b : Bool) → a ≡ true → (a && b) ≡ false → b ≡ false
 and_second true b is e = e
 and_second false b is e = cc
@@ -37,7 +29,7 @@ one_more false ends rest all e = e
 -- what is left of a text without a figure has none
 tail_figure : (x : ℕ) (xs : List ℕ) → figure_behind x xs ≡ false → has_figure xs ≡ false
 tail_figure x [] e = refl
-tail_figure x (y ∷ ys) e = or_second (ends_figure x y) (figure_behind y ys) e
+tail_figure x (y ∷ ys) e = (or_parts (ends_figure x y) (figure_behind y ys) e).1
 
 pub drop_figure : (n : ℕ) (text : List ℕ) → has_figure text ≡ false → has_figure (drop n text) ≡ false
 drop_figure zero text e = e
@@ -102,8 +94,8 @@ begins_with_byte byte (x ∷ xs) = x == byte
 not_ended : (byte x : ℕ) (xs : List ℕ) → is_in Digit x ≡ true → ends_number byte ≡ true → figure_behind x xs ≡ false → begins_with_byte byte (drop (prefix_len (is_in Digit) xs) xs) ≡ false
 not_ended byte x [] digit ends none = refl
 not_ended byte x (y ∷ ys) digit ends none =
-    let later : figure_behind y ys ≡ false = or_second (ends_figure x y) (figure_behind y ys) none in
-    let other : ends_number y ≡ false = and_second (is_in Digit x) (ends_number y) digit (or_first (ends_figure x y) (figure_behind y ys) none) in
+    let later : figure_behind y ys ≡ false = (or_parts (ends_figure x y) (figure_behind y ys) none).1 in
+    let other : ends_number y ≡ false = and_second (is_in Digit x) (ends_number y) digit (or_parts (ends_figure x y) (figure_behind y ys) none).0 in
     elim (is_in Digit y) as (λ v. is_in Digit y ≡ v → begins_with_byte byte (drop (cond v (1 + prefix_len (is_in Digit) ys) 0) (y ∷ ys)) ≡ false) [
       | true ↦ (λ more.
           let longer : 1 + prefix_len (is_in Digit) ys ≡ suc (prefix_len (is_in Digit) ys) = omega arith in

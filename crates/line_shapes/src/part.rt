@@ -108,6 +108,7 @@ pub fn fit<'a>(parts: &[Part], found: Found<'a>) -> Option<Found<'a>>
 
 /// Whether the parts of a shape may stand at the beginning of a text, as far as bytes, blanks,
 /// numbers and programs tell: it looks no further than to the first part of another kind.
+#[inline(always)]
 pub fn begins(mut parts: &[Part], mut text: &[u8]) -> bool
     ensures { result ≡ may_begin parts.entry.now text.entry.now }
 {
