@@ -8,17 +8,18 @@ use Rattle.std.proofs.lemmas.Grind.{common_steps}
 use Rattle.memchr.specs.Find.{IsFirstByte, is_byte3}
 use Rattle.line_shapes.specs.declared.part.Part.{Part}
 use Rattle.line_shapes.specs.declared.part.Part.TheVariants.{Byte, Decimal, Blanks}
-use Rattle.std.proofs.lemmas.Bool.{and_from, and_parts, and_right}
+use Rattle.std.proofs.lemmas.Bool.{and_from, and_parts, and_right, or_parts}
 use Rattle.std.proofs.lemmas.Bool.Decides.{nat_tests}
 use Rattle.base_lemmas.proofs.Choices.{if_same, option_or-none}
 pub use Rattle.base_lemmas.proofs.Lists.{slice_range-rest as rest_is}
-use Rattle.line_shapes.specs.Part.{Seen, behind, byte_taken, fit, taken, with_figure}
+use Rattle.line_shapes.specs.Part.{Seen, byte_taken, fit, may_begin, past_byte, past_run}
+use Rattle.line_shapes.specs.declared.bytes.Kind.{Kind}
 use Rattle.line_shapes.specs.declared.bytes.Kind.TheVariants.{Digit, Blank, Angled}
-use Rattle.line_shapes.specs.Bytes.{is_in, number_at, some_run, value_of}
+use Rattle.line_shapes.specs.Bytes.{is_in}
 use Rattle.line_shapes.specs.declared.name.NameKind.{NameKind}
 use Rattle.line_shapes.specs.Name.{is_name, is_plain, is_angle, angle_len, angle_behind, first_fault, begins_name, ends_name}
-use Rattle.line_shapes.proofs.PartLemmas.{no_run}
-use Rattle.line_shapes.specs.Place.{Place, found_at, fits_behind, in_angles, in_lead, named, may_follow, may_name, first_some, first_fit, afters, placed_at, is_mark, IsNextMark}
+use Rattle.line_shapes.proofs.PartLemmas.{not_begun}
+use Rattle.line_shapes.specs.Place.{Place, behind_run, ends_number, is_bracket, numbers_end, opens_place, found_at, fits_behind, in_angles, in_lead, named, may_follow, may_name, first_some, first_fit, afters, placed_at, is_mark, IsNextMark}
 
 -- the next mark, from the first in what is left of the text
 mark_back : (text : List ℕ) (from k : ℕ) → from ≤ k → is_mark (slice_index text k) ≡ true → is_mark (slice_index (drop from text) (k - from)) ≡ true
@@ -134,65 +135,65 @@ none_there f at whole all past e = sym (none_here f at whole past) ∙ e
 
 -- what is not followed as it should be doesn't fit
 abbrev begins_followed : List Part → Bool
-begins_followed (Byte byte ∷ (Byte other ∷ parts)) = may_follow other
-begins_followed (Byte byte ∷ (Decimal figure ∷ parts)) = true
-begins_followed (Byte byte ∷ (Blanks ∷ parts)) = true
+begins_followed (Byte byte ∷ (Byte other ∷ parts)) = is_bracket other
+begins_followed (Byte byte ∷ (Decimal figure ∷ (Byte other ∷ parts))) = ends_number other
+begins_followed (Byte byte ∷ (Blanks ∷ (Byte other ∷ parts))) = opens_place other
 begins_followed _ = false
 
-no_number : (text : List ℕ) → is_in Digit (slice_index text 0) ≡ false → number_at text ≡ None
-no_number text no_more = ap (λ count. option_map (λ (value : ℕ). (count, value)) (value_of (take count text))) (no_run Digit text no_more)
+head_not : (byte : ℕ) (text : List ℕ) (p : ℕ → Bool) → p byte ≡ true → p (slice_index text 0) ≡ false → past_byte byte text ≡ None
+head_not byte [] p is not_there = refl
+head_not byte (x ∷ xs) p is not_there =
+    elim (x == byte) as (λ v. (x == byte) ≡ v → (if v then Some xs else None) ≡ None)
+    [ true ↦ (λ same. let there : p x ≡ true = subst (λ b. p b ≡ true) (sym (eqb-true x byte same)) is in let none : p x ≡ false = not_there in cc) | false ↦ (λ _. refl) ] refl
 
-either : (a b c d : Bool) → (a || b || c || d) ≡ false → (a ≡ false) × (b ≡ false) × (c ≡ false) × (d ≡ false)
-either false false false false so = (refl, refl, refl, refl)
-either true b c d so = cc
-either false true c d so = cc
-either false false true d so = cc
-either false false false true so = cc
+byte_not : (byte : ℕ) (parts : List Part) (text : List ℕ) (p : ℕ → Bool) → p byte ≡ true → p (slice_index text 0) ≡ false → may_begin (Byte byte ∷ parts) text ≡ false
+byte_not byte parts text p is not_there = ap (λ o. unwrap_or (option_map (may_begin parts) o) false) (head_not byte text p is not_there)
 
-second_none : (byte : ℕ) (other : Part) (parts : List Part) (s : Seen) (first : ℕ) (rest : List ℕ) → taken other (record s { rest = rest }) ≡ None → fit (Byte byte ∷ (other ∷ parts)) (record s { rest = first ∷ rest }) ≡ None
-second_none byte other parts s first rest none =
-    elim (first == byte) as (λ v. option_and_then (fit (other ∷ parts)) (if v then Some (record s { rest = rest }) else None) ≡ None) [ true ↦ ap (option_and_then (fit parts)) none | false ↦ refl ]
+run_not : (kind : Kind) (byte : ℕ) (parts : List Part) (text : List ℕ) (p : ℕ → Bool) → p byte ≡ true → (is_in kind (slice_index text 0) && p (behind_run kind text)) ≡ false
+    → unwrap_or (option_map (may_begin (Byte byte ∷ parts)) (past_run kind (is_in kind (slice_index text 0)) text)) false ≡ false
+run_not kind byte parts text p is e =
+    let n : ℕ = prefix_len (is_in kind) text in
+    let same : n + 0 ≡ n = omega arith in
+    elim (is_in kind (slice_index text 0)) as (λ v. (v && p (behind_run kind text)) ≡ false → unwrap_or (option_map (may_begin (Byte byte ∷ parts)) (past_run kind v text)) false ≡ false) [
+      | true ↦ (λ e. byte_not byte parts (drop n text) p is (subst (λ b. p b ≡ false) (sym (get_or-drop n text 0 0 ∙ ap (λ m. get_or text m 0) same)) e))
+      | false ↦ (λ e. refl)
+    ] e
 
-other_byte : (byte : ℕ) (rest : List ℕ) (s : Seen) → may_follow byte ≡ true → may_follow (slice_index rest 0) ≡ false → byte_taken byte rest s ≡ None
-other_byte byte [] s follows no_more = refl
-other_byte byte (x ∷ xs) s follows no_more =
-    elim (x == byte) as (λ v. (x == byte) ≡ v → (if v then Some (record s { rest = xs }) else None) ≡ None)
-    [ true ↦ (λ same. let there : may_follow x ≡ true = subst (λ b. may_follow b ≡ true) (sym (eqb-true x byte same)) follows in let not_there : may_follow x ≡ false = no_more in cc) | false ↦ (λ _. refl) ] refl
+second_not : (byte first : ℕ) (parts : List Part) (rest : List ℕ) → may_begin parts rest ≡ false → may_begin (Byte byte ∷ parts) (first ∷ rest) ≡ false
+second_not byte first parts rest none = elim (first == byte) as (λ v. unwrap_or (option_map (may_begin parts) (if v then Some rest else None)) false ≡ false) [ true ↦ none | false ↦ refl ]
 
-unfollowed : (shape : List Part) (s : Seen) (first : ℕ) (rest : List ℕ) → begins_followed shape ≡ true → may_follow (slice_index rest 0) ≡ false → fit shape (record s { rest = first ∷ rest }) ≡ None
-unfollowed (Byte byte ∷ (Byte other ∷ parts)) s first rest followed no_more = second_none byte (Byte other) parts s first rest (other_byte other rest (record s { rest = rest }) followed no_more)
-unfollowed (Byte byte ∷ (Decimal figure ∷ parts)) s first rest followed no_more =
-    second_none byte (Decimal figure) parts s first rest (ap (option_map (λ (n : ℕ × ℕ). with_figure figure n.1 (behind n.0 (record s { rest = rest })))) (no_number rest (either (is_in Digit (slice_index rest 0)) _ _ _ no_more).0))
-unfollowed (Byte byte ∷ (Blanks ∷ parts)) s first rest followed no_more =
-    second_none byte Blanks parts s first rest
-    (ap (λ n. option_map (λ (count : ℕ). behind count (record s { rest = rest })) (some_run n)) (no_run Blank rest (either (is_in Digit (slice_index rest 0)) (is_in Blank (slice_index rest 0)) _ _ no_more).1))
-unfollowed shape s first rest followed no_more = cc
+unfollowed : (shape : List Part) (first : ℕ) (rest : List ℕ) → begins_followed shape ≡ true → may_follow rest ≡ false → may_begin shape (first ∷ rest) ≡ false
+unfollowed (Byte byte ∷ (Byte other ∷ parts)) first rest followed no_more =
+    second_not byte first (Byte other ∷ parts) rest (byte_not other parts rest is_bracket followed (or_parts (is_bracket (slice_index rest 0)) _ (or_parts (is_bracket (slice_index rest 0) || numbers_end rest) _ no_more).0).0)
+unfollowed (Byte byte ∷ (Decimal figure ∷ (Byte other ∷ parts))) first rest followed no_more =
+    second_not byte first (Decimal figure ∷ (Byte other ∷ parts)) rest (run_not Digit other parts rest ends_number followed (or_parts (is_bracket (slice_index rest 0)) _ (or_parts (is_bracket (slice_index rest 0) || numbers_end rest) _ no_more).0).1)
+unfollowed (Byte byte ∷ (Blanks ∷ (Byte other ∷ parts))) first rest followed no_more =
+    second_not byte first (Blanks ∷ (Byte other ∷ parts)) rest (run_not Blank other parts rest opens_place followed (or_parts (is_bracket (slice_index rest 0) || numbers_end rest) _ no_more).1)
+unfollowed shape first rest followed no_more = cc
 
-nothing_there : (shape : List Part) (s : Seen) → begins_followed shape ≡ true → fit shape (record s { rest = [] }) ≡ None
-nothing_there (Byte byte ∷ (Byte other ∷ parts)) s followed = refl
-nothing_there (Byte byte ∷ (Decimal figure ∷ parts)) s followed = refl
-nothing_there (Byte byte ∷ (Blanks ∷ parts)) s followed = refl
-nothing_there shape s followed = cc
+nothing_there : (shape : List Part) → begins_followed shape ≡ true → may_begin shape [] ≡ false
+nothing_there (Byte byte ∷ parts) followed = refl
+nothing_there shape followed = cc
 
-unfollowed_at : (shape : List Part) (s : Seen) (text : List ℕ) → begins_followed shape ≡ true → may_follow (slice_index text 1) ≡ false → fit shape (record s { rest = text }) ≡ None
-unfollowed_at shape s [] followed no_more = nothing_there shape s followed
-unfollowed_at shape s (first ∷ rest) followed no_more = unfollowed shape s first rest followed no_more
+unfollowed_at : (shape : List Part) (text : List ℕ) → begins_followed shape ≡ true → may_follow (drop 1 text) ≡ false → may_begin shape text ≡ false
+unfollowed_at shape [] followed no_more = nothing_there shape followed
+unfollowed_at shape (first ∷ rest) followed no_more = unfollowed shape first rest followed no_more
 
-unfollowed_all : (shapes : List (List Part)) (s : Seen) (text : List ℕ) → list_all begins_followed shapes ≡ true → may_follow (slice_index text 1) ≡ false → first_fit shapes (record s { rest = text }) ≡ None
+unfollowed_all : (shapes : List (List Part)) (s : Seen) (text : List ℕ) → list_all begins_followed shapes ≡ true → may_follow (drop 1 text) ≡ false → first_fit shapes (record s { rest = text }) ≡ None
 unfollowed_all [] s text followed no_more = refl
 unfollowed_all (shape ∷ shapes) s text followed no_more =
     let parts : (begins_followed shape ≡ true) × (list_all begins_followed shapes ≡ true) = and_parts (begins_followed shape) (list_all begins_followed shapes) followed in
-    ap (λ found. option_or found (first_fit shapes (record s { rest = text }))) (unfollowed_at shape s text parts.0 no_more) ∙ unfollowed_all shapes s text parts.1 no_more
+    ap (λ found. option_or found (first_fit shapes (record s { rest = text }))) (not_begun shape (record s { rest = text }) (unfollowed_at shape text parts.0 no_more)) ∙ unfollowed_all shapes s text parts.1 no_more
 
 afters_followed : list_all begins_followed afters ≡ true
 unfolding afters
 afters_followed = refl
 
-pub not_followed : (kind : NameKind) (s : Seen) (end : ℕ) → may_follow (slice_index (take (length s.rest - end) (drop end s.rest)) 1) ≡ false → found_at kind s end ≡ None
+pub not_followed : (kind : NameKind) (s : Seen) (end : ℕ) → may_follow (drop 1 (take (length s.rest - end) (drop end s.rest))) ≡ false → found_at kind s end ≡ None
 unfolding found_at
 not_followed kind s end no_more =
     let none : first_fit afters (record s { rest = drop end s.rest }) ≡ None =
-    unfollowed_all afters s (drop end s.rest) afters_followed (subst (λ text. may_follow (slice_index text 1) ≡ false) (rest_is s.rest end) no_more) in
+    unfollowed_all afters s (drop end s.rest) afters_followed (subst (λ text. may_follow (drop 1 text) ≡ false) (rest_is s.rest end) no_more) in
     elim (begins_name kind s.rest && ends_name (take end s.rest)) as (λ v. (if v then first_fit afters (record s { rest = drop end s.rest }) else None) ≡ None) [ true ↦ none | false ↦ refl ]
 
 pub found_so : (kind : NameKind) (s found : Seen) (end : ℕ) (may : Bool) → may ≡ true → may ≡ may_name kind s.rest end → Some found ≡ fits_behind s end → Some found ≡ found_at kind s end

@@ -1,6 +1,7 @@
 -- The parts of a shape, and what they find in a text.
-use Rattle.std.specs.Prelude.{ℕ, ◌==◌, ◌||◌, ◌&&◌, if◌then◌else◌, Bool, true, false, List, [], ◌∷◌, take, drop, slice_index, Option, Some, None, option_map, option_and_then}
+use Rattle.std.specs.Prelude.{ℕ, ◌==◌, ◌||◌, not, if◌then◌else◌, Bool, true, false, List, [], ◌∷◌, take, drop, slice_index, Option, Some, None, option_map, option_and_then, unwrap_or}
 use Rattle.std.specs.List.{prefix_len}
+use Rattle.line_shapes.specs.declared.bytes.Kind.{Kind}
 use Rattle.line_shapes.specs.declared.bytes.Kind.TheVariants.{Blank, Digit, InRule, InProgram}
 use Rattle.line_shapes.specs.declared.level.Severity.{Severity}
 use Rattle.line_shapes.specs.declared.level.Level.{Level}
@@ -96,28 +97,44 @@ abbrev pub fit : List Part → Seen → Option Seen
 fit [] s = Some s
 fit (part ∷ parts) s = option_and_then (fit parts) (taken part s)
 
-abbrev pub begins_with_byte : ℕ → List ℕ → Bool
-begins_with_byte byte [] = false
-begins_with_byte byte (x ∷ xs) = x == byte
+-- the end of a part is found without more than its text
+abbrev pub is_quick : Part → Bool
+is_quick (Byte byte) = true
+is_quick Blanks = true
+is_quick AnyBlanks = true
+is_quick (Decimal figure) = true
+is_quick ALevel = false
+is_quick Letter = false
+is_quick Small = false
+is_quick Number = false
+is_quick Rule = false
+is_quick Cop = false
+is_quick Program = true
+is_quick Message = false
 
--- parts may stand at the beginning of a text, by its first byte, where the first of them is a byte
-abbrev pub may_start : List Part → List ℕ → Bool
-may_start [] text = true
-may_start (Byte byte ∷ parts) text = begins_with_byte byte text
-may_start (part ∷ parts) text = true
+abbrev pub past_byte : ℕ → List ℕ → Option (List ℕ)
+past_byte byte [] = None
+past_byte byte (x ∷ xs) = if x == byte then Some xs else None
 
--- a text may begin with the first of these parts, by its first byte and the one behind the run that this part takes
-abbrev pub may_stand : List Part → List ℕ → Bool
-may_stand [] text = true
-may_stand (Byte byte ∷ parts) text = begins_with_byte byte text
-may_stand (AnyBlanks ∷ parts) text = may_start parts (drop (prefix_len (is_in Blank) text) text)
-may_stand (Blanks ∷ parts) text = is_in Blank (slice_index text 0) && may_start parts (drop (prefix_len (is_in Blank) text) text)
-may_stand (Decimal figure ∷ parts) text = is_in Digit (slice_index text 0) && may_start parts (drop (prefix_len (is_in Digit) text) text)
-may_stand (Program ∷ parts) text = is_program_start (slice_index text 0) && may_start parts (drop (prefix_len (is_in InProgram) text) text)
-may_stand (part ∷ parts) text = true
+abbrev pub past_run : Kind → Bool → List ℕ → Option (List ℕ)
+past_run kind begins text = if begins then Some (drop (prefix_len (is_in kind) text) text) else None
 
--- the same of a byte and the part behind it
+-- the text behind such a part that a text begins with
+abbrev pub past : Part → List ℕ → Option (List ℕ)
+past (Byte byte) text = past_byte byte text
+past Blanks text = past_run Blank (is_in Blank (slice_index text 0)) text
+past AnyBlanks text = past_run Blank true text
+past (Decimal figure) text = past_run Digit (is_in Digit (slice_index text 0)) text
+past ALevel text = None
+past Letter text = None
+past Small text = None
+past Number text = None
+past Rule text = None
+past Cop text = None
+past Program text = past_run InProgram (is_program_start (slice_index text 0)) text
+past Message text = None
+
+-- parts may stand at the beginning of a text, by those before the first of another kind
 abbrev pub may_begin : List Part → List ℕ → Bool
-may_begin (Byte byte ∷ parts) [] = false
-may_begin (Byte byte ∷ parts) (x ∷ xs) = x == byte && may_stand parts xs
-may_begin parts text = may_stand parts text
+may_begin [] text = true
+may_begin (part ∷ parts) text = not (is_quick part) || unwrap_or (option_map (may_begin parts) (past part text)) false

@@ -1,6 +1,6 @@
 -- Where a finding is: a lead, a name, and what stands behind it.
-use Rattle.std.specs.Prelude.{◌≡◌, ℕ, ◌-◌, ◌==◌, ◌||◌, ◌&&◌, nat_le, nat_lt, if◌then◌else◌, Bool, true, List, [], ◌∷◌, length, take, drop, map, slice_index, Option, Some, None, option_map, option_and_then}
-use Rattle.std.specs.List.{range_with_len}
+use Rattle.std.specs.Prelude.{◌≡◌, ℕ, ◌-◌, ◌==◌, ◌||◌, ◌&&◌, nat_le, nat_lt, if◌then◌else◌, Bool, true, false, List, [], ◌∷◌, length, take, drop, map, slice_index, Option, Some, None, option_map, option_and_then}
+use Rattle.std.specs.List.{prefix_len, range_with_len}
 use Rattle.std.specs.Option.{option_or}
 use Rattle.memchr.specs.Find.{IsFirst}
 use Rattle.line_shapes.specs.declared.part.Part.{Part}
@@ -10,6 +10,7 @@ use Rattle.line_shapes.specs.Part.{Seen, seen, before, fit}
 use Rattle.line_shapes.specs.declared.name.NameKind.{NameKind}
 use Rattle.line_shapes.specs.Name.{angle_len, begins_name, ends_name, is_name}
 use Rattle.line_shapes.specs.Bytes.{is_in}
+use Rattle.line_shapes.specs.declared.bytes.Kind.{Kind}
 use Rattle.line_shapes.specs.declared.bytes.Kind.TheVariants.{Digit, Blank}
 
 pub record Place : Type 0 where
@@ -56,9 +57,32 @@ found_at kind s end = if may_name kind s.rest end then fits_behind s end else No
 unfoldable pub in_angles : Seen → Option Place
 in_angles s = let count = angle_len s.rest in if nat_le 1 count && nat_lt count (length s.rest) then option_map (named s count) (fits_behind s count) else None
 
--- a byte that may stand behind the first of what stands behind a name
-abbrev pub may_follow : ℕ → Bool
-may_follow byte = is_in Digit byte || is_in Blank byte || byte == 0x28 || byte == 0x5B
+-- a byte that ends a number in places
+abbrev pub ends_number : ℕ → Bool
+ends_number byte = byte == 0x3A || byte == 0x2C || byte == 0x29
+
+-- the byte behind the bytes of a kind that a text begins with
+abbrev pub behind_run : Kind → List ℕ → ℕ
+behind_run kind text = slice_index text (prefix_len (is_in kind) text)
+
+abbrev pub is_bracket : ℕ → Bool
+is_bracket byte = byte == 0x28 || byte == 0x5B
+
+-- the `l` of `line`, or a parenthesis
+abbrev pub opens_place : ℕ → Bool
+opens_place byte = byte == 0x6C || byte == 0x28
+
+-- a text begins with a number that ends as in places
+abbrev pub numbers_end : List ℕ → Bool
+numbers_end text = is_in Digit (slice_index text 0) && ends_number (behind_run Digit text)
+
+-- the same of blanks
+abbrev pub blanks_end : List ℕ → Bool
+blanks_end text = is_in Blank (slice_index text 0) && opens_place (behind_run Blank text)
+
+-- a text may stand behind the first byte of what stands behind a name
+abbrev pub may_follow : List ℕ → Bool
+may_follow text = is_bracket (slice_index text 0) || numbers_end text || blanks_end text
 
 -- the one with the shortest name
 unfoldable pub in_lead : NameKind → Seen → Option Place
@@ -77,3 +101,16 @@ is_mark byte = byte == 0x3A || byte == 0x28 || byte == 0x5B
 
 abbrev pub IsNextMark : List ℕ → ℕ → Option ℕ → Type 0
 IsNextMark text from answer = IsFirst (λ at. is_mark (slice_index text at) ≡ true) from (length text) answer
+
+-- a digit stands before such a byte
+abbrev pub ends_figure : ℕ → ℕ → Bool
+ends_figure last byte = is_in Digit last && ends_number byte
+
+-- the same somewhere in a text, or between a byte and the text
+abbrev pub figure_behind : ℕ → List ℕ → Bool
+figure_behind last [] = false
+figure_behind last (x ∷ xs) = ends_figure last x || figure_behind x xs
+
+-- a digit stands before `:`, `,` or `)` in a text
+abbrev pub has_figure : List ℕ → Bool
+has_figure text = figure_behind 0 text

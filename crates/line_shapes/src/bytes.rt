@@ -1,5 +1,5 @@
 //! Kinds of bytes, runs of them, and numbers.
-ghost use Rattle.std.specs.Prelude.{◌≡◌, ◌≤◌, ◌==◌, IfSome, false, length};
+ghost use Rattle.std.specs.Prelude.{◌≡◌, ◌≤◌, ◌==◌, IfSome, false, length, slice_index};
 ghost use Rattle.std.specs.List.{prefix_len, suffix_len, list_any};
 ghost use Rattle.std.specs.Option.{option_copied};
 ghost use Rattle.line_shapes.specs.Bytes.{begins_with as begins_any_case};
@@ -76,6 +76,13 @@ pub fn is_in(kind: Kind, byte: u8) -> bool
             || byte == b'_',
         Kind::Joint => matches!(byte, b'-' | b'_' | b'/' | b':'),
     }
+}
+
+/// The byte at a place, or NUL.
+pub fn byte_at(text: &[u8], at: usize) -> u8
+    ensures { result ≡ slice_index text.now at }
+{
+    if at < text.len() { text[at] } else { 0 }
 }
 
 /// How many bytes of a kind a text begins with.

@@ -1,12 +1,12 @@
 //! The parts of a shape, and what they find in a text.
-ghost use Rattle.std.specs.Prelude.{◌≡◌, ◌≤◌, drop, length, slice_index, option_map};
-ghost use Rattle.std.specs.List.{prefix_len};
-ghost use Rattle.line_shapes.specs.Bytes.{is_in as belongs};
+ghost use Rattle.std.specs.Prelude.{◌≡◌, ◌≤◌, length, slice_index, option_map};
+ghost use Rattle.std.specs.Option.{option_copied};
 ghost use Rattle.line_shapes.specs.declared.part.Part.TheVariants.{Decimal, Level, Program};
 ghost use Rattle.line_shapes.specs.Part.{before as seen_before, behind as seen_behind, byte_taken};
-ghost use Rattle.line_shapes.specs.Part.{fit as fits_there, begins_with_byte, is_program_start};
-ghost use Rattle.line_shapes.specs.Part.{may_begin, may_stand, may_start, message_taken, seen};
-ghost use Rattle.line_shapes.specs.Part.{taken as taken_by};
+ghost use Rattle.line_shapes.specs.Part.{fit as fits_there, is_program_start};
+ghost use Rattle.line_shapes.specs.Part.{is_quick as ends_quickly, may_begin, message_taken, seen};
+ghost use Rattle.line_shapes.specs.Part.{past as past_part, past_byte as past_this_byte};
+ghost use Rattle.line_shapes.specs.Part.{past_run as past_kind, taken as taken_by};
 ghost use Rattle.line_shapes.specs.Part.{with_code, with_letter};
 
 use crate::bytes::{Kind, capitals_and_digits, cop_len, is_in, is_letter, number_at, run, run_of};
@@ -106,63 +106,65 @@ pub fn fit<'a>(parts: &[Part], found: Found<'a>) -> Option<Found<'a>>
     }
 }
 
-/// Whether the first two parts may stand at the beginning of a text, by its first two bytes.
-pub(crate) fn begins(parts: &[Part], text: &[u8]) -> bool
-    ensures { result ≡ may_begin parts.now text.now }
+/// Whether the parts of a shape may stand at the beginning of a text, as far as bytes, blanks,
+/// numbers and programs tell: it looks no further than to the first part of another kind.
+#[inline(always)]
+pub fn begins(mut parts: &[Part], mut text: &[u8]) -> bool
+    ensures { result ≡ may_begin parts.entry.now text.entry.now }
 {
-    match parts {
-        [Part::Byte(byte), rest @ ..] => match text {
-            [first, more @ ..] => *first == *byte && stands(rest, more),
-            [] => false,
-        },
-        _ => stands(parts, text),
+    while let [part, rest @ ..] = parts {
+        if !is_quick(*part) {
+            return true;
+        }
+        match past(*part, text) {
+            Some(more) => text = more,
+            None => return false,
+        }
+        parts = rest;
+    }
+    true
+}
+
+/// Whether the end of a part is found without more than its text.
+fn is_quick(part: Part) -> bool
+    ensures { result ≡ ends_quickly part }
+{
+    matches!(
+        part,
+        Part::Byte(_) | Part::Blanks | Part::AnyBlanks | Part::Decimal(_) | Part::Program
+    )
+}
+
+/// The text behind such a part that a text begins with.
+fn past<'a>(part: Part, text: &'a [u8]) -> Option<&'a [u8]>
+    ensures { option_copied result ≡ past_part part text.entry.now }
+{
+    match part {
+        Part::Byte(byte) => past_byte(byte, text),
+        Part::Blanks => past_run(Kind::Blank, is_in(Kind::Blank, first_of(text)), text),
+        Part::AnyBlanks => past_run(Kind::Blank, true, text),
+        Part::Decimal(_) => past_run(Kind::Digit, is_in(Kind::Digit, first_of(text)), text),
+        Part::Program => past_run(Kind::InProgram, begins_program(first_of(text)), text),
+        _ => None,
     }
 }
 
-/// Whether the first part may stand at the beginning of a text, by its first byte, and the next
-/// one behind it.
-fn stands(parts: &[Part], text: &[u8]) -> bool
-    ensures { result ≡ may_stand parts.now text.now }
-{
-    match parts {
-        [Part::Byte(byte), ..] => is_first(text, *byte),
-        [Part::AnyBlanks, rest @ ..] => starts_behind(rest, Kind::Blank, text),
-        [Part::Blanks, rest @ ..] => {
-            is_in(Kind::Blank, first_of(text)) && starts_behind(rest, Kind::Blank, text)
-        }
-        [Part::Decimal(_), rest @ ..] => {
-            is_in(Kind::Digit, first_of(text)) && starts_behind(rest, Kind::Digit, text)
-        }
-        [Part::Program, rest @ ..] => {
-            begins_program(first_of(text)) && starts_behind(rest, Kind::InProgram, text)
-        }
-        _ => true,
-    }
-}
-
-/// Whether these parts may stand behind the bytes of a kind that a text begins with.
-fn starts_behind(parts: &[Part], kind: Kind, text: &[u8]) -> bool
-    ensures { result ≡ may_start parts.now (drop (prefix_len (belongs kind) text.now) text.now) }
-{
-    starts(parts, text.split_at(run(kind, text)).1)
-}
-
-/// Whether the first part may stand at the beginning of a text, where it is a byte.
-fn starts(parts: &[Part], text: &[u8]) -> bool
-    ensures { result ≡ may_start parts.now text.now }
-{
-    match parts {
-        [Part::Byte(byte), ..] => is_first(text, *byte),
-        _ => true,
-    }
-}
-
-fn is_first(text: &[u8], byte: u8) -> bool
-    ensures { result ≡ begins_with_byte byte text.now }
+fn past_byte<'a>(byte: u8, text: &'a [u8]) -> Option<&'a [u8]>
+    ensures { option_copied result ≡ past_this_byte byte text.entry.now }
 {
     match text {
-        [first, ..] => *first == byte,
-        [] => false,
+        [first, rest @ ..] if *first == byte => Some(rest),
+        _ => None,
+    }
+}
+
+fn past_run<'a>(kind: Kind, begins: bool, text: &'a [u8]) -> Option<&'a [u8]>
+    ensures { option_copied result ≡ past_kind kind begins text.entry.now }
+{
+    if begins {
+        Some(text.split_at(run(kind, text)).1)
+    } else {
+        None
     }
 }
 

@@ -1,17 +1,20 @@
 //! Where a finding is: a lead, a name, and what stands behind it.
 ghost use Rattle.std.specs.Prelude.{◌≡◌, ◌≤◌, ◌<◌, nat_le, if◌then◌else◌, false};
 ghost use Rattle.std.specs.Prelude.{Some, None, option_map, option_and_then, length, take};
-ghost use Rattle.std.specs.Prelude.{slice_index, map};
+ghost use Rattle.std.specs.Prelude.{drop, slice_index, map};
 ghost use Rattle.line_shapes.specs.Part.{before as seen_before, fit as fits_there, seen};
 ghost use Rattle.line_shapes.specs.Name.{first_fault as fault_first, is_angle as begins_angle};
 ghost use Rattle.line_shapes.specs.Least.{IsLeastPlace};
 ghost use Rattle.line_shapes.specs.Place.{IsNextMark, may_follow, may_name as may_be_name};
-ghost use Rattle.line_shapes.specs.Place.{found_at as found_behind};
+ghost use Rattle.line_shapes.specs.Place.{blanks_end, numbers_end, is_bracket as opens_bracket};
+ghost use Rattle.line_shapes.specs.Place.{ends_number as number_ends, opens_place as place_opens};
+ghost use Rattle.line_shapes.specs.Place.{ends_figure as figure_ends, found_at as found_behind};
 ghost use Rattle.line_shapes.specs.Place.{first_fit as fits_first, in_lead as place_in_lead};
 ghost use Rattle.line_shapes.specs.Place.{in_leads as place_in_leads, place as place_there};
+ghost use Rattle.line_shapes.specs.Place.{has_figure as figure_in};
 ghost use Rattle.line_shapes.specs.Place.{in_angles as angled_place, placed};
 
-use crate::bytes::{Kind, is_in};
+use crate::bytes::{Kind, byte_at, is_in, run};
 use crate::name::{NameKind, angle_len, begins_name, ends_name, first_fault, is_angle};
 use crate::part::{Found, Part, begins, fit};
 use crate::tables::{AFTERS, LEADS};
@@ -25,12 +28,45 @@ pub struct Placed<'a> {
 }
 
 /// The place of a line.
-#[tactic(auto, unfolding(crate::specs::Place::leads))]
 pub fn place(line: &[u8]) -> Option<Placed<'_>>
     ensures place { option_map placed result ≡ place_there line.now }
     ensures least { IsLeastPlace line.now (option_map placed result) }
 {
-    in_leads(&LEADS, line)
+    placed_in(line)
+}
+
+/// The same, where a figure is looked for first.
+#[tactic(auto, unfolding(crate::specs::Place::leads), using(crate::proofs::FigureLemmas::no_place_there))]
+fn placed_in(line: &[u8]) -> Option<Placed<'_>>
+    ensures { option_map placed result ≡ place_there line.now }
+{
+    if has_figure(line) {
+        in_leads(&LEADS, line)
+    } else {
+        None
+    }
+}
+
+/// Whether a digit stands before `:`, `,` or `)` in a text, as one does in each place.
+#[tactic(auto, using(crate::proofs::FigureLemmas::one_more))]
+pub fn has_figure(mut text: &[u8]) -> bool
+    ensures { result ≡ figure_in text.entry.now }
+{
+    let mut found = false;
+    let mut last = 0;
+    while let [byte, rest @ ..] = text {
+        found = found | ends_figure(last, *byte);
+        last = *byte;
+        text = rest;
+    }
+    found
+}
+
+/// Whether a digit stands before a byte that ends a number in places.
+fn ends_figure(last: u8, byte: u8) -> bool
+    ensures { result ≡ figure_ends last byte }
+{
+    is_in(Kind::Digit, last) && ends_number(byte)
 }
 
 /// The place behind the first of these leads that has any.
@@ -165,17 +201,55 @@ fn may_name(text: &[u8], end: usize, kind: NameKind) -> bool
     begins_name(text, kind) && ends_name(&text[..end])
 }
 
-/// Whether a digit, a blank or an opening bracket stands behind the first byte.
+/// Whether a text goes on behind its first byte as what stands behind a name does.
 fn is_followed(text: &[u8]) -> bool
-    ensures { result ≡ may_follow (slice_index text.now 1) }
+    ensures { result ≡ may_follow (drop 1 text.now) }
 {
     match text {
-        [_, second, ..] => is_in(Kind::Digit, *second)
-            || is_in(Kind::Blank, *second)
-            || *second == b'('
-            || *second == b'[',
-        _ => false,
+        [_, rest @ ..] => follows(rest),
+        [] => false,
     }
+}
+
+fn follows(rest: &[u8]) -> bool
+    ensures { result ≡ may_follow rest.now }
+{
+    match rest {
+        [first, ..] => is_bracket(*first) || begins_number(rest) || begins_blanks(rest),
+        [] => false,
+    }
+}
+
+fn is_bracket(byte: u8) -> bool
+    ensures { result ≡ opens_bracket byte }
+{
+    byte == b'(' || byte == b'['
+}
+
+/// Whether a text begins with a number that ends as in places.
+fn begins_number(text: &[u8]) -> bool
+    ensures { result ≡ numbers_end text.now }
+{
+    is_in(Kind::Digit, byte_at(text, 0)) && ends_number(byte_at(text, run(Kind::Digit, text)))
+}
+
+/// The same of blanks.
+fn begins_blanks(text: &[u8]) -> bool
+    ensures { result ≡ blanks_end text.now }
+{
+    is_in(Kind::Blank, byte_at(text, 0)) && opens_place(byte_at(text, run(Kind::Blank, text)))
+}
+
+fn ends_number(byte: u8) -> bool
+    ensures { result ≡ number_ends byte }
+{
+    matches!(byte, b':' | b',' | b')')
+}
+
+fn opens_place(byte: u8) -> bool
+    ensures { result ≡ place_opens byte }
+{
+    byte == b'l' || byte == b'('
 }
 
 /// The first place from here on of a byte with which what stands behind a name begins.

@@ -1,6 +1,6 @@
 //! What a finding says: how grave it is, its code and its message.
 ghost use Rattle.std.specs.Prelude.{◌≡◌, ◌≤◌, option_map, unwrap_or};
-ghost use Rattle.std.specs.Prelude.{map, length, slice_index, Some, None, [], IsTrue, not, ◌==◌};
+ghost use Rattle.std.specs.Prelude.{map, length, Some, None, [], IsTrue, not, ◌==◌};
 ghost use Rattle.std.specs.List.{list_all, list_any, prefix_len};
 ghost use Rattle.std.specs.Option.{option_or, option_copied};
 ghost use Rattle.line_shapes.specs.Bytes.{is_in as belongs};
@@ -27,7 +27,8 @@ ghost use Rattle.line_shapes.specs.Said.{whole as fits_whole, with_code as with_
 ghost use Rattle.line_shapes.specs.Said.{word_severity as severity_of_word, words, text_parts};
 
 use crate::bytes::{
-    Kind, before_last, begins_with, capitals_and_digits, end_run, is_in, is_letter, run, trimmed,
+    Kind, before_last, begins_with, byte_at, capitals_and_digits, end_run, is_in, is_letter, run,
+    trimmed,
 };
 use crate::level::{Severity, level_at};
 use crate::part::{Found, Part, fit};
@@ -273,13 +274,6 @@ fn letter_severity(letter: u8, colon: bool) -> Option<Severity>
         b'C' | b'R' | b'I' if colon => Some(Severity::Advice),
         _ => None,
     }
-}
-
-/// The byte at a place, or NUL.
-fn byte_at(text: &[u8], at: usize) -> u8
-    ensures { result ≡ slice_index text.now at }
-{
-    if at < text.len() { text[at] } else { 0 }
 }
 
 /// Whether a code begins with this, with more behind.

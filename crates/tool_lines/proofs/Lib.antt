@@ -1,3 +1,4 @@
 pub mod LinesLemmas
+pub mod PlainLemmas
 pub mod PaintLemmas
 pub mod DetailsLemmas

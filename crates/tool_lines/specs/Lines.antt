@@ -17,8 +17,8 @@ use Rattle.line_shapes.specs.Bytes.{is_in, before_last}
 use Rattle.tool_lines.specs.Columns.{with_column}
 use Rattle.tool_lines.specs.Marks.{are_marks, begins_blank, is_numbered, is_text}
 use Rattle.tool_lines.specs.Speaks.{speaks}
-use Rattle.line_shapes.specs.Part.{Seen, before}
-use Rattle.line_shapes.specs.Place.{Place, placed, first_some, place}
+use Rattle.line_shapes.specs.Part.{Seen, before, may_begin}
+use Rattle.line_shapes.specs.Place.{Place, placed, first_some, has_figure, place}
 use Rattle.line_shapes.specs.Said.{Words, words, whole, said, meant}
 use Rattle.line_shapes.specs.Shape.{ShapeParts, own, first_own}
 
@@ -149,6 +149,15 @@ begun_of None false None = record { sort = Kept; finding = None }
 -- what begins at a line that has this one behind it
 unfoldable pub begun : List ShapeParts → List ℕ → Option (List ℕ) → BegunParts
 begun shapes line next = begun_of (announced line next) (is_heading line next) (inline shapes line next)
+
+-- a line may have the place of what stands before it, by what it begins with
+abbrev pub is_placing : Option (List ℕ) → Bool
+is_placing None = false
+is_placing (Some next) = may_begin ARROW (uncoloned next) || may_begin UNDER next
+
+-- a line that has this one behind it has no figure, and the place of nothing is behind it: nothing begins there but what shapes of one's own find
+abbrev pub is_plain : List ℕ → Option (List ℕ) → Bool
+is_plain line next = not (has_figure line) && not (is_placing next)
 
 abbrev pub is_kept : Sort → Bool
 is_kept Kept = true

@@ -17,6 +17,7 @@ ghost use Rattle.tool_lines.specs.Lines.{in_trail as trails, inline as inline_th
 ghost use Rattle.tool_lines.specs.Lines.{is_heading as heads, name_behind, next_is_marks};
 ghost use Rattle.tool_lines.specs.Lines.{may_trail as may_trail_there};
 ghost use Rattle.tool_lines.specs.Lines.{piece as piece_there, piece_parts, runs};
+ghost use Rattle.tool_lines.specs.Lines.{is_placing as places, is_plain as plain};
 ghost use Rattle.tool_lines.specs.Lines.{spoken as spoken_there, tagged, text_below};
 ghost use Rattle.tool_lines.specs.Lines.{told as told_by};
 ghost use Rattle.tool_lines.specs.Lines.{trail_len as trail_length, uncoloned as without_colon};
@@ -27,8 +28,8 @@ use crate::marks::{are_marks, begins_blank, is_numbered, is_text};
 use crate::speaks::speaks;
 use line_shapes::bytes::{Kind, before_last, end_run};
 use line_shapes::name::NameKind;
-use line_shapes::part::{Found, Part};
-use line_shapes::place::{Placed, place};
+use line_shapes::part::{Found, Part, begins};
+use line_shapes::place::{Placed, has_figure, place};
 use line_shapes::said::{Statement, meant, said, whole};
 use line_shapes::shape::{Shape, first_own, named};
 use line_shapes::tables::{ANNOUNCED, ARROW, ARROW_PLACE, BARE, Manner, UNDER};
@@ -301,8 +302,42 @@ fn is_before_marks(next: Option<&[u8]>) -> bool
 }
 
 /// What begins at a line that has this one behind it.
-#[tactic(auto, unfolding(crate::specs::Lines::begun))]
+#[tactic(auto, using(crate::proofs::PlainLemmas::begins_nothing))]
 pub fn what_begins<'a>(shapes: &[Shape<'_>], line: &'a [u8], next: Option<&'a [u8]>) -> Begun<'a>
+    ensures { begun_parts result
+        ≡ begun_there (map shape_parts shapes.now) line.entry.now (option_copied next.entry) }
+{
+    if shapes.is_empty() && is_plain(line, next) {
+        Begun {
+            sort: Sort::Kept,
+            finding: None,
+        }
+    } else {
+        begun_at(shapes, line, next)
+    }
+}
+
+/// Whether nothing begins at a line, by what stands in each place.
+fn is_plain(line: &[u8], next: Option<&[u8]>) -> bool
+    ensures { result ≡ plain line.now (option_copied next.entry) }
+{
+    !has_figure(line) && !is_placing(next)
+}
+
+/// Whether a line may have the place of what stands before it, by what it begins with.
+fn is_placing(next: Option<&[u8]>) -> bool
+    ensures { result ≡ places (option_copied next.entry) }
+{
+    match next {
+        Some(next) => begins(&ARROW, uncoloned(next)) || begins(&UNDER, next),
+        None => false,
+    }
+}
+
+/// The same of any lines.
+#[inline(never)]
+#[tactic(auto, unfolding(crate::specs::Lines::begun))]
+fn begun_at<'a>(shapes: &[Shape<'_>], line: &'a [u8], next: Option<&'a [u8]>) -> Begun<'a>
     ensures { begun_parts result
         ≡ begun_there (map shape_parts shapes.now) line.entry.now (option_copied next.entry) }
 {

@@ -1,5 +1,5 @@
 //! When a message alone, without a level or a code, makes a finding of a line that has a place.
-ghost use Rattle.std.specs.Prelude.{◌≡◌, ◌≤◌, slice_index, length, ◌-◌};
+ghost use Rattle.std.specs.Prelude.{◌≡◌, ◌≤◌, length, ◌-◌};
 ghost use Rattle.std.specs.List.{list_any};
 ghost use Rattle.std.specs.Option.{is_some};
 ghost use Rattle.line_shapes.specs.Bytes.{before_last as before_last_byte, is_in as belongs};
@@ -19,7 +19,7 @@ ghost use Rattle.tool_lines.specs.Speaks.{names_level as level_ends, opens_level
 ghost use Rattle.tool_lines.specs.Speaks.{speaks as speaks_there, speaks_alone as alone_there};
 ghost use Rattle.tool_lines.specs.Speaks.{tells as tells_level};
 
-use line_shapes::bytes::{Kind, before_last, begins_with, end_run, is_in, is_letter};
+use line_shapes::bytes::{Kind, before_last, begins_with, byte_at, end_run, is_in, is_letter};
 use line_shapes::part::Found;
 use line_shapes::place::Placed;
 use line_shapes::tables::Manner;
@@ -70,13 +70,6 @@ fn is_parenthesized(line: &[u8], at: usize) -> bool
     ensures { result ≡ in_parentheses_before line.now at }
 {
     byte_at(line, at.saturating_sub(3)) == b')' && byte_at(line, at.saturating_sub(2)) == b':'
-}
-
-/// The byte at a place, or NUL.
-fn byte_at(text: &[u8], at: usize) -> u8
-    ensures { result ≡ slice_index text.now at }
-{
-    if at < text.len() { text[at] } else { 0 }
 }
 
 /// Whether a name has no blank, and doesn't end in a digit but in an extension.
