@@ -1,6 +1,6 @@
-// Whether bytes are UTF-8. ASCII is passed by large blocks, which costs less than judging characters.
-ghost use Rattle.std.specs.Prelude.{◌≡◌, ◌<◌, ◌≤◌, length, take, IsTrue, MatchOption, nat_le, nat_lt};
-ghost use Rattle.std.specs.Prelude.{◌||◌, true, false};
+// Whether bytes are UTF-8. ASCII is passed by large blocks, at less cost than judging characters.
+ghost use Rattle.std.specs.Prelude.{◌≡◌, ◌<◌, ◌≤◌, ◌||◌, length, take, true, false, nat_le, nat_lt};
+ghost use Rattle.std.specs.Prelude.{IsTrue, MatchOption};
 ghost use Rattle.std.specs.Str.{IsAscii, IsCharBoundary, is_utf8 as utf8};
 
 use simdutf8::is_utf8;
