@@ -275,6 +275,42 @@ static void try_texts(void) {
     }
 }
 
+/* ---- long texts, with what is no ASCII round each end of the blocks that are judged at once */
+
+static const struct {
+    const char *bytes;
+    size_t len;
+    int is_text;
+} parts[] = {
+    {"\303\251", 2, 1},         {"\346\227\245", 3, 1}, {"\360\237\221\215", 4, 1}, {"\303", 1, 0},
+    {"\251", 1, 0},             {"\300\200", 2, 0},     {"\355\240\200", 3, 0},      {"\364\220\200\200", 4, 0},
+};
+
+static void try_long_texts(void) {
+    enum { LONG = 4096, BLOCK = 512 };
+    static uint8_t bytes[LONG];
+    static reply it;
+    fresh();
+    for (size_t part = 0; part < COUNT(parts); part++) {
+        int same = 1;
+        for (size_t at = 0; at + parts[part].len <= LONG; at++) {
+            if ((at + 8) % BLOCK >= 16) continue;
+            memset(bytes, 'a', LONG);
+            memcpy(bytes + at, parts[part].bytes, parts[part].len);
+            begin(&it);
+            it.status = girzohal_draw(bytes, LONG, &file, 0, &report, 0, &label, 0, &look, it.out, ROOM, &it.answer);
+            same = same && (parts[part].is_text ? wrote(&it, "", 0) : is_wrong(&it, 0, 0));
+        }
+        check("a part of a long text", "is found wherever it stands", same);
+    }
+    for (size_t at = 0; at + 3 <= LONG; at += 3) memcpy(bytes + at, "\346\227\245", 3);
+    for (size_t len = LONG - 4; len < LONG; len++) {
+        begin(&it);
+        it.status = girzohal_draw(bytes, len, &file, 0, &report, 0, &label, 0, &look, it.out, ROOM, &it.answer);
+        check("a long text past ASCII", "is a text up to each character", len % 3 ? is_wrong(&it, 0, 0) : wrote(&it, "", 0));
+    }
+}
+
 static void try_numbers(void) {
     static reply it;
     struct {
@@ -536,6 +572,7 @@ int main(void) {
     try_refused_documents();
     try_deep_documents();
     try_texts();
+    try_long_texts();
     try_numbers();
     try_order();
     try_refusals();

@@ -6,10 +6,10 @@ ghost use Rattle.report_arrays.specs.Labels.{has_labels};
 ghost use Rattle.report_arrays.specs.Wrong.{is_file, has_texts, is_report, is_label, wrong_file};
 ghost use Rattle.report_arrays.specs.Wrong.{wrong_report, wrong_label, wrong_in, wrong_of};
 
+use crate::bytes::as_text;
 use crate::labels::has_labels;
 use crate::shapes::{File, Label, Report};
 use crate::texts::{is_filled, is_optional, is_short_text, is_text};
-use simdutf8::compat::from_utf8;
 
 /// The first argument that is wrong. The arrays are judged in this order, each by its elements'
 /// order.
@@ -34,7 +34,6 @@ pub enum Wrong {
 ///
 /// The first argument that is wrong: the texts, then the files, the reports and the labels, whether
 /// a report names them or not. Where a label stands in its file's source isn't judged here.
-#[tactic(auto, using(crate::proofs::Utf8::is_text, crate::proofs::Utf8::is_no_text))]
 pub fn read_texts<'a>(
     texts: &'a [u8],
     files: &[File],
@@ -46,12 +45,12 @@ pub fn read_texts<'a>(
         (λ text. (text.now ≡ texts.now) × (wrong ≡ None))
         (λ first. wrong ≡ Some first) }
 {
-    match from_utf8(texts) {
-        Ok(text) => match first_wrong(text, files, reports, labels) {
-            None => Ok(text),
-            Some(wrong) => Err(wrong),
-        },
-        Err(_) => Err(Wrong::InTexts),
+    let Some(text) = as_text(texts) else {
+        return Err(Wrong::InTexts);
+    };
+    match first_wrong(text, files, reports, labels) {
+        None => Ok(text),
+        Some(wrong) => Err(wrong),
     }
 }
 

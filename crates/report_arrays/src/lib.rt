@@ -11,9 +11,11 @@
 //! - `shapes`: the elements of the arrays, as C lays them out;
 //! - `texts`: a range of the buffer as a text;
 //! - `labels`: the labels that a report names;
+//! - `bytes`: whether the buffer is UTF-8;
 //! - `judged`: the first argument that is wrong.
 #![tactic(auto)]
 
+mod bytes;
 mod judged;
 mod labels;
 mod shapes;
