@@ -1,12 +1,12 @@
 -- Entries of names, and where they stand.
-use Rattle.std.proofs.Common.{◌≡◌, ℕ, ◌+◌, Bool, true, false, cond, if◌then◌else◌, List, [], ◌∷◌, ◌++◌, length, Option, Some, None, slice_get, String, string_bytes, refl, sym, ap, subst, ◌∙◌, arith, length-append, append_assoc, zero, suc}
+use Rattle.std.proofs.Common.{◌≡◌, ℕ, ◌+◌, Bool, true, false, cond, if◌then◌else◌, List, [], ◌∷◌, ◌++◌, length, Some, None, slice_get, String, string_bytes, refl, sym, ap, ◌∙◌, arith, length-append, append_assoc}
 use Rattle.std.specs.Str.{bytes_eq}
-use Rattle.std.specs.BTreeMap.{BTreeMap, Updates, get_by_text, IsEmpty}
+use Rattle.std.specs.BTreeMap.{BTreeMap, Updates, get_by_text}
 use Rattle.std.specs.Option.{option_and_then, option_map_or}
 use Rattle.std.specs.String.{string_cmp}
 use Rattle.std.specs.declared.alloc.Global.{Global}
 use Rattle.std.proofs.lemmas.Map.Text.{btree_map_updates_text}
-use Rattle.found_reports.specs.Held.{Held, lacks}
+use Rattle.found_reports.specs.Held.{lacks}
 use Rattle.found_reports.specs.Listed.{ArePlaces, first_in, held_by, held_in, place_from}
 use Rattle.found_reports.specs.declared.sources.Lack.TheVariants.{Missing}
 use Rattle.found_reports.specs.declared.sources.Source.{Source}

@@ -1,5 +1,5 @@
 -- One entry more, before those that are there.
-use Rattle.std.proofs.Common.{string_bytes, ◌≡◌, ◌≤◌, ◌+◌, ◌-◌, ◌∷◌, drop, get_or, length, subst, sym, ap, ◌∙◌, arith}
+use Rattle.std.proofs.Common.{string_bytes, ◌≡◌, ◌≤◌, ◌+◌, ◌-◌, ◌∷◌, drop, length, subst, sym, ap, ◌∙◌, arith}
 use Rattle.std.proofs.lemmas.List.{drop_more}
 use Rattle.found_reports.specs.Listed.{ArePlaces}
 use Rattle.found_reports.proofs.ListedLemmas.{places_before}
