@@ -1,5 +1,5 @@
 -- A text without a key `files` has no value with one.
-use Rattle.std.proofs.Common.{◌≡◌, ℕ, zero, suc, Bool, true, false, ◌||◌, if◌then◌else◌, List, [], ◌∷◌, length, codes, Option, Some, None, option_map, option_and_then, refl, sym, ap, subst, ◌∙◌}
+use Rattle.std.proofs.Common.{◌≡◌, ℕ, zero, suc, Bool, true, false, if◌then◌else◌, List, [], ◌∷◌, length, codes, Option, Some, None, option_map, option_and_then, refl, sym, ap, ◌∙◌}
 use Rattle.std.specs.Prelude.{⊤}
 use Rattle.std.specs.List.{list_any}
 use Rattle.std.specs.Option.{is_some}
@@ -14,7 +14,6 @@ use Rattle.serde_json.specs.Data.{Data, Num, number, array, object, Items, Membe
 use Rattle.serde_json.specs.Find.{get, get_member}
 use Rattle.serde_json.specs.Read.{max_depth, number_of, of_items, of_json, of_members, read}
 use Rattle.serde_json.proofs.Views.{get_member-put_other}
-use Rattle.documents.specs.Document.{json_in}
 use Rattle.input_forms.specs.Object.{has_files}
 use Rattle.input_forms.specs.Scanned.{is_files_key, names_files}
 

@@ -1,5 +1,5 @@
 -- Whether a key of a text is `files`, at any depth.
-use Rattle.std.specs.Prelude.{ℕ, List, [], ◌∷◌, Bool, false, codes, if◌then◌else◌}
+use Rattle.std.specs.Prelude.{ℕ, List, Bool, false, codes, if◌then◌else◌}
 use Rattle.std.specs.List.{list_any}
 use Rattle.std.specs.Str.{bytes_eq, is_utf8}
 use Rattle.json.specs.Token.{Token}
