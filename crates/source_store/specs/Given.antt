@@ -1,5 +1,5 @@
 -- What a store gave of names.
-use Rattle.std.specs.Prelude.{◌≡◌, ⊤, ℕ, List, ◌++◌, Bool, true, Option, Some, None, All, Result, Ok, Err, String, string_bytes}
+use Rattle.std.specs.Prelude.{◌≡◌, ⊤, ℕ, List, ◌++◌, Bool, true, Option, Some, None, All, string_bytes}
 use Rattle.std.specs.Borrow.{Bor}
 use Rattle.std.specs.BTreeSet.{BTreeSet, contains}
 use Rattle.std.specs.Cmp.Lexicographic.{slice_cmp}
@@ -7,10 +7,8 @@ use Rattle.std.specs.List.{list_any}
 use Rattle.std.specs.Ordering.{nat_cmp}
 use Rattle.std.specs.declared.cmp.Ordering.{Ordering}
 use Rattle.std.specs.Str.{bytes_eq}
-use Rattle.std.specs.declared.alloc.Global.{Global}
 use Rattle.found_reports.specs.Held.{Held, holds, lacks}
-use Rattle.found_reports.specs.Listed.{fitting, held_as, held_by}
-use Rattle.found_reports.specs.declared.sources.Lack.{Lack}
+use Rattle.found_reports.specs.Listed.{fitting, held_by}
 use Rattle.found_reports.specs.declared.sources.Lack.TheVariants.{Missing}
 use Rattle.found_reports.specs.declared.sources.Source.{Source}
 use Rattle.source_store.specs.Named.{path_in}
