@@ -1,9 +1,9 @@
 -- Reports stay what they are when files are added.
-use Rattle.std.proofs.Common.{◌≡◌, ℕ, ◌<◌, List, [], ◌∷◌, ◌++◌, length, map, refl, ap, ap₂, subst, sym}
+use Rattle.std.proofs.Common.{◌≡◌, ℕ, ◌<◌, List, [], ◌∷◌, ◌++◌, length, map, refl, ap, ap₂}
 use Rattle.std.specs.List.{All}
 use Rattle.std.proofs.Math.ListN.{get_or-append}
 use Rattle.std.proofs.lemmas.List.Elements.{All-head, All-tail}
-use Rattle.found_reports.specs.Found.{Found, NamedHeld, file_at, found_on}
+use Rattle.found_reports.specs.Found.{NamedHeld, file_at, found_on}
 use Rattle.found_reports.specs.Kept.{Stands, report_view}
 use Rattle.found_reports.specs.declared.reports.FoundReport.{FoundReport}
 

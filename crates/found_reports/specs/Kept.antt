@@ -1,5 +1,5 @@
 -- What contracts see of reports that are kept with their files.
-use Rattle.std.specs.Prelude.{ℕ, ◌<◌, ⊤, List, length, string_bytes}
+use Rattle.std.specs.Prelude.{◌<◌, ⊤, List, length, string_bytes}
 use Rattle.oxc_protocol.specs.Source.{Fits}
 use Rattle.found_reports.specs.Held.{Held, holds, lacks, held_of}
 use Rattle.found_reports.specs.Found.{Found, NamedHeld, LabelsStand, file_at, found_on}

@@ -1,7 +1,13 @@
 // The texts of names.
-ghost use Rattle.std.specs.Prelude.{◌≡◌, ℕ, List, IfOk};
+ghost use Rattle.std.specs.Prelude.{◌≡◌, ℕ, List, IfOk, slice_get};
+ghost use Rattle.std.specs.Option.{option_copied};
 ghost use Rattle.oxc_protocol.specs.Source.{Fits};
 ghost use Rattle.found_reports.specs.Held.{Held, held_of};
+ghost use Rattle.found_reports.specs.Listed.{ArePlaces};
+
+use std::alloc::{AllocError, Global};
+use std::collections::BTreeMap;
+use std::marker::Model;
 
 /// Why a name has no text.
 #[derive(Clone, Copy, Debug, PartialEq, Eq)]
@@ -58,11 +64,48 @@ impl Source {
 }
 
 /// A list of names and their texts: the first entry of a name counts, and a name without one is
-/// missing.
+/// missing. Names are looked up in a map. Contracts see the entries.
 #[derive(Debug, Drop)]
 pub struct ListedSources {
-    /// The entries.
-    pub entries: Vec<Source>,
+    entries: Vec<Source>,
+    /// Where the first entry of each name stands.
+    places: BTreeMap<String, usize>,
+}
+
+impl Model for ListedSources {
+    ghost use Rattle.found_reports.specs.Listed.{ArePlaces, Listed};
+
+    ghost Value = { Listed };
+
+    ghost view = { λ s. record { entries = s.entries } };
+
+    ghost invariant = { λ s. ArePlaces 0 s.entries.items s.places };
+}
+
+impl ListedSources {
+    ghost use Rattle.found_reports.specs.Listed.{first_in};
+
+    /// The sources that are listed.
+    ///
+    /// # Errors
+    ///
+    /// Want of memory.
+    pub fn new(alloc: Global, entries: Vec<Source>) -> Result<ListedSources, AllocError>
+        ensures { IfOk result (λ it. it.entries ≡ entries) }
+    {
+        let places = places_of(alloc, &entries)?;
+        Ok(ListedSources { entries, places })
+    }
+
+    /// The first entry of a name.
+    fn first(&self, name: &str) -> Option<&Source>
+        ensures { option_copied result ≡ first_in self.now.entries.items name.now }
+    {
+        match self.places.get(name) {
+            Some(place) => entry_at(&self.entries, *place),
+            None => None,
+        }
+    }
 }
 
 impl Sources for ListedSources {
@@ -70,12 +113,32 @@ impl Sources for ListedSources {
 
     ghost told = { λ listed name. held_in listed.entries.items name };
 
+    #[tactic(auto, using(crate::proofs::ListedLemmas::first_held))]
     fn source(&self, name: &str) -> Result<&str, Lack> {
-        for entry in &self.entries {
-            if entry.name.as_str() == name {
-                return entry.held();
-            }
+        match self.first(name) {
+            Some(entry) => entry.held(),
+            None => Err(Lack::Missing),
         }
-        Err(Lack::Missing)
     }
+}
+
+/// The entry at a place.
+fn entry_at(entries: &[Source], place: usize) -> Option<&Source>
+    ensures { option_copied result ≡ slice_get entries.now place }
+{
+    entries.get(place)
+}
+
+/// Where the first entry of each name stands.
+fn places_of(alloc: Global, entries: &[Source]) -> Result<BTreeMap<String, usize>, AllocError>
+    ensures { IfOk result (ArePlaces 0 entries.now) }
+{
+    let mut places = BTreeMap::new(alloc);
+    let mut at = entries.len();
+    while at > 0 {
+        at -= 1;
+        let name = String::from_str(alloc, entries[at].name.as_str())?;
+        places.insert(name, at)?;
+    }
+    Ok(places)
 }

@@ -37,7 +37,7 @@ fn a_report_keeps_its_place(rt: HostRuntime) -> Result<(), Fail> {
         name: String::from_str(alloc, "a.c")?,
         text: Ok(String::from_str(alloc, "int x;\n")?),
     })?;
-    let sources = ListedSources { entries };
+    let sources = ListedSources::new(alloc, entries)?;
     assert!(rt; matches!(sources.source("a.c"), Ok("int x;\n")));
     assert!(rt; matches!(sources.source("b.c"), Err(Lack::Missing)));
     let mut found = FoundReports::new(alloc);

@@ -161,7 +161,7 @@ fn sources_of(
             })?;
         }
     }
-    Ok(ListedSources { entries })
+    ListedSources::new(alloc, entries)
 }
 
 /// Whether a name, which may be a URI, means the file of a path.

@@ -11,8 +11,11 @@ ghost use Rattle.harmless.specs.Harmless.{source_char as source_of, turns_direct
 use std::alloc::{AllocError, Global};
 use std::iter::once;
 
+mod paint;
 #[cfg(test)]
 mod tests;
+
+pub use paint::harmless_line;
 
 /// What a text is for.
 #[derive(Clone, Copy, Debug, PartialEq, Eq)]

@@ -1,5 +1,5 @@
 // Texts as terminals are given them.
-use crate::{Kind, harmless, harmless_source};
+use crate::{Kind, harmless, harmless_line, harmless_source};
 use std::test::Fail;
 
 #[test]
@@ -28,6 +28,27 @@ fn sources_keep_their_rows(rt: HostRuntime) -> Result<(), Fail> {
     ];
     for (text, wanted) in rows {
         assert_eq!(rt; harmless_source(alloc, text)?.as_str(), wanted);
+    }
+    Ok(())
+}
+
+#[test]
+fn lines_keep_their_paint(rt: HostRuntime) -> Result<(), Fail> {
+    let alloc = rt.alloc();
+    let rows = [
+        ("In function 'f':", "In function 'f':"),
+        (
+            "\u{1b}[01;31m\u{1b}[Kred\u{1b}[m",
+            "\u{1b}[01;31m\u{1b}[Kred\u{1b}[m\u{1b}[0m",
+        ),
+        ("\u{1b}[31mred\r", "\u{1b}[31mred?\u{1b}[0m"),
+        ("\u{1b}[2J \u{1b}[2K \u{1b}]0;t\u{7}", "?[2J ?[2K ?]0;t?"),
+        ("\u{1b}\u{1b}[0m", "?\u{1b}[0m\u{1b}[0m"),
+        ("\u{1b}[1", "?[1"),
+        ("", ""),
+    ];
+    for (line, wanted) in rows {
+        assert_eq!(rt; harmless_line(alloc, line)?.as_str(), wanted);
     }
     Ok(())
 }

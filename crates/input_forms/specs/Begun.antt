@@ -1,5 +1,5 @@
 -- What an input begins as.
-use Rattle.std.specs.Prelude.{ℕ, nat_eq, List, [], ◌∷◌, drop, ◌==◌, ◌||◌, Bool, true, false, if◌then◌else◌}
+use Rattle.std.specs.Prelude.{ℕ, nat_eq, List, [], ◌∷◌, drop, ◌==◌, ◌||◌, Bool, if◌then◌else◌}
 use Rattle.std.specs.List.{starts_with}
 use Rattle.input_forms.specs.declared.begun.Begun.{Begun}
 use Rattle.input_forms.specs.declared.begun.Begun.TheVariants.{Object, OtherJson, Lines}

@@ -7,6 +7,8 @@
 
 mod begun;
 mod object;
+#[cfg(test)]
+mod tests;
 
 pub use begun::{Begun, begins_as};
 pub use object::{has_files, json_part};

@@ -1,7 +1,12 @@
 // The JSON object among other lines.
 ghost use Rattle.std.specs.Prelude.{◌≡◌, ◌≤◌, IfOk, length};
+ghost use Rattle.std.specs.List.{list_any};
+ghost use Rattle.json.specs.Lex.{tokens};
+ghost use Rattle.json.specs.Reads.{token_of};
 ghost use Rattle.input_forms.specs.Object.{IsJsonPart, has_files as has_key_files};
+ghost use Rattle.input_forms.specs.Scanned.{is_files_key, names_files as names_key_files};
 
+use json::{Reader, Scratch, Token};
 use sarif_log::log_in;
 use serde_json::Value;
 use std::alloc::{AllocError, Global};
@@ -21,16 +26,64 @@ pub fn json_part(bytes: &[u8]) -> Range<usize>
 
 /// Whether a text is JSON that has the key `files`, as documents of files and reports do.
 ///
+/// No value is made of a text without such a key, so that a log costs one pass over its tokens.
+///
 /// # Errors
 ///
 /// Want of memory.
-#[tactic(auto, unfolding(crate::specs::Object::has_files))]
+#[tactic(auto, using(crate::proofs::KeyLemmas::none_unnamed))]
 pub fn has_files(alloc: Global, text: &[u8]) -> Result<bool, AllocError>
+    ensures { IfOk result (λ has. has ≡ has_key_files text.now) }
+{
+    if names_files(alloc, text)? {
+        has_files_on_top(alloc, text)
+    } else {
+        Ok(false)
+    }
+}
+
+/// The same, by the value of the text.
+#[tactic(auto, unfolding(crate::specs::Object::has_files))]
+fn has_files_on_top(alloc: Global, text: &[u8]) -> Result<bool, AllocError>
     ensures { IfOk result (λ has. has ≡ has_key_files text.now) }
 {
     match Value::from_slice(alloc, text) {
         Ok(value) => Ok(value.get("files").is_some()),
         Err(e) if e.is_memory() => Err(AllocError),
         Err(_) => Ok(false),
+    }
+}
+
+/// Whether a key of a text is `files`, at any depth.
+fn names_files(alloc: Global, bytes: &[u8]) -> Result<bool, AllocError>
+    ensures { IfOk result (λ named. named ≡ names_key_files bytes.now) }
+{
+    match std::str::from_utf8(bytes) {
+        Ok(text) => has_files_key(alloc, text),
+        Err(_) => Ok(false),
+    }
+}
+
+/// Whether one of the tokens of a text is the key `files`.
+fn has_files_key(alloc: Global, text: &str) -> Result<bool, AllocError>
+    ensures { IfOk result (λ has. has ≡ list_any is_files_key (tokens text.now)) }
+{
+    let mut scratch = Scratch::new(alloc);
+    let mut reader = Reader::new(text, &mut scratch)?;
+    while let Some(token) = reader.next() {
+        if is_files(token) {
+            return Ok(true);
+        }
+    }
+    Ok(false)
+}
+
+/// Whether a token is the key `files`.
+fn is_files(token: Token<'_>) -> bool
+    ensures { result ≡ is_files_key (token_of token.entry) }
+{
+    match token {
+        Token::Key(key) => key == "files",
+        _ => false,
     }
 }

@@ -1,8 +1,15 @@
 -- Names of which reports ask, and that these decide the reports.
-use Rattle.std.proofs.Common.{◌≡◌, ℕ, ◌<◌, true, false, cond, List, [], ◌∷◌, ◌++◌, length, map, Option, Some, None, option_map, ◌||◌, refl, sym, ap, ap₂, ◌∙◌, ◌+◌, get_or, subst, take}
+use Rattle.std.proofs.Common.{◌≡◌, ℕ, ◌<◌, Bool, true, false, cond, List, [], ◌∷◌, ◌++◌, length, map, Option, Some, None, option_map, ◌||◌, refl, sym, ap, ap₂, ◌∙◌, ◌+◌, append_assoc, get_or, subst, take, String, string_bytes}
+use Rattle.std.specs.Borrow.{Bor}
+use Rattle.std.specs.BTreeMap.{is_at}
+use Rattle.std.specs.BTreeSet.{BTreeSet, contains}
+use Rattle.std.specs.Ordering.{is_eq}
+use Rattle.std.specs.declared.alloc.Global.{Global}
 use Rattle.std.specs.List.{All, AllByRecursion, filter, flat_map, list_any}
 use Rattle.std.specs.Str.{bytes_eq}
 use Rattle.std.proofs.lemmas.List.Elements.{All-head, All-tail}
+use Rattle.std.proofs.lemmas.List.Folds.{list_any-append}
+use Rattle.std.proofs.lemmas.Map.Text.{is_eq-slice_cmp}
 use Rattle.std.proofs.lemmas.Slice.Eq.{bytes_eq-Decides}
 use Rattle.std.proofs.lemmas.Grind.{flat_map-append}
 use Rattle.std.proofs.lemmas.List.{append-nil, map-append, take_more}
@@ -12,7 +19,7 @@ use Rattle.sarif_log.specs.declared.log.ColumnKind.{ColumnKind}
 use Rattle.sarif_log.specs.Log.{ArtifactLocation, Invocation, Location, Log, LogResult, Names, Notification, Run}
 use Rattle.sarif_findings.specs.Findings.{Finding, Spot, driver_strings, findings_in, found_by, found_in, is_finding, noted_by, noted_in, notes_of, spot_at, strings_of}
 use Rattle.sarif_findings.specs.Rules.{Strings}
-use Rattle.sarif.specs.Asked.{DecideReports, and_name, and_names, asked_at, asked_by, finding_names, invocation_names, location_names, names_in, note_names, result_names, run_names, spot_names}
+use Rattle.sarif.specs.Asked.{DecideReports, Knows, and_name, and_names, asked_at, asked_by, finding_names, invocation_names, location_names, name_order, names_in, note_names, result_names, run_names, spot_names}
 use Rattle.sarif.specs.Labels.{Placed, placed}
 use Rattle.sarif.specs.Meaning.{finding_reports, reports_among, reports_in, run_reports}
 use Rattle.sarif.specs.Naming.{location_in, resolved}
@@ -25,23 +32,40 @@ unfolding and_names
 and_names_append names [] ys = refl
 and_names_append names (x ∷ xs) ys = and_names_append (and_name names x) xs ys
 
-pub and_names_none : (names : List (List ℕ)) → and_names names [] ≡ names
+-- one name more
+pub once_more : (names : List (String Global)) (i : ℕ) (name : String Global) (once : List (List ℕ)) → i < length names → name ≡ get_or names i name → once ≡ and_names [] (map string_bytes (take i names))
+    → and_name once (string_bytes name) ≡ and_names [] (map string_bytes (take (i + 1) names))
 unfolding and_names
-and_names_none names = refl
-
--- one item more
-pub and_names_more : {X Y : Type 0} (view : X → Y) (f : Y → List (List ℕ)) (start now new : List (List ℕ)) (xs : List X) (i : ℕ) (x : X) → i < length xs → x ≡ get_or xs i x
-    → now ≡ and_names start (flat_map f (map view (take i xs))) → new ≡ and_names now (f (view x)) → new ≡ and_names start (flat_map f (map view (take (i + 1) xs)))
-and_names_more view f start now new xs i x within here before more =
-    let one : take (i + 1) xs ≡ take i xs ++ x ∷ [] = take_more xs i x within ∙ ap (λ y. take i xs ++ y ∷ []) (sym here) in
-    let parts : flat_map f (map view (take (i + 1) xs)) ≡ flat_map f (map view (take i xs)) ++ f (view x) =
-    ap (λ ys. flat_map f (map view ys)) one ∙ (ap (flat_map f) (map-append view (take i xs) (x ∷ [])) ∙ (flat_map-append f (map view (take i xs)) (view x ∷ []) ∙ ap (λ ys. flat_map f (map view (take i xs)) ++ ys) (append-nil (f (view x))))) in
-    more ∙ (ap (λ ys. and_names ys (f (view x))) before ∙ (sym (and_names_append start (flat_map f (map view (take i xs))) (f (view x))) ∙ ap (and_names start) (sym parts)))
+once_more names i name once within here before =
+    let one : take (i + 1) names ≡ take i names ++ name ∷ [] = take_more names i name within ∙ ap (λ y. take i names ++ y ∷ []) (sym here) in
+    ap (λ xs. and_name xs (string_bytes name)) before
+    ∙ sym (and_names_append [] (map string_bytes (take i names)) (string_bytes name ∷ []))
+    ∙ ap (and_names []) (sym (ap (map string_bytes) one ∙ map-append string_bytes (take i names) (name ∷ [])))
 
 -- two lists of items
-pub and_names_both : {Y : Type 0} (f : Y → List (List ℕ)) (start mid new : List (List ℕ)) (xs ys : List Y) → mid ≡ and_names start (flat_map f xs) → new ≡ and_names mid (flat_map f ys) → new ≡ and_names start (flat_map f (xs ++ ys))
-and_names_both f start mid new xs ys first second =
-    second ∙ (ap (λ zs. and_names zs (flat_map f ys)) first ∙ (sym (and_names_append start (flat_map f xs) (flat_map f ys)) ∙ ap (and_names start) (sym (flat_map-append f xs ys))))
+pub added_both : {Y : Type 0} (f : Y → List (List ℕ)) (start mid new : List (List ℕ)) (xs ys : List Y) → mid ≡ start ++ flat_map f xs → new ≡ mid ++ flat_map f ys → new ≡ start ++ flat_map f (xs ++ ys)
+added_both f start mid new xs ys first second =
+    second ∙ ap (λ zs. zs ++ flat_map f ys) first ∙ append_assoc start (flat_map f xs) (flat_map f ys) ∙ ap (λ zs. start ++ zs) (sym (flat_map-append f xs ys))
+
+-- ---- names that are known
+
+pub knows_none : (set : BTreeSet (Bor (List ℕ))) (names : List (String Global)) → set.keys ≡ [] → names ≡ [] → Knows set (map string_bytes names)
+knows_none set names none empty name = ap (list_any (is_at (name_order name))) none ∙ sym (ap (λ those. list_any (λ other. bytes_eq other name.now) (map string_bytes those)) empty)
+
+known_or_new : (is before : Bool) → cond is true before ≡ (before || (is || false))
+known_or_new true true = refl
+known_or_new true false = refl
+known_or_new false true = refl
+known_or_new false false = refl
+
+pub knows_added : (old new : BTreeSet (Bor (List ℕ))) (names more : List (List ℕ)) (name : Bor (List ℕ)) → Knows old names
+    → ((q : Bor (List ℕ)) → contains name_order new q ≡ cond (is_eq (name_order name q)) true (contains name_order old q))
+    → more ≡ names ++ name.now ∷ [] → Knows new more
+knows_added old new names more name knows updates pushed q =
+    updates q
+    ∙ ap₂ (λ is before. cond is true before) (is_eq-slice_cmp name.now q.now) (knows q)
+    ∙ known_or_new (bytes_eq name.now q.now) (list_any (λ other. bytes_eq other q.now) names)
+    ∙ sym (ap (list_any (λ other. bytes_eq other q.now)) pushed ∙ list_any-append (λ other. bytes_eq other q.now) names (name.now ∷ []))
 
 -- ---- findings ask for what stands in the log
 
@@ -86,12 +110,12 @@ run_asks run =
     ∙ ap₂ (λ first rest. first ++ rest) (invocations_ask run.names (driver_strings run) run.invocations) (results_ask run.names run run.results)
 
 -- the names of a run
-pub and_run_names : (run : Run) (start mid new : List (List ℕ)) → mid ≡ and_names start (flat_map (invocation_names run.names) run.invocations)
-    → new ≡ and_names mid (flat_map (result_names run.names) run.results) → new ≡ and_names start (run_names run)
-and_run_names run start mid new first second =
+pub run_added : (run : Run) (start mid new : List (List ℕ)) → mid ≡ start ++ flat_map (invocation_names run.names) run.invocations
+    → new ≡ mid ++ flat_map (result_names run.names) run.results → new ≡ start ++ run_names run
+run_added run start mid new first second =
     let notes = flat_map (invocation_names run.names) run.invocations in
     let results = flat_map (result_names run.names) run.results in
-    second ∙ (ap (λ xs. and_names xs results) first ∙ (sym (and_names_append start notes results) ∙ ap (and_names start) (sym (run_asks run))))
+    second ∙ ap (λ xs. xs ++ results) first ∙ append_assoc start notes results ∙ ap (λ xs. start ++ xs) (sym (run_asks run))
 
 -- ---- what is told of all the names together is told of each
 

@@ -146,3 +146,5 @@ placed_one known more places it start meant spots i spot grows all within here b
     let parts : map meant (map spot_view (take (i + 1) spots)) ≡ those ++ meant (spot_view spot) ∷ [] =
     ap (λ xs. map meant (map spot_view xs)) one ∙ (ap (map meant) (map-append spot_view (take i spots) (spot ∷ [])) ∙ map-append meant (map spot_view (take i spots)) (spot_view spot ∷ [])) in
     map-append (placed_view more) places (it ∷ []) ∙ (ap₂ (λ xs x. xs ++ x ∷ []) (views_grown known more places grows all ∙ before) same ∙ (append_assoc start those (meant (spot_view spot) ∷ []) ∙ ap (λ xs. start ++ xs) (sym parts)))
+
+pub ruleset known_rules = (filed_push, told_push, grows_push, grows_none, seated_push, seated_told)

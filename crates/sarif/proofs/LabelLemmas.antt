@@ -47,3 +47,5 @@ labels_stand files number file labels same there all = rw same (in_held file.hel
 pub none_stand : (held : Held) → LabelsStand held []
 none_stand (holds text) = All-nil (StandsIn text)
 none_stand (lacks why) = refl
+
+pub ruleset label_rules = (label_stands, span_small, labels_stand, one_stands, none_stand)

@@ -3,3 +3,4 @@ pub mod KnownLemmas
 pub mod LabelLemmas
 pub mod ReportLemmas
 pub mod AskedLemmas
+pub mod ContentsLemmas

@@ -30,3 +30,5 @@ pub resolved_to : (left : ℕ) (bases : List UriBase) (used more : List (List �
     → more ≡ used ++ it.name ∷ [] → next ≡ it.location.base → name ≡ front_of it.location.uri ++ uri
     → resolved_in left bases used base uri ≡ resolved_in (left - 1) bases more next name
 resolved_to left bases used more base next uri name it some there a b c = rw (a, b, c) (resolved_go left bases used base uri it some there)
+
+pub ruleset resolved_rules = (resolved_none, resolved_stop, resolved_go)

@@ -89,3 +89,5 @@ pub count_within : (known : List Known) (places : List code.Placed) (first rest 
 count_within known places first rest count all many =
     let e : length places ≡ length first + length rest = sym (length-map places (placed_view known)) ∙ (ap length all ∙ length-append first rest) in
     omega (arith, e, many)
+
+pub ruleset among_rules = (among_none, among_skip, among_found)

@@ -4,4 +4,5 @@ pub mod Reading
 pub mod Labels
 pub mod Meaning
 pub mod Asked
+pub mod Contents
 pub mod Views

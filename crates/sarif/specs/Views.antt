@@ -4,7 +4,7 @@ use Rattle.std.specs.Borrow.{Bor}
 use Rattle.found_reports.specs.Found.{NamedHeld, file_at}
 use Rattle.found_reports.specs.Held.{Held, holds, lacks, held_of, held_text}
 use Rattle.found_reports.specs.Kept.{IsShortHeld}
-use Rattle.sarif_log.specs.Log.{UriBase, artifact_location_view, names_view, uri_base_view}
+use Rattle.sarif_log.specs.Log.{UriBase, artifact_location_view, uri_base_view}
 use Rattle.sarif_log.specs.declared.log.UriBase as code_base
 use Rattle.sarif_spans.specs.Rows.{IsRowOf, rows_in}
 use Rattle.sarif_findings.specs.Views.{borrowed}
@@ -28,7 +28,7 @@ had_view it = record { name = string_bytes it.name; held = held_of it.text }
 unfoldable pub reading_view : code_reading.Reading → Reading
 reading_view it =
     record {
-      names = names_view it.names.now;
+      names = it.contents;
       columns = it.columns;
       breaks = lent_texts it.breaks.items;
       scope = borrowed it.scope;

@@ -1,11 +1,9 @@
 //! The names of which the reports of a log ask.
-ghost use Rattle.std.specs.Prelude.{◌≡◌, ◌++◌, flat_map, map, string_bytes, IfOk, OnOk};
-ghost use Rattle.std.specs.List.{list_any};
-ghost use Rattle.std.specs.Str.{bytes_eq};
+ghost use Rattle.std.specs.Prelude.{◌≡◌, ◌++◌, [], flat_map, map, string_bytes, IfOk, OnOk};
 ghost use Rattle.sarif_log.specs.Log.{artifact_location_view, invocation_view, location_view};
 ghost use Rattle.sarif_log.specs.Log.{log_result_view, log_view, names_view, notification_view};
 ghost use Rattle.sarif_log.specs.Log.{run_view};
-ghost use Rattle.sarif.specs.Asked.{DecideReports, and_name, and_names, asked_at};
+ghost use Rattle.sarif.specs.Asked.{DecideReports, Knows, and_name, and_names, asked_at};
 ghost use Rattle.sarif.specs.Asked.{invocation_names, location_names, names_in, note_names};
 ghost use Rattle.sarif.specs.Asked.{result_names, run_names};
 
@@ -13,6 +11,7 @@ use crate::resolving::{location_in, resolved};
 use sarif_findings::is_finding;
 use sarif_log::{ArtifactLocation, Invocation, Location, Log, LogResult, Names, Notification, Run};
 use std::alloc::{AllocError, Global};
+use std::collections::BTreeSet;
 
 /// The names of which [`crate::reports_of`] asks, each once: sources that tell the same of these
 /// give the same reports.
@@ -20,7 +19,7 @@ use std::alloc::{AllocError, Global};
 /// # Errors
 ///
 /// Want of memory.
-#[tactic(auto, using(crate::proofs::AskedLemmas::and_names_none, crate::proofs::AskedLemmas::names_decide), unfolding(crate::specs::Asked::names_in, sarif_log::specs::Log::log_view))]
+#[tactic(auto, using(crate::proofs::AskedLemmas::names_decide), unfolding(crate::specs::Asked::names_in, sarif_log::specs::Log::log_view))]
 pub fn names_of(alloc: Global, log: &Log) -> Result<Vec<String>, AllocError>
     ensures names { IfOk result (λ names. map string_bytes names.items ≡ names_in
         (log_view log.now)) }
@@ -30,21 +29,20 @@ pub fn names_of(alloc: Global, log: &Log) -> Result<Vec<String>, AllocError>
     for run in &log.runs {
         push_run_names(alloc, run, &mut names)?;
     }
-    Ok(names)
+    each_once(alloc, &names)
 }
 
 /// Adds the names of a run.
 #[tactic(auto, unfolding(sarif_log::specs::Log::run_view))]
 fn push_run_names(alloc: Global, run: &Run, names: &mut Vec<String>) -> Result<(), AllocError>
     ensures { OnOk result (map string_bytes names.new.items
-        ≡ and_names (map string_bytes names.old.items) (run_names (run_view run.now))) }
+        ≡ map string_bytes names.old.items ++ run_names (run_view run.now)) }
 {
     push_invocations_names(alloc, &run.names, &run.invocations, names)?;
     push_results_names(alloc, &run.names, &run.results, names)
 }
 
 /// Adds the names of what a tool says of its own run, call by call.
-#[tactic(auto, using(crate::proofs::AskedLemmas::and_names_none))]
 fn push_invocations_names(
     alloc: Global,
     those: &Names,
@@ -52,9 +50,9 @@ fn push_invocations_names(
     names: &mut Vec<String>,
 ) -> Result<(), AllocError>
     ensures { OnOk result (map string_bytes names.new.items
-        ≡ and_names (map string_bytes names.old.items)
-        (flat_map (invocation_names (names_view those.now))
-        (map invocation_view invocations.now))) }
+        ≡ map string_bytes names.old.items
+        ++ flat_map (invocation_names (names_view those.now))
+        (map invocation_view invocations.now)) }
 {
     for invocation in invocations {
         push_invocation_names(alloc, those, invocation, names)?;
@@ -70,15 +68,15 @@ fn push_invocation_names(
     names: &mut Vec<String>,
 ) -> Result<(), AllocError>
     ensures { OnOk result (map string_bytes names.new.items
-        ≡ and_names (map string_bytes names.old.items)
-        (invocation_names (names_view those.now) (invocation_view it.now))) }
+        ≡ map string_bytes names.old.items
+        ++ invocation_names (names_view those.now) (invocation_view it.now)) }
 {
     push_notes_names(alloc, those, &it.configuration, names)?;
     push_notes_names(alloc, those, &it.execution, names)
 }
 
 /// Adds the names of notifications.
-#[tactic(auto, using(crate::proofs::AskedLemmas::and_names_none), unfolding(sarif_log::specs::Log::notification_view))]
+#[tactic(auto, unfolding(sarif_log::specs::Log::notification_view))]
 fn push_notes_names(
     alloc: Global,
     those: &Names,
@@ -86,8 +84,8 @@ fn push_notes_names(
     names: &mut Vec<String>,
 ) -> Result<(), AllocError>
     ensures { OnOk result (map string_bytes names.new.items
-        ≡ and_names (map string_bytes names.old.items)
-        (flat_map (note_names (names_view those.now)) (map notification_view notes.now))) }
+        ≡ map string_bytes names.old.items
+        ++ flat_map (note_names (names_view those.now)) (map notification_view notes.now)) }
 {
     for note in notes {
         push_locations_names(alloc, those, &note.locations, names)?;
@@ -96,7 +94,6 @@ fn push_notes_names(
 }
 
 /// Adds the names of those results that are findings.
-#[tactic(auto, using(crate::proofs::AskedLemmas::and_names_none))]
 fn push_results_names(
     alloc: Global,
     those: &Names,
@@ -104,8 +101,8 @@ fn push_results_names(
     names: &mut Vec<String>,
 ) -> Result<(), AllocError>
     ensures { OnOk result (map string_bytes names.new.items
-        ≡ and_names (map string_bytes names.old.items)
-        (flat_map (result_names (names_view those.now)) (map log_result_view results.now))) }
+        ≡ map string_bytes names.old.items
+        ++ flat_map (result_names (names_view those.now)) (map log_result_view results.now)) }
 {
     for it in results {
         push_result_names(alloc, those, it, names)?;
@@ -114,7 +111,7 @@ fn push_results_names(
 }
 
 /// Adds the names of a result, if it is a finding.
-#[tactic(auto, using(crate::proofs::AskedLemmas::and_names_none), unfolding(crate::specs::Asked::result_names))]
+#[tactic(auto, unfolding(crate::specs::Asked::result_names))]
 fn push_result_names(
     alloc: Global,
     those: &Names,
@@ -122,8 +119,8 @@ fn push_result_names(
     names: &mut Vec<String>,
 ) -> Result<(), AllocError>
     ensures { OnOk result (map string_bytes names.new.items
-        ≡ and_names (map string_bytes names.old.items)
-        (result_names (names_view those.now) (log_result_view it.now))) }
+        ≡ map string_bytes names.old.items
+        ++ result_names (names_view those.now) (log_result_view it.now)) }
 {
     if !is_finding(it) {
         return Ok(());
@@ -140,16 +137,16 @@ fn push_both_names(
     names: &mut Vec<String>,
 ) -> Result<(), AllocError>
     ensures { OnOk result (map string_bytes names.new.items
-        ≡ and_names (map string_bytes names.old.items)
-        (flat_map (location_names (names_view those.now))
-        ((log_result_view it.now).locations ++ (log_result_view it.now).related))) }
+        ≡ map string_bytes names.old.items
+        ++ flat_map (location_names (names_view those.now))
+        ((log_result_view it.now).locations ++ (log_result_view it.now).related)) }
 {
     push_locations_names(alloc, those, &it.locations, names)?;
     push_locations_names(alloc, those, &it.related, names)
 }
 
 /// Adds the names of locations.
-#[tactic(auto, using(crate::proofs::AskedLemmas::and_names_none))]
+#[tactic(auto, unfolding(sarif_log::specs::Log::location_view))]
 fn push_locations_names(
     alloc: Global,
     those: &Names,
@@ -157,8 +154,8 @@ fn push_locations_names(
     names: &mut Vec<String>,
 ) -> Result<(), AllocError>
     ensures { OnOk result (map string_bytes names.new.items
-        ≡ and_names (map string_bytes names.old.items)
-        (flat_map (location_names (names_view those.now)) (map location_view locations.now))) }
+        ≡ map string_bytes names.old.items
+        ++ flat_map (location_names (names_view those.now)) (map location_view locations.now)) }
 {
     for location in locations {
         push_location_names(alloc, those, &location.artifact, names)?;
@@ -167,7 +164,7 @@ fn push_locations_names(
 }
 
 /// Adds the name of a file, and its URI as it stands.
-#[tactic(auto, unfolding(crate::specs::Asked::asked_at, crate::specs::Asked::and_names, sarif_log::specs::Log::names_view, sarif_log::specs::Log::artifact_location_view))]
+#[tactic(auto, unfolding(crate::specs::Asked::asked_at, sarif_log::specs::Log::names_view, sarif_log::specs::Log::artifact_location_view))]
 fn push_location_names(
     alloc: Global,
     those: &Names,
@@ -175,37 +172,46 @@ fn push_location_names(
     names: &mut Vec<String>,
 ) -> Result<(), AllocError>
     ensures { OnOk result (map string_bytes names.new.items
-        ≡ and_names (map string_bytes names.old.items)
-        (asked_at (names_view those.now) (artifact_location_view it.now))) }
+        ≡ map string_bytes names.old.items
+        ++ asked_at (names_view those.now) (artifact_location_view it.now)) }
 {
     let place = location_in(those, it);
     let Some(uri) = &place.uri else {
         return Ok(());
     };
     let name = resolved(alloc, &those.bases, place.base.as_deref(), uri.as_str())?;
-    push_name(names, name)?;
-    push_name(names, String::from_str(alloc, uri.as_str())?)
-}
-
-/// Adds a name, unless it is there.
-fn push_name(names: &mut Vec<String>, name: String) -> Result<(), AllocError>
-    ensures { OnOk result (map string_bytes names.new.items
-        ≡ and_name (map string_bytes names.old.items) (string_bytes name)) }
-{
-    if !is_there(names, name.as_str()) {
-        names.push(name)?;
-    }
+    names.push(name)?;
+    names.push(String::from_str(alloc, uri.as_str())?)?;
     Ok(())
 }
 
-/// Whether a name is one of these.
-fn is_there(names: &[String], name: &str) -> bool
-    ensures { result ≡ list_any (λ it. bytes_eq it name.now) (map string_bytes names.now) }
+/// Names, each once, in the order in which they come.
+fn each_once(alloc: Global, names: &[String]) -> Result<Vec<String>, AllocError>
+    ensures { IfOk result (λ once. map string_bytes once.items
+        ≡ and_names [] (map string_bytes names.now)) }
 {
-    for it in names {
-        if it.as_str() == name {
-            return true;
-        }
+    let mut once = Vec::new(alloc);
+    let mut known = BTreeSet::new(alloc);
+    for name in names {
+        push_new(alloc, &mut once, &mut known, name.as_str())?;
     }
-    false
+    Ok(once)
+}
+
+/// Adds a name, unless it is one of those that are known.
+fn push_new<'n>(
+    alloc: Global,
+    names: &mut Vec<String>,
+    known: &mut BTreeSet<&'n str>,
+    name: &'n str,
+) -> Result<(), AllocError>
+    requires { Knows known.old (map string_bytes names.old.items) }
+    ensures names { OnOk result (map string_bytes names.new.items
+        ≡ and_name (map string_bytes names.old.items) name.entry.now) }
+    ensures known { OnOk result (Knows known.new (map string_bytes names.new.items)) }
+{
+    if known.insert(name)? {
+        names.push(String::from_str(alloc, name)?)?;
+    }
+    Ok(())
 }

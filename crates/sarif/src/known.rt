@@ -19,6 +19,7 @@ use sarif_findings::Spot;
 use sarif_log::{ArtifactLocation, Region};
 use sarif_spans::{Row, rows_of};
 use std::alloc::{AllocError, Global};
+use std::collections::BTreeMap;
 
 /// A file that was asked for.
 #[derive(Drop)]
@@ -54,19 +55,59 @@ fn is_same(a: &ArtifactLocation, b: &ArtifactLocation) -> bool
     a.index == b.index && a.uri == b.uri && a.base == b.base
 }
 
-/// The last known file that was asked for by this reference.
-fn seat_known(known: &[Known<'_>], it: &ArtifactLocation) -> Option<usize>
-    ensures { IfSome result (λ k. option_map (λ it. artifact_location_view it.location.now)
-        (slice_get known.now k) ≡ Some (artifact_location_view it.now)) }
-{
-    let mut at = known.len();
-    while at > 0 {
-        at -= 1;
-        if is_same(known[at].location, it) {
-            return Some(at);
+/// The parts of a reference.
+type Reference<'s> = (Option<&'s str>, Option<&'s str>, Option<usize>);
+
+/// What a reference consists of.
+fn reference_of(it: &ArtifactLocation) -> Reference<'_> {
+    (it.uri.as_deref(), it.base.as_deref(), it.index)
+}
+
+/// The files that were asked for.
+#[derive(Drop)]
+pub(crate) struct KnownFiles<'s> {
+    /// The files.
+    pub(crate) files: Vec<Known<'s>>,
+    /// The seats of the files, by the references that they were asked for by.
+    seats: BTreeMap<Reference<'s>, usize>,
+}
+
+impl<'s> KnownFiles<'s> {
+    /// No files.
+    pub(crate) fn new(alloc: Global) -> KnownFiles<'s>
+        ensures { result.files.items ≡ [] }
+    {
+        KnownFiles {
+            files: Vec::new(alloc),
+            seats: BTreeMap::new(alloc),
         }
     }
-    None
+
+    /// The seat of the file that was asked for by this reference.
+    fn seat(&self, it: &'s ArtifactLocation) -> Option<usize>
+        ensures { IfSome result (λ k. option_map (λ it. artifact_location_view it.location.now)
+            (slice_get self.now.files.items k) ≡ Some (artifact_location_view it.now)) }
+    {
+        let seat = *self.seats.get(&reference_of(it))?;
+        let file = self.files.get(seat)?;
+        if is_same(file.location, it) {
+            Some(seat)
+        } else {
+            None
+        }
+    }
+
+    /// Adds a file, and gives its seat.
+    fn push(&mut self, file: Known<'s>) -> Result<usize, AllocError>
+        ensures seat { IfOk result (λ seat. seat ≡ length self.old.files.items) }
+        ensures files { OnOk result (self.new.files.items
+            ≡ self.old.files.items ++ file.entry ∷ []) }
+    {
+        let seat = self.files.len();
+        self.seats.insert(reference_of(file.location), seat)?;
+        self.files.push(file)?;
+        Ok(seat)
+    }
 }
 
 /// The rows of a file's text, none where it lacks.
@@ -115,36 +156,35 @@ fn known_file<'s>(
 
 /// The seat of the file that a reference stands for, which is asked for and cut into rows where it
 /// isn't known: none where the reference has no URI.
-#[tactic(auto, using(crate::proofs::KnownLemmas::filed_push, crate::proofs::KnownLemmas::told_push, crate::proofs::KnownLemmas::grows_push, crate::proofs::KnownLemmas::grows_none, crate::proofs::KnownLemmas::seated_push, crate::proofs::KnownLemmas::seated_told), unfolding(crate::specs::Views::reading_view))]
+#[tactic(auto, using(crate::proofs::KnownLemmas::known_rules), unfolding(crate::specs::Views::reading_view))]
 fn seat_of<'s, S: Sources>(
     alloc: Global,
     sources: &'s S,
     reading: &Reading<'s>,
-    known: &mut Vec<Known<'s>>,
+    known: &mut KnownFiles<'s>,
     found: &mut FoundReports<'s>,
     it: &'s ArtifactLocation,
 ) -> Result<Option<usize>, AllocError>
-    requires told { All (IsTold (S.told sources.now) (reading_view reading.now)) known.old.items }
-    requires filed { All (IsFiled (reading_view reading.now) found.old.files) known.old.items }
+    requires told { All (IsTold (S.told sources.now) (reading_view reading.now)) known.old.files.items }
+    requires filed { All (IsFiled (reading_view reading.now) found.old.files) known.old.files.items }
     ensures told { OnOk result (All (IsTold (S.told sources.now) (reading_view reading.now))
-        known.new.items) }
+        known.new.files.items) }
     ensures filed { OnOk result (All (IsFiled (reading_view reading.now) found.new.files)
-        known.new.items) }
-    ensures grows { OnOk result (known.new.items
-        ≡ known.old.items ++ drop (length known.old.items) known.new.items) }
-    ensures seat { IfOk result (λ seat. seated known.new.items seat ≡ source_of
+        known.new.files.items) }
+    ensures grows { OnOk result (known.new.files.items
+        ≡ known.old.files.items ++ drop (length known.old.files.items) known.new.files.items) }
+    ensures seat { IfOk result (λ seat. seated known.new.files.items seat ≡ source_of
         (S.told sources.now) (reading_view reading.now).names (artifact_location_view it.now)) }
-    ensures within { IfOk result (λ seat. IfSome seat (λ k. k < length known.new.items)) }
+    ensures within { IfOk result (λ seat. IfSome seat (λ k. k < length known.new.files.items)) }
     ensures found { OnOk result (found.new.found ≡ found.old.found) }
 {
-    if let Some(seat) = seat_known(known, it) {
+    if let Some(seat) = known.seat(it) {
         return Ok(Some(seat));
     }
-    match file_had(alloc, sources, reading.names, it)? {
+    match file_had(alloc, sources, &reading.contents, it)? {
         Some(had) => {
-            let seat = known.len();
-            known.push(known_file(alloc, reading, found, it, had)?)?;
-            Ok(Some(seat))
+            let file = known_file(alloc, reading, found, it, had)?;
+            Ok(Some(known.push(file)?))
         }
         None => Ok(None),
     }
@@ -156,21 +196,21 @@ pub(crate) fn push_placed<'f, 's, S: Sources>(
     alloc: Global,
     sources: &'s S,
     reading: &Reading<'s>,
-    known: &mut Vec<Known<'s>>,
+    known: &mut KnownFiles<'s>,
     found: &mut FoundReports<'s>,
     placed: &mut Vec<Placed<'f>>,
     spots: &'f [Spot<'s>],
 ) -> Result<(), AllocError>
-    requires told { All (IsTold (S.told sources.now) (reading_view reading.now)) known.old.items }
-    requires filed { All (IsFiled (reading_view reading.now) found.old.files) known.old.items }
-    requires seated { All (IsSeated known.old.items) placed.old.items }
+    requires told { All (IsTold (S.told sources.now) (reading_view reading.now)) known.old.files.items }
+    requires filed { All (IsFiled (reading_view reading.now) found.old.files) known.old.files.items }
+    requires seated { All (IsSeated known.old.files.items) placed.old.items }
     ensures told { OnOk result (All (IsTold (S.told sources.now) (reading_view reading.now))
-        known.new.items) }
+        known.new.files.items) }
     ensures filed { OnOk result (All (IsFiled (reading_view reading.now) found.new.files)
-        known.new.items) }
-    ensures seated { OnOk result (All (IsSeated known.new.items) placed.new.items) }
-    ensures placed { OnOk result (map (placed_view known.new.items) placed.new.items
-        ≡ map (placed_view known.old.items) placed.old.items
+        known.new.files.items) }
+    ensures seated { OnOk result (All (IsSeated known.new.files.items) placed.new.items) }
+    ensures placed { OnOk result (map (placed_view known.new.files.items) placed.new.items
+        ≡ map (placed_view known.old.files.items) placed.old.items
         ++ map (placed_meant (S.told sources.now) (reading_view reading.now))
         (map spot_view spots.now)) }
     ensures found { OnOk result (found.new.found ≡ found.old.found) }

@@ -8,6 +8,7 @@
 #![tactic(auto)]
 
 mod asked;
+mod contents;
 mod diagnostics;
 mod known;
 mod labels;

@@ -5,14 +5,15 @@ ghost use Rattle.sarif.specs.Reading.{breaks_of as breaks_meant, is_some_text};
 ghost use Rattle.sarif.specs.Reading.{reading_of as reading_meant};
 ghost use Rattle.sarif.specs.Views.{lent_texts, reading_view};
 
-use sarif_log::{ColumnKind, Names, Run};
+use crate::contents::Contents;
+use sarif_log::{ColumnKind, Run};
 use std::alloc::{AllocError, Global};
 
 /// How a run is read.
 #[derive(Drop)]
 pub(crate) struct Reading<'s> {
-    /// What its names stand for.
-    pub(crate) names: &'s Names,
+    /// What its names stand for, and the contents that the log has.
+    pub(crate) contents: Contents<'s>,
     /// What its columns count.
     pub(crate) columns: ColumnKind,
     /// What ends its rows.
@@ -31,7 +32,7 @@ pub(crate) fn reading_of<'s>(
     ensures { IfOk result (λ it. reading_view it ≡ reading_meant columns (run_view run.now)) }
 {
     Ok(Reading {
-        names: &run.names,
+        contents: Contents::new(alloc, &run.names)?,
         columns: columns
             .or(run.counting.columns)
             .unwrap_or(ColumnKind::Characters),

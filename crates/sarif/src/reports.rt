@@ -14,7 +14,7 @@ ghost use Rattle.sarif.specs.Views.{HoldsText, IsFiled, IsReadable, IsTold, know
 ghost use Rattle.sarif.specs.Views.{placed_view, reading_view};
 
 use crate::diagnostics::{diagnostic_of, given_place, message_or, severity_of};
-use crate::known::{Known, Placed, file_at, push_placed};
+use crate::known::{Known, KnownFiles, Placed, file_at, push_placed};
 use crate::labels::{label_on, labels_of, span_beside, span_in_file};
 use crate::reading::{Reading, reading_of};
 use found_reports::{FoundReports, Lack, Sources};
@@ -77,7 +77,7 @@ fn push_findings<'s, S: Sources>(
         ++ flat_map (finding_reports (S.told sources.now) (reading_view reading.now))
         (map finding_view findings.now)) }
 {
-    let mut known = Vec::new(alloc);
+    let mut known = KnownFiles::new(alloc);
     for finding in findings {
         push_finding(alloc, sources, reading, &mut known, finding, found)?;
     }
@@ -90,16 +90,16 @@ fn push_finding<'s, S: Sources>(
     alloc: Global,
     sources: &'s S,
     reading: &Reading<'s>,
-    known: &mut Vec<Known<'s>>,
+    known: &mut KnownFiles<'s>,
     finding: &Finding<'s>,
     found: &mut FoundReports<'s>,
 ) -> Result<(), AllocError>
-    requires told { All (IsTold (S.told sources.now) (reading_view reading.now)) known.old.items }
-    requires filed { All (IsFiled (reading_view reading.now) found.old.files) known.old.items }
+    requires told { All (IsTold (S.told sources.now) (reading_view reading.now)) known.old.files.items }
+    requires filed { All (IsFiled (reading_view reading.now) found.old.files) known.old.files.items }
     ensures told { OnOk result (All (IsTold (S.told sources.now) (reading_view reading.now))
-        known.new.items) }
+        known.new.files.items) }
     ensures filed { OnOk result (All (IsFiled (reading_view reading.now) found.new.files)
-        known.new.items) }
+        known.new.files.items) }
     ensures added { OnOk result (found.new.found ≡ found.old.found
         ++ finding_reports (S.told sources.now) (reading_view reading.now)
         (finding_view finding.now)) }
@@ -124,11 +124,11 @@ fn push_finding<'s, S: Sources>(
         &mut placed,
         &finding.related,
     )?;
-    push_reports(alloc, reading, finding, known, &placed, count, found)
+    push_reports(alloc, reading, finding, &known.files, &placed, count, found)
 }
 
 /// Appends the reports of a finding at these places, of which so many are its locations.
-#[tactic(auto, using(crate::proofs::KnownLemmas::filed_one, crate::proofs::KnownLemmas::filed_more, crate::proofs::ReportLemmas::among_none, crate::proofs::ReportLemmas::among_skip, crate::proofs::ReportLemmas::among_found))]
+#[tactic(auto, using(crate::proofs::KnownLemmas::filed_one, crate::proofs::KnownLemmas::filed_more, crate::proofs::ReportLemmas::among_rules))]
 fn push_reports<'s>(
     alloc: Global,
     reading: &Reading<'s>,
@@ -158,7 +158,7 @@ fn push_reports<'s>(
 }
 
 /// Appends the reports of a finding whose first location that names a file is this one.
-#[tactic(auto, using(crate::proofs::LabelLemmas::label_stands, crate::proofs::LabelLemmas::span_small, crate::proofs::LabelLemmas::labels_stand, crate::proofs::LabelLemmas::one_stands, crate::proofs::LabelLemmas::none_stand), unfolding(crate::specs::Meaning::reports_at, crate::specs::Meaning::diagnostic_of))]
+#[tactic(auto, using(crate::proofs::LabelLemmas::label_rules), unfolding(crate::specs::Meaning::reports_at, crate::specs::Meaning::diagnostic_of))]
 fn push_at<'s>(
     alloc: Global,
     reading: &Reading<'s>,
@@ -309,7 +309,7 @@ fn push_aside<'s>(
 }
 
 /// Appends the advice that a location in a file becomes.
-#[tactic(auto, using(crate::proofs::LabelLemmas::label_stands, crate::proofs::LabelLemmas::span_small, crate::proofs::LabelLemmas::labels_stand, crate::proofs::LabelLemmas::one_stands, crate::proofs::LabelLemmas::none_stand), unfolding(crate::specs::Meaning::diagnostic_of))]
+#[tactic(auto, using(crate::proofs::LabelLemmas::label_rules), unfolding(crate::specs::Meaning::diagnostic_of))]
 fn push_aside_at<'s>(
     alloc: Global,
     reading: &Reading<'s>,

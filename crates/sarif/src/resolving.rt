@@ -143,7 +143,7 @@ fn joined(alloc: Global, front: Option<&str>, uri: &str) -> Result<String, Alloc
 }
 
 /// A URI with its base before it, and that one's base, each once.
-#[tactic(auto, using(crate::proofs::NamingLemmas::resolved_none, crate::proofs::NamingLemmas::resolved_stop, crate::proofs::NamingLemmas::resolved_go), unfolding(sarif_log::specs::Log::uri_base_view, sarif_log::specs::Log::artifact_location_view))]
+#[tactic(auto, using(crate::proofs::NamingLemmas::resolved_rules), unfolding(sarif_log::specs::Log::uri_base_view, sarif_log::specs::Log::artifact_location_view))]
 pub(crate) fn resolved(
     alloc: Global,
     bases: &[UriBase],

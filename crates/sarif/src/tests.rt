@@ -82,7 +82,7 @@ fn listed(alloc: Global) -> Result<ListedSources, AllocError> {
             text: Ok(String::from_str(alloc, text)?),
         })?;
     }
-    Ok(ListedSources { entries })
+    ListedSources::new(alloc, entries)
 }
 
 // The scope and the number, and a dash in place of what isn't there.

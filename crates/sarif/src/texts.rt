@@ -1,21 +1,21 @@
 //! The texts of files: what the log itself has, else what sources tell.
-ghost use Rattle.std.specs.Prelude.{◌≡◌, map, option_map, option_and_then, string_bytes};
+ghost use Rattle.std.specs.Prelude.{◌≡◌, option_map, option_and_then, string_bytes};
 ghost use Rattle.std.specs.Prelude.{IfOk, IfSome};
 ghost use Rattle.oxc_protocol.specs.Source.{Fits};
 ghost use Rattle.found_reports.specs.Held.{held_of};
 ghost use Rattle.found_reports.specs.Kept.{IsShortHeld};
 ghost use Rattle.found_reports.specs.Listed.{fitting as fitting_text};
-ghost use Rattle.sarif_log.specs.Log.{artifact_location_view, artifact_view, names_view};
+ghost use Rattle.sarif_log.specs.Log.{artifact_location_view, names_view};
 ghost use Rattle.sarif_findings.specs.Views.{borrowed};
 ghost use Rattle.sarif.specs.Naming.{artifact_at as artifact_numbered};
-ghost use Rattle.sarif.specs.Texts.{contents_if as contents_meant, contents_in as contents_had};
-ghost use Rattle.sarif.specs.Texts.{contents_named as first_contents, source_of, source_under};
+ghost use Rattle.sarif.specs.Texts.{contents_in as contents_had, source_of, source_under};
 ghost use Rattle.sarif.specs.Texts.{told_of as told_meant, told_second as second_meant};
 ghost use Rattle.sarif.specs.Views.{had_view};
 
-use crate::resolving::{artifact_at, location_in, name_of, resolved};
+use crate::contents::Contents;
+use crate::resolving::{artifact_at, location_in, resolved};
 use found_reports::{Lack, Sources};
-use sarif_log::{Artifact, ArtifactLocation, Names};
+use sarif_log::{ArtifactLocation, Names};
 use std::alloc::{AllocError, Global};
 
 /// What is had of a file: its name, and its text or why it has none.
@@ -23,44 +23,6 @@ use std::alloc::{AllocError, Global};
 pub(crate) struct Had<'s> {
     pub(crate) name: String,
     pub(crate) text: Result<&'s str, Lack>,
-}
-
-/// The contents of an artifact, if it has the name.
-#[tactic(auto, unfolding(sarif_log::specs::Log::artifact_view))]
-fn contents_if<'s>(
-    alloc: Global,
-    names: &Names,
-    name: &str,
-    artifact: &'s Artifact,
-) -> Result<Option<&'s str>, AllocError>
-    ensures { IfOk result (λ it. borrowed it ≡ contents_meant (names_view names.now) name.now
-        (artifact_view artifact.now)) }
-{
-    let Some(text) = &artifact.contents else {
-        return Ok(None);
-    };
-    match name_of(alloc, names, &artifact.location)? {
-        Some(own) if own.as_str() == name => Ok(Some(text.as_str())),
-        _ => Ok(None),
-    }
-}
-
-/// The contents of the first artifact of a name that has some.
-#[tactic(auto, unfolding(crate::specs::Texts::contents_named))]
-fn contents_named<'s>(
-    alloc: Global,
-    names: &'s Names,
-    name: &str,
-) -> Result<Option<&'s str>, AllocError>
-    ensures { IfOk result (λ it. borrowed it ≡ first_contents (names_view names.now) name.now
-        (map artifact_view names.now.artifacts.items)) }
-{
-    for artifact in &names.artifacts {
-        if let Some(text) = contents_if(alloc, names, name, artifact)? {
-            return Ok(Some(text));
-        }
-    }
-    Ok(None)
 }
 
 /// The contents of the artifact of a number.
@@ -73,19 +35,14 @@ fn numbered(names: &Names, index: Option<usize>) -> Option<&str>
 }
 
 /// What the log has: of the artifact that is numbered, else of one of the name.
-#[tactic(auto, unfolding(crate::specs::Texts::contents_in, sarif_log::specs::Log::names_view, sarif_log::specs::Log::artifact_location_view))]
-fn contents_in<'s>(
-    alloc: Global,
-    names: &'s Names,
-    it: &ArtifactLocation,
-    name: &str,
-) -> Result<Option<&'s str>, AllocError>
-    ensures { IfOk result (λ text. borrowed text ≡ contents_had (names_view names.now)
-        (artifact_location_view it.now) name.now) }
+#[tactic(auto, unfolding(crate::specs::Texts::contents_in, sarif_log::specs::Log::artifact_location_view))]
+fn contents_in<'s>(contents: &Contents<'s>, it: &ArtifactLocation, name: &str) -> Option<&'s str>
+    ensures { borrowed result ≡ contents_had contents.now (artifact_location_view it.now)
+        name.now }
 {
-    match numbered(names, it.index) {
-        Some(text) => Ok(Some(text)),
-        None => contents_named(alloc, names, name),
+    match numbered(contents.names(), it.index) {
+        Some(text) => Some(text),
+        None => contents.named(name),
     }
 }
 
@@ -150,16 +107,16 @@ fn told_of<'s, S: Sources>(
 fn had_under<'s, S: Sources>(
     alloc: Global,
     sources: &'s S,
-    names: &'s Names,
+    contents: &Contents<'s>,
     it: &ArtifactLocation,
     name: String,
     uri: &str,
 ) -> Result<Had<'s>, AllocError>
     ensures held { IfOk result (λ had. had_view had ≡ source_under (S.told sources.now)
-        (names_view names.now) (artifact_location_view it.now) (string_bytes name) uri.now) }
+        contents.now (artifact_location_view it.now) (string_bytes name) uri.now) }
     ensures short { IfOk result (λ had. IsShortHeld (held_of had.text)) }
 {
-    match contents_in(alloc, names, it, name.as_str())? {
+    match contents_in(contents, it, name.as_str()) {
         Some(text) => Ok(Had {
             name,
             text: fitting(text),
@@ -173,17 +130,18 @@ fn had_under<'s, S: Sources>(
 pub(crate) fn file_had<'s, S: Sources>(
     alloc: Global,
     sources: &'s S,
-    names: &'s Names,
+    contents: &Contents<'s>,
     it: &'s ArtifactLocation,
 ) -> Result<Option<Had<'s>>, AllocError>
     ensures held { IfOk result (λ had. option_map had_view had ≡ source_of (S.told sources.now)
-        (names_view names.now) (artifact_location_view it.now)) }
+        contents.now (artifact_location_view it.now)) }
     ensures short { IfOk result (λ had. IfSome had (λ had. IsShortHeld (held_of had.text))) }
 {
+    let names = contents.names();
     let place = location_in(names, it);
     let Some(uri) = &place.uri else {
         return Ok(None);
     };
     let name = resolved(alloc, &names.bases, place.base.as_deref(), uri.as_str())?;
-    Ok(Some(had_under(alloc, sources, names, it, name, uri.as_str())?))
+    Ok(Some(had_under(alloc, sources, contents, it, name, uri.as_str())?))
 }

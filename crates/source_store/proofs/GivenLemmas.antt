@@ -1,6 +1,12 @@
 -- Sources that were kept of names give what was told of them.
-use Rattle.std.proofs.Common.{◌≡◌, ℕ, ◌<◌, Bool, true, false, ◌||◌, List, [], ◌∷◌, ◌++◌, length, map, Option, Some, None, All, Result, Ok, Err, String, string_bytes, refl, sym, ap, ◌∙◌, subst, zero, suc, arith}
+use Rattle.std.proofs.Common.{◌≡◌, ℕ, Bool, true, false, cond, ◌||◌, List, [], ◌∷◌, ◌++◌, Option, Some, None, All, Ok, Err, String, string_bytes, refl, sym, ap, ◌∙◌, subst}
+use Rattle.std.specs.Borrow.{Bor}
+use Rattle.std.specs.BTreeSet.{BTreeSet, contains}
+use Rattle.std.specs.BTreeMap.{is_at}
+use Rattle.std.specs.List.{list_any}
+use Rattle.std.specs.Ordering.{is_eq}
 use Rattle.std.specs.Str.{bytes_eq}
+use Rattle.std.proofs.lemmas.Map.Text.{is_eq-slice_cmp}
 use Rattle.std.proofs.lemmas.Slice.Eq.{bytes_eq-Decides}
 use Rattle.std.proofs.lemmas.List.{append-nil}
 use Rattle.std.proofs.lemmas.List.Elements.{All-nil, All-cons, All-head, All-tail, All-push, All-append, All-same}
@@ -12,7 +18,7 @@ use Rattle.found_reports.specs.declared.sources.Source.{Source}
 use Rattle.source_store.specs.declared.fetched.Fetched.TheVariants.{Text, Lacking}
 use Rattle.source_store.specs.declared.named.Spelling.{Spelling}
 use Rattle.source_store.specs.Told.{IsTold}
-use Rattle.source_store.specs.Given.{told_of, IsSaid, IsGiven, MeetsTold, Adds, listed}
+use Rattle.source_store.specs.Given.{told_of, AreListed, IsSaid, IsGiven, MeetsTold, Adds, listed, name_order}
 
 abbrev pub source_name : Source → List ℕ
 source_name source = string_bytes source.name
@@ -99,6 +105,28 @@ all_still sources more (name ∷ names) all =
     All-cons (λ name. listed (sources ++ more) name ≡ true) name names
     (still_listed sources more name (All-head (λ name. listed sources name ≡ true) name names all))
     (all_still sources more names (All-tail (λ name. listed sources name ≡ true) name names all))
+
+-- ---- names that are known
+
+pub none_listed : (known : BTreeSet (Bor (List ℕ))) (sources : List Source) → known.keys ≡ [] → AreListed known sources
+none_listed known sources none name is = let no : false ≡ true = sym (ap (list_any (is_at (name_order name))) none) ∙ is in cc
+
+pub still_known : (old new : BTreeSet (Bor (List ℕ))) (sources : List Source) → new.keys ≡ old.keys → AreListed old sources → AreListed new sources
+still_known old new sources same are name is = are name (sym (ap (list_any (is_at (name_order name))) same) ∙ is)
+
+-- one name more, which has a source
+pub one_known : (old new : BTreeSet (Bor (List ℕ))) (sources more : List Source) (source : Source) (name : Bor (List ℕ)) → AreListed old sources
+    → ((q : Bor (List ℕ)) → contains name_order new q ≡ cond (is_eq (name_order name q)) true (contains name_order old q))
+    → more ≡ sources ++ source ∷ [] → source_name source ≡ name.now → AreListed new more
+one_known old new sources more source name are updates pushed named q is =
+    subst (λ its. listed its q.now ≡ true) (sym pushed) (go (bytes_eq name.now q.now) refl)
+  where
+    go : (same : Bool) → bytes_eq name.now q.now ≡ same → listed (sources ++ source ∷ []) q.now ≡ true
+    go true same = listed_last sources source q.now (named ∙ (bytes_eq-Decides name.now q.now).0 same)
+    go false other =
+        let old_has : contains name_order old q ≡ true =
+        sym (updates q ∙ ap (λ b. cond b true (contains name_order old q)) (is_eq-slice_cmp name.now q.now ∙ other)) ∙ is in
+        still_listed sources (source ∷ []) q.now (are q old_has)
 
 -- the sources of the names so far
 pub record AreSources (told : List ℕ → Option Held) (spelling : Spelling) (sources : List Source) (names : List (List ℕ)) : Type 0 where

@@ -1,11 +1,11 @@
 -- Where a name leads.
-use Rattle.std.proofs.Common.{◌≡◌, ℕ, zero, suc, ◌-◌, ◌==◌, Bool, true, false, if◌then◌else◌, IfSome, IfOk, Result, Ok, Err, String, Option, Some, None, List, [], ◌∷◌, ◌++◌, length, map, take, Bor, refl, sym, ap, ap₂, ◌∙◌, subst}
+use Rattle.std.proofs.Common.{◌≡◌, ℕ, zero, suc, ◌-◌, ◌==◌, Bool, true, false, IfSome, IfOk, Result, Ok, Err, String, Option, List, [], ◌∷◌, ◌++◌, length, map, take, Bor, refl, sym, ap, ap₂, ◌∙◌, subst}
 use Rattle.std.proofs.lemmas.List.{map-append, length-map}
 use Rattle.std.specs.List.{All, slice_split, onto_first}
 use Rattle.std.specs.Str.{bytes_eq}
 use Rattle.std.proofs.lemmas.Bool.{and_parts}
 use Rattle.std.proofs.lemmas.Slice.Eq.{bytes_eq-Decides}
-use Rattle.std.proofs.lemmas.List.Elements.{All-nil, All-cons, All-head, All-tail, All-take, All-push, All-append, All-same}
+use Rattle.std.proofs.lemmas.List.Elements.{All-nil, All-cons, All-head, All-tail, All-take, All-push, All-same}
 use Rattle.std.specs.declared.alloc.Global.{Global}
 use Rattle.source_store.specs.Place.{text_bytes, left, stays, goes_up, entered, walked_by, walked, parts_of, is_absolute, resolved, begins_with, path_of, located, IsPlain, IsBelow}
 

@@ -1,5 +1,5 @@
 -- The path that a name in a tool's output means.
-use Rattle.std.specs.Prelude.{ℕ, nat_eq, List, ◌==◌, Bool, true, false, Option, Some, None, option_and_then, unwrap_or, drop, length, slice_index, codes, if◌then◌else◌}
+use Rattle.std.specs.Prelude.{ℕ, nat_eq, List, ◌==◌, Option, Some, None, option_and_then, unwrap_or, drop, length, slice_index, codes, if◌then◌else◌}
 use Rattle.std.specs.List.{starts_with}
 use Rattle.std.specs.Str.{is_utf8}
 use Rattle.percent_encoding.specs.Percent.{percent_decode}

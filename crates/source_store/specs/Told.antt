@@ -1,5 +1,5 @@
 -- What a store answers, and what it tells.
-use Rattle.std.specs.Prelude.{◌≡◌, ⊤, ℕ, List, Option, Some, None, string_bytes}
+use Rattle.std.specs.Prelude.{◌≡◌, ⊤, Option, Some, None, string_bytes}
 use Rattle.found_reports.specs.Held.{Held, holds, lacks}
 use Rattle.source_store.specs.declared.fetched.Fetched.{Fetched}
 use Rattle.source_store.specs.declared.fetched.Fetched.TheVariants.{Text, Lacking, OutOfMemory}

@@ -1,13 +1,14 @@
 // What a store has of many names.
 ghost use Rattle.std.specs.Prelude.{◌≡◌, IfOk, OnOk, map, string_bytes};
 ghost use Rattle.found_reports.specs.Listed.{held_as, held_in};
-ghost use Rattle.source_store.specs.Given.{Adds, IsGiven, IsSaid, MeetsTold, listed, told_at};
+ghost use Rattle.source_store.specs.Given.{Adds, AreListed, IsGiven, IsSaid, MeetsTold, told_at};
 ghost use Rattle.source_store.specs.Place.{text_bytes};
 
 use crate::fetched::{Fetched, Store};
 use crate::named::{Spelling, path_in};
 use found_reports::{Lack, ListedSources, Source};
 use std::alloc::{AllocError, Global};
+use std::collections::BTreeSet;
 
 /// The sources that a store has of these names: of each what the store tells of the path that the
 /// name means, where it tells something. A name that comes again isn't asked for again.
@@ -25,36 +26,39 @@ pub fn gather<S: Store>(
         (map string_bytes names.now) (held_in sources.entries.items)) }
 {
     let mut entries = Vec::new(alloc);
+    let mut known = BTreeSet::new(alloc);
     for name in names {
-        add(alloc, store, spelling, &mut entries, name.as_str())?;
+        add(
+            alloc,
+            store,
+            spelling,
+            &mut known,
+            &mut entries,
+            name.as_str(),
+        )?;
     }
-    Ok(ListedSources { entries })
+    ListedSources::new(alloc, entries)
 }
 
-/// Adds what a store has of a name, unless there is a source of that name.
+/// Adds what a store has of a name, unless the name is known.
 #[tactic(auto, using(crate::proofs::GivenLemmas::adds_none, crate::proofs::GivenLemmas::adds_one))]
-fn add<S: Store>(
+fn add<'n, S: Store>(
     alloc: Global,
     store: &S,
     spelling: Spelling,
+    known: &mut BTreeSet<&'n str>,
     entries: &mut Vec<Source>,
-    name: &str,
+    name: &'n str,
 ) -> Result<(), AllocError>
-    ensures { OnOk result (Adds (S.told store.now) spelling entries.old.items entries.new.items
-        name.now) }
+    requires { AreListed known.old entries.old.items }
+    ensures adds { OnOk result (Adds (S.told store.now) spelling entries.old.items
+        entries.new.items name.entry.now) }
+    ensures known { OnOk result (AreListed known.new entries.new.items) }
 {
-    if is_listed(entries, name) {
-        return Ok(());
+    if known.insert(name)? {
+        entries.push(source_of(alloc, store, spelling, name)?)?;
     }
-    entries.push(source_of(alloc, store, spelling, name)?)?;
     Ok(())
-}
-
-/// Whether there is a source of a name.
-fn is_listed(entries: &[Source], name: &str) -> bool
-    ensures { result ≡ listed entries.now name.now }
-{
-    entries.iter().any(|entry| entry.name.as_str() == name)
 }
 
 /// What a store has of a name.

@@ -1,10 +1,10 @@
 -- The names of the notifications of its configuration, and of those of its execution.
-use Rattle.std.proofs.Common.{◌≡◌, map, string_bytes}
+use Rattle.std.proofs.Common.{◌≡◌, ◌++◌, map, string_bytes}
 use Rattle.std.proofs.lemmas.Result.{on_ok_weaker}
 use Rattle.std.specs.List.{flat_map}
 use Rattle.sarif_log.specs.Log.{invocation_view, names_view, notification_view}
-use Rattle.sarif.specs.Asked.{and_names, invocation_names, note_names}
-use Rattle.sarif.proofs.AskedLemmas.{and_names_both}
+use Rattle.sarif.specs.Asked.{invocation_names, note_names}
+use Rattle.sarif.proofs.AskedLemmas.{added_both}
 use Rattle.sarif.proofs.asked.push_invocation_names.Goals as goal
 
 pub returns : goal.returns
@@ -15,7 +15,7 @@ returns c =
     let start = map string_bytes c.args.names.now.items in
     let middle = map string_bytes c.push_notes_names.new.names.items in
     let end = map string_bytes c.push_notes_names-2.new.names.items in
-    let first : middle ≡ and_names start (flat_map names (map notification_view it.configuration.items)) = rw c.deref.ensures.value at c.in_ok-push_notes_names.ensures in
-    let both : end ≡ and_names middle (flat_map names (map notification_view c.deref-2.result.now)) → end ≡ and_names start (invocation_names (names_view c.args.those.now) (invocation_view it)) =
-    λ e. and_names_both names start middle end (map notification_view it.configuration.items) (map notification_view it.execution.items) first (rw c.deref-2.ensures.value at e) in
+    let first : middle ≡ start ++ flat_map names (map notification_view it.configuration.items) = rw c.deref.ensures.value at c.in_ok-push_notes_names.ensures in
+    let both : end ≡ middle ++ flat_map names (map notification_view c.deref-2.result.now) → end ≡ start ++ invocation_names (names_view c.args.those.now) (invocation_view it) =
+    λ e. added_both names start middle end (map notification_view it.configuration.items) (map notification_view it.execution.items) first (rw c.deref-2.ensures.value at e) in
     on_ok_weaker _ both c.push_notes_names-2.ensures

@@ -7,9 +7,9 @@ use Rattle.sarif.proofs.known.push_placed.Given as goal
 
 abbrev pub invariant-loop-spot : goal.invariant-loop-spot
 invariant-loop-spot g l = record {
-  told : All (IsTold (g.S.Sources.told l.sources) (reading_view l.reading)) l.known.items;
-  filed : All (IsFiled (reading_view l.reading) l.found.files) l.known.items;
-  seated : All (IsSeated l.known.items) l.placed.items;
-  placed : map (placed_view l.known.items) l.placed.items ≡ map (placed_view l.initial.known.items) l.initial.placed.items ++ map (placed (g.S.Sources.told l.sources) (reading_view l.reading)) (map spot_view (take l.spot-index l.spots));
+  told : All (IsTold (g.S.Sources.told l.sources) (reading_view l.reading)) l.known.files.items;
+  filed : All (IsFiled (reading_view l.reading) l.found.files) l.known.files.items;
+  seated : All (IsSeated l.known.files.items) l.placed.items;
+  placed : map (placed_view l.known.files.items) l.placed.items ≡ map (placed_view l.initial.known.files.items) l.initial.placed.items ++ map (placed (g.S.Sources.told l.sources) (reading_view l.reading)) (map spot_view (take l.spot-index l.spots));
   found : l.found.found ≡ l.initial.found.found;
 }

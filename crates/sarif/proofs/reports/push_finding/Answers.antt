@@ -18,11 +18,11 @@ returns-clause-added g c =
     let rest = map meant (map spot_view finding.related.items) in
     let before = c.push_placed.new in
     let after = c.push_placed-2.new in
-    let one : map (placed_view before.known.items) before.placed.items ≡ first = rw (c.new-placed.ensures.items, c.deref.ensures.value) at c.in_ok-push_placed.ensures.placed in
-    let all : map (placed_view after.known.items) after.placed.items ≡ first ++ rest = rw (one, c.deref-2.ensures.value) at c.in_ok-push_placed-2.ensures.placed in
-    let len : length before.placed.items ≡ length first = sym (length-map before.placed.items (placed_view before.known.items)) ∙ ap length one in
+    let one : map (placed_view before.known.files.items) before.placed.items ≡ first = rw (c.new-placed.ensures.items, c.deref.ensures.value) at c.in_ok-push_placed.ensures.placed in
+    let all : map (placed_view after.known.files.items) after.placed.items ≡ first ++ rest = rw (one, c.deref-2.ensures.value) at c.in_ok-push_placed-2.ensures.placed in
+    let len : length before.placed.items ≡ length first = sym (length-map before.placed.items (placed_view before.known.files.items)) ∙ ap length one in
     let many : c.len-count.result ≡ length first = omega (arith, c.len-count.ensures, before.placed.ok.0, len) in
-    let parts = among_parts reading (finding_view finding) after.known.items after.placed.items first rest c.len-count.result all many in
+    let parts = among_parts reading (finding_view finding) after.known.files.items after.placed.items first rest c.len-count.result all many in
     on_ok_added c.push_reports.result c.push_reports.new.found.found after.found.found c.args.found.now.found _ _
     (rw (c.deref-3.ensures.value, c.deref-4.ensures.value) at c.push_reports.ensures.added)
     (c.in_ok-push_placed-2.ensures.found ∙ c.in_ok-push_placed.ensures.found) parts

@@ -7,7 +7,7 @@ use Rattle.sarif.proofs.reports.push_findings.Given as goal
 
 abbrev pub invariant-loop-finding : goal.invariant-loop-finding
 invariant-loop-finding g l = record {
-  told : All (IsTold (g.S.Sources.told l.sources) (reading_view l.reading)) l.known.items;
-  filed : All (IsFiled (reading_view l.reading) l.found.files) l.known.items;
+  told : All (IsTold (g.S.Sources.told l.sources) (reading_view l.reading)) l.known.files.items;
+  filed : All (IsFiled (reading_view l.reading) l.found.files) l.known.files.items;
   found : l.found.found ≡ l.initial.found.found ++ flat_map (finding_reports (g.S.Sources.told l.sources) (reading_view l.reading)) (map finding_view (take l.finding-index l.findings));
 }

@@ -1,5 +1,5 @@
 -- The reports are on files that stay.
-use Rattle.std.proofs.Common.{ap, ◌∙◌, map, [], ◌∷◌}
+use Rattle.std.proofs.Common.{ap, ◌∙◌, map}
 use Rattle.std.proofs.lemmas.List.{map-append}
 use Rattle.found_reports.specs.Kept.{file_view}
 use Rattle.found_reports.proofs.KeptLemmas.{views_more}

@@ -4,7 +4,7 @@ use Rattle.std.specs.Option.{is_some}
 use Rattle.serde_json.specs.Find.{get}
 use Rattle.input_forms.specs.Object.{has_files}
 use Rattle.input_forms.proofs.JsonLemmas.{json_read, json_unread, some_mapped}
-use Rattle.input_forms.proofs.object.has_files.Goals as goal
+use Rattle.input_forms.proofs.object.has_files_on_top.Goals as goal
 
 pub returns-in-Ok : goal.returns-in-Ok
 unfolding has_files

@@ -1,0 +1,169 @@
+//! Lines that are harmless but for their paint.
+ghost use Rattle.std.specs.Prelude.{◌≡◌, ◌≤◌, ◌<◌, ◌+◌, ◌^◌, IfOk, OnOk, length, string_bytes};
+ghost use Rattle.std.specs.List.{list_any, prefix_len};
+ghost use Rattle.std.specs.Str.{chars, encode_utf8_all};
+ghost use Rattle.harmless.specs.Paint.{behind_bracket, ends_paint as ends_a_paint};
+ghost use Rattle.harmless.specs.Paint.{harmless_line as line_text, is_color_part as in_color};
+ghost use Rattle.harmless.specs.Paint.{is_escape, kept_at, paint_ahead as paint_next};
+ghost use Rattle.harmless.specs.Paint.{paint_end as ends_at};
+ghost use Rattle.harmless.specs.Paint.{paint_len as paint_length, painted_from, with_end};
+
+use crate::{Kind, harmless, harmless_char};
+use std::alloc::{AllocError, Global};
+
+/// A line that can't drive a terminal, but keeps its paint: ESC `[`, digits and `;`, and `m`, which
+/// set a color; and ESC `[K`, which compilers write behind a color. A line that has some ends with
+/// ESC `[0m`.
+///
+/// # Errors
+///
+/// Want of memory.
+#[tactic(auto, using(crate::proofs::PaintLemmas::plain_line))]
+pub fn harmless_line(alloc: Global, line: &str) -> Result<String, AllocError>
+    ensures { IfOk result (λ out. string_bytes out ≡ line_text line.now) }
+{
+    if has_escape(line) {
+        painted_line(alloc, line)
+    } else {
+        harmless(alloc, Kind::Prose, line)
+    }
+}
+
+/// The same of a line that may have paint.
+#[tactic(auto, unfolding(crate::specs::Paint::harmless_line))]
+fn painted_line(alloc: Global, line: &str) -> Result<String, AllocError>
+    ensures { IfOk result (λ out. string_bytes out ≡ line_text line.now) }
+{
+    let chars = chars_of(alloc, line)?;
+    let mut kept = painted(alloc, &chars)?;
+    end_paint(&mut kept)?;
+    text_of(alloc, &kept)
+}
+
+/// The characters of a line.
+#[tactic(auto, using(std::proofs::lemmas::Str::chars_from_encodes))]
+fn chars_of(alloc: Global, line: &str) -> Result<Vec<char>, AllocError>
+    ensures { IfOk result (λ list. list.items ≡ chars line.now) }
+{
+    line.chars().collect(alloc)
+}
+
+/// The text of characters.
+fn text_of(alloc: Global, chars: &[char]) -> Result<String, AllocError>
+    ensures { IfOk result (λ out. string_bytes out ≡ encode_utf8_all chars.now) }
+{
+    chars.iter().copied().collect(alloc)
+}
+
+/// Whether a line has an ESC.
+fn has_escape(line: &str) -> bool
+    ensures { result ≡ list_any is_escape (chars line.now) }
+{
+    line.chars().any(|c| c == '\x1B')
+}
+
+/// Characters with their paint as it is, and the others harmless.
+#[tactic(auto, unfolding(crate::specs::Paint::painted_from))]
+fn painted(alloc: Global, text: &[char]) -> Result<Vec<char>, AllocError>
+    ensures { IfOk result (λ kept. kept.items ≡ painted_from 0 text.now) }
+{
+    let mut kept = Vec::new(alloc);
+    let mut left = 0;
+    let mut rest = text;
+    while let [c, after @ ..] = rest {
+        left = paint_ahead(left, rest);
+        kept.push(kept_char(left, *c))?;
+        left = left.saturating_sub(1);
+        rest = after;
+    }
+    Ok(kept)
+}
+
+/// A character as it is where it stands in paint, of which so much comes next, and else harmless.
+fn kept_char(left: usize, c: char) -> char
+    ensures { result ≡ kept_at left c }
+{
+    if left == 0 {
+        harmless_char(Kind::Prose, c)
+    } else {
+        c
+    }
+}
+
+/// How many characters of paint come next: those that are left, else those of the paint that begins
+/// here.
+fn paint_ahead(left: usize, text: &[char]) -> usize
+    ensures { result ≡ paint_next left text.now }
+{
+    if left == 0 { paint_len(text) } else { left }
+}
+
+/// Ends the paint of a text that has some.
+fn end_paint(kept: &mut Vec<char>) -> Result<(), AllocError>
+    ensures { OnOk result (kept.new.items ≡ with_end kept.old.items) }
+{
+    if has_paint(kept) {
+        kept.extend_from_slice(&['\x1B', '[', '0', 'm'])?;
+    }
+    Ok(())
+}
+
+/// Whether there is an ESC.
+fn has_paint(kept: &[char]) -> bool
+    ensures { result ≡ list_any is_escape kept.now }
+{
+    kept.iter().any(|c| *c == '\x1B')
+}
+
+/// How many characters the paint takes that a text begins with, or 0.
+fn paint_len(text: &[char]) -> usize
+    ensures value { result ≡ paint_length text.now }
+    ensures within { result ≤ length text.now }
+{
+    match text {
+        ['\x1B', '[', rest @ ..] => color_len(rest),
+        _ => 0,
+    }
+}
+
+/// The same, behind its first two characters.
+fn color_len(rest: &[char]) -> usize
+    requires { length rest.now < 2 ^ 61 }
+    ensures value { result ≡ behind_bracket rest.now }
+    ensures within { result ≤ length rest.now + 2 }
+{
+    color_end(color_run(rest), rest)
+}
+
+fn color_run(rest: &[char]) -> usize
+    ensures value { result ≡ prefix_len in_color rest.now }
+    ensures within { result ≤ length rest.now }
+{
+    rest.iter().take_while(|c| is_color_part(**c)).count()
+}
+
+/// How long the paint is, where its last character stands here.
+fn color_end(count: usize, rest: &[char]) -> usize
+    requires small { length rest.now < 2 ^ 61 }
+    requires here { count ≤ length rest.now }
+    ensures value { result ≡ ends_at count rest.now }
+    ensures within { result ≤ length rest.now + 2 }
+{
+    if count < rest.len() && ends_paint(count, rest[count]) {
+        count + 3
+    } else {
+        0
+    }
+}
+
+fn ends_paint(count: usize, c: char) -> bool
+    ensures { result ≡ ends_a_paint count c }
+{
+    c == 'm' || (count == 0 && c == 'K')
+}
+
+fn is_color_part(c: char) -> bool
+    ensures { result ≡ in_color c }
+{
+    ('0' <= c && c <= '9') || c == ';'
+}
