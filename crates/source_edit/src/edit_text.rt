@@ -60,6 +60,10 @@ impl Model for EditText {
 
 impl EditText {
     /// A text with no history. It has fewer than `u32::MAX` bytes.
+    ///
+    /// # Errors
+    ///
+    /// Want of memory.
     pub fn new(alloc: Global, text: String) -> Result<EditText, AllocError>
         requires { Fits (string_bytes text) }
         ensures { IfOk result (λ made. made ≡ record { text = string_bytes text; history = [] }) }
@@ -154,10 +158,12 @@ impl EditText {
 
     /// Edits the text.
     ///
-    /// It answers `Outside` where the range ends behind the text; else `NotBoundary` where its
-    /// start, or else its end, is inside a character; else `TooLong` where the new text would have
-    /// `u32::MAX` bytes or more; else it may answer `OutOfMemory`. A refusal leaves the text, its
-    /// row starts and its history as they were.
+    /// # Errors
+    ///
+    /// `Outside` where the range ends behind the text; else `NotBoundary` where its start, or else
+    /// its end, is inside a character; else `TooLong` where the new text would have `u32::MAX` bytes
+    /// or more; else `OutOfMemory` for want of memory. The text, its row starts and its history are
+    /// as they were.
     pub fn apply(&mut self, edit: Edit) -> Result<(), EditError>
         ensures accepted { OnOk result (self.new ≡ after_edit self.old (change_of edit)) }
         ensures cause { MatchResult result (λ _. IsAcceptable self.old.text (change_of edit))
@@ -170,8 +176,10 @@ impl EditText {
     /// Edits the text by each of the edits in turn, each on the text that the one before left: by
     /// all, or by none.
     ///
-    /// It answers what `apply` answers to the first edit that is refused, with its place in the
-    /// list.
+    /// # Errors
+    ///
+    /// Those of [`EditText::apply`], of the first edit that it refuses, with its place in the list.
+    /// The text, its row starts and its history are as they were before the first.
     pub fn apply_all(&mut self, edits: Vec<Edit>) -> Result<(), EditError>
         ensures accepted { OnOk result (self.new
             ≡ after_edits self.old (map change_of edits.items)) }
@@ -190,7 +198,9 @@ impl EditText {
 
     /// Goes back to the latest text of the history; false exactly where there is none.
     ///
-    /// It always succeeds: what it needs of memory was taken by the edit.
+    /// # Errors
+    ///
+    /// It has none: what it needs of memory was taken by the edit.
     pub fn undo(&mut self) -> Result<bool, AllocError>
         ensures said { result ≡ Ok (nat_lt 0 (length self.old.history)) }
         ensures latest { 0 < length self.old.history

@@ -12,8 +12,9 @@ use std::alloc::{AllocError, Global};
 /// Edits the text of one file of a database, which holds it. Its name stays, and so do all other
 /// files.
 ///
-/// It refuses what [`EditText::apply`](crate::EditText::apply) refuses, and then leaves the
-/// database as it was.
+/// # Errors
+///
+/// Those of [`EditText::apply`](crate::EditText::apply). The database is as it was.
 pub fn edit_file(
     alloc: Global,
     files: &mut Files<String>,

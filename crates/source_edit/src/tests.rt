@@ -90,6 +90,28 @@ fn cr_and_lf_that_meet_are_one_break(rt: HostRuntime) -> Result<(), Fail> {
     Ok(())
 }
 
+/// Whether a row of a text lies there.
+fn lies(text: &EditText, line: usize, start: u32, end: u32) -> bool {
+    match text.line_range(line) {
+        Some(range) => range.start().to_u32() == start && range.end().to_u32() == end,
+        None => false,
+    }
+}
+
+#[test]
+fn rows_lie_with_their_breaks_and_a_history_ends(rt: HostRuntime) -> Result<(), Fail> {
+    let alloc = rt.alloc();
+    let mut text = edited(alloc, "é\r\n\nb")?;
+    assert!(rt; text.apply(edit(alloc, 4, 4, "a\r")?).is_ok());
+    assert!(rt; text.line_count() == 3);
+    assert!(rt; lies(&text, 0, 0, 4) && lies(&text, 1, 4, 7) && lies(&text, 2, 7, 8));
+    assert!(rt; text.line_range(3).is_none());
+    text.forget();
+    assert!(rt; !text.undo()?);
+    assert!(rt; text.into_text().as_str() == "é\r\na\r\nb");
+    Ok(())
+}
+
 #[test]
 fn refusals_name_their_cause(rt: HostRuntime) -> Result<(), Fail> {
     let alloc = rt.alloc();

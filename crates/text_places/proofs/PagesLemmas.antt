@@ -6,7 +6,7 @@ use Rattle.std.specs.List.Sorted.{IsNonDecreasingBy, IsPartitionPoint}
 use Rattle.std.proofs.Math.Seq.{take-add}
 use Rattle.std.proofs.lemmas.Bool.{cases_lt, and_parts, false_from_ne_true, eqb-true, false≢true, leb-true, leb-false, ltb-true, ltb-false}
 use Rattle.std.proofs.lemmas.Bool.Decides.{nat_tests}
-use Rattle.std.proofs.lemmas.List.{take_more, take-take, take-append-drop, drop_more, drop_all, take_all, length-append, take_at, drop_at, take-append-le, get_or-append-add, get_or_append_left, get_or_past, get_or-map}
+use Rattle.std.proofs.lemmas.List.{take_more, take-take, take-append-drop, drop_more, drop_all, take_all, length-append, length-take-le, length-drop, get_or-take, get_or-drop, take_at, drop_at, take-append-le, get_or-append-add, get_or_append_left, get_or_past, get_or-map}
 use Rattle.std.proofs.lemmas.List.Concat.{flat_map-append}
 use Rattle.std.proofs.lemmas.List.Sums.{sum_by-append, sum_by-cons}
 use Rattle.std.proofs.lemmas.Str.{IsUtf8-append, IsUtf8-string_bytes, IsUtf8-nil}
@@ -18,7 +18,10 @@ use Rattle.source_location.proofs.RowsLemmas.{row_le, row_start-le, row_start_af
 use Rattle.source_location.proofs.CutLemmas.{PartsNone, breaks_of-append}
 use Rattle.text_places.specs.Bytes.{begun, before}
 use Rattle.text_places.specs.Places.{line_end}
-use Rattle.text_places.specs.Pages.{bytes_in, text_of, front_of, counts_of, units_in, ArePages, IsInPage, IsRowPage, IsUnitPage, HasOffset, HasRowEnd, HasUnits, IsRowEnd, IsLastWithin, ends_pair}
+use Rattle.text_places.specs.Pages.{bytes_in, text_of, front_of, counts_of, units_in, IsCounted, ArePages, IsInPage, IsRowPage, IsUnitPage, HasOffset, HasRowEnd, HasUnits, IsLastWithin, TellsText, ends_pair}
+use Rattle.text_places.specs.Ends.{IsRowEnd}
+use Rattle.text_places.specs.Ranges.{IsAmong}
+use Rattle.text_places.specs.declared.seek.Range.{Range}
 use Rattle.text_places.specs.declared.encoding.Encoding.{Encoding}
 use Rattle.text_places.specs.declared.encoding.Encoding.TheVariants.{Utf8, Utf16, Utf32}
 use Rattle.text_places.specs.declared.page.Counts.{Counts}
@@ -264,6 +267,47 @@ parted test pages r bound point some first =
     let one : 1 ≤ r = ⊎_elim (λ lt. omega arith) (λ ge. let z : r ≡ 0 = omega arith in let d = some_page pages some in absurd (false≢true (sym (point.1 0 d (omega arith) some) ∙ first d))) (cases_lt 0 r) in
     record { some = one; bound = bound; low = λ d. point.0 (r - 1) d (omega arith) (omega arith); high = λ d h. point.1 r d (omega arith) h }
 
+-- the same among some of the pages
+part_at : (pages : List Page) (low high i : ℕ) (d : Page) → i < high - low → get_or (take (high - low) (drop low pages)) i d ≡ get_or pages (low + i) d
+part_at pages low high i d h = get_or-take (high - low) (drop low pages) i d h ∙ get_or-drop low pages i d
+
+pub part_size : (pages : List Page) (low high : ℕ) → low < high → high ≤ length pages → length (take (high - low) (drop low pages)) ≡ high - low
+part_size pages low high some within = length-take-le (high - low) (drop low pages) (omega (arith, length-drop low pages))
+
+pub part_rises : (n : Page → ℕ) (pages : List Page) (low high : ℕ) → low < high → high ≤ length pages → IsNonDecreasingBy n pages → IsNonDecreasingBy n (take (high - low) (drop low pages))
+part_rises n pages low high some within rise i j d le h =
+    let size = part_size pages low high some within in
+    omega (arith, ap n (part_at pages low high i d (omega (arith, h, size))), ap n (part_at pages low high j d (omega (arith, h, size))), rise (low + i) (low + j) d (omega arith) (omega (arith, h, size)))
+
+pub parted_among : (test : Page → Bool) (pages : List Page) (range : Range) (r : ℕ) → r ≤ length (take (range.high - range.low) (drop range.low pages))
+    → IsPartitionPoint (λ y. test y ≡ true) (λ y. test y ≡ false) (take (range.high - range.low) (drop range.low pages)) r → IsAmong test pages range → 0 < length pages → IsParted test pages (range.low + r)
+parted_among test pages range r bound point among some =
+    let low = range.low in
+    let high = range.high in
+    let part = take (high - low) (drop low pages) in
+    let size : length part ≡ high - low = part_size pages low high among.some among.within in
+    let d = some_page pages some in
+    let zero_at : low + 0 ≡ low = omega arith in
+    let one : 1 ≤ r =
+    ⊎_elim (λ lt. omega arith)
+    (λ ge.
+    let none : r ≡ 0 = omega arith in
+    let first : test (get_or part 0 d) ≡ true = ap test (part_at pages low high 0 d (omega (arith, among.some)) ∙ ap (λ k. get_or pages k d) zero_at) ∙ among.first d in
+    absurd (false≢true (sym (point.1 0 d (omega arith) (omega (arith, size, among.some))) ∙ first)))
+    (cases_lt 0 r) in
+    record {
+      some = omega (arith, one);
+      bound = omega (arith, bound, size, among.within);
+      low = λ d.
+          let back : low + (r - 1) ≡ low + r - 1 = omega (arith, one) in
+          sym (ap test (part_at pages low high (r - 1) d (omega (arith, one, bound, size)) ∙ ap (λ k. get_or pages k d) back)) ∙ point.0 (r - 1) d (omega (arith, one)) (omega (arith, one, bound));
+      high = λ d h.
+          ⊎_elim
+          (λ lt. sym (ap test (part_at pages low high r d (omega (arith, lt, size)))) ∙ point.1 r d (omega arith) lt)
+          (λ ge. let last : high ≡ low + r = omega (arith, ge, bound, size, among.some) in ap (λ k. test (get_or pages k d)) (sym last) ∙ among.behind d (omega (arith, h, last)))
+          (cases_lt r (length part));
+    }
+
 front_start : (pages : List Page) → front_of pages 0 ≡ []
 front_start pages = text-nil
 
@@ -276,11 +320,18 @@ ltb_zero a o e h = grind (arith, nat_tests)
 pub first_bytes : (pages : List Page) (o : ℕ) → ArePages pages → (d : Page) → leb (get_or pages 0 d).before.bytes o ≡ true
 first_bytes pages o ok d = leb_zero (get_or pages 0 d).before.bytes o (bytes_at pages 0 d ok ok.some ∙ ap length (front_start pages))
 
+no_breaks : length (breaks_of []) ≡ 0
+no_breaks = omega (arith, few_breaks [])
+
 pub first_rows : (pages : List Page) (r : ℕ) → ArePages pages → 1 ≤ r → (d : Page) → ltb (get_or pages 0 d).before.rows r ≡ true
 first_rows pages r ok h d = ltb_zero (get_or pages 0 d).before.rows r (rows_at pages 0 d ok ok.some ∙ ap (λ l. length (breaks_of l)) (front_start pages) ∙ no_breaks) h
-  where
-    no_breaks : length (breaks_of []) ≡ 0
-    no_breaks = omega (arith, few_breaks [])
+
+-- nothing is counted before the first page
+pub first_bytes_none : (pages : List Page) (page : Page) → ArePages pages → page ≡ get_or pages 0 page → page.before.bytes ≡ 0
+first_bytes_none pages page ok same = ap (λ (p : Page). p.before.bytes) same ∙ bytes_at pages 0 page ok ok.some ∙ ap length (front_start pages)
+
+pub first_rows_none : (pages : List Page) (page : Page) → ArePages pages → page ≡ get_or pages 0 page → page.before.rows ≡ 0
+first_rows_none pages page ok same = ap (λ (p : Page). p.before.rows) same ∙ rows_at pages 0 page ok ok.some ∙ ap (λ l. length (breaks_of l)) (front_start pages) ∙ no_breaks
 
 pub first_units : (e : Encoding) (pages : List Page) (most : ℕ) → ArePages pages → (d : Page) → leb (units_in e (get_or pages 0 d).before) most ≡ true
 first_units e pages most ok d = leb_zero (units_in e (get_or pages 0 d).before) most (units_at e pages 0 d ok ok.some ∙ ap (begun e) (front_start pages) ∙ begun-nil e)
@@ -352,10 +403,10 @@ has_offset pages k o page ok is same =
 one_byte : (byte back ahead s : ℕ) → break_with byte back ahead s ≡ Some (record { start = s; end = s }) → ((byte == 10) && (back == 13)) ≡ false
 one_byte byte back ahead s e = grind (arith, nat_tests)
 
-two_bytes : (byte back ahead s : ℕ) → break_with byte back ahead s ≡ Some (record { start = s; end = s + 1 }) → ((ahead == 10) && (byte == 13)) ≡ true
+pub two_bytes : (byte back ahead s : ℕ) → break_with byte back ahead s ≡ Some (record { start = s; end = s + 1 }) → ((ahead == 10) && (byte == 13)) ≡ true
 two_bytes byte back ahead s e = grind (arith, nat_tests)
 
-shaped : (b : LineBreak) (s e : ℕ) → b.start ≡ s → b.end ≡ e → b ≡ record { start = s; end = e }
+pub shaped : (b : LineBreak) (s e : ℕ) → b.start ≡ s → b.end ≡ e → b ≡ record { start = s; end = e }
 shaped b s e p q = ap {B = LineBreak} (λ (x : ℕ). record { start = x; end = b.end }) p ∙ ap {B = LineBreak} (λ (y : ℕ). record { start = s; end = y }) q
 
 -- where a break begins, by the two bytes before its end
@@ -521,4 +572,37 @@ has_units e pages k most page ok is same =
                 (cases_lt (k + 1) (length pages)))
                 (cases_lt place (length b));
           });
+    })
+
+-- a page of the text tells where rows end and units begin in it
+pub tells_text : (pages : List Page) (k : ℕ) (page : Page) → ArePages pages → k < length pages → page ≡ get_or pages k page → TellsText (text_of pages) page
+tells_text pages k page ok h same =
+    let p = get_or pages k page in
+    let f = front_of pages k in
+    let b = bytes_in p in
+    let text = text_of pages in
+    let bytes = bytes_at pages k page ok h in
+    let rows = rows_at pages k page ok h in
+    let next = ap (λ l. length (breaks_of l)) (front-more pages k page h) ∙ length-breaks-append f b (cut_before pages k page ok h) in
+    let longer = ap length (front-more pages k page h) ∙ length-append f b in
+    let size : length f + length b ≤ length text = omega (arith, longer, front-le pages (k + 1) (length pages) (omega arith), ap length (front-all pages (length pages) (omega arith))) in
+    let all : length (breaks_of f) + length (breaks_of b) ≤ length (breaks_of text) =
+    omega (arith, next, rows-front-le pages (k + 1) (length pages) ok (omega arith) (omega arith), ap (λ l. length (breaks_of l)) (front-all pages (length pages) (omega arith))) in
+    let fits = ok.fits in
+    let ended : (row : ℕ) → 1 ≤ row → (place : ℕ) → IsRowEnd b row place → HasRowEnd text (p.before.rows + row) p =
+    (λ row some place end.
+    let few : row ≤ length (breaks_of b) = omega (arith, end.high, row_le (breaks_of b) place) in
+    has_row_end pages k (p.before.rows + row) p ok (omega arith) (omega (arith, rows, few, all))
+    (record { within = h; low = omega (arith, rows, some); high = omega (arith, rows, few, next) })
+    (ap (λ q. get_or pages k q) same)) in
+    let back : (row : ℕ) → p.before.rows + row - p.before.rows ≡ row = (λ row. omega arith) in
+    subst (TellsText text) (sym same) (record {
+      fits = omega (arith, size, bytes, fits);
+      within = omega (arith, size, bytes);
+      small = ok.filled.most k page h;
+      rows = ap (λ (c : Counts). c.rows) (ok.counted k page h).own ∙ counts-rows b;
+      few_rows = omega (arith, all, rows);
+      starts = λ row place some end. (ended row some place end).ends place (subst (λ r. IsRowEnd b r place) (sym (back row)) end);
+      ends = λ row place some end. (ended row some place end).begins place (subst (λ r. IsRowEnd b r place) (sym (back row)) end);
+      units = λ e place within. omega (arith, units_at e pages k page ok h, units_in_page e pages k page place h within, ap (λ n. before e text (n + place)) bytes);
     })

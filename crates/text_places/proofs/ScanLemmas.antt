@@ -27,20 +27,11 @@ unfolding begun
 ascii_begun e [] ascii = refl
 ascii_begun e (byte ∷ bytes) ascii = omega (arith, sum_by-cons (units_begun e) byte bytes, ascii_one e byte (ascii 0), ascii_begun e bytes (λ i. ascii (suc i)))
 
-ascii_before : (e : Encoding) (bytes : List ℕ) (p : ℕ) → IsAscii bytes → p ≤ length bytes → before e bytes p ≡ p
+pub ascii_before : (e : Encoding) (bytes : List ℕ) (p : ℕ) → IsAscii bytes → p ≤ length bytes → before e bytes p ≡ p
 ascii_before e bytes zero ascii within = before-none e bytes
 ascii_before e bytes (suc p) ascii within =
     ap (before e bytes) (sym (add-one p))
     ∙ omega (arith, before-more e bytes p (omega (arith, within)), ascii_before e bytes p ascii (omega (arith, within)), ascii_one e (get_or bytes p 0) (ascii p))
-
-pub ascii_last : (e : Encoding) (bytes : List ℕ) (most place : ℕ) → IsAscii bytes → place ≡ min most (length bytes) → IsLastWithin e bytes most place
-ascii_last e bytes most place ascii is =
-    let within : place ≤ length bytes = omega (arith, is) in
-    record {
-      within = within;
-      few = omega (arith, ascii_before e bytes place ascii within, is);
-      more = λ lt. omega (arith, ascii_before e bytes (place + 1) ascii (omega (arith, lt)), is, lt);
-    }
 
 -- without a CR a row ends with each LF and no other byte
 lf_alone : (byte : ℕ) (lone : Bool) → (byte ≡ 13 → ⊥) → cond {A = ℕ} (cond (byte == 10) true (cond (byte == 13) lone false)) 1 0 ≡ cond {A = ℕ} (byte == 10) 1 0

@@ -11,10 +11,11 @@ ghost use Rattle.text_places.specs.Building.{IsPageOf, ArePagesOf, AreSmall};
 
 use crate::Encoding;
 use crate::page::{Counts, PAGE, Page, count_rows, count_units};
+use crate::page_text::PageText;
 use std::alloc::{AllocError, Global};
 
 /// How many bytes a page is filled with at first.
-const FILLED: usize = 768;
+pub(crate) const FILLED: usize = 768;
 
 /// Nothing counted.
 pub(crate) fn nothing() -> Counts
@@ -63,7 +64,7 @@ fn page_of(alloc: Global, text: &str) -> Result<Page, AllocError>
 {
     let own = counts_in(text);
     Ok(Page {
-        text: String::from_str(alloc, text)?,
+        text: PageText::new(alloc, text, own.rows as usize)?,
         before: nothing(),
         own,
     })

@@ -8,6 +8,7 @@ mod encoding;
 mod laws;
 mod mend;
 mod page;
+mod page_text;
 mod pieces;
 mod place;
 mod places;

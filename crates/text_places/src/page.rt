@@ -1,15 +1,16 @@
 // A page: a piece of a text, with what is counted in it and before it.
-ghost use Rattle.std.specs.Prelude.{if◌then◌else◌, ◌≡◌, ◌+◌, ◌-◌, ◌^◌, ◌<◌, ◌≤◌, length};
+ghost use Rattle.std.specs.Prelude.{if◌then◌else◌, ◌≡◌, ◌+◌, ◌-◌, ◌^◌, ◌<◌, ◌≤◌, length, string_bytes};
 ghost use Rattle.std.specs.List.{filter, range_with_len};
 ghost use Rattle.source_location.specs.Breaks.{breaks_of};
 ghost use Rattle.source_location.specs.Rows.{row_of};
-ghost use Rattle.text_places.specs.Bytes.{units_begun, begun};
-ghost use Rattle.text_places.specs.Pages.{bytes_in, counts_of, units_in, ends_row, ends_pair, IsLastWithin};
-ghost use Rattle.text_places.specs.Pages.{IsRowEnd};
+ghost use Rattle.text_places.specs.Bytes.{units_begun, begun, before};
+ghost use Rattle.text_places.specs.Pages.{bytes_in, counts_of, units_in, ends_row, ends_pair, IsLastUpTo};
+ghost use Rattle.text_places.specs.Ends.{IsRowEnd};
 
 use crate::Encoding;
+use crate::page_text::PageText;
 use bytecount::count;
-use memchr::{memchr, memchr2};
+use memchr::memchr;
 use oxc_windows::Steps;
 use std::sync::ledger::Ledger;
 
@@ -34,7 +35,7 @@ pub(crate) struct Counts {
 /// A piece of a text.
 #[derive(Debug, Drop)]
 pub(crate) struct Page {
-    pub(crate) text: String,
+    pub(crate) text: PageText,
     /// What is counted in the text before it.
     pub(crate) before: Counts,
     /// What is counted in it.
@@ -54,14 +55,22 @@ impl Counts {
     }
 }
 
-/// The text of a page: all its bytes count as looked at. Who counts what is looked at comes to a
-/// page's text by this alone.
+/// The text of a page with its answers: all its bytes count as looked at. Who counts what is looked
+/// at comes to a page's text by this alone.
+pub(crate) fn looked_at<'a, L: Ledger>(page: &'a Page, steps: &mut Steps<L>) -> &'a PageText
+    ensures text { string_bytes result.now ≡ bytes_in page.now }
+    ensures ticks { steps.new ≡ steps.old + length (bytes_in page.now) }
+{
+    steps.tick(page.text.as_str().len());
+    &page.text
+}
+
+/// The text of a page, which counts as looked at.
 pub(crate) fn opened<'a, L: Ledger>(page: &'a Page, steps: &mut Steps<L>) -> &'a str
     ensures text { result.now ≡ bytes_in page.now }
     ensures ticks { steps.new ≡ steps.old + length (bytes_in page.now) }
 {
-    steps.tick(page.text.len());
-    page.text.as_str()
+    looked_at(page, steps).as_str()
 }
 
 /// How many units the character takes that begins with a byte; none where no character does.
@@ -103,7 +112,7 @@ fn sum_units(encoding: Encoding, bytes: &[u8]) -> u32
 }
 
 /// Whether a row ends with the byte at a place.
-fn ends_row(bytes: &[u8], at: usize) -> bool
+pub(crate) fn ends_row(bytes: &[u8], at: usize) -> bool
     requires { at < length bytes.now }
     ensures { result ≡ ends_row bytes.now at }
 {
@@ -145,7 +154,8 @@ fn count_ends(bytes: &[u8], to: usize) -> usize
     (0..to).filter(|at| ends_row(bytes, *at)).count()
 }
 
-/// The place behind a row that ends in the bytes, by its number from 1.
+/// The place behind a row that ends in the bytes, by its number from 1: byte by byte, for rows are
+/// short where their ends aren't listed.
 pub(crate) fn row_end(bytes: &[u8], row: usize) -> usize
     requires some { 1 ≤ row }
     requires within { row ≤ length (breaks_of bytes.now) }
@@ -153,41 +163,41 @@ pub(crate) fn row_end(bytes: &[u8], row: usize) -> usize
 {
     let mut left = row;
     let mut at = 0;
-    while let Some(skip) = memchr2(b'\n', b'\r', &bytes[at..]) {
-        let hit = at + skip;
-        if ends_row(bytes, hit) {
+    while at < bytes.len() {
+        if ends_row(bytes, at) {
             left -= 1;
             if left == 0 {
-                return hit + 1;
+                return at + 1;
             }
         }
-        at = hit + 1;
+        at += 1;
     }
     bytes.len()
 }
 
-/// The last place before which no more units begin than so many.
-pub(crate) fn place_within(encoding: Encoding, bytes: &[u8], most: u64) -> usize
-    ensures { IsLastWithin encoding bytes.now most result }
-{
-    if bytes.is_ascii() {
-        most.min(bytes.len() as u64) as usize
-    } else {
-        place_by_byte(encoding, bytes, most)
-    }
+/// A place, and how many of the units that were to begin before it do not.
+#[derive(Clone, Copy, Debug)]
+pub(crate) struct Reached {
+    pub(crate) place: usize,
+    pub(crate) left: u64,
 }
 
-/// The same, byte by byte.
-fn place_by_byte(encoding: Encoding, bytes: &[u8], most: u64) -> usize
-    ensures { IsLastWithin encoding bytes.now most result }
+/// The last place from one on before which no more units begin than so many more, byte by byte.
+pub(crate) fn place_by_byte(encoding: Encoding, bytes: &[u8], from: usize, most: u64) -> Reached
+    requires { from ≤ length bytes.now }
+    ensures last { IsLastUpTo encoding bytes.now (before encoding bytes.now from + most)
+        (length bytes.now) result.place }
+    ensures left { before encoding bytes.now result.place + result.left
+        ≡ before encoding bytes.now from + most }
+    ensures behind { from ≤ result.place }
 {
-    let mut at = 0;
+    let mut place = from;
     let mut left = most;
-    while at < bytes.len() && units_begun(encoding, bytes[at]) as u64 <= left {
-        left -= units_begun(encoding, bytes[at]) as u64;
-        at += 1;
+    while place < bytes.len() && units_begun(encoding, bytes[place]) as u64 <= left {
+        left -= units_begun(encoding, bytes[place]) as u64;
+        place += 1;
     }
-    at
+    Reached { place, left }
 }
 
 /// Where the break begins that ends before a place.

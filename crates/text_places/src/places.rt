@@ -44,8 +44,11 @@ impl Model for TextPlaces {
 }
 
 impl TextPlaces {
-    /// The places of a text that fits (`source_location::fits` tests it). It fails for want of
-    /// memory alone.
+    /// The places of a text that fits (`source_location::fits` tests it).
+    ///
+    /// # Errors
+    ///
+    /// Want of memory.
     pub fn new(alloc: Global, text: &str) -> Result<TextPlaces, AllocError>
         requires { Fits text.now }
         ensures { IfOk result (λ places. places ≡ text.now) }
@@ -186,7 +189,11 @@ impl TextPlaces {
         Some(TextRange::new(TextSize::new(start), TextSize::new(end)))
     }
 
-    /// Replaces a part of the text. An `Err` leaves all as it was.
+    /// Replaces a part of the text.
+    ///
+    /// # Errors
+    ///
+    /// Want of memory: the text is as it was.
     pub fn replace(
         &mut self,
         alloc: Global,
@@ -205,6 +212,10 @@ impl TextPlaces {
 
     /// The same, where the bytes that are looked at are counted: whatever is removed, at most those
     /// of three pages and of what is inserted.
+    ///
+    /// # Errors
+    ///
+    /// As [`TextPlaces::replace`] has them.
     pub fn replace_counted<L: Ledger>(
         &mut self,
         alloc: Global,
@@ -235,6 +246,10 @@ impl TextPlaces {
     }
 
     /// A copy of the text.
+    ///
+    /// # Errors
+    ///
+    /// Want of memory.
     pub fn to_text(&self, alloc: Global) -> Result<String, AllocError>
         ensures { IfOk result (λ text. string_bytes text ≡ self.now) }
     {

@@ -1,0 +1,159 @@
+// The text of a page, with what answers for its rows and units at once.
+ghost use Rattle.std.specs.Prelude.{◌≡◌, ◌+◌, ◌*◌, ◌^◌, ◌<◌, ◌≤◌, length, IfOk, IfSome};
+ghost use Rattle.std.specs.Prelude.{slice_range, string_bytes};
+ghost use Rattle.source_location.specs.Breaks.{breaks_of};
+ghost use Rattle.source_location.specs.Rows.{row_of};
+ghost use Rattle.text_places.specs.Bytes.{begun, before};
+ghost use Rattle.text_places.specs.Ends.{AreEnds, IsRowEnd};
+ghost use Rattle.text_places.specs.Pages.{IsLastUpTo};
+
+use crate::Encoding;
+use crate::page::{PAGE, Reached, count_rows, count_units, ends_row, place_by_byte, row_end};
+use memchr::memchr2;
+use std::alloc::{AllocError, Global};
+use std::marker::Model;
+
+/// Rows shorter than so many bytes are not listed: the list would be long beside the text.
+const SHORT: usize = 8;
+
+/// The text of a page. Contracts see the text alone.
+#[derive(Debug, Drop)]
+pub(crate) struct PageText {
+    text: String,
+    is_ascii: bool,
+    /// The places behind the row ends, where there are few.
+    ends: Option<Vec<u16>>,
+}
+
+impl Model for PageText {
+    ghost use Rattle.std.specs.Prelude.{◌≡◌, true, string_bytes, IfSome};
+    ghost use Rattle.std.specs.Str.{IsAscii};
+    ghost use Rattle.std.specs.Prelude.{String};
+    ghost use Rattle.std.specs.declared.alloc.Global.{Global};
+    ghost use Rattle.text_places.specs.Ends.{AreEnds};
+
+    ghost Value = { String Global };
+
+    ghost view = { λ s. s.text };
+
+    ghost invariant = { λ s. (s.is_ascii ≡ true → IsAscii (string_bytes s.text))
+        × IfSome s.ends (λ ends. AreEnds (string_bytes s.text) ends.items) };
+}
+
+impl PageText {
+    /// A text in which so many rows end.
+    pub(crate) fn new(alloc: Global, text: &str, rows: usize) -> Result<PageText, AllocError>
+        ensures { IfOk result (λ it. string_bytes it ≡ text.now) }
+    {
+        let ends = listed_ends(alloc, text.as_bytes(), rows)?;
+        Ok(PageText {
+            text: String::from_str(alloc, text)?,
+            is_ascii: text.is_ascii(),
+            ends,
+        })
+    }
+
+    /// The text itself.
+    pub(crate) fn as_str(&self) -> &str
+        ensures value { result.now ≡ string_bytes self.now }
+    {
+        self.text.as_str()
+    }
+
+    /// How many rows end before a place.
+    pub(crate) fn rows_to(&self, to: usize) -> usize
+        requires { to ≤ length (string_bytes self.now) }
+        ensures { result ≡ row_of (breaks_of (string_bytes self.now)) to }
+    {
+        match &self.ends {
+            Some(ends) => ends_upto(self.text.as_bytes(), ends, to),
+            None => count_rows(self.text.as_bytes(), to),
+        }
+    }
+
+    /// The place behind a row that ends in the text, by its number from 1.
+    pub(crate) fn row_end(&self, row: usize) -> usize
+        requires some { 1 ≤ row }
+        requires within { row ≤ length (breaks_of (string_bytes self.now)) }
+        ensures { IsRowEnd (string_bytes self.now) row result }
+    {
+        match &self.ends {
+            Some(ends) => ends[row - 1] as usize,
+            None => row_end(self.text.as_bytes(), row),
+        }
+    }
+
+    /// How many units begin from one place to another.
+    pub(crate) fn units(&self, encoding: Encoding, from: usize, to: usize) -> u32
+        requires ordered { from ≤ to }
+        requires within { to ≤ length (string_bytes self.now) }
+        requires few { before encoding (string_bytes self.now) to < 2 ^ 32 }
+        ensures { before encoding (string_bytes self.now) from + result
+            ≡ before encoding (string_bytes self.now) to }
+    {
+        if self.is_ascii {
+            (to - from) as u32
+        } else {
+            count_units(encoding, &self.text.as_bytes()[from..to])
+        }
+    }
+
+    /// The last place up to one, from another on, before which no more units begin than so many
+    /// more.
+    pub(crate) fn reach(&self, encoding: Encoding, from: usize, to: usize, most: u64) -> Reached
+        requires ordered { from ≤ to }
+        requires within { to ≤ length (string_bytes self.now) }
+        ensures last { IsLastUpTo encoding (string_bytes self.now)
+            (before encoding (string_bytes self.now) from + most) to result.place }
+        ensures left { before encoding (string_bytes self.now) result.place + result.left
+            ≡ before encoding (string_bytes self.now) from + most }
+        ensures behind { from ≤ result.place }
+    {
+        if self.is_ascii {
+            let step = most.min((to - from) as u64);
+            Reached {
+                place: from + step as usize,
+                left: most - step,
+            }
+        } else {
+            place_by_byte(encoding, &self.text.as_bytes()[..to], from, most)
+        }
+    }
+}
+
+/// The places behind all row ends, where they are few and the text is no longer than a page.
+fn listed_ends(alloc: Global, bytes: &[u8], rows: usize) -> Result<Option<Vec<u16>>, AllocError>
+    ensures { IfOk result (λ ends. IfSome ends (λ ends. AreEnds bytes.now ends.items)) }
+{
+    if bytes.len() > PAGE || rows > bytes.len() / SHORT {
+        return Ok(None);
+    }
+    let ends = all_ends(alloc, bytes, rows)?;
+    Ok(Some(ends))
+}
+
+/// The places behind all row ends.
+fn all_ends(alloc: Global, bytes: &[u8], rows: usize) -> Result<Vec<u16>, AllocError>
+    requires { length bytes.now ≤ 1024 }
+    ensures { IfOk result (λ ends. AreEnds bytes.now ends.items) }
+{
+    let mut ends = Vec::with_capacity(alloc, rows)?;
+    let mut at = 0;
+    while let Some(skip) = memchr2(b'\n', b'\r', &bytes[at..]) {
+        let hit = at + skip;
+        at = hit + 1;
+        if ends_row(bytes, hit) {
+            ends.push(at as u16)?;
+        }
+    }
+    Ok(ends)
+}
+
+/// How many of all row ends come up to a place.
+fn ends_upto(bytes: &[u8], ends: &[u16], to: usize) -> usize
+    requires ends { AreEnds bytes.now ends.now }
+    requires within { to ≤ length bytes.now }
+    ensures { result ≡ row_of (breaks_of bytes.now) to }
+{
+    ends.partition_point(|end| *end as usize <= to)
+}
