@@ -8,3 +8,6 @@ pub mod ReadBackLemmas
 pub mod SmallLemmas
 pub mod RowLemmas
 pub mod SpanLemmas
+pub mod RulePlaceLemmas
+pub mod LabelBackLemmas
+pub mod ReportBackLemmas

@@ -33,7 +33,7 @@ labels_fit files file (it ∷ rest) small all =
     All-cons IsPlace (label_location files file it) (map (label_location files file) rest) (label_fits files file it small (All-head (IsSmall (text_of files file)) it rest all))
     (labels_fit files file rest small (All-tail (IsSmall (text_of files file)) it rest all))
 
-others_hold : {A : Type 0} (P : A → Type 0) (xs : List A) (at : ℕ) → All P xs → All P (remove xs at)
+pub others_hold : {A : Type 0} (P : A → Type 0) (xs : List A) (at : ℕ) → All P xs → All P (remove xs at)
 others_hold P [] zero all = all
 others_hold P [] (suc at) all = all
 others_hold P (x ∷ xs) zero all = All-tail P x xs all

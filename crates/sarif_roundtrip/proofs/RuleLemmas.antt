@@ -38,14 +38,14 @@ one_rule it other same =
     let read : Some (outline (rule_data it)) ≡ Some (outline (rule_data other)) = sym (text_read it) ∙ ap document same ∙ text_read other in
     sym (rule_back it.id it.help_uri) ∙ ap read_or read ∙ rule_back other.id other.help_uri
 
-bytes_same : (xs : List ℕ) → bytes_eq xs xs ≡ true
+pub bytes_same : (xs : List ℕ) → bytes_eq xs xs ≡ true
 bytes_same xs = (bytes_eq-Decides xs xs).1 refl
 
-text_same : (it : Option (List ℕ)) → is_same_text it it ≡ true
+pub text_same : (it : Option (List ℕ)) → is_same_text it it ≡ true
 text_same None = refl
 text_same (Some text) = bytes_same text
 
-same_text : (it other : Option (List ℕ)) → is_same_text it other ≡ true → it ≡ other
+pub same_text : (it other : Option (List ℕ)) → is_same_text it other ≡ true → it ≡ other
 same_text None None same = refl
 same_text None (Some b) same = cc
 same_text (Some a) None same = cc
@@ -161,7 +161,7 @@ index_small reports said fewer = place_small (rules_meant reports) (rule_meant s
 
 -- ---- and are read as they are meant
 
-abbrev IsSaid : Rule → Type 0
+abbrev pub IsSaid : Rule → Type 0
 IsSaid it = rule_said it.id it.help_uri ≡ it
 
 meant_said : (said : OxcParts) → IfSome (rule_meant said) IsSaid
@@ -182,7 +182,7 @@ one_said : (rules : List Rule) (rule : Option Rule) → All IsSaid rules → IfS
 one_said rules None all said = all
 one_said rules (Some rule) all said = said_pushed rules rule (is_some (rule_from 0 rules rule)) all said
 
-all_said : (rules : List Rule) (reports : List GivenReport) → All IsSaid rules → All IsSaid (with_rules rules reports)
+pub all_said : (rules : List Rule) (reports : List GivenReport) → All IsSaid rules → All IsSaid (with_rules rules reports)
 unfolding with_rules
 all_said rules [] all = all
 all_said rules (it ∷ rest) all = all_said (with_rule rules (rule_meant it.diagnostic)) rest (one_said rules (rule_meant it.diagnostic) all (meant_said it.diagnostic))

@@ -1,7 +1,7 @@
 -- The log that files and reports on them are, as `sarif_log` reads it.
 use Rattle.std.specs.Prelude.{ℕ, ◌+◌, ◌&&◌, Bool, true, false, List, [], ◌∷◌, ◌++◌, map, if◌then◌else◌, Option, Some, None, is_none, is_some, option_and_then, unwrap_or, slice_get}
 use Rattle.std.specs.List.{remove}
-use Rattle.std.specs.Str.{bytes_eq}
+use Rattle.std.specs.Str.{IsUtf8, bytes_eq}
 use Rattle.source_location.specs.declared.SourceLocation.{SourceLocation}
 use Rattle.source_location.specs.Locations.{location_of}
 use Rattle.codespan.specs.Texts.{Fits, NamedText, name_of, text_of}
@@ -160,5 +160,7 @@ log_meant tool files reports = record { runs = run_meant tool files reports ∷ 
 
 -- ---- the texts of files
 
-abbrev pub IsShort : NamedText → Type 0
-IsShort it = Fits it.text
+-- a file's text is UTF-8, and has places of 32 bits
+pub record IsSource (it : NamedText) : Type 0 where
+  pub short : Fits it.text
+  pub utf8 : IsUtf8 it.text

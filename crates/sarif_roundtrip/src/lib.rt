@@ -1,17 +1,20 @@
 //! SARIF logs that are written, and what is read of them.
 //!
 //! [`written_log`] gives the log of files and reports on them, as `sarif_writing` writes it, and
-//! promises what `sarif_log` reads of it: the log that they are, as `specs/Meant.antt` says.
+//! promises what `sarif_log` and `sarif` read of it: the log that they are, as `specs/Meant.antt`
+//! says, and the same reports.
 #![tactic(auto)]
 
-ghost use Rattle.std.specs.Prelude.{◌≡◌, ◌≤◌, All, IfOk, length, map, string_bytes};
+ghost use Rattle.std.specs.Prelude.{◌≡◌, ◌<◌, ◌≤◌, All, IfOk, length, map, string_bytes};
+ghost use Rattle.codespan.specs.Texts.{file_at};
 ghost use Rattle.serde_json.specs.Written.{compact_text};
 ghost use Rattle.render_files.specs.Causes.{IsJudged};
 ghost use Rattle.render_files.specs.Given.{given_report};
 ghost use Rattle.render_files.specs.Refusal.{refusal_of};
 ghost use Rattle.sarif_log.specs.Answer.{answer_to, log as log_is};
 ghost use Rattle.sarif_writing.specs.Written.{log_value};
-ghost use Rattle.sarif_roundtrip.specs.Meant.{IsShort, log_meant};
+ghost use Rattle.sarif_roundtrip.specs.Meant.{IsSource, log_meant};
+ghost use Rattle.sarif_roundtrip.specs.Reports.{ComeBack};
 
 mod laws;
 
@@ -22,7 +25,8 @@ use sarif_writing::write_log;
 use std::alloc::Global;
 
 /// The text of the log of one run that these files and reports are, as [`write_log`] writes it.
-/// `sarif_log::read_log` reads it as the log that is meant.
+/// `sarif_log::read_log` reads it as the log that is meant, and of that `sarif::reports_of` gives
+/// these reports, as `specs/Reports.antt` says.
 ///
 /// # Errors
 ///
@@ -37,6 +41,8 @@ pub fn written_log(
         ≡ compact_text (log_value tool.now files.now (map given_report reports.now))) }
     ensures read { IfOk result (λ text. answer_to (string_bytes text)
         ≡ log_is (log_meant tool.now files.now (map given_report reports.now))) }
+    ensures reports { IfOk result (λ text. ComeBack (string_bytes text)
+        tool.now files.now (map given_report reports.now)) }
     ensures cause { IsJudged (refusal_of files.now (map given_report reports.now)) result }
 {
     look_at(files);
@@ -44,16 +50,23 @@ pub fn written_log(
     Ok(text)
 }
 
-/// Looks at each text, none of which has rows or columns past 32 bits.
-#[tactic(auto, using(crate::proofs::SmallLemmas::none_short, crate::proofs::SmallLemmas::more_short))]
+/// Looks at each text, which is UTF-8 and has no rows or columns past 32 bits.
+#[tactic(auto, using(crate::proofs::SmallLemmas::no_sources))]
 fn look_at(files: &Files<String>)
-    ensures short { All IsShort files.now }
+    ensures sources { All IsSource files.now }
     ensures few { length files.now ≤ 4294967295 }
 {
     for index in 0..files.len() {
         let Some(file) = FileId::from_index(index as u32) else {
             unreachable!();
         };
-        let _text = files.source(file);
+        look_at_text(files, file);
     }
+}
+
+fn look_at_text(files: &Files<String>, file: FileId)
+    requires { file < length files.now }
+    ensures { IsSource (file_at files.now file) }
+{
+    let _text = files.source(file).as_str();
 }

@@ -96,3 +96,7 @@ run_is tool files its artifacts results rules driver run is listed found told ru
     let r : view (Array results) ≡ array (items_of (map (result_value files (rules_of its)) its)) = view-Array results ∙ ap (λ l. array (items_of l)) (found ∙ ap (λ rs. map (result_value files rs) its) ruled) in
     let t : driver ≡ tool_value tool (array (items_of (rules_of its))) = told ∙ ap (tool_value tool) (view-Array rules ∙ ap (λ l. array (items_of l)) ruled) in
     is ∙ ap₂ (λ x y. run_of x y driver) a r ∙ ap (run_of (array (items_of (map artifact_value files))) (array (items_of (map (result_value files (rules_of its)) its)))) t
+
+pub ruleset one_taken = (map_remove, got, not_got, all_left)
+
+pub ruleset head_found = (head_here, head_on, head_none)

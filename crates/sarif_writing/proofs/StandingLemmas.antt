@@ -121,3 +121,5 @@ index_at files indexes file index are held is =
 pub labels_stand_at : (files : List NamedText) (report : FileReport) (labels : List Label) → StandsInFile files (given_report report)
     → labels ≡ placed_labels files (given_report report) → All (Stands (text_of files report.file)) labels
 labels_stand_at files report labels stand is = subst (All (Stands (text_of files report.file))) (sym is) stand.labels
+
+pub ruleset each_stands = (stands_at, spans_reach, spans_at, indexes_reach, index_at, labels_stand_at)

@@ -77,7 +77,7 @@ fn put_array(
 }
 
 /// Takes the value at a place out of a list.
-#[tactic(auto, using(crate::proofs::ListLemmas::map_remove, crate::proofs::ListLemmas::got, crate::proofs::ListLemmas::not_got, crate::proofs::ListLemmas::all_left))]
+#[tactic(auto, using(crate::proofs::ListLemmas::one_taken))]
 fn take_at(values: &mut Vec<Value>, place: usize) -> Option<Value>
     ensures taken { option_map view result ≡ slice_get (map view values.old.items) place }
     ensures left { map view values.new.items ≡ remove (map view values.old.items) place }
@@ -90,7 +90,7 @@ fn take_at(values: &mut Vec<Value>, place: usize) -> Option<Value>
 }
 
 /// The place of the first primary label, else 0.
-#[tactic(auto, using(crate::proofs::ListLemmas::head_here, crate::proofs::ListLemmas::head_on, crate::proofs::ListLemmas::head_none))]
+#[tactic(auto, using(crate::proofs::ListLemmas::head_found))]
 fn head_place(labels: &[LabeledSpan]) -> usize
     ensures { result ≡ head_meant labels.now }
 {

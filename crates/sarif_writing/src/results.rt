@@ -23,7 +23,7 @@ use source_location::LineIndex;
 use std::alloc::{AllocError, Global};
 
 /// The results of reports on files that are indexed, with their labels.
-#[tactic(auto, using(crate::proofs::StandingLemmas::stands_at, crate::proofs::StandingLemmas::spans_reach, crate::proofs::StandingLemmas::spans_at, crate::proofs::StandingLemmas::indexes_reach, crate::proofs::StandingLemmas::index_at, crate::proofs::StandingLemmas::labels_stand_at))]
+#[tactic(auto, using(crate::proofs::StandingLemmas::each_stands))]
 pub(crate) fn results_of(
     alloc: Global,
     files: &Files<String>,
