@@ -78,11 +78,11 @@ impl Scripted {
         }
     }
 
-    fn turn(&mut self, room: usize) -> io::Result<usize> {
+    fn turn(&mut self) -> io::Result<usize> {
         let turn = self.turns.get(self.calls).copied().unwrap_or(Fails);
         self.calls = self.calls.saturating_add(1);
         match turn {
-            Moves(count) => Ok(count.min(room)),
+            Moves(count) => Ok(count),
             IsInterrupted => Err(io::Error::from(ErrorKind::Interrupted)),
             Fails => Err(io::Error::from(ErrorKind::WouldBlock)),
         }
@@ -91,13 +91,15 @@ impl Scripted {
 
 impl Read for Scripted {
     fn read(&mut self, buf: &mut [u8]) -> io::Result<usize> {
-        self.turn(buf.len())
+        let count = self.turn()?;
+        Ok(count.min(buf.len()))
     }
 }
 
 impl Write for Scripted {
     fn write(&mut self, buf: &[u8]) -> io::Result<usize> {
-        self.turn(buf.len())
+        let count = self.turn()?;
+        Ok(count.min(buf.len()))
     }
 
     fn flush(&mut self) -> io::Result<()> {
