@@ -156,7 +156,7 @@ fn show_one<W: Write>(
     };
     let text = document.client().to_text(alloc)?;
     let found = found_in(alloc, session.asked, log, uri.as_str(), text.as_str())?;
-    if let Some(answer) = session.server.show(alloc, uri, found)? {
+    if let Some(answer) = session.server.show(alloc, uri.as_str(), found)? {
         send(alloc, answer, out)?;
     }
     Ok(())

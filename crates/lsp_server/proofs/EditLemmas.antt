@@ -1,5 +1,5 @@
 -- Changes of an open document.
-use Rattle.std.proofs.Common.{◌≡◌, ℕ, ℤ, ◌+◌, ◌-◌, ◌^◌, ◌<◌, ◌≤◌, List, [], ◌∷◌, ◌++◌, append-nil, length, take, drop, get_or, length-append, string_bytes, Option, Some, None, refl, sym, ◌∙◌, ap, ap₂, subst, arith, inl, inr, ⊎_elim}
+use Rattle.std.proofs.Common.{◌≡◌, ℕ, ℤ, ◌+◌, ◌-◌, ◌^◌, ◌<◌, ◌≤◌, List, [], ◌∷◌, ◌++◌, append-nil, length, take, drop, get_or, length-append, string_bytes, Option, Some, None, refl, sym, ◌∙◌, ap, ap₂, subst, arith, inl, inr, ⊎_elim, IfSome}
 use Rattle.std.proofs.lemmas.Bool.{cases_lt}
 use Rattle.std.proofs.lemmas.List.{drop_all, drop_more}
 use Rattle.std.proofs.lemmas.Str.{IsUtf8-string_bytes, IsCharBoundary-end, IsCharBoundary-start}
@@ -21,7 +21,7 @@ use Rattle.lsp_marks.specs.declared.Change.{Change as Moving}
 use Rattle.lsp_marks.proofs.Texts.{changed_text}
 use Rattle.lsp_diagnostics.specs.Seen.{StandIn}
 use Rattle.lsp_server.specs.Moved.{moved_diagnostic}
-use Rattle.lsp_server.specs.Views.{OpenView, open_view}
+use Rattle.lsp_server.specs.Views.{IsSpareOf, OpenView, open_view}
 use Rattle.lsp_server.specs.Edits.{Holds, IsWhere, MovesAll, MovesOne, moving, with_version}
 use Rattle.lsp_server.proofs.MovedLemmas.{IsFitting, found_stand}
 
@@ -90,6 +90,22 @@ made_of encoding old new change (Some (from, to)) start end utf8 place made =
       whole = whole;
     }
 
+-- ---- a change makes one text
+
+part_same : (encoding : Encoding) (text : List ℕ) (range : Option (Place × Place)) (insert a b : List ℕ)
+    → IsChanged encoding text range insert a → IsChanged encoding text range insert b → a ≡ b
+part_same encoding text None insert a b first second = first.1 ∙ sym second.1
+part_same encoding text (Some (from, to)) insert a b first second =
+    let start = one_nearest encoding text from first.first second.first first.part.nearest_start second.part.nearest_start in
+    let end = one_nearest encoding text to first.last second.last first.part.nearest_end second.part.nearest_end in
+    first.is ∙ ap₂ (λ i j. replace_range text i j insert) start end ∙ sym second.is
+
+pub changes_same : (encoding : Encoding) (text : List ℕ) (changes : List Change) (a b : List ℕ) → AllChange encoding text changes a → AllChange encoding text changes b → a ≡ b
+changes_same encoding text [] a b first second = first ∙ sym second
+changes_same encoding text (change ∷ changes) a b (next, made, later) (other, made_too, later_too) =
+    let same = part_same encoding text change.range (string_bytes change.text) next other made made_too in
+    changes_same encoding next changes a b later (subst (λ t. AllChange encoding t changes b) (sym same) later_too)
+
 -- ---- one change
 
 -- what the only change of a list makes
@@ -156,15 +172,34 @@ pub moved_all_made : (before now : OpenView) (all rest : List Change) (number : 
 moved_all_made before now all [] number is none = is.more now refl
 moved_all_made before now all (change ∷ rest) number is none = absurd (omega (arith, none))
 
--- a copy of a document under another version
-pub copied_is : (client copy : Document) (found copies : List OxcParts) (document : OpenView) (version : ℤ)
-    → copy ≡ record client { version = version } → copies ≡ found → open_view client found ≡ document
-    → open_view copy copies ≡ with_version document version
-copied_is client copy found copies document version p q r =
-    ap₂ open_view p q ∙ ap (λ (d : OpenView). with_version d version) r
-
 -- the only element of a part of a list
 pub one_of : {A : Type 0} (xs : List A) (i : ℕ) (x : A) → i < length xs → x ≡ get_or xs i x → take (i + 1 - i) (drop i xs) ≡ x ∷ []
 one_of xs i x within is =
     let one : i + 1 - i ≡ 1 = omega arith in
     ap₂ (λ n l. take n l) one (drop_more xs i x within ∙ ap (λ y. y ∷ drop (i + 1) xs) (sym is))
+
+-- ---- all changes
+
+-- the text of a document whose changes are made, findings aside
+pub moved_text : (old new : OpenView) (changes : List Change) → MovesAll old changes new
+    → AllChange old.client.encoding old.client.text changes new.client.text × (new.client.encoding ≡ old.client.encoding)
+moved_text old new [] is = (ap (λ (v : OpenView). v.client.text) is, ap (λ (v : OpenView). v.client.encoding) is)
+moved_text old new (change ∷ changes) (next, made, later) =
+    let rest = moved_text next new changes later in
+    let one = only_change old.client.encoding old.client.text next.client.text change made.edited.made in
+    let behind = subst (λ (e : Encoding). AllChange e next.client.text changes new.client.text) made.edited.encoding rest.0 in
+    ((next.client.text, one, behind), rest.1 ∙ made.edited.encoding)
+
+-- the same changes made in another document of the text
+pub spare_of : (before copy next : Document) (found moved : List OxcParts) (changes : List Change) (it : Option Document) → copy.text ≡ before.text → copy.encoding ≡ before.encoding
+    → MovesAll (open_view copy found) changes (open_view next moved)
+    → IfSome it (λ d. AllChange before.encoding before.text changes d.text) → IfSome it (λ d. d.encoding ≡ before.encoding) → IfSome it (IsSpareOf next)
+spare_of before copy next found moved changes None text encoding all made same = tt
+spare_of before copy next found moved changes (Some it) text encoding all made same =
+    let moves = moved_text (open_view copy found) (open_view next moved) changes all in
+    let there = subst (λ t. AllChange before.encoding t changes next.text) text
+    (subst (λ (e : Encoding). AllChange e copy.text changes next.text) encoding moves.0) in
+    record {
+      text = changes_same before.encoding before.text changes it.text next.text made there;
+      encoding = same ∙ sym encoding ∙ sym moves.1;
+    }

@@ -1,5 +1,5 @@
 -- What changes make of an open document.
-use Rattle.std.specs.Prelude.{◌≡◌, ℕ, ℤ, ◌≤◌, List, [], ◌∷◌, length, string_bytes, Option, Some, None, All}
+use Rattle.std.specs.Prelude.{◌≡◌, ℕ, ℤ, ◌≤◌, List, [], ◌∷◌, length, string_bytes, Option, Some, None, All, ⊤}
 use Rattle.std.specs.List.{filter_map}
 use Rattle.std.specs.Str.{IsUtf8}
 use Rattle.text_places.specs.Places.{AreNearest}
@@ -12,7 +12,7 @@ use Rattle.lsp_marks.specs.declared.Change.{Change as Moving}
 use Rattle.oxc_protocol.specs.Parts.{OxcParts}
 use Rattle.lsp_diagnostics.specs.Seen.{StandIn}
 use Rattle.lsp_server.specs.Moved.{moved_diagnostic}
-use Rattle.lsp_server.specs.Views.{OpenView}
+use Rattle.lsp_server.specs.Views.{OpenView, open_view}
 use Rattle.lsp_server.specs.declared.documents.Edit.{Edit}
 use Rattle.lsp_server.specs.declared.documents.Edit.TheVariants.{Made, Faulty}
 
@@ -50,12 +50,11 @@ abbrev pub MovesAll : OpenView → List Change → OpenView → Type 0
 MovesAll old [] new = new ≡ old
 MovesAll old (change ∷ changes) new = (next : OpenView) × MovesOne old change next × MovesAll next changes new
 
--- all changes of a notification are made, and its version is kept; or the first that can't be made is named
-abbrev pub IsEdit : OpenView → ℤ → List Change → Edit → Type 0
-IsEdit document version changes (Made new) = MovesAll (with_version document version) changes new
-IsEdit document version changes (Faulty refusal) = IsRefusal document.client.encoding document.client.text changes refusal
+-- all changes are made, or the first that can't be made is named
+abbrev pub IsEdit : OpenView → List Change → Edit → Type 0
+IsEdit document changes (Made client found) = MovesAll document changes (open_view client found.items)
+IsEdit document changes (Faulty refusal) = IsRefusal document.client.encoding document.client.text changes refusal
 
--- other findings, if their labels stand in the text
-abbrev pub IsShown : OpenView → List OxcParts → Option OpenView → Type 0
-IsShown document found None = ¬ All (StandIn document.client.text) found
-IsShown document found (Some new) = (new ≡ record document { found = found }) × All (StandIn document.client.text) found
+abbrev pub HoldsMade : Edit → Type 0
+HoldsMade (Made client found) = Holds client found.items
+HoldsMade (Faulty refusal) = ⊤

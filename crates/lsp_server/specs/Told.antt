@@ -81,6 +81,16 @@ RefusesAs document changes TooLong = ⊥
 RefusesAs document changes why.Malformed = ⊥
 RefusesAs document changes (Faulty refusal) = IsRefusal document.client.encoding document.client.text changes refusal
 
+-- an open document's changes are made, and it is published with its findings, which moved with it; or one is named, and it stays
+abbrev pub IsTextChanged : Agreed → List ℕ → ℤ → List Change → OpenView → OpenView → Answer → Type 0
+IsTextChanged agreed uri version changes old new (Capabilities id wanted) = ⊥
+IsTextChanged agreed uri version changes old new (Null id) = ⊥
+IsTextChanged agreed uri version changes old new (Error id code) = ⊥
+IsTextChanged agreed uri version changes old new (Published params) =
+    MovesAll (with_version old version) changes new × PublishesOpen agreed uri new (Published params)
+IsTextChanged agreed uri version changes old new (answer.Refused why) = (new ≡ old) × RefusesAs old changes why
+IsTextChanged agreed uri version changes old new (Logged text) = ⊥
+
 -- a text that changed is published with its findings, which moved with it
 pub record IsMade (agreed : Agreed) (uri : List ℕ) (version : ℤ) (changes : List Change) (document : OpenView) (old new : Documents) (told : Answer) : Type 0 where
   pub next : OpenView
@@ -113,6 +123,11 @@ IsNoticed agreed Malformed old new told = AreSame old new × (told ≡ Some (ans
 IsNoticed agreed notice.Unknown old new told = AreSame old new × (told ≡ None)
 
 -- ---- findings that are shown
+
+-- other findings are shown, if their labels stand in the text
+abbrev pub IsShown : Agreed → List ℕ → List OxcParts → OpenView → OpenView → Option Answer → Type 0
+IsShown agreed uri found old new None = (new ≡ old) × ¬ All (StandIn old.client.text) found
+IsShown agreed uri found old new (Some told) = (new ≡ record old { found = found }) × PublishesOpen agreed uri new told
 
 abbrev pub ShowsAs : Agreed → List ℕ → List OxcParts → Option OpenView → Documents → Documents → Option Answer → Type 0
 ShowsAs agreed uri found None old new told = AreSame old new × (told ≡ None)

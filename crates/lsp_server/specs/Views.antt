@@ -1,5 +1,5 @@
 -- What contracts see of an open document.
-use Rattle.std.specs.Prelude.{List}
+use Rattle.std.specs.Prelude.{◌≡◌, List}
 use Rattle.client_text.specs.Document.{Document}
 use Rattle.oxc_protocol.specs.Parts.{OxcParts}
 
@@ -10,3 +10,8 @@ pub record OpenView : Type 0 where
 
 abbrev pub open_view : Document → List OxcParts → OpenView
 open_view client found = record { client = client; found = found }
+
+-- another document of the same text, in the same units, under any version
+pub record IsSpareOf (client spare : Document) : Type 0 where
+  pub text : spare.text ≡ client.text
+  pub encoding : spare.encoding ≡ client.encoding

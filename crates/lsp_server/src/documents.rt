@@ -1,13 +1,17 @@
 // An open document, and the findings in its text.
-ghost use Rattle.std.specs.Prelude.{◌≡◌, ◌↔◌, ◌∷◌, [], All, IfNone, IfOk, IfSome, IsTrue, OnOk, Some};
-ghost use Rattle.std.specs.Str.{IsUtf8};
+ghost use Rattle.std.specs.Prelude.{◌≡◌, ◌∷◌, [], All, IfNone, IfOk, IfSome, OnErr};
+ghost use Rattle.std.specs.Prelude.{OnOk, Some};
 ghost use Rattle.source_location.specs.Index.{Fits};
-ghost use Rattle.client_text.specs.Changes.{IsFault};
+ghost use Rattle.client_text.specs.Changes.{AllChange, Changes, IsFault};
 ghost use Rattle.lsp_diagnostics.specs.Seen.{StandIn};
-ghost use Rattle.lsp_server.specs.Edits.{Holds, IsEdit, IsShown, IsWhere, MovesOne, opened};
-ghost use Rattle.lsp_server.specs.Views.{open_view};
+ghost use Rattle.lsp_server.specs.Edits.{Holds, HoldsMade, IsEdit, IsWhere, MovesOne, opened};
+ghost use Rattle.lsp_server.specs.Session.{answered, answered_by};
+ghost use Rattle.lsp_server.specs.Told.{IsShown, IsTextChanged};
+ghost use Rattle.lsp_server.specs.Views.{IsSpareOf, open_view};
 
+use crate::message::{Agreed, Answer, Refused};
 use crate::moved::{copied_all, moved_all};
+use crate::published::published_open;
 use client_text::{Change, ClientText, Fault, Refusal};
 use lsp_diagnostics::all_stand;
 use oxc_protocol::OxcDiagnostic;
@@ -23,25 +27,29 @@ use text_size::TextSize;
 pub struct OpenText {
     client: ClientText,
     found: Vec<OxcDiagnostic>,
+    /// The document once more, in which the next changes are made, so that nothing is lost where
+    /// memory is wanted behind them. There is none before the first change.
+    spare: Option<ClientText>,
 }
 
 impl Model for OpenText {
-    ghost use Rattle.std.specs.Prelude.{All};
-    ghost use Rattle.lsp_diagnostics.specs.Seen.{StandIn};
-    ghost use Rattle.lsp_server.specs.Views.{OpenView};
+    ghost use Rattle.std.specs.Prelude.{IfSome};
+    ghost use Rattle.lsp_server.specs.Edits.{Holds};
+    ghost use Rattle.lsp_server.specs.Views.{IsSpareOf, OpenView};
 
     ghost Value = { OpenView };
 
     ghost view = { λ s. record { client = s.client; found = s.found.items } };
 
-    ghost invariant = { λ s. All (StandIn s.client.text) s.found.items };
+    ghost invariant = { λ s. Holds s.client s.found.items
+        × IfSome s.spare (IsSpareOf s.client) };
 }
 
 /// What changes come to.
 #[derive(Drop)]
-pub enum Edit {
-    /// The document after all of them.
-    Made(OpenText),
+enum Edit {
+    /// The document after all of them, and the findings in it.
+    Made(ClientText, Vec<OxcDiagnostic>),
     /// The first that can't be made, and why.
     Faulty(Refusal),
 }
@@ -65,6 +73,7 @@ impl OpenText {
         Ok(OpenText {
             client,
             found: Vec::new(alloc),
+            spare: None,
         })
     }
 
@@ -83,68 +92,140 @@ impl OpenText {
         &self.found
     }
 
-    /// The document with other findings, or none where one of their labels doesn't stand in the
-    /// text.
+    /// Shows other findings, and gives what is told of them; none where one of their labels doesn't
+    /// stand in the text.
     ///
     /// # Errors
     ///
-    /// Want of memory.
-    pub fn with_found(
-        &self,
+    /// Want of memory: all is as it was.
+    pub fn show(
+        &mut self,
         alloc: Global,
+        agreed: Agreed,
+        uri: &str,
         found: Vec<OxcDiagnostic>,
-    ) -> Result<Option<OpenText>, AllocError>
-        ensures { IfOk result (IsShown self.now found.items) }
+    ) -> Result<Option<Answer>, AllocError>
+        ensures shown { IfOk result (IsShown agreed uri.now found.items self.old self.new) }
+        ensures once { IfOk result (λ told. answered told ≡ []) }
+        ensures err { OnErr result (self.new ≡ self.old) }
     {
         let text = self.client.to_text(alloc)?;
-        if !all_stand(text.as_str(), found.as_slice()) {
+        if !all_stand(text.as_str(), &found) {
             return Ok(None);
         }
-        let client = copied(alloc, &self.client, self.client.version())?;
-        Ok(Some(OpenText { client, found }))
+        let params = published_open(alloc, agreed, uri, &self.client, &found)?;
+        self.found = found;
+        Ok(Some(Answer::Published(params)))
     }
 
-    /// The document after the changes of a notification, each on the text that the one before left,
-    /// or the first that can't be made. Findings move with each change.
+    /// Makes the changes of a notification, each on the text that the one before left, and gives the
+    /// findings as they moved; or names the first change that can't be made, and all is as it was.
     ///
     /// # Errors
     ///
-    /// Want of memory.
-    pub fn edited(
-        &self,
+    /// Want of memory: all is as it was.
+    pub fn change(
+        &mut self,
         alloc: Global,
+        agreed: Agreed,
+        uri: &str,
         version: i32,
         changes: &[Change],
-    ) -> Result<Edit, AllocError>
-        ensures { IfOk result (IsEdit self.now version changes.now) }
+    ) -> Result<Answer, AllocError>
+        ensures changed { IfOk result (IsTextChanged agreed uri.now version changes.now
+            self.old self.new) }
+        ensures once { IfOk result (λ told. answered_by told ≡ []) }
+        ensures err { OnErr result (self.new ≡ self.old) }
     {
-        let mut client = copied(alloc, &self.client, version)?;
-        let mut found = copied_all(alloc, &self.found)?;
-        for (number, change) in changes.iter().enumerate() {
-            let one = &changes[number..number + 1];
-            match edit_one(alloc, &mut client, &mut found, change, one)? {
-                None => {}
-                Some(fault) => {
-                    return Ok(Edit::Faulty(Refusal {
-                        change: number,
-                        fault,
-                    }));
-                }
+        let spare = std::mem::replace(&mut self.spare, None);
+        let copy = at_version(alloc, &self.client, spare, version)?;
+        match edited(alloc, copy, &self.found, changes)? {
+            Edit::Faulty(refusal) => Ok(Answer::Refused(Refused::Faulty(refusal))),
+            Edit::Made(next, found) => {
+                let params = published_open(alloc, agreed, uri, &next, &found)?;
+                let before = std::mem::replace(&mut self.client, next);
+                self.found = found;
+                self.spare = caught_up(before, changes);
+                Ok(Answer::Published(params))
             }
         }
-        Ok(Edit::Made(OpenText { client, found }))
     }
 }
 
-/// A copy of a document, of another version.
-fn copied(alloc: Global, client: &ClientText, version: i32) -> Result<ClientText, AllocError>
-    ensures copy { IfOk result (λ copy. copy ≡ record client.now { version = version }) }
-    ensures text { OnOk result (IsUtf8 client.now.text) }
+/// A document under another version: the spare one, or a copy.
+fn at_version(
+    alloc: Global,
+    client: &ClientText,
+    spare: Option<ClientText>,
+    version: i32,
+) -> Result<ClientText, AllocError>
+    requires { IfSome spare (IsSpareOf client.now) }
+    ensures { IfOk result (λ copy. copy ≡ record client.now { version = version }) }
 {
+    if let Some(mut spare) = spare {
+        if spare.change(version, &[]).is_ok() {
+            return Ok(spare);
+        }
+    }
     let _ = client.places().len();
     let text = client.to_text(alloc)?;
     let copy = ClientText::open(alloc, client.encoding(), text.as_str(), version)?;
     Ok(copy)
+}
+
+/// A document after changes that were made in its spare one, if there is memory for them.
+fn caught_up(client: ClientText, changes: &[Change]) -> Option<ClientText>
+    ensures made { IfSome result (λ it. AllChange client.encoding client.text changes.now it.text) }
+    ensures encoding { IfSome result (λ it. it.encoding ≡ client.encoding) }
+{
+    let mut client = client;
+    for (number, change) in changes.iter().enumerate() {
+        match make_one(&mut client, change, &changes[number..number + 1]) {
+            Ok(()) => {}
+            Err(_) => return None,
+        }
+    }
+    Some(client)
+}
+
+/// Makes a change, the only one of a list, under the version that there is.
+fn make_one(client: &mut ClientText, change: &Change, one: &[Change]) -> Result<(), Refusal>
+    requires { one.now ≡ change.now ∷ [] }
+    ensures text { OnOk result
+        (Changes client.old.encoding client.old.text change.now client.new.text) }
+    ensures encoding { client.new.encoding ≡ client.old.encoding }
+{
+    client.change(client.version(), one)?;
+    Ok(())
+}
+
+/// A document after changes, each made on the text that the one before left, or the first that can't
+/// be made. Findings move with each.
+fn edited(
+    alloc: Global,
+    client: ClientText,
+    found: &[OxcDiagnostic],
+    changes: &[Change],
+) -> Result<Edit, AllocError>
+    requires { Holds client found.now }
+    ensures edit { IfOk result (IsEdit (open_view client found.now) changes.now) }
+    ensures holds { IfOk result HoldsMade }
+{
+    let mut client = client;
+    let mut found = copied_all(alloc, found)?;
+    for (number, change) in changes.iter().enumerate() {
+        let one = &changes[number..number + 1];
+        match edit_one(alloc, &mut client, &mut found, change, one)? {
+            None => {}
+            Some(fault) => {
+                return Ok(Edit::Faulty(Refusal {
+                    change: number,
+                    fault,
+                }));
+            }
+        }
+    }
+    Ok(Edit::Made(client, found))
 }
 
 /// Where a change lies: the bytes from the one offset to the other.

@@ -12,12 +12,13 @@ mod documents;
 mod message;
 mod moved;
 mod parse;
+mod published;
 mod server;
 #[cfg(test)]
 mod tests;
 
 pub use answers::answer_text;
-pub use documents::{Edit, OpenText};
+pub use documents::OpenText;
 pub use message::{Agreed, Answer, Code, Id, Message, Method, Notice, Params, Refused, Wanted};
 pub use moved::{moved_all, moved_diagnostic, moved_label};
 pub use parse::message_in;

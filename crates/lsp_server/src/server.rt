@@ -3,24 +3,22 @@ ghost use Rattle.std.specs.Prelude.{◌≡◌, ◌++◌, ◌↔◌, IsTrue, true
 ghost use Rattle.std.specs.Prelude.{map, string_bytes, None, Some, []};
 ghost use Rattle.std.specs.List.{flat_map};
 ghost use Rattle.std.specs.Option.{option_copied};
-ghost use Rattle.serde_json.specs.View.{view};
 ghost use Rattle.source_location.specs.Index.{Fits};
-ghost use Rattle.lsp_diagnostics.specs.Diagnostics.{published_value};
 ghost use Rattle.lsp_server.specs.Session.{answered, answered_by, asked, begun, next_agreed};
 ghost use Rattle.lsp_server.specs.Session.{next_phase, notice_phase, phase_after, request_phase};
 ghost use Rattle.lsp_server.specs.Session.{requested, IsExit};
 ghost use Rattle.lsp_server.specs.Told.{AreSame, IsChanged, IsClosed, IsNoticed, IsOpened, OnlyAt};
-ghost use Rattle.lsp_server.specs.Told.{PublishesOpen, ShowsAs, seen_closed, seen_open};
+ghost use Rattle.lsp_server.specs.Told.{ShowsAs};
 
-use crate::documents::{Edit, OpenText};
-use crate::message::{Agreed, Answer, Code, Id, Message, Method, Notice, Params, Refused};
+use crate::documents::OpenText;
+use crate::message::{Agreed, Answer, Code, Id, Message, Method, Notice, Refused};
+use crate::published::published_none;
 use client_text::Change;
-use lsp_diagnostics::{OpenFile, published};
 use oxc_protocol::OxcDiagnostic;
 use source_location::fits;
 use std::alloc::{AllocError, Global};
 use std::collections::BTreeMap;
-use text_places::{Encoding, TextPlaces};
+use text_places::Encoding;
 
 /// How far a session is.
 #[derive(Clone, Copy, Debug)]
@@ -114,26 +112,21 @@ impl Server {
     pub fn show(
         &mut self,
         alloc: Global,
-        uri: String,
+        uri: &str,
         found: Vec<OxcDiagnostic>,
     ) -> Result<Option<Answer>, AllocError>
-        ensures shown { IfOk result (ShowsAs self.old.agreed (string_bytes uri) found.items
-            (document_of self.old (string_bytes uri))
+        ensures shown { IfOk result (ShowsAs self.old.agreed uri.now found.items
+            (document_of self.old uri.now)
             (document_of self.old) (document_of self.new)) }
         ensures phase { self.new.phase ≡ self.old.phase }
         ensures agreed { self.new.agreed ≡ self.old.agreed }
         ensures err { OnErr result (IsKept self.old self.new) }
     {
-        let Some(document) = self.documents.get(uri.as_str()) else {
+        let agreed = self.agreed;
+        let Some(document) = self.documents.get_mut(uri) else {
             return Ok(None);
         };
-        match document.with_found(alloc, found)? {
-            None => Ok(None),
-            Some(next) => {
-                let answer = self.put(alloc, uri, next)?;
-                Ok(Some(answer))
-            }
-        }
+        document.show(alloc, agreed, uri, found)
     }
 
     /// An open document.
@@ -243,7 +236,7 @@ impl Server {
                 Ok(Some(answer))
             }
             Notice::Changed(uri, version, changes) => {
-                let answer = self.change(alloc, uri, version, changes.as_slice())?;
+                let answer = self.change(alloc, uri.as_str(), version, changes.as_slice())?;
                 Ok(Some(answer))
             }
         }
@@ -284,20 +277,6 @@ impl Server {
         Ok(())
     }
 
-    /// Puts a document in place of the one of its URI, and gives what is told of it.
-    fn put(&mut self, alloc: Global, uri: String, document: OpenText) -> Result<Answer, AllocError>
-        ensures only { OnOk result (OnlyAt (string_bytes uri) (Some document)
-            (document_of self.old) (document_of self.new)) }
-        ensures published { IfOk result (PublishesOpen self.old.agreed (string_bytes uri) document) }
-        ensures phase { self.new.phase ≡ self.old.phase }
-        ensures agreed { self.new.agreed ≡ self.old.agreed }
-        ensures err { OnErr result (IsKept self.old self.new) }
-    {
-        let params = published_open(alloc, self.agreed, uri.as_str(), &document)?;
-        self.insert(uri, document)?;
-        Ok(Answer::Published(params))
-    }
-
     /// Closes a document, and tells that nothing is found in it.
     fn close(&mut self, alloc: Global, uri: &str) -> Result<Answer, AllocError>
         ensures told { IfOk result (λ told. IsClosed self.old.agreed uri.now
@@ -316,68 +295,24 @@ impl Server {
     fn change(
         &mut self,
         alloc: Global,
-        uri: String,
+        uri: &str,
         version: i32,
         changes: &[Change],
     ) -> Result<Answer, AllocError>
-        ensures told { IfOk result (λ told. IsChanged self.old.agreed (string_bytes uri) version
-            changes.now (document_of self.old (string_bytes uri))
+        ensures told { IfOk result (λ told. IsChanged self.old.agreed uri.now version
+            changes.now (document_of self.old uri.now)
             (document_of self.old) (document_of self.new) (Some told)) }
         ensures once { IfOk result (λ told. answered_by told ≡ []) }
         ensures phase { self.new.phase ≡ self.old.phase }
         ensures agreed { self.new.agreed ≡ self.old.agreed }
         ensures err { OnErr result (IsKept self.old self.new) }
     {
-        let Some(document) = self.documents.get(uri.as_str()) else {
+        let agreed = self.agreed;
+        let Some(document) = self.documents.get_mut(uri) else {
             return Ok(Answer::Refused(Refused::NotOpen));
         };
-        match document.edited(alloc, version, changes)? {
-            Edit::Made(next) => {
-                let answer = self.put(alloc, uri, next)?;
-                Ok(answer)
-            }
-            Edit::Faulty(refusal) => Ok(Answer::Refused(Refused::Faulty(refusal))),
-        }
+        document.change(alloc, agreed, uri, version, changes)
     }
-}
-
-/// What a client is told of an open document.
-fn published_open(
-    alloc: Global,
-    agreed: Agreed,
-    uri: &str,
-    document: &OpenText,
-) -> Result<Params, AllocError>
-    ensures { IfOk result (λ params. view params.value
-        ≡ published_value (seen_open agreed uri.now document.now) document.now.found) }
-{
-    let client = document.client();
-    let file = OpenFile {
-        uri,
-        version: Some(client.version()),
-        encoding: client.encoding(),
-        related: agreed.related,
-        places: client.places(),
-    };
-    let value = published(alloc, &file, document.found())?;
-    Ok(Params { value })
-}
-
-/// What a client is told of a closed document.
-fn published_none(alloc: Global, agreed: Agreed, uri: &str) -> Result<Params, AllocError>
-    ensures { IfOk result (λ params. view params.value
-        ≡ published_value (seen_closed agreed uri.now) []) }
-{
-    let places = TextPlaces::new(alloc, "")?;
-    let file = OpenFile {
-        uri,
-        version: None,
-        encoding: agreed.encoding,
-        related: agreed.related,
-        places: &places,
-    };
-    let value = published(alloc, &file, &[])?;
-    Ok(Params { value })
 }
 
 /// Appends an answer, if there is one.

@@ -234,7 +234,6 @@ fn show(alloc: Global, server: &mut Server, uri: &str) -> Result<bool, AllocErro
     let mut found = Vec::new(alloc);
     let unused = OxcDiagnostic::warn(alloc, "unused")?.and_label(LabeledSpan::new(None, 3, 1))?;
     found.push(unused)?;
-    let uri = String::from_str(alloc, uri)?;
     let told = server.show(alloc, uri, found)?;
     Ok(told.is_some())
 }

@@ -1,7 +1,7 @@
 use Rattle.std.proofs.Common.{drop}
 use Rattle.lsp_server.specs.Views.{open_view}
 use Rattle.lsp_server.proofs.EditLemmas.{AreMoved}
-use Rattle.lsp_server.proofs.documents.OpenText.edited.Given as goal
+use Rattle.lsp_server.proofs.documents.edited.Given as goal
 
 abbrev pub invariant-loop-number : goal.invariant-loop-number
 invariant-loop-number l =
