@@ -310,7 +310,8 @@ const TRANSCRIPT: [Notification<'static>; 9] = [
         version: 7,
         changes: &[(Some(((7, 2), (7, 2))), "\r\n")],
         refused: None,
-        text: "// \u{e9}\r\nle '\u{1f600}';\rfn f() {\n\n  g(\u{6f22}, 2)\n}\u{1f600}b\nend\r\n\r\n\r\nx\r\n\r\ntwo\nrows",
+        text: "// \u{e9}\r\nle '\u{1f600}';\rfn f() {\n\n  g(\u{6f22}, 2)\n}\u{1f600}b\nend\
+\r\n\r\n\r\nx\r\n\r\ntwo\nrows",
     },
     Notification {
         version: 8,

@@ -420,3 +420,5 @@ fed_shorter name later held left None cut is some within leaves = elim (none-som
 fed_shorter name later held left (Some p) cut is some within leaves =
     let same : cut ≡ cut_of p = same_Some cut (cut_of p) is in
     fewer p.lines held left (subst (λ (c : Cut). 1 ≤ c.lines) same some) (subst (λ (c : Cut). c.lines ≤ length held) same within) leaves.1
+
+pub ruleset known_rules = (held_few, none_known, first_known)

@@ -139,7 +139,7 @@ impl<'s> Lines<'s> {
 
     /// The next piece, if no line to come can change it. Without one, what is held is a piece and
     /// at most one line behind it.
-    #[tactic(auto, using(crate::proofs::FeedLemmas::held_few, crate::proofs::FeedLemmas::none_known, crate::proofs::FeedLemmas::first_known))]
+    #[tactic(auto, using(crate::proofs::FeedLemmas::known_rules))]
     pub fn known(&self) -> Option<Piece<'_>>
         ensures piece { option_map piece_parts result
             ≡ known_piece (held_shapes self.now) (held_name self.now) (held_lines self.now) }

@@ -1,11 +1,12 @@
 -- What the end of a run means.
-use Rattle.std.specs.Prelude.{◌≡◌, ◌≢◌, ◌⊎◌, ℕ, ◌<◌, ◌≤◌, List, length, Bool, true, false, Option, codes}
+use Rattle.std.specs.Prelude.{◌≡◌, ◌≢◌, ◌⊎◌, ℕ, ◌<◌, ◌≤◌, List, length, Bool, true, false, Option, codes, string_bytes}
 use Rattle.std.specs.Io.KnownBytes.{Appends, Keeps, Consumes, IsAtEnd}
 use Rattle.oxc_protocol.specs.Faults.{Rose}
 use Rattle.oxc_protocol.specs.Sink.{AppendsPrefix}
 use Rattle.girzohal_asked.specs.declared.Asked.{Asked}
 use Rattle.girzohal.specs.Told.{Told}
 use Rattle.girzohal.specs.Made.{IsMade, IsOfNoForm}
+use Rattle.girzohal.specs.declared.making.Made.{Made}
 use Rattle.girzohal.specs.declared.status.Status.{Status}
 use Rattle.girzohal.specs.declared.status.Status.TheVariants.{Clean, Reached, Usage, NoForm, ReadFault, SinkFault, OutOfMemory, InputTooLong, TooManyFiles}
 
@@ -55,6 +56,9 @@ pub record Texts : Type 0 where
   pub out : List ℕ
   pub aside : List ℕ
   pub reached : Bool
+
+abbrev pub texts_of : Made → Texts
+texts_of made = record { out = string_bytes made.written.text; aside = made.aside.items; reached = made.written.reached }
 
 abbrev pub IsMadeOf : Told → Asked → Texts → List ℕ → Type 0
 IsMadeOf told asked texts bytes = IsMade told asked bytes texts.out texts.aside texts.reached

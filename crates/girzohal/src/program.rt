@@ -1,6 +1,7 @@
 // The whole program, over any source, store and sinks.
-ghost use Rattle.std.specs.Prelude.{◌≡◌, string_bytes};
+ghost use Rattle.std.specs.Prelude.{◌≡◌};
 ghost use Rattle.girzohal.specs.Run.{IsTold, IsUntouched, Means, Sends, Shows, device};
+ghost use Rattle.girzohal.specs.Run.{texts_of};
 
 use crate::fault::Fault;
 use crate::making::{Made, make};
@@ -70,8 +71,7 @@ fn show<S: Store, O: Sink, E: Sink>(
 
 /// Writes what is made of an input.
 fn send<O: Sink, E: Sink>(made: &Made, out: &mut O, err: &mut E) -> Status
-    ensures { Sends result
-        (record { out = string_bytes made.now.written.text; aside = made.now.aside.items; reached = made.now.written.reached })
+    ensures { Sends result (texts_of made.now)
         (device O.received O.faults out.old out.new)
         (device E.received E.faults err.old err.new) }
 {

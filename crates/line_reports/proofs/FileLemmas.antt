@@ -85,3 +85,5 @@ label_fits (lacks why) range stands = absurd stands
 pub labels_fit : (held : Held) (o : Option (Range ℕ)) → IfSome o (StandsHeld held) → IfSome o FitsLabel
 labels_fit held None stands = tt
 labels_fit held (Some range) stands = label_fits held range stands
+
+pub ruleset span_rules = (span_held, span_lacks, stands_held)

@@ -278,7 +278,7 @@ impl<'s> Gathered<'s> {
     }
 
     /// The span of a finding in a file.
-    #[tactic(auto, using(crate::proofs::FileLemmas::span_held, crate::proofs::FileLemmas::span_lacks, crate::proofs::FileLemmas::stands_held))]
+    #[tactic(auto, using(crate::proofs::FileLemmas::span_rules))]
     fn span(&self, columns: Columns, file: usize, told: &Told<'_>) -> Option<Range<usize>>
         requires texts { AreTexts self.now.texts.items self.now.found.files }
         requires file { file < length self.now.found.files }

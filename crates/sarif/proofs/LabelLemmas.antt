@@ -49,3 +49,5 @@ none_stand (holds text) = All-nil (StandsIn text)
 none_stand (lacks why) = refl
 
 pub ruleset label_rules = (label_stands, span_small, labels_stand, one_stands, none_stand)
+
+pub ruleset beside_rules = (label_stands, span_small, stands_with)

@@ -101,7 +101,7 @@ fn push_label(labels: &mut Vec<LabeledSpan>, label: LabeledSpan) -> Result<(), A
 }
 
 /// Appends the label of a location, if it is in the file and tells anything new.
-#[tactic(auto, using(crate::proofs::LabelLemmas::label_stands, crate::proofs::LabelLemmas::span_small, crate::proofs::LabelLemmas::stands_with))]
+#[tactic(auto, using(crate::proofs::LabelLemmas::beside_rules))]
 fn push_beside(
     alloc: Global,
     reading: &Reading<'_>,

@@ -25,3 +25,5 @@ before_none rules id (suc end) none = absurd (omega (arith, none))
 -- one byte less, where that is no slash
 pub before_plain : (rules : List Rule) (id : List ℕ) (end : ℕ) → 0 < end → (slice_index id (end - 1) ≡ 0x2F → ⊥) → rule_before rules id end ≡ rule_before rules id (end - 1)
 before_plain rules id end some plain = before_step rules id end some ∙ rw (ne_eqb (slice_index id (end - 1)) 0x2F plain) refl
+
+pub ruleset before_rules = (before_step, before_plain, before_none)

@@ -67,7 +67,7 @@ fn rule_named<'l>(rules: &'l [Rule], id: Option<&str>) -> Option<&'l Rule>
     }
 }
 
-#[tactic(auto, using(crate::proofs::RuleLemmas::before_step, crate::proofs::RuleLemmas::before_plain, crate::proofs::RuleLemmas::before_none))]
+#[tactic(auto, using(crate::proofs::RuleLemmas::before_rules))]
 fn rule_before<'l>(rules: &'l [Rule], id: &[u8]) -> Option<&'l Rule>
     ensures { rule_seen result ≡ rule_of_beginning (map rule_view rules.now) id.now
         (length id.now) }

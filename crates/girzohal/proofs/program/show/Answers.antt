@@ -1,19 +1,16 @@
 -- What was sent is what is made of the bytes.
-use Rattle.std.proofs.Common.{string_bytes}
-use Rattle.girzohal.specs.Run.{device}
+use Rattle.girzohal.specs.Run.{device, texts_of}
 use Rattle.girzohal.proofs.RunLemmas.{sent_shows, sent_touches}
 use Rattle.girzohal.proofs.program.show.Goals as goal
 
 pub returns-in-Ok-clause-shows : goal.returns-in-Ok-clause-shows
 returns-in-Ok-clause-shows g c =
     sent_shows c.send.result c.args.asked.now (g.S.Store.told c.args.store.now)
-    (record { out = string_bytes c.in-Ok.made.written.text; aside = c.in-Ok.made.aside.items; reached = c.in-Ok.made.written.reached })
-    (device g.O.Sink.received g.O.Sink.faults c.args.out.now c.send.new.out) (device g.E.Sink.received g.E.Sink.faults c.args.err.now c.send.new.err)
+    (texts_of c.in-Ok.made) (device g.O.Sink.received g.O.Sink.faults c.args.out.now c.send.new.out) (device g.E.Sink.received g.E.Sink.faults c.args.err.now c.send.new.err)
     c.args.bytes.now c.in-Ok.ensures.made c.send.ensures
 
 pub returns-in-Ok-clause-untouched : goal.returns-in-Ok-clause-untouched
 returns-in-Ok-clause-untouched g c =
     sent_touches c.send.result
-    (record { out = string_bytes c.in-Ok.made.written.text; aside = c.in-Ok.made.aside.items; reached = c.in-Ok.made.written.reached })
-    (device g.O.Sink.received g.O.Sink.faults c.args.out.now c.send.new.out) (device g.E.Sink.received g.E.Sink.faults c.args.err.now c.send.new.err)
+    (texts_of c.in-Ok.made) (device g.O.Sink.received g.O.Sink.faults c.args.out.now c.send.new.out) (device g.E.Sink.received g.E.Sink.faults c.args.err.now c.send.new.err)
     c.args.out.now c.send.new.out c.send.ensures
