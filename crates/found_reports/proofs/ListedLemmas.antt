@@ -1,13 +1,15 @@
 -- Entries of names, and where they stand.
-use Rattle.std.proofs.Common.{◌≡◌, ℕ, ◌+◌, Bool, true, false, cond, if◌then◌else◌, List, [], ◌∷◌, ◌++◌, length, Some, None, slice_get, String, string_bytes, refl, sym, ap, ◌∙◌, arith, length-append, append_assoc}
+use Rattle.std.proofs.Common.{◌≡◌, ℕ, ◌+◌, Bool, true, false, cond, ◌||◌, if◌then◌else◌, List, [], ◌∷◌, ◌++◌, length, Option, Some, None, slice_get, String, string_bytes, refl, sym, ap, ◌∙◌, arith, length-append, append_assoc}
 use Rattle.std.specs.Str.{bytes_eq}
 use Rattle.std.specs.BTreeMap.{BTreeMap, Updates, get_by_text}
-use Rattle.std.specs.Option.{option_and_then, option_map_or}
+use Rattle.std.specs.Option.{is_some, option_and_then, option_map_or, option_or}
 use Rattle.std.specs.String.{string_cmp}
 use Rattle.std.specs.declared.alloc.Global.{Global}
+use Rattle.std.proofs.lemmas.Bool.{false≢true}
 use Rattle.std.proofs.lemmas.Map.Text.{btree_map_updates_text}
+use Rattle.std.proofs.lemmas.Slice.Eq.{bytes_eq-Decides}
 use Rattle.found_reports.specs.Held.{lacks}
-use Rattle.found_reports.specs.Listed.{ArePlaces, first_in, held_by, held_in, place_from}
+use Rattle.found_reports.specs.Listed.{ArePlaces, first_in, held_by, held_in, listed, place_from}
 use Rattle.found_reports.specs.declared.sources.Lack.TheVariants.{Missing}
 use Rattle.found_reports.specs.declared.sources.Source.{Source}
 
@@ -62,3 +64,70 @@ places_before at entry rest old new key are updates same = λ name.
     btree_map_updates_text (string_bytes key) old new (Some at) updates name
     ∙ ap (λ o. cond (bytes_eq (string_bytes key) name) (Some at) o) (are name)
     ∙ ap (λ t. cond (bytes_eq t name) (Some at) (place_from (at + 1) rest name)) same
+
+-- ---- one entry more, behind the others
+
+-- what the place of a name is, whether the entry behind the others has the name or not
+place_step : (said here : Bool) (at last : ℕ) (later after : Option ℕ) → after ≡ option_or later (if here then Some last else None)
+    → (if said then Some at else after) ≡ option_or (if said then Some at else later) (if here then Some last else None)
+place_step true here at last later after is = refl
+place_step false here at last later after is = is
+
+place_behind : (at : ℕ) (entries : List Source) (entry : Source) (name : List ℕ)
+    → place_from at (entries ++ entry ∷ []) name ≡ option_or (place_from at entries name) (if bytes_eq (string_bytes entry.name) name then Some (at + length entries) else None)
+place_behind at [] entry name = ap (λ n. if bytes_eq (string_bytes entry.name) name then Some n else None) (omega arith)
+place_behind at (other ∷ rest) entry name =
+    place_step (bytes_eq (string_bytes other.name) name) (bytes_eq (string_bytes entry.name) name) at (at + length (other ∷ rest)) (place_from (at + 1) rest name)
+    (place_from (at + 1) (rest ++ entry ∷ []) name)
+    (place_behind (at + 1) rest entry name
+    ∙ ap (λ n. option_or (place_from (at + 1) rest name) (if bytes_eq (string_bytes entry.name) name then Some n else None)) (omega arith))
+
+place_last : (entries : List Source) (entry : Source) (name : List ℕ)
+    → place_from 0 (entries ++ entry ∷ []) name ≡ option_or (place_from 0 entries name) (if bytes_eq (string_bytes entry.name) name then Some (length entries) else None)
+place_last entries entry name =
+    place_behind 0 entries entry name ∙ ap (λ n. option_or (place_from 0 entries name) (if bytes_eq (string_bytes entry.name) name then Some n else None)) (omega arith)
+
+-- a name has a place where it is listed
+listed_step : (at : ℕ) (said more : Bool) (later : Option ℕ) → is_some later ≡ more → is_some (if said then Some at else later) ≡ (said || more)
+listed_step at true more later is = refl
+listed_step at false more later is = is
+
+listed_from : (at : ℕ) (entries : List Source) (name : List ℕ) → is_some (place_from at entries name) ≡ listed entries name
+listed_from at [] name = refl
+listed_from at (entry ∷ rest) name =
+    listed_step at (bytes_eq (string_bytes entry.name) name) (listed rest name) (place_from (at + 1) rest name) (listed_from (at + 1) rest name)
+
+pub listed_there : (entries : List Source) (places : BTreeMap (String Global) ℕ) (name : List ℕ) → ArePlaces 0 entries places
+    → is_some (get_by_text places name) ≡ listed entries name
+listed_there entries places name are = ap is_some (are name) ∙ listed_from 0 entries name
+
+behind_listed : (place : Option ℕ) (last : ℕ) (here : Bool) → (here ≡ true → is_some place ≡ true) → place ≡ option_or place (if here then Some last else None)
+behind_listed None last true is = absurd (false≢true (is refl))
+behind_listed None last false is = refl
+behind_listed (Some at) last here is = refl
+
+pub places_stay : (entries : List Source) (entry : Source) (places : BTreeMap (String Global) ℕ) → ArePlaces 0 entries places
+    → is_some (get_by_text places (string_bytes entry.name)) ≡ true → ArePlaces 0 (entries ++ entry ∷ []) places
+places_stay entries entry places are is = λ name.
+    let there : bytes_eq (string_bytes entry.name) name ≡ true → is_some (place_from 0 entries name) ≡ true =
+    λ same. ap is_some (sym (are name) ∙ ap (get_by_text places) (sym ((bytes_eq-Decides (string_bytes entry.name) name).0 same))) ∙ is in
+    are name ∙ behind_listed (place_from 0 entries name) (length entries) (bytes_eq (string_bytes entry.name) name) there ∙ sym (place_last entries entry name)
+
+behind_new : (here : Bool) (last : ℕ) (place : Option ℕ) → (here ≡ true → is_some place ≡ false)
+    → cond here (Some last) place ≡ option_or place (if here then Some last else None)
+behind_new true last None none = refl
+behind_new true last (Some at) none = absurd (false≢true (sym (none refl)))
+behind_new false last None none = refl
+behind_new false last (Some at) none = refl
+
+pub places_behind : (entries : List Source) (entry : Source) (old new : BTreeMap (String Global) ℕ) (key : String Global) → ArePlaces 0 entries old
+    → is_some (get_by_text old (string_bytes entry.name)) ≡ false → Updates string_cmp old new key (Some (length entries)) → string_bytes key ≡ string_bytes entry.name
+    → ArePlaces 0 (entries ++ entry ∷ []) new
+places_behind entries entry old new key are none updates same = λ name.
+    let there : bytes_eq (string_bytes entry.name) name ≡ true → is_some (place_from 0 entries name) ≡ false =
+    λ is. ap is_some (sym (are name) ∙ ap (get_by_text old) (sym ((bytes_eq-Decides (string_bytes entry.name) name).0 is))) ∙ none in
+    btree_map_updates_text (string_bytes key) old new (Some (length entries)) updates name
+    ∙ ap (λ o. cond (bytes_eq (string_bytes key) name) (Some (length entries)) o) (are name)
+    ∙ ap (λ t. cond (bytes_eq t name) (Some (length entries)) (place_from 0 entries name)) same
+    ∙ behind_new (bytes_eq (string_bytes entry.name) name) (length entries) (place_from 0 entries name) there
+    ∙ sym (place_last entries entry name)

@@ -1,4 +1,5 @@
 pub mod Held
+pub mod Names
 pub mod Listed
 pub mod Place
 pub mod Found

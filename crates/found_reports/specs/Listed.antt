@@ -1,6 +1,7 @@
 -- What a list of sources holds.
-use Rattle.std.specs.Prelude.{◌≡◌, ℕ, ◌+◌, List, [], ◌∷◌, Option, Some, None, Result, Ok, Err, String, Vec, string_bytes, length, nat_lt, if◌then◌else◌}
+use Rattle.std.specs.Prelude.{◌≡◌, ℕ, ◌+◌, Bool, List, [], ◌∷◌, Option, Some, None, Result, Ok, Err, String, Vec, string_bytes, length, nat_lt, if◌then◌else◌}
 use Rattle.std.specs.BTreeMap.{BTreeMap, get_by_text}
+use Rattle.std.specs.List.{list_any}
 use Rattle.std.specs.Str.{bytes_eq}
 use Rattle.std.specs.declared.alloc.Global.{Global}
 use Rattle.found_reports.specs.Held.{Held, holds, lacks}
@@ -23,6 +24,10 @@ held_by entry = held_as entry.text
 abbrev pub held_in : List Source → List ℕ → Held
 held_in [] name = lacks Missing
 held_in (entry ∷ rest) name = if bytes_eq (string_bytes entry.name) name then held_by entry else held_in rest name
+
+-- there is an entry of a name
+abbrev pub listed : List Source → List ℕ → Bool
+listed entries name = list_any (λ entry. bytes_eq (string_bytes entry.name) name) entries
 
 -- what contracts see of a list of sources
 pub record Listed : Type 0 where

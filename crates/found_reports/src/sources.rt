@@ -1,9 +1,9 @@
 // The texts of names.
-ghost use Rattle.std.specs.Prelude.{◌≡◌, ℕ, List, IfOk, slice_get};
+ghost use Rattle.std.specs.Prelude.{◌≡◌, ◌++◌, ◌∷◌, [], ℕ, List, IfOk, OnErr, OnOk, slice_get};
 ghost use Rattle.std.specs.Option.{option_copied};
 ghost use Rattle.oxc_protocol.specs.Source.{Fits};
 ghost use Rattle.found_reports.specs.Held.{Held, held_of};
-ghost use Rattle.found_reports.specs.Listed.{ArePlaces};
+ghost use Rattle.found_reports.specs.Listed.{ArePlaces, listed};
 
 use std::alloc::{AllocError, Global};
 use std::collections::BTreeMap;
@@ -97,6 +97,39 @@ impl ListedSources {
         Ok(ListedSources { entries, places })
     }
 
+    /// No sources.
+    pub fn empty(alloc: Global) -> ListedSources
+        ensures { result.entries.items ≡ [] }
+    {
+        ListedSources {
+            entries: Vec::new(alloc),
+            places: BTreeMap::new(alloc),
+        }
+    }
+
+    /// Whether there is an entry of a name.
+    pub fn is_listed(&self, name: &str) -> bool
+        ensures { result ≡ listed self.now.entries.items name.now }
+    {
+        self.places.contains_key(name)
+    }
+
+    /// Adds an entry behind the others.
+    ///
+    /// # Errors
+    ///
+    /// Want of memory: all is as it was.
+    pub fn push(&mut self, alloc: Global, source: Source) -> Result<(), AllocError>
+        ensures added { OnOk result (self.new.entries.items
+            ≡ self.old.entries.items ++ source ∷ []) }
+        ensures kept { OnErr result (self.new.entries.items ≡ self.old.entries.items) }
+    {
+        self.entries.reserve(1)?;
+        add_place(alloc, &mut self.places, &self.entries, &source)?;
+        self.entries.push_reserved(source);
+        Ok(())
+    }
+
     /// The first entry of a name.
     fn first(&self, name: &str) -> Option<&Source>
         ensures { option_copied result ≡ first_in self.now.entries.items name.now }
@@ -141,4 +174,23 @@ fn places_of(alloc: Global, entries: &[Source]) -> Result<BTreeMap<String, usize
         places.insert(name, at)?;
     }
     Ok(places)
+}
+
+/// Notes where an entry that comes behind others stands, where it is the first of its name.
+fn add_place(
+    alloc: Global,
+    places: &mut BTreeMap<String, usize>,
+    entries: &[Source],
+    source: &Source,
+) -> Result<(), AllocError>
+    requires { ArePlaces 0 entries.now places.old }
+    ensures added { OnOk result (ArePlaces 0 (entries.now ++ source.now ∷ []) places.new) }
+    ensures kept { OnErr result (ArePlaces 0 entries.now places.new) }
+{
+    if places.contains_key(source.name.as_str()) {
+        return Ok(());
+    }
+    let name = String::from_str(alloc, source.name.as_str())?;
+    places.insert(name, entries.len())?;
+    Ok(())
 }

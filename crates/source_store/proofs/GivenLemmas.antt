@@ -1,24 +1,18 @@
 -- Sources that were kept of names give what was told of them.
-use Rattle.std.proofs.Common.{◌≡◌, ℕ, Bool, true, false, cond, ◌||◌, List, [], ◌∷◌, ◌++◌, Option, Some, None, All, Ok, Err, String, string_bytes, refl, sym, ap, ◌∙◌, subst}
-use Rattle.std.specs.Borrow.{Bor}
-use Rattle.std.specs.BTreeSet.{BTreeSet, contains}
-use Rattle.std.specs.BTreeMap.{is_at}
-use Rattle.std.specs.List.{list_any}
-use Rattle.std.specs.Ordering.{is_eq}
+use Rattle.std.proofs.Common.{◌≡◌, ℕ, Bool, true, false, ◌||◌, List, [], ◌∷◌, ◌++◌, Option, Some, None, All, Ok, Err, String, string_bytes, refl, sym, ap, ◌∙◌, subst, append_assoc}
 use Rattle.std.specs.Str.{bytes_eq}
-use Rattle.std.proofs.lemmas.Map.Text.{is_eq-slice_cmp}
 use Rattle.std.proofs.lemmas.Slice.Eq.{bytes_eq-Decides}
 use Rattle.std.proofs.lemmas.List.{append-nil}
 use Rattle.std.proofs.lemmas.List.Elements.{All-nil, All-cons, All-head, All-tail, All-push, All-append, All-same}
 use Rattle.std.specs.declared.alloc.Global.{Global}
 use Rattle.found_reports.specs.Held.{Held, holds, lacks}
-use Rattle.found_reports.specs.Listed.{fitting, held_as, held_by, held_in}
+use Rattle.found_reports.specs.Listed.{fitting, held_as, held_by, held_in, listed}
 use Rattle.found_reports.specs.declared.sources.Lack.{Lack}
 use Rattle.found_reports.specs.declared.sources.Source.{Source}
 use Rattle.source_store.specs.declared.fetched.Fetched.TheVariants.{Text, Lacking}
 use Rattle.source_store.specs.declared.named.Spelling.{Spelling}
 use Rattle.source_store.specs.Told.{IsTold}
-use Rattle.source_store.specs.Given.{told_of, AreListed, IsSaid, IsGiven, MeetsTold, Adds, listed, name_order}
+use Rattle.source_store.specs.Given.{told_of, IsSaid, IsGiven, MeetsTold, Adds, AddsAll}
 
 abbrev pub source_name : Source → List ℕ
 source_name source = string_bytes source.name
@@ -90,7 +84,7 @@ adds_one told spelling sources source name is meets =
     }
 
 -- what was listed stays listed
-still_listed : (sources more : List Source) (name : List ℕ) → listed sources name ≡ true → listed (sources ++ more) name ≡ true
+pub still_listed : (sources more : List Source) (name : List ℕ) → listed sources name ≡ true → listed (sources ++ more) name ≡ true
 still_listed [] more name is = cc
 still_listed (source ∷ rest) more name is = or_later (bytes_eq (source_name source) name) (listed rest name) (listed (rest ++ more) name) is (still_listed rest more name)
   where
@@ -106,41 +100,35 @@ all_still sources more (name ∷ names) all =
     (still_listed sources more name (All-head (λ name. listed sources name ≡ true) name names all))
     (all_still sources more names (All-tail (λ name. listed sources name ≡ true) name names all))
 
--- ---- names that are known
+-- ---- many names more
 
-pub none_listed : (known : BTreeSet (Bor (List ℕ))) (sources : List Source) → known.keys ≡ [] → AreListed known sources
-none_listed known sources none name is = let no : false ≡ true = sym (ap (list_any (is_at (name_order name))) none) ∙ is in cc
+pub adds_nothing : (told : List ℕ → Option Held) (spelling : Spelling) (sources : List Source) → AddsAll told spelling sources sources []
+adds_nothing told spelling sources =
+    record { more = []; is = sym (append-nil sources); told_so = All-nil (MeetsTold told spelling); there = All-nil (λ name. listed sources name ≡ true) }
 
-pub still_known : (old new : BTreeSet (Bor (List ℕ))) (sources : List Source) → new.keys ≡ old.keys → AreListed old sources → AreListed new sources
-still_known old new sources same are name is = are name (sym (ap (list_any (is_at (name_order name))) same) ∙ is)
-
--- one name more, which has a source
-pub one_known : (old new : BTreeSet (Bor (List ℕ))) (sources more : List Source) (source : Source) (name : Bor (List ℕ)) → AreListed old sources
-    → ((q : Bor (List ℕ)) → contains name_order new q ≡ cond (is_eq (name_order name q)) true (contains name_order old q))
-    → more ≡ sources ++ source ∷ [] → source_name source ≡ name.now → AreListed new more
-one_known old new sources more source name are updates pushed named q is =
-    subst (λ its. listed its q.now ≡ true) (sym pushed) (go (bytes_eq name.now q.now) refl)
-  where
-    go : (same : Bool) → bytes_eq name.now q.now ≡ same → listed (sources ++ source ∷ []) q.now ≡ true
-    go true same = listed_last sources source q.now (named ∙ (bytes_eq-Decides name.now q.now).0 same)
-    go false other =
-        let old_has : contains name_order old q ≡ true =
-        sym (updates q ∙ ap (λ b. cond b true (contains name_order old q)) (is_eq-slice_cmp name.now q.now ∙ other)) ∙ is in
-        still_listed sources (source ∷ []) q.now (are q old_has)
-
--- the sources of the names so far
-pub record AreSources (told : List ℕ → Option Held) (spelling : Spelling) (sources : List Source) (names : List (List ℕ)) : Type 0 where
-  pub told_so : All (MeetsTold told spelling) sources
-  pub all : All (λ name. listed sources name ≡ true) names
-
-pub sources_of_none : (told : List ℕ → Option Held) (spelling : Spelling) → AreSources told spelling [] []
-sources_of_none told spelling = record { told_so = All-nil (MeetsTold told spelling); all = All-nil (λ name. listed [] name ≡ true) }
-
-pub one_name_more : (told : List ℕ → Option Held) (spelling : Spelling) (before now : List Source) (names : List (List ℕ)) (name : List ℕ)
-    → AreSources told spelling before names → Adds told spelling before now name → AreSources told spelling now (names ++ name ∷ [])
-one_name_more told spelling before now names name are adds =
+pub adds_next : (told : List ℕ → Option Held) (spelling : Spelling) (first before now : List Source) (names : List (List ℕ)) (name : List ℕ)
+    → AddsAll told spelling first before names → Adds told spelling before now name → AddsAll told spelling first now (names ++ name ∷ [])
+adds_next told spelling first before now names name all adds =
     record {
-      told_so = All-same (MeetsTold told spelling) _ _ adds.is (All-append (MeetsTold told spelling) before adds.more are.told_so adds.told_so);
-      all = All-push (λ it. listed now it ≡ true) names name
-          (subst (λ sources. All (λ it. listed sources it ≡ true) names) (sym adds.is) (all_still before adds.more names are.all)) adds.there;
+      more = all.more ++ adds.more;
+      is = adds.is ∙ ap (λ sources. sources ++ adds.more) all.is ∙ append_assoc first all.more adds.more;
+      told_so = All-append (MeetsTold told spelling) all.more adds.more all.told_so adds.told_so;
+      there = All-push (λ it. listed now it ≡ true) names name
+          (subst (λ sources. All (λ it. listed sources it ≡ true) names) (sym adds.is) (all_still before adds.more names all.there)) adds.there;
     }
+
+-- sources that were added to none
+pub given_all : (told : List ℕ → Option Held) (spelling : Spelling) (before now : List Source) (names : List (List ℕ)) → before ≡ []
+    → AddsAll told spelling before now names → IsGiven told spelling names (held_in now)
+given_all told spelling before now names none all =
+    given_from told spelling now names (All-same (MeetsTold told spelling) _ _ (all.is ∙ ap (λ those. those ++ all.more) none) all.told_so) all.there
+
+-- what a source holds stays
+pub still_held : (sources more : List Source) (name : List ℕ) → listed sources name ≡ true → held_in (sources ++ more) name ≡ held_in sources name
+still_held [] more name is = cc
+still_held (source ∷ rest) more name is = held_first (bytes_eq (source_name source) name) refl is (still_held rest more name)
+  where
+    held_first : (said : Bool) → bytes_eq (source_name source) name ≡ said → (bytes_eq (source_name source) name || listed rest name) ≡ true
+        → (listed rest name ≡ true → held_in (rest ++ more) name ≡ held_in rest name) → held_in ((source ∷ rest) ++ more) name ≡ held_in (source ∷ rest) name
+    held_first true says is later = rw says refl
+    held_first false says is later = rw says (later (sym (ap (λ b. b || listed rest name) says) ∙ is))

@@ -1,14 +1,7 @@
 -- What a store gave of names.
-use Rattle.std.specs.Prelude.{◌≡◌, ⊤, ℕ, List, ◌++◌, Bool, true, Option, Some, None, All, string_bytes}
-use Rattle.std.specs.Borrow.{Bor}
-use Rattle.std.specs.BTreeSet.{BTreeSet, contains}
-use Rattle.std.specs.Cmp.Lexicographic.{slice_cmp}
-use Rattle.std.specs.List.{list_any}
-use Rattle.std.specs.Ordering.{nat_cmp}
-use Rattle.std.specs.declared.cmp.Ordering.{Ordering}
-use Rattle.std.specs.Str.{bytes_eq}
+use Rattle.std.specs.Prelude.{◌≡◌, ⊤, ℕ, List, ◌++◌, true, Option, Some, None, All, string_bytes}
 use Rattle.found_reports.specs.Held.{Held, holds, lacks}
-use Rattle.found_reports.specs.Listed.{fitting, held_by}
+use Rattle.found_reports.specs.Listed.{fitting, held_by, listed}
 use Rattle.found_reports.specs.declared.sources.Lack.TheVariants.{Missing}
 use Rattle.found_reports.specs.declared.sources.Source.{Source}
 use Rattle.source_store.specs.Named.{path_in}
@@ -40,20 +33,16 @@ IsGiven told spelling names given = All (λ name. IsSaid (told_of told spelling 
 abbrev pub MeetsTold : (List ℕ → Option Held) → Spelling → Source → Type 0
 MeetsTold told spelling source = IsSaid (told_of told spelling (string_bytes source.name)) (held_by source)
 
--- there is a source of a name
-abbrev pub listed : List Source → List ℕ → Bool
-listed sources name = list_any (λ source. bytes_eq (string_bytes source.name) name) sources
-
-abbrev pub name_order : Bor (List ℕ) → Bor (List ℕ) → Ordering
-name_order x y = slice_cmp nat_cmp x.now y.now
-
--- there is a source of each name that is known
-abbrev pub AreListed : BTreeSet (Bor (List ℕ)) → List Source → Type 0
-AreListed known sources = (name : Bor (List ℕ)) → contains name_order known name ≡ true → listed sources name.now ≡ true
-
 -- sources were added as they were told, and one of them or of those before has the name
 pub record Adds (told : List ℕ → Option Held) (spelling : Spelling) (before now : List Source) (name : List ℕ) : Type 0 where
   pub more : List Source
   pub is : now ≡ before ++ more
   pub told_so : All (MeetsTold told spelling) more
   pub there : listed now name ≡ true
+
+-- the same of many names: each of them has a source now
+pub record AddsAll (told : List ℕ → Option Held) (spelling : Spelling) (before now : List Source) (names : List (List ℕ)) : Type 0 where
+  pub more : List Source
+  pub is : now ≡ before ++ more
+  pub told_so : All (MeetsTold told spelling) more
+  pub there : All (λ name. listed now name ≡ true) names

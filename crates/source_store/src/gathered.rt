@@ -1,14 +1,13 @@
 // What a store has of many names.
 ghost use Rattle.std.specs.Prelude.{◌≡◌, IfOk, OnOk, map, string_bytes};
 ghost use Rattle.found_reports.specs.Listed.{held_as, held_in};
-ghost use Rattle.source_store.specs.Given.{Adds, AreListed, IsGiven, IsSaid, MeetsTold, told_at};
+ghost use Rattle.source_store.specs.Given.{Adds, AddsAll, IsGiven, IsSaid, MeetsTold, told_at};
 ghost use Rattle.source_store.specs.Place.{text_bytes};
 
 use crate::fetched::{Fetched, Store};
 use crate::named::{Spelling, path_in};
 use found_reports::{Lack, ListedSources, Source};
 use std::alloc::{AllocError, Global};
-use std::collections::BTreeSet;
 
 /// The sources that a store has of these names: of each what the store tells of the path that the
 /// name means, where it tells something. A name that comes again isn't asked for again.
@@ -16,6 +15,7 @@ use std::collections::BTreeSet;
 /// # Errors
 ///
 /// Want of memory.
+#[tactic(auto, using(crate::proofs::GivenLemmas::given_all))]
 pub fn gather<S: Store>(
     alloc: Global,
     store: &S,
@@ -25,38 +25,47 @@ pub fn gather<S: Store>(
     ensures { IfOk result (λ sources. IsGiven (S.told store.now) spelling
         (map string_bytes names.now) (held_in sources.entries.items)) }
 {
-    let mut entries = Vec::new(alloc);
-    let mut known = BTreeSet::new(alloc);
-    for name in names {
-        add(
-            alloc,
-            store,
-            spelling,
-            &mut known,
-            &mut entries,
-            name.as_str(),
-        )?;
-    }
-    ListedSources::new(alloc, entries)
+    let mut sources = ListedSources::empty(alloc);
+    gather_more(alloc, store, spelling, &mut sources, names)?;
+    Ok(sources)
 }
 
-/// Adds what a store has of a name, unless the name is known.
-#[tactic(auto, using(crate::proofs::GivenLemmas::adds_none, crate::proofs::GivenLemmas::adds_one))]
-fn add<'n, S: Store>(
+/// Adds the sources that a store has of these names, as [`gather`] does. A name that has a source
+/// isn't asked for again.
+///
+/// # Errors
+///
+/// Want of memory.
+pub fn gather_more<S: Store>(
     alloc: Global,
     store: &S,
     spelling: Spelling,
-    known: &mut BTreeSet<&'n str>,
-    entries: &mut Vec<Source>,
-    name: &'n str,
+    sources: &mut ListedSources,
+    names: &[String],
 ) -> Result<(), AllocError>
-    requires { AreListed known.old entries.old.items }
-    ensures adds { OnOk result (Adds (S.told store.now) spelling entries.old.items
-        entries.new.items name.entry.now) }
-    ensures known { OnOk result (AreListed known.new entries.new.items) }
+    ensures { OnOk result (AddsAll (S.told store.now) spelling sources.old.entries.items
+        sources.new.entries.items (map string_bytes names.now)) }
 {
-    if known.insert(name)? {
-        entries.push(source_of(alloc, store, spelling, name)?)?;
+    for name in names {
+        add(alloc, store, spelling, sources, name.as_str())?;
+    }
+    Ok(())
+}
+
+/// Adds what a store has of a name, unless there is a source of that name.
+#[tactic(auto, using(crate::proofs::GivenLemmas::adds_none, crate::proofs::GivenLemmas::adds_one))]
+fn add<S: Store>(
+    alloc: Global,
+    store: &S,
+    spelling: Spelling,
+    sources: &mut ListedSources,
+    name: &str,
+) -> Result<(), AllocError>
+    ensures { OnOk result (Adds (S.told store.now) spelling sources.old.entries.items
+        sources.new.entries.items name.now) }
+{
+    if !sources.is_listed(name) {
+        sources.push(alloc, source_of(alloc, store, spelling, name)?)?;
     }
     Ok(())
 }

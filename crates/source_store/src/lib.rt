@@ -3,7 +3,7 @@
 //! - [`Store`]: the text of a path, or why it has none. [`MapStore`] is one in memory, [`DiskStore`]
 //!   reads the files below a folder.
 //! - [`path_in`]: the path that a name in a tool's output means, a URI or not.
-//! - [`gather`]: what a store has of many names.
+//! - [`gather`]: what a store has of many names; [`gather_more`]: of more names.
 //! - [`locate`]: where a path leads from a folder, by words.
 #![tactic(auto)]
 
@@ -18,7 +18,7 @@ mod tests;
 
 pub use disk::DiskStore;
 pub use fetched::{Fetched, Store};
-pub use gathered::gather;
+pub use gathered::{gather, gather_more};
 pub use map::MapStore;
 pub use named::{Spelling, path_in};
 pub use place::locate;

@@ -1,0 +1,8 @@
+-- The names before have their sources, each as it was told.
+use Rattle.std.proofs.Common.{map, take, string_bytes}
+use Rattle.source_store.specs.Given.{AddsAll}
+use Rattle.source_store.proofs.gathered.gather_more.Given as goal
+
+abbrev pub invariant-loop-name : goal.invariant-loop-name
+invariant-loop-name g l =
+    AddsAll (g.S.Store.told l.store) l.spelling l.initial.sources.entries.items l.sources.entries.items (map string_bytes (take l.name-index l.names))
