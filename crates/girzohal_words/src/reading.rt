@@ -6,13 +6,17 @@ ghost use Rattle.girzohal_asked.specs.Shapes.{own_parts};
 ghost use Rattle.girzohal_words.specs.Said.{file_named as file_in, is_named as is_named_so, said};
 ghost use Rattle.girzohal_words.specs.Said.{said_by, value_under as value_of};
 ghost use Rattle.girzohal_words.specs.Reads.{Asks, Reads, asks_help as help_asked};
-ghost use Rattle.girzohal_words.specs.Reads.{asks_quiet as quiet_asked, asks_version as version_asked};
+ghost use Rattle.girzohal_words.specs.Reads.{asks_quiet as quiet_asked};
+ghost use Rattle.girzohal_words.specs.Reads.{asks_version as version_asked};
 ghost use Rattle.girzohal_words.specs.Reads.{first_file as first_file_of, form_in as form_meant};
 ghost use Rattle.girzohal_words.specs.Reads.{has_flag as has_flag_of, last_value as last_value_of};
-ghost use Rattle.girzohal_words.specs.Reads.{meant_by, shapes_by, shapes_in as shapes_of, shapes_under};
+ghost use Rattle.girzohal_words.specs.Reads.{meant_by, shapes_by, shapes_in as shapes_of};
+ghost use Rattle.girzohal_words.specs.Reads.{shapes_under};
 ghost use Rattle.girzohal_words.specs.Reads.{wrong_word as wrong_word_of};
-ghost use Rattle.girzohal_words.specs.Values.{first_named as first_meant, level_named as level_meant};
-ghost use Rattle.girzohal_words.specs.Values.{output_named as output_meant, tabs_named as tabs_meant};
+ghost use Rattle.girzohal_words.specs.Values.{first_named as first_meant};
+ghost use Rattle.girzohal_words.specs.Values.{level_named as level_meant};
+ghost use Rattle.girzohal_words.specs.Values.{output_named as output_meant};
+ghost use Rattle.girzohal_words.specs.Values.{tabs_named as tabs_meant};
 ghost use Rattle.girzohal_words.specs.Values.{theme_named as theme_meant, unit_named as unit_meant};
 ghost use Rattle.girzohal_words.specs.Values.{width_named as width_meant};
 ghost use Rattle.girzohal_words.specs.Wrong.{wrong};
@@ -294,7 +298,7 @@ fn push_own(shapes: &mut Vec<OwnShape>, shape: Option<OwnShape>) -> Result<(), A
 }
 
 /// The value that an option is given last.
-#[tactic(auto, using(crate::proofs::SaidLemmas::later_value, crate::proofs::SaidLemmas::no_value_before), unfolding(crate::specs::Reads::last_value))]
+#[tactic(auto, using(crate::proofs::SaidLemmas::last_rules), unfolding(crate::specs::Reads::last_value))]
 fn last_value<'w>(items: &[Item<'w>], name: &str) -> Option<&'w str>
     ensures { option_copied result ≡ last_value_of name.now (map said items.now) }
 {

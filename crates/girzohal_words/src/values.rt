@@ -2,7 +2,8 @@
 ghost use Rattle.std.specs.Prelude.{◌≡◌, IfOk, option_map};
 ghost use Rattle.girzohal_asked.specs.Shapes.{own_parts};
 ghost use Rattle.girzohal_words.specs.Values.{first_named as first_meant, form_named as form_meant};
-ghost use Rattle.girzohal_words.specs.Values.{form_of_tool as form_written, has_lines as lines_known};
+ghost use Rattle.girzohal_words.specs.Values.{form_of_tool as form_written};
+ghost use Rattle.girzohal_words.specs.Values.{has_lines as lines_known};
 ghost use Rattle.girzohal_words.specs.Values.{is_tool as is_known_tool, is_value as is_value_meant};
 ghost use Rattle.girzohal_words.specs.Values.{is_plain_value as is_plain_meant};
 ghost use Rattle.girzohal_words.specs.Values.{level_named as level_meant};
@@ -190,8 +191,8 @@ fn has_lines(alloc: Global, tool: &str) -> Result<bool, AllocError>
     }
 }
 
-/// The form in which a tool writes: `sarif` is the name of those that write logs, and all others that
-/// are known write lines.
+/// The form in which a tool writes: `sarif` is the name of those that write logs, and all others
+/// that are known write lines.
 #[tactic(auto, unfolding(crate::specs::Values::form_of_tool))]
 pub(crate) fn form_of_tool(tool: &str) -> InputForm
     ensures { result ≡ form_written tool.now }

@@ -4,3 +4,4 @@ pub mod LabelLemmas
 pub mod ReportLemmas
 pub mod AskedLemmas
 pub mod ContentsLemmas
+pub mod Opened

@@ -11,6 +11,8 @@ use Rattle.sarif.specs.Reading.{Reading}
 use Rattle.sarif.specs.Views.{placed_view, seated}
 use Rattle.sarif.specs.declared.known.Known.{Known}
 use Rattle.sarif.specs.declared.known.Placed as code
+use Rattle.sarif.proofs.KnownLemmas.{file_last, filed_more, filed_one}
+use Rattle.sarif.proofs.LabelLemmas.{none_stand}
 
 -- the first of so many of a list, and the others
 pub first_of_those : {A : Type 0} (xs : List A) (d : A) (at count : ℕ) → at < count → count ≤ length xs → take (count - at) (drop at xs) ≡ get_or xs at d ∷ take (count - (at + 1)) (drop (at + 1) xs)
@@ -90,4 +92,8 @@ count_within known places first rest count all many =
     let e : length places ≡ length first + length rest = sym (length-map places (placed_view known)) ∙ (ap length all ∙ length-append first rest) in
     omega (arith, e, many)
 
-pub ruleset among_rules = (among_none, among_skip, among_found)
+pub ruleset added_rules = (among_parts, count_within)
+
+pub ruleset among_filed = (filed_one, filed_more, among_none, among_skip, among_found)
+
+pub ruleset nowhere_rules = (none_stand, file_last)

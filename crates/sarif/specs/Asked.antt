@@ -2,12 +2,10 @@
 use Rattle.std.specs.Prelude.{◌≡◌, ℕ, All, List, [], ◌∷◌, ◌++◌, flat_map, if◌then◌else◌, Option, Some, None}
 use Rattle.std.specs.Borrow.{Bor}
 use Rattle.std.specs.BTreeSet.{BTreeSet, contains}
-use Rattle.std.specs.Cmp.Lexicographic.{slice_cmp}
 use Rattle.std.specs.List.{list_any}
-use Rattle.std.specs.Ordering.{nat_cmp}
 use Rattle.std.specs.Str.{bytes_eq}
-use Rattle.std.specs.declared.cmp.Ordering.{Ordering}
 use Rattle.found_reports.specs.Held.{Held}
+use Rattle.found_reports.specs.Names.{name_order}
 use Rattle.sarif_log.specs.declared.log.ColumnKind.{ColumnKind}
 use Rattle.sarif_log.specs.Log.{ArtifactLocation, Invocation, Location, Log, LogResult, Names, Notification, Run}
 use Rattle.sarif_findings.specs.Findings.{Finding, Spot, findings_in, is_finding, notes_of}
@@ -59,9 +57,6 @@ and_names names (name ∷ rest) = and_names (and_name names name) rest
 -- each once, in the order in which they come
 unfoldable pub names_in : Log → List (List ℕ)
 names_in log = and_names [] (flat_map run_names log.runs)
-
-abbrev pub name_order : Bor (List ℕ) → Bor (List ℕ) → Ordering
-name_order x y = slice_cmp nat_cmp x.now y.now
 
 -- the set has these names
 abbrev pub Knows : BTreeSet (Bor (List ℕ)) → List (List ℕ) → Type 0

@@ -19,7 +19,7 @@ use std::collections::BTreeSet;
 /// # Errors
 ///
 /// Want of memory.
-#[tactic(auto, using(crate::proofs::AskedLemmas::names_decide), unfolding(crate::specs::Asked::names_in, sarif_log::specs::Log::log_view))]
+#[tactic(auto, using(crate::proofs::AskedLemmas::names_decide), unfolding(crate::proofs::Opened::log_names))]
 pub fn names_of(alloc: Global, log: &Log) -> Result<Vec<String>, AllocError>
     ensures names { IfOk result (λ names. map string_bytes names.items ≡ names_in
         (log_view log.now)) }
@@ -164,7 +164,7 @@ fn push_locations_names(
 }
 
 /// Adds the name of a file, and its URI as it stands.
-#[tactic(auto, unfolding(crate::specs::Asked::asked_at, sarif_log::specs::Log::names_view, sarif_log::specs::Log::artifact_location_view))]
+#[tactic(auto, unfolding(crate::specs::Asked::asked_at, crate::proofs::Opened::location))]
 fn push_location_names(
     alloc: Global,
     those: &Names,

@@ -3,7 +3,8 @@ ghost use Rattle.std.specs.Prelude.{◌≡◌, None, option_and_then, IfOk};
 ghost use Rattle.sarif_findings.specs.Findings.{finding_view};
 ghost use Rattle.sarif_findings.specs.Rules.{some_text};
 ghost use Rattle.sarif_findings.specs.Views.{borrowed};
-ghost use Rattle.sarif.specs.Meaning.{diagnostic_of as diagnostic_meant, given_place as place_meant};
+ghost use Rattle.sarif.specs.Meaning.{diagnostic_of as diagnostic_meant};
+ghost use Rattle.sarif.specs.Meaning.{given_place as place_meant};
 ghost use Rattle.sarif.specs.Meaning.{in_u32 as fits_u32, message_or as own_or};
 ghost use Rattle.sarif.specs.Meaning.{severity_of as severity_meant};
 ghost use Rattle.sarif.specs.Views.{reading_view};
@@ -28,7 +29,7 @@ pub(crate) fn severity_of(level: Level) -> Severity
 }
 
 /// A finding as a diagnostic, with the tool's name as scope.
-#[tactic(auto, unfolding(crate::specs::Meaning::diagnostic_of, crate::specs::Views::reading_view, sarif_findings::specs::Findings::finding_view))]
+#[tactic(auto, unfolding(crate::specs::Meaning::diagnostic_of, crate::proofs::Opened::finding))]
 pub(crate) fn diagnostic_of(
     alloc: Global,
     reading: &Reading<'_>,

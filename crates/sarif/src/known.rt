@@ -1,6 +1,6 @@
 //! The files of a run, each cut into rows once.
-ghost use Rattle.std.specs.Prelude.{◌≡◌, ◌++◌, ◌∷◌, [], ◌<◌, All, Some, map, length, drop, option_map};
-ghost use Rattle.std.specs.Prelude.{slice_get, IfOk, IfSome, OnOk, IsTrue};
+ghost use Rattle.std.specs.Prelude.{◌≡◌, ◌++◌, ◌∷◌, [], ◌<◌, All, Some, map, length, drop};
+ghost use Rattle.std.specs.Prelude.{option_map, slice_get, IfOk, IfSome, OnOk, IsTrue};
 ghost use Rattle.std.specs.List.{Contains};
 ghost use Rattle.found_reports.specs.Held.{held_of, held_text};
 ghost use Rattle.found_reports.specs.Kept.{IsShortHeld};
@@ -165,8 +165,10 @@ fn seat_of<'s, S: Sources>(
     found: &mut FoundReports<'s>,
     it: &'s ArtifactLocation,
 ) -> Result<Option<usize>, AllocError>
-    requires told { All (IsTold (S.told sources.now) (reading_view reading.now)) known.old.files.items }
-    requires filed { All (IsFiled (reading_view reading.now) found.old.files) known.old.files.items }
+    requires told { All (IsTold (S.told sources.now) (reading_view reading.now))
+        known.old.files.items }
+    requires filed { All (IsFiled (reading_view reading.now) found.old.files)
+        known.old.files.items }
     ensures told { OnOk result (All (IsTold (S.told sources.now) (reading_view reading.now))
         known.new.files.items) }
     ensures filed { OnOk result (All (IsFiled (reading_view reading.now) found.new.files)
@@ -201,8 +203,10 @@ pub(crate) fn push_placed<'f, 's, S: Sources>(
     placed: &mut Vec<Placed<'f>>,
     spots: &'f [Spot<'s>],
 ) -> Result<(), AllocError>
-    requires told { All (IsTold (S.told sources.now) (reading_view reading.now)) known.old.files.items }
-    requires filed { All (IsFiled (reading_view reading.now) found.old.files) known.old.files.items }
+    requires told { All (IsTold (S.told sources.now) (reading_view reading.now))
+        known.old.files.items }
+    requires filed { All (IsFiled (reading_view reading.now) found.old.files)
+        known.old.files.items }
     requires seated { All (IsSeated known.old.files.items) placed.old.items }
     ensures told { OnOk result (All (IsTold (S.told sources.now) (reading_view reading.now))
         known.new.files.items) }

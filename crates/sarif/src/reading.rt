@@ -1,5 +1,6 @@
 //! How a run is read: what its names, rows and columns are.
-ghost use Rattle.std.specs.Prelude.{◌≡◌, filter, map, string_bytes, unwrap_or, option_map, [], IfOk};
+ghost use Rattle.std.specs.Prelude.{◌≡◌, filter, map, string_bytes, unwrap_or, option_map, []};
+ghost use Rattle.std.specs.Prelude.{IfOk};
 ghost use Rattle.sarif_log.specs.Log.{run_view};
 ghost use Rattle.sarif.specs.Reading.{breaks_of as breaks_meant, is_some_text};
 ghost use Rattle.sarif.specs.Reading.{reading_of as reading_meant};
@@ -23,7 +24,7 @@ pub(crate) struct Reading<'s> {
 }
 
 /// How a run is read, with columns as the caller says, if he does.
-#[tactic(auto, unfolding(crate::specs::Reading::reading_of, crate::specs::Views::reading_view, sarif_log::specs::Log::run_view, sarif_log::specs::Log::counting_view, sarif_log::specs::Log::tool_view, sarif_log::specs::Log::component_view))]
+#[tactic(auto, unfolding(crate::specs::Reading::reading_of, crate::proofs::Opened::run))]
 pub(crate) fn reading_of<'s>(
     alloc: Global,
     columns: Option<ColumnKind>,

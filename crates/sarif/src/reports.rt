@@ -85,7 +85,7 @@ fn push_findings<'s, S: Sources>(
 }
 
 /// Appends the reports of a finding.
-#[tactic(auto, using(crate::proofs::ReportLemmas::among_parts, crate::proofs::ReportLemmas::count_within), unfolding(crate::specs::Meaning::finding_reports, sarif_findings::specs::Findings::finding_view))]
+#[tactic(auto, using(crate::proofs::ReportLemmas::added_rules), unfolding(crate::proofs::Opened::reports))]
 fn push_finding<'s, S: Sources>(
     alloc: Global,
     sources: &'s S,
@@ -94,8 +94,10 @@ fn push_finding<'s, S: Sources>(
     finding: &Finding<'s>,
     found: &mut FoundReports<'s>,
 ) -> Result<(), AllocError>
-    requires told { All (IsTold (S.told sources.now) (reading_view reading.now)) known.old.files.items }
-    requires filed { All (IsFiled (reading_view reading.now) found.old.files) known.old.files.items }
+    requires told { All (IsTold (S.told sources.now) (reading_view reading.now))
+        known.old.files.items }
+    requires filed { All (IsFiled (reading_view reading.now) found.old.files)
+        known.old.files.items }
     ensures told { OnOk result (All (IsTold (S.told sources.now) (reading_view reading.now))
         known.new.files.items) }
     ensures filed { OnOk result (All (IsFiled (reading_view reading.now) found.new.files)
@@ -128,7 +130,7 @@ fn push_finding<'s, S: Sources>(
 }
 
 /// Appends the reports of a finding at these places, of which so many are its locations.
-#[tactic(auto, using(crate::proofs::KnownLemmas::filed_one, crate::proofs::KnownLemmas::filed_more, crate::proofs::ReportLemmas::among_rules))]
+#[tactic(auto, using(crate::proofs::ReportLemmas::among_filed))]
 fn push_reports<'s>(
     alloc: Global,
     reading: &Reading<'s>,
@@ -158,7 +160,7 @@ fn push_reports<'s>(
 }
 
 /// Appends the reports of a finding whose first location that names a file is this one.
-#[tactic(auto, using(crate::proofs::LabelLemmas::label_rules), unfolding(crate::specs::Meaning::reports_at, crate::specs::Meaning::diagnostic_of))]
+#[tactic(auto, using(crate::proofs::LabelLemmas::label_rules), unfolding(crate::proofs::Opened::placed))]
 fn push_at<'s>(
     alloc: Global,
     reading: &Reading<'s>,
@@ -356,7 +358,7 @@ fn aside_diagnostic(
 }
 
 /// Appends the report of a finding that is on no file.
-#[tactic(auto, using(crate::proofs::LabelLemmas::none_stand, crate::proofs::KnownLemmas::file_last), unfolding(crate::specs::Meaning::diagnostic_of))]
+#[tactic(auto, using(crate::proofs::ReportLemmas::nowhere_rules), unfolding(crate::specs::Meaning::diagnostic_of))]
 fn push_nowhere<'s>(
     alloc: Global,
     reading: &Reading<'s>,

@@ -28,7 +28,7 @@ pub(crate) fn artifact_at(names: &Names, index: Option<usize>) -> Option<&Artifa
 
 /// The location that a reference to a file stands for: its own, or where it has no URI that of the
 /// artifact that it numbers.
-#[tactic(auto, unfolding(crate::specs::Naming::location_in, sarif_log::specs::Log::artifact_location_view, sarif_log::specs::Log::artifact_view))]
+#[tactic(auto, unfolding(crate::specs::Naming::location_in, crate::proofs::Opened::artifact))]
 pub(crate) fn location_in<'l>(names: &'l Names, it: &'l ArtifactLocation) -> &'l ArtifactLocation
     ensures { artifact_location_view result.now ≡ location_meant (names_view names.now)
         (artifact_location_view it.now) }
@@ -43,7 +43,7 @@ pub(crate) fn location_in<'l>(names: &'l Names, it: &'l ArtifactLocation) -> &'l
 }
 
 /// The base of a name: the last of them counts.
-#[tactic(auto, using(sarif_findings::proofs::RuleLemmas::option_or_assoc), unfolding(crate::specs::Naming::base_named, sarif_log::specs::Log::uri_base_view))]
+#[tactic(auto, using(crate::proofs::NamingLemmas::option_or_assoc), unfolding(crate::proofs::Opened::last_base))]
 fn base_named<'l>(bases: &'l [UriBase], name: &str) -> Option<&'l UriBase>
     ensures { base_seen result ≡ last_named (map uri_base_view bases.now) name.now }
 {
@@ -143,7 +143,7 @@ fn joined(alloc: Global, front: Option<&str>, uri: &str) -> Result<String, Alloc
 }
 
 /// A URI with its base before it, and that one's base, each once.
-#[tactic(auto, using(crate::proofs::NamingLemmas::resolved_rules), unfolding(sarif_log::specs::Log::uri_base_view, sarif_log::specs::Log::artifact_location_view))]
+#[tactic(auto, using(crate::proofs::NamingLemmas::resolved_rules), unfolding(crate::proofs::Opened::bases))]
 pub(crate) fn resolved(
     alloc: Global,
     bases: &[UriBase],
@@ -170,7 +170,7 @@ pub(crate) fn resolved(
 }
 
 /// The name of the file that a reference stands for: none where it has no URI.
-#[tactic(auto, unfolding(crate::specs::Naming::name_of, sarif_log::specs::Log::names_view, sarif_log::specs::Log::artifact_location_view))]
+#[tactic(auto, unfolding(crate::specs::Naming::name_of, crate::proofs::Opened::location))]
 pub(crate) fn name_of(
     alloc: Global,
     names: &Names,

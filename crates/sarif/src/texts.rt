@@ -126,7 +126,7 @@ fn had_under<'s, S: Sources>(
 }
 
 /// The file that a reference stands for: none where it has no URI.
-#[tactic(auto, unfolding(crate::specs::Texts::source_of, sarif_log::specs::Log::names_view, sarif_log::specs::Log::artifact_location_view))]
+#[tactic(auto, unfolding(crate::specs::Texts::source_of, crate::proofs::Opened::location))]
 pub(crate) fn file_had<'s, S: Sources>(
     alloc: Global,
     sources: &'s S,

@@ -1,2 +1,3 @@
 pub mod FillLemmas
 pub mod RuleLemmas
+pub mod Opened

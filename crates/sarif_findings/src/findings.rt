@@ -60,7 +60,7 @@ pub struct Finding<'l> {
 /// # Errors
 ///
 /// Want of memory.
-#[tactic(auto, unfolding(crate::specs::Findings::findings_in, sarif_log::specs::Log::run_view, sarif_log::specs::Log::tool_view))]
+#[tactic(auto, unfolding(crate::specs::Findings::findings_in, crate::proofs::Opened::run))]
 pub fn findings_of<'l>(alloc: Global, run: &'l Run) -> Result<Vec<Finding<'l>>, AllocError>
     ensures { IfOk result (λ found. map finding_view found.items ≡ findings_in (run_view run.now)) }
 {
@@ -144,7 +144,7 @@ fn push_results<'l>(
 }
 
 /// What a notification says.
-#[tactic(auto, unfolding(crate::specs::Findings::noted_by, crate::specs::Findings::finding_view, sarif_log::specs::Log::notification_view, sarif_log::specs::Log::rule_ref_view))]
+#[tactic(auto, unfolding(crate::specs::Findings::noted_by, crate::proofs::Opened::notification))]
 fn noted<'l>(
     alloc: Global,
     strings: Strings<'l>,
@@ -173,7 +173,7 @@ fn found_of<'l>(alloc: Global, run: &'l Run, it: &'l LogResult) -> Result<Findin
 }
 
 /// Where the messages of a result are looked up.
-#[tactic(auto, unfolding(crate::specs::Findings::strings_of, sarif_log::specs::Log::run_view, sarif_log::specs::Log::log_result_view, sarif_log::specs::Log::rule_ref_view))]
+#[tactic(auto, unfolding(crate::specs::Findings::strings_of, crate::proofs::Opened::ruled))]
 fn strings_of<'l>(run: &'l Run, found: &'l LogResult) -> Strings<'l>
     ensures { strings_view result ≡ strings_meant (run_view run.now) (log_result_view found.now) }
 {
@@ -185,7 +185,7 @@ fn strings_of<'l>(run: &'l Run, found: &'l LogResult) -> Strings<'l>
     }
 }
 
-#[tactic(auto, unfolding(crate::specs::Findings::found_by, crate::specs::Findings::finding_view, sarif_log::specs::Log::log_result_view))]
+#[tactic(auto, unfolding(crate::specs::Findings::found_by, crate::proofs::Opened::finding))]
 fn found_by_strings<'l>(
     alloc: Global,
     strings: Strings<'l>,

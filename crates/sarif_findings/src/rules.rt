@@ -27,7 +27,7 @@ pub(crate) struct Strings<'l> {
 }
 
 /// The component that a reference names: one of the extensions, or the driver where it names none.
-#[tactic(auto, unfolding(crate::specs::Rules::component_of, sarif_log::specs::Log::tool_view, sarif_log::specs::Log::rule_ref_view))]
+#[tactic(auto, unfolding(crate::specs::Rules::component_of, crate::proofs::Opened::tool))]
 pub(crate) fn component_of<'l>(tool: &'l Tool, rule: &RuleRef) -> Option<&'l Component>
     ensures { component_seen result ≡ component_named (tool_view tool.now)
         (rule_ref_view rule.now) }
@@ -175,7 +175,7 @@ fn component_message<'l>(component: Option<&'l Component>, id: &str) -> Option<&
 }
 
 /// The message of a name: the last one counts.
-#[tactic(auto, using(crate::proofs::RuleLemmas::option_or_assoc), unfolding(crate::specs::Rules::message_named, sarif_log::specs::Log::named_message_view))]
+#[tactic(auto, using(crate::proofs::RuleLemmas::option_or_assoc), unfolding(crate::proofs::Opened::message))]
 fn message_named<'l>(messages: &'l [NamedMessage], name: &str) -> Option<&'l Message>
     ensures { message_seen result ≡ last_named (map named_message_view messages.now) name.now }
 {
