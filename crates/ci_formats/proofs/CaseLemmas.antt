@@ -15,7 +15,8 @@ use Rattle.std.proofs.lemmas.Slice.Eq.{bytes_eq-Decides}
 use Rattle.ci_findings.specs.declared.finding.Finding.{Finding}
 use Rattle.ci_findings.specs.Finding.{FindingParts, finding_parts}
 use Rattle.ci_formats.specs.declared.junit.Case.{Case}
-use Rattle.ci_formats.specs.Files.{along, is_on, name_order, own_in}
+use Rattle.found_reports.specs.Names.{name_order}
+use Rattle.ci_formats.specs.Files.{along, is_on, own_in}
 use Rattle.ci_formats.specs.Junit.{AreCasesByFile, Numbered, case_on, is_same_case, numbered, numbered_on, numbered_text, own_cases, suite_element, suite_of, suite_with}
 use Rattle.ci_formats.proofs.FilesLemmas.{along_more, now_of}
 

@@ -3,12 +3,10 @@ use Rattle.std.specs.Prelude.{◌≡◌, ℕ, not, if◌then◌else◌, Bool, Li
 use Rattle.std.specs.Borrow.{Bor}
 use Rattle.std.specs.BTreeMap.{BTreeMap, get}
 use Rattle.std.specs.BTreeSet.{BTreeSet, contains}
-use Rattle.std.specs.Cmp.Lexicographic.{slice_cmp}
-use Rattle.std.specs.declared.cmp.Ordering.{Ordering}
 use Rattle.std.specs.List.{list_any}
 use Rattle.std.specs.Option.{option_map_or}
-use Rattle.std.specs.Ordering.{nat_cmp}
 use Rattle.std.specs.Str.{bytes_eq}
+use Rattle.found_reports.specs.Names.{name_order}
 use Rattle.ci_findings.specs.declared.finding.Finding.{Finding}
 use Rattle.ci_findings.specs.Finding.{FindingParts, finding_parts}
 
@@ -35,9 +33,6 @@ abbrev pub or_zero : Option ℕ → ℕ
 or_zero number = unwrap_or number 0
 
 -- ---- names in maps and sets
-
-abbrev pub name_order : Bor (List ℕ) → Bor (List ℕ) → Ordering
-name_order x y = slice_cmp nat_cmp x.now y.now
 
 -- the set has these names
 abbrev pub Knows : BTreeSet (Bor (List ℕ)) → List (List ℕ) → Type 0

@@ -5,7 +5,8 @@ ghost use Rattle.std.specs.BTreeMap.{get};
 ghost use Rattle.std.specs.Option.{option_copied, option_map_or};
 ghost use Rattle.std.specs.Ordering.{is_eq};
 ghost use Rattle.ci_findings.specs.Finding.{finding_parts};
-ghost use Rattle.ci_formats.specs.Files.{AreByFile, Knows, name_order, names_of as names_in};
+ghost use Rattle.found_reports.specs.Names.{name_order};
+ghost use Rattle.ci_formats.specs.Files.{AreByFile, Knows, names_of as names_in};
 ghost use Rattle.ci_formats.specs.Files.{or_zero as number_or_zero};
 ghost use Rattle.ci_formats.specs.Files.{own_in, with_name};
 

@@ -1,6 +1,7 @@
 // The formats, and texts sent to sinks.
-ghost use Rattle.std.specs.Prelude.{◌≡◌, IfOk, OnErr, OnOk, map, string_bytes};
+ghost use Rattle.std.specs.Prelude.{◌≡◌, ◌≤◌, IfOk, IsErrOf, OnErr, OnOk, map, string_bytes};
 ghost use Rattle.std.specs.Io.KnownBytes.{Appends};
+ghost use Rattle.oxc_protocol.specs.Faults.{Rose};
 ghost use Rattle.oxc_protocol.specs.Sink.{AppendsPrefix};
 ghost use Rattle.ci_findings.specs.Finding.{finding_parts};
 ghost use Rattle.ci_formats.specs.Format.{text_in as text_of_format};
@@ -76,6 +77,10 @@ pub fn send<K: Sink>(
         (text_of_format format (map finding_parts findings.now))) }
     ensures part { OnErr result (AppendsPrefix (K.received sink.old) (K.received sink.new)
         (text_of_format format (map finding_parts findings.now))) }
+    ensures fault { IsErrOf result SendError.Failed
+        → Rose (K.faults sink.old) (K.faults sink.new) }
+    ensures later { K.faults sink.old ≤ K.faults sink.new }
+    ensures untouched { IsErrOf result SendError.OutOfMemory → sink.new ≡ sink.old }
 {
     let Ok(text) = text_in(alloc, format, findings) else {
         return Err(SendError::OutOfMemory);

@@ -4,11 +4,13 @@ ghost use Rattle.std.specs.List.{count_by, flat_map};
 ghost use Rattle.std.specs.Option.{option_copied};
 ghost use Rattle.ci_findings.specs.Finding.{finding_parts};
 ghost use Rattle.ci_formats.specs.Files.{names_of as names_in, own_parts};
-ghost use Rattle.ci_formats.specs.Stylish.{blanks, code_cell, cross, counted as counted_nouns, ending};
+ghost use Rattle.ci_formats.specs.Stylish.{blanks, code_cell, cross, counted as counted_nouns};
+ghost use Rattle.ci_formats.specs.Stylish.{ending};
 ghost use Rattle.ci_formats.specs.Stylish.{file_text, is_error as is_error_by, level_cell};
 ghost use Rattle.ci_formats.specs.Stylish.{level_word as word_of_level, measured as measured_by};
 ghost use Rattle.ci_formats.specs.Stylish.{place_cells, pointless as without_point, row_text};
-ghost use Rattle.ci_formats.specs.Stylish.{rows_text, shares, stylish_of, summary, plural as plural_of};
+ghost use Rattle.ci_formats.specs.Stylish.{rows_text, shares, stylish_of, summary};
+ghost use Rattle.ci_formats.specs.Stylish.{plural as plural_of};
 ghost use Rattle.ci_formats.specs.Stylish.{widest as widest_of, widths_of as widths_in};
 ghost use Rattle.ci_formats.specs.Stylish.{table_text};
 
@@ -42,8 +44,8 @@ pub struct Widths {
     pub message: usize,
 }
 
-/// A table for people: each file's name, its findings in columns below it, and an empty line; at the
-/// end how many there are. Nothing where there is no finding.
+/// A table for people: each file's name, its findings in columns below it, and an empty line; at
+/// the end how many there are. Nothing where there is no finding.
 ///
 /// # Errors
 ///

@@ -1,7 +1,7 @@
 use Rattle.std.proofs.Common.{◌∙◌, sym}
 use Rattle.std.specs.BTreeSet.{contains}
 use Rattle.std.proofs.lemmas.Bool.{not-true}
-use Rattle.ci_formats.specs.Files.{name_order}
+use Rattle.found_reports.specs.Names.{name_order}
 use Rattle.ci_formats.proofs.FilesLemmas.{knows_added}
 use Rattle.ci_formats.proofs.files.push_new.Goals as goal
 
