@@ -13,7 +13,7 @@ use Rattle.line_shapes.specs.Place.{Place, place}
 use Rattle.line_shapes.specs.Shape.{ShapeParts, first_own}
 use Rattle.tool_lines.specs.Lines.{ArePieces, PieceParts, FindingParts, BegunParts, announced, announced_by, announced_len, bare, begun, begun_of, behind, below_at, coded_below, head, in_trail, inline, may_trail, inline_or, text_below, is_heading, is_kept, name_behind, piece, piece_of, spoken, told, trail_len}
 use Rattle.fed_lines.specs.declared.whole.Cut.{Cut}
-use Rattle.fed_lines.specs.Feed.{AreCut, Comes, Ends, IsEnding, IsFed, Leaves, StaysOpen, cut_of, goes_on, IsFirst, last_piece, announced_end, ends_trails, known_piece, piece_behind, piece_or, run_end, so_long, trail_end}
+use Rattle.fed_lines.specs.Feed.{AreCut, Comes, Ends, IsEnding, IsFed, Leaves, StaysOpen, cut_of, goes_on, IsFirst, last_piece, announced_end, ends_at, ends_trails, known_piece, piece_behind, piece_or, run_end, so_long, trail_end}
 
 -- a line at which something begins ends a trail, whatever the next is
 some_or : {A : Type 0} (a b : Option A) → is_some b ≡ true → is_some (option_or a b) ≡ true
@@ -50,7 +50,7 @@ begins_more shapes line next begins =
 or_second : (a b : Bool) → a ≡ false → (a || b) ≡ true → b ≡ true
 or_second a b e either = subst (λ v. (v || b) ≡ true) e either
 
-some_length : (x : ℕ) (xs : List ℕ) → (length (x ∷ xs) == 0) ≡ false
+pub some_length : (x : ℕ) (xs : List ℕ) → (length (x ∷ xs) == 0) ≡ false
 some_length x xs = grind (arith, nat_tests)
 
 ends_more : (shapes : List ShapeParts) (line : List ℕ) (next : Option (List ℕ)) → ends_trails shapes line ≡ true → in_trail shapes line next ≡ false
@@ -197,7 +197,7 @@ name_stays Kept name line lines more = refl
 name_stays Announced name line lines more = refl
 name_stays Inline name line lines more = refl
 
-known_name : (shapes : List ShapeParts) (name : Option (List ℕ)) (lines more : List (List ℕ)) (p : PieceParts) → known_piece shapes name lines ≡ Some p → name_behind p.begun.sort name lines ≡ name_behind p.begun.sort name (lines ++ more)
+pub known_name : (shapes : List ShapeParts) (name : Option (List ℕ)) (lines more : List (List ℕ)) (p : PieceParts) → known_piece shapes name lines ≡ Some p → name_behind p.begun.sort name lines ≡ name_behind p.begun.sort name (lines ++ more)
 known_name shapes name [] more p known = elim (none-some p known) [ ]
 known_name shapes name (line ∷ lines) more p known = name_stays p.begun.sort name line lines (lines ++ more)
 
@@ -422,3 +422,84 @@ fed_shorter name later held left (Some p) cut is some within leaves =
     fewer p.lines held left (subst (λ (c : Cut). 1 ≤ c.lines) same some) (subst (λ (c : Cut). c.lines ≤ length held) same within) leaves.1
 
 pub ruleset known_rules = (held_few, none_known, first_known)
+
+-- ---- a piece that ends at the last of its lines but one is known, where that line ends it
+
+if_more : {A : Type 0} (b : Bool) (n m : ℕ) (later : Option A) (here : A) → (if b then 1 + n else 0) ≡ suc m → (if b then later else Some here) ≡ later
+if_more true n m later here e = refl
+if_more false n m later here e = absurd (omega (arith, e))
+
+if_more_count : (b : Bool) (n m : ℕ) → (if b then 1 + n else 0) ≡ suc m → n ≡ m
+if_more_count true n m e = omega (arith, e)
+if_more_count false n m e = absurd (omega (arith, e))
+
+trail_known : (shapes : List ShapeParts) (n : ℕ) (rest : List (List ℕ)) (last : List ℕ) → trail_len shapes (rest ++ last ∷ []) ≡ length rest → ends_trails shapes last ≡ true
+    → trail_end shapes n (rest ++ last ∷ []) ≡ Some (n + length rest)
+trail_known shapes n [] last len ends = ap (λ v. if v then Some n else None) ends ∙ ap Some (omega arith)
+trail_known shapes n (a ∷ []) last len ends =
+    if_more (in_trail shapes a (Some last)) (trail_len shapes (last ∷ [])) 0 (trail_end shapes (n + 1) (last ∷ [])) n len
+    ∙ (trail_known shapes (n + 1) [] last (if_more_count (in_trail shapes a (Some last)) (trail_len shapes (last ∷ [])) 0 len) ends ∙ ap Some (omega arith))
+trail_known shapes n (a ∷ (b ∷ rest)) last len ends =
+    let more : List (List ℕ) = b ∷ (rest ++ last ∷ []) in
+    if_more (in_trail shapes a (Some b)) (trail_len shapes more) (length (b ∷ rest)) (trail_end shapes (n + 1) more) n len
+    ∙ (trail_known shapes (n + 1) (b ∷ rest) last (if_more_count (in_trail shapes a (Some b)) (trail_len shapes more) (length (b ∷ rest)) len) ends ∙ ap Some (omega arith))
+
+if_goes : {A : Type 0} (b : Bool) (n m : ℕ) (here : A) (later : A) → (if b then 0 else 1 + n) ≡ suc m → (if b then here else later) ≡ later
+if_goes true n m here later e = absurd (omega (arith, e))
+if_goes false n m here later e = refl
+
+if_goes_count : (b : Bool) (n m : ℕ) → (if b then 0 else 1 + n) ≡ suc m → n ≡ m
+if_goes_count true n m e = absurd (omega (arith, e))
+if_goes_count false n m e = omega (arith, e)
+
+announced_known : (n : ℕ) (rest : List (List ℕ)) (last : List ℕ) → announced_len (rest ++ last ∷ []) ≡ length rest → (length last == 0) ≡ true
+    → announced_end n (rest ++ last ∷ []) ≡ Some (n + length rest)
+announced_known n [] last len ends = ap (λ v. if v || false then Some n else None) ends ∙ ap Some (omega arith)
+announced_known n (a ∷ rest) last len ends =
+    let more : List (List ℕ) = rest ++ last ∷ [] in
+    let stops : Bool = (length a == 0) || is_some (announced a (head more)) in
+    if_goes stops (announced_len more) (length rest) (Some n) (announced_end (n + 1) more) len
+    ∙ (announced_known (n + 1) rest last (if_goes_count stops (announced_len more) (length rest) len) ends ∙ ap Some (omega arith))
+
+run_known : (shapes : List ShapeParts) (sort : Sort) (rest : List (List ℕ)) (last : List ℕ) → behind shapes sort (rest ++ last ∷ []) ≡ length rest → ends_at shapes sort last ≡ true
+    → run_end shapes sort (rest ++ last ∷ []) ≡ Some (length rest)
+run_known shapes Kept rest last len ends = ap Some len
+run_known shapes Heading rest last len ends = ap Some len
+run_known shapes Below rest last len ends = ap Some len
+run_known shapes Announced [] last len ends = absurd (omega (arith, len))
+run_known shapes Announced (arrow ∷ rest) last len ends = announced_known 1 rest last (omega (arith, len)) ends ∙ ap Some (omega arith)
+run_known shapes Inline rest last len ends = trail_known shapes 0 rest last len ends ∙ ap Some (omega arith)
+
+behind_known : (shapes : List ShapeParts) (line : List ℕ) (rest : List (List ℕ)) (last : List ℕ)
+    → (let b = begun shapes line (head (rest ++ last ∷ [])) in 1 + behind shapes b.sort (rest ++ last ∷ []) ≡ suc (length rest) → ends_at shapes b.sort last ≡ true
+    → piece_behind shapes line (rest ++ last ∷ []) ≡ Some (piece_of None b (behind shapes b.sort (rest ++ last ∷ []))))
+behind_known shapes line [] last len ends =
+    let b = begun shapes line (Some last) in
+    ap (so_long b) (run_known shapes b.sort [] last (omega (arith, len)) ends ∙ ap Some (sym (omega (arith, len))))
+behind_known shapes line (next ∷ rest) last len ends =
+    let b = begun shapes line (Some next) in
+    ap (so_long b) (run_known shapes b.sort (next ∷ rest) last (omega (arith, len)) ends ∙ ap Some (sym (omega (arith, len))))
+
+or_known : (shapes : List ShapeParts) (line : List ℕ) (rest : List (List ℕ)) (last : List ℕ) (found : Option FindingParts)
+    → (let b = begun shapes line (head (rest ++ last ∷ [])) in
+    let p = piece_of found b (behind shapes b.sort (rest ++ last ∷ [])) in p.lines ≡ suc (length rest) → ends_at shapes p.begun.sort last ≡ true
+    → piece_or found (piece_behind shapes line (rest ++ last ∷ [])) ≡ Some p)
+or_known shapes line rest last (Some finding) len ends = refl
+or_known shapes line rest last None len ends = behind_known shapes line rest last len ends
+
+pub known_by_end : (shapes : List ShapeParts) (name : Option (List ℕ)) (lines : List (List ℕ)) (last : List ℕ) (p : PieceParts) → 1 ≤ length lines → p ≡ piece shapes name (lines ++ last ∷ [])
+    → p.lines ≡ length lines → ends_at shapes p.begun.sort last ≡ true → known_piece shapes name (lines ++ last ∷ []) ≡ Some p
+known_by_end shapes name [] last p some is len ends = absurd (omega (arith, some))
+known_by_end shapes name (line ∷ rest) last p some is len ends =
+    or_known shapes line rest last (below_at name line) (ap (λ (q : PieceParts). q.lines) (sym is) ∙ len) (ap (λ (q : PieceParts). ends_at shapes q.begun.sort last) (sym is) ∙ ends)
+    ∙ ap Some (sym is)
+
+-- a piece of some lines has some
+piece_of_some : (found : Option FindingParts) (b : BegunParts) (count : ℕ) → 1 ≤ (piece_of found b count).lines
+piece_of_some None b count = omega arith
+piece_of_some (Some finding) b count = omega arith
+
+pub piece_some : (shapes : List ShapeParts) (name : Option (List ℕ)) (lines : List (List ℕ)) → 1 ≤ length lines → 1 ≤ (piece shapes name lines).lines
+piece_some shapes name [] some = absurd (omega (arith, some))
+piece_some shapes name (line ∷ lines) some =
+    piece_of_some (below_at name line) (begun shapes line (head lines)) (behind shapes (begun shapes line (head lines)).sort lines)

@@ -1,5 +1,5 @@
 -- The pieces of lines that come one at a time.
-use Rattle.std.specs.Prelude.{◌≡◌, ℕ, ◌+◌, ◌==◌, ◌||◌, ◌&&◌, not, if◌then◌else◌, Bool, false, List, [], ◌∷◌, ◌++◌, length, drop, map, Option, Some, None}
+use Rattle.std.specs.Prelude.{◌≡◌, ℕ, ◌+◌, ◌==◌, ◌||◌, ◌&&◌, not, if◌then◌else◌, Bool, true, false, List, [], ◌∷◌, ◌++◌, length, drop, map, Option, Some, None}
 use Rattle.std.specs.Option.{is_some}
 use Rattle.fed_lines.specs.declared.whole.Cut.{Cut}
 use Rattle.tool_lines.specs.declared.lines.Sort.{Sort}
@@ -36,6 +36,14 @@ run_end shapes Heading lines = Some 0
 run_end shapes Below lines = Some 0
 run_end shapes Announced lines = arrow_end lines
 run_end shapes Inline lines = trail_end shapes 0 lines
+
+-- what belongs to a piece of this sort ends at a line, whatever stands behind it
+abbrev pub ends_at : List ShapeParts → Sort → List ℕ → Bool
+ends_at shapes Kept line = true
+ends_at shapes Heading line = true
+ends_at shapes Below line = true
+ends_at shapes Announced line = length line == 0
+ends_at shapes Inline line = ends_trails shapes line
 
 abbrev pub so_long : BegunParts → Option ℕ → Option PieceParts
 so_long begun_here None = None

@@ -5,7 +5,7 @@ ghost use Rattle.line_shapes.specs.Shape.{shape_parts};
 ghost use Rattle.tool_lines.specs.Lines.{announced_len as announced_length};
 ghost use Rattle.tool_lines.specs.Lines.{behind as behind_there, head};
 ghost use Rattle.tool_lines.specs.Lines.{trail_len as trail_length};
-ghost use Rattle.fed_lines.specs.Feed.{announced_end as announced_ends};
+ghost use Rattle.fed_lines.specs.Feed.{announced_end as announced_ends, ends_at as ends_at_line};
 ghost use Rattle.fed_lines.specs.Feed.{ends_trails as ends_all_trails, run_end as run_ends};
 ghost use Rattle.fed_lines.specs.Feed.{trail_end as trail_ends};
 
@@ -85,6 +85,17 @@ pub(crate) fn ends_trails(shapes: &[Shape<'_>], line: &[u8]) -> bool
     ensures { result ≡ ends_all_trails (map shape_parts shapes.now) line.now }
 {
     line.is_empty() || !matches!(what_begins(shapes, line, None).sort, Sort::Kept)
+}
+
+/// Whether what belongs to a piece of this sort ends at a line, whatever stands behind it.
+pub fn ends_at(shapes: &[Shape<'_>], sort: Sort, line: &[u8]) -> bool
+    ensures { result ≡ ends_at_line (map shape_parts shapes.now) sort line.now }
+{
+    match sort {
+        Sort::Kept | Sort::Heading | Sort::Below => true,
+        Sort::Announced => line.is_empty(),
+        Sort::Inline => ends_trails(shapes, line),
+    }
 }
 
 /// How many lines belong to what begins on the line before, where no line is to come.

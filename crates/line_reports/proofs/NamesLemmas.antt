@@ -23,7 +23,7 @@ same_last : (P : List ℕ → Type 0) (last : Option (List ℕ)) (name : List �
 same_last P None name e kept = elim (no_true e) [ ]
 same_last P (Some last) name e kept = subst P (same_name last name e) kept
 
-changes_more : (P : List ℕ → Type 0) (last : Option (List ℕ)) (names : List (List ℕ)) → IfSome last P → All P (changes last names) → All P names
+pub changes_more : (P : List ℕ → Type 0) (last : Option (List ℕ)) (names : List (List ℕ)) → IfSome last P → All P (changes last names) → All P names
 changes_more P last [] kept all = All-nil P
 changes_more P last (name ∷ names) kept all =
     elim (is_same last name) as (λ v. is_same last name ≡ v → All P (if v then changes last names else name ∷ changes (Some name) names) → All P (name ∷ names)) [
@@ -33,7 +33,7 @@ changes_more P last (name ∷ names) kept all =
           (changes_more P (Some name) names (All-head P name (changes (Some name) names) rest) (All-tail P name (changes (Some name) names) rest)))
     ] refl all
 
-of_lossy : (Q : List ℕ → Type 0) (names : List (List ℕ)) → All Q (map utf8_lossy names) → All (λ name. Q (utf8_lossy name)) names
+pub of_lossy : (Q : List ℕ → Type 0) (names : List (List ℕ)) → All Q (map utf8_lossy names) → All (λ name. Q (utf8_lossy name)) names
 of_lossy Q [] all = All-nil (λ name. Q (utf8_lossy name))
 of_lossy Q (name ∷ names) all =
     All-cons (λ it. Q (utf8_lossy it)) name names (All-head Q (utf8_lossy name) (map utf8_lossy names) all) (of_lossy Q names (All-tail Q (utf8_lossy name) (map utf8_lossy names) all))
