@@ -174,7 +174,7 @@ fn at_end<'a>(begun: Found<'a>, end: usize, kind: NameKind) -> Option<Found<'a>>
 }
 
 /// The same, of any end.
-#[tactic(auto, using(crate::proofs::PlaceLemmas::found_so), unfolding(crate::specs::Place::found_at, crate::specs::Place::afters))]
+#[tactic(auto, unfolding(crate::specs::Place::found_at, crate::specs::Place::afters))]
 fn found_at<'a>(begun: Found<'a>, end: usize, kind: NameKind) -> Option<Found<'a>>
     requires { end < length begun.rest.now }
     ensures { option_map seen result ≡ found_behind kind (seen begun.entry) end }

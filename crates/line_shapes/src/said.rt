@@ -310,8 +310,9 @@ fn bare_code(code: &[u8]) -> &[u8]
     }
 }
 
-/// The message without the code that stands behind it, and the code.
-fn code_behind(text: &[u8], boxed: bool) -> Option<(&[u8], &[u8])>
+/// The message without the code that stands behind it, and the code. `boxed` says that any code in
+/// parentheses counts.
+pub fn code_behind(text: &[u8], boxed: bool) -> Option<(&[u8], &[u8])>
     ensures { option_map text_parts result ≡ code_there boxed text.now }
 {
     match closed(text, Kind::InBrackets, b'[', b']') {

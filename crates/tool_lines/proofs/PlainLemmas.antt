@@ -15,7 +15,7 @@ use Rattle.tool_lines.specs.declared.lines.Sort.TheVariants.{Kept}
 use Rattle.tool_lines.specs.Marks.{begins_blank}
 use Rattle.tool_lines.specs.Lines.{BegunParts, FindingParts, announced, announced_by, begun, begun_of, below, inline, is_heading, is_placing, is_plain, text_below, told, uncoloned, whole_among}
 
-not_announced : (line : List ℕ) (next : Option (List ℕ)) → is_placing next ≡ false → announced line next ≡ None
+pub not_announced : (line : List ℕ) (next : Option (List ℕ)) → is_placing next ≡ false → announced line next ≡ None
 unfolding announced_by
 not_announced line None e = refl
 not_announced line (Some next) e =
@@ -26,7 +26,7 @@ not_below : (next : List ℕ) → may_begin UNDER next ≡ false → below next 
 unfolding below
 not_below next e = ap (λ o. option_and_then (λ (found : Seen). if length found.rest == 0 then Some found else None) o) (not_begun UNDER (before next) e)
 
-not_heading : (line : List ℕ) (next : Option (List ℕ)) → is_placing next ≡ false → is_heading line next ≡ false
+pub not_heading : (line : List ℕ) (next : Option (List ℕ)) → is_placing next ≡ false → is_heading line next ≡ false
 not_heading line None e = refl
 not_heading line (Some next) e =
     and_right (not (length line == 0) && not (begins_blank line)) (is_some (below next))
