@@ -1,0 +1,10 @@
+pub mod PlainLemmas
+pub mod HeldLemmas
+pub mod AsideLemmas
+pub mod SeamLemmas
+pub mod SoughtLemmas
+pub mod LineLemmas
+pub mod WalkLemmas
+pub mod PartLemmas
+pub mod NameLemmas
+pub mod ComingLemmas

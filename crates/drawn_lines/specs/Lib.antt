@@ -1,0 +1,5 @@
+pub mod Text
+pub mod Lines
+pub mod Walk
+pub mod Seam
+pub mod Coming

@@ -1,0 +1,21 @@
+//! Lines that a tool prints for people, drawn as they come.
+//!
+//! - [`Coming`]: takes bytes as they come, and gives the drawing of what they make known.
+//! - [`shapes_of`], [`columns_of`]: how lines are read, as it was asked for.
+//! - [`lines_of`]: the lines of a text; [`kept_text`]: those that are no findings.
+#![tactic(auto)]
+
+mod coming;
+mod held;
+mod kept;
+mod reading;
+mod seam;
+mod tally;
+#[cfg(test)]
+mod tests;
+mod walk;
+
+pub use coming::{Come, Coming, Ended};
+pub use held::{lent, lines_of};
+pub use kept::kept_text;
+pub use reading::{columns_of, shapes_of};

@@ -1,0 +1,72 @@
+// How lines are read: by which shapes, and what their columns count.
+ghost use Rattle.std.specs.Prelude.{◌≡◌, IfOk, map};
+ghost use Rattle.line_shapes.specs.Shape.{shape_parts};
+ghost use Rattle.drawn_lines.specs.Lines.{columns_of as columns_meant, own_parts};
+ghost use Rattle.drawn_lines.specs.Lines.{shapes_of as shapes_meant, tool_columns as columns_known};
+ghost use Rattle.drawn_lines.specs.Lines.{tool_parts};
+
+use girzohal_asked::Asked;
+use line_shapes::shape::Shape;
+use line_shapes::tables::Unit;
+use line_shapes::tools::{Columns, columns_of_tool, tool_shapes};
+use std::alloc::{AllocError, Global};
+
+/// The shapes by which lines are read: the user's own, and then those of the tool.
+pub fn shapes_of(alloc: Global, asked: &Asked) -> Result<Vec<Shape<'_>>, AllocError>
+    ensures { IfOk result (λ shapes. map shape_parts shapes.items ≡ shapes_meant asked.entry.now) }
+{
+    let mut shapes = shapes_asked(alloc, asked)?;
+    for shape in &shapes_known(alloc, &asked.tool)? {
+        shapes.push(*shape)?;
+    }
+    Ok(shapes)
+}
+
+/// What columns count.
+pub fn columns_of(asked: &Asked) -> Columns
+    ensures { result ≡ columns_meant asked.now }
+{
+    let known = tool_columns(&asked.tool);
+    Columns {
+        unit: asked.columns.unwrap_or(known.unit),
+        first: asked.first_column.unwrap_or(known.first),
+        with_end: known.with_end,
+    }
+}
+
+/// What the columns of a tool count.
+fn tool_columns(tool: &Option<String>) -> Columns
+    ensures { result ≡ columns_known tool.now }
+{
+    let usual = Columns {
+        unit: Unit::Characters,
+        first: 1,
+        with_end: true,
+    };
+    match tool {
+        Some(tool) => columns_of_tool(tool.as_str()).unwrap_or(usual),
+        None => usual,
+    }
+}
+
+/// The user's own shapes.
+fn shapes_asked(alloc: Global, asked: &Asked) -> Result<Vec<Shape<'_>>, AllocError>
+    ensures { IfOk result (λ shapes. map shape_parts shapes.items
+        ≡ map own_parts asked.entry.now.shapes.items) }
+{
+    let mut shapes = Vec::new(alloc);
+    for shape in &asked.shapes {
+        shapes.push(shape.shape())?;
+    }
+    Ok(shapes)
+}
+
+/// The shapes of the tool, if one was named.
+fn shapes_known(alloc: Global, tool: &Option<String>) -> Result<Vec<Shape<'static>>, AllocError>
+    ensures { IfOk result (λ shapes. map shape_parts shapes.items ≡ tool_parts tool.now) }
+{
+    match tool {
+        Some(tool) => tool_shapes(alloc, tool.as_str()),
+        None => Ok(Vec::new(alloc)),
+    }
+}

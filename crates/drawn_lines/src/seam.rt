@@ -1,0 +1,166 @@
+// Where pieces may be parted, whatever lines come behind them.
+ghost use Rattle.std.specs.Prelude.{◌≡◌, ◌≤◌, ◌-◌, ◌&&◌, nat_le, true, if◌then◌else◌, IfSome, None};
+ghost use Rattle.std.specs.Prelude.{Some, map, option_map};
+ghost use Rattle.line_shapes.specs.Shape.{shape_parts};
+ghost use Rattle.tool_lines.specs.Lines.{ArePieces, finding_parts, piece_parts};
+ghost use Rattle.drawn_lines.specs.Seam.{EndsKnown, IsEnd, IsGap, IsPart, OpensAlways};
+ghost use Rattle.drawn_lines.specs.Seam.{closes as closes_sort, opens as opens_there};
+ghost use Rattle.drawn_lines.specs.Seam.{says_aside as says_it_aside};
+
+use fed_lines::ends_at;
+use line_shapes::shape::Shape;
+use tool_lines::lines::{Finding, Piece, Sort, announced, what_begins};
+
+/// A line that belongs to the text of a finding above it.
+const A_TEXT: &[u8] = b" x";
+
+/// A line that says where what stands above it was found.
+const AN_ARROW: &[u8] = b"--> a:1:1";
+
+/// So many pieces, and so many lines.
+#[derive(Clone, Copy)]
+pub(crate) struct Part {
+    /// The pieces.
+    pub(crate) pieces: usize,
+    /// Their lines.
+    pub(crate) lines: usize,
+}
+
+/// How far pieces of lines are walked.
+#[derive(Clone, Copy)]
+pub(crate) struct Sought {
+    /// The last place so far where they may be parted.
+    part: Option<Part>,
+    /// How many lines are left.
+    left: usize,
+    /// Whether the last piece closes.
+    closed: bool,
+}
+
+/// The most of the first pieces of these lines that stay as they are, whatever comes behind, with
+/// nothing to come that belongs to them.
+pub(crate) fn part_of(shapes: &[Shape<'_>], lines: &[&[u8]], pieces: &[Piece<'_>]) -> Option<Part>
+    ensures { ArePieces (map shape_parts shapes.now) None (map (λ line. line.now) lines.now)
+        (map piece_parts pieces.now)
+        → IfSome result (IsPart (map shape_parts shapes.now) (map (λ line. line.now) lines.now)
+        (map piece_parts pieces.now)) }
+{
+    if ends_known(shapes, lines, pieces) {
+        return Some(Part {
+            pieces: pieces.len().saturating_sub(1),
+            lines: lines.len().saturating_sub(1),
+        });
+    }
+    gap_in(pieces, lines.len())
+}
+
+/// Whether the last line is a piece by itself, ends the piece before it, and is no note of it,
+/// whatever comes behind.
+fn ends_known(shapes: &[Shape<'_>], lines: &[&[u8]], pieces: &[Piece<'_>]) -> bool
+    ensures { result ≡ true
+        → EndsKnown (map shape_parts shapes.now) (map (λ line. line.now) lines.now)
+        (map piece_parts pieces.now) }
+{
+    match pieces {
+        [.., before, last] => match lines {
+            [.., line] => is_end(shapes, before, last, line),
+            [] => false,
+        },
+        _ => false,
+    }
+}
+
+/// Whether a piece is this line alone, which ends the piece before it, and is no note of it.
+fn is_end(shapes: &[Shape<'_>], before: &Piece<'_>, last: &Piece<'_>, line: &[u8]) -> bool
+    ensures { result ≡ true
+        → IsEnd (map shape_parts shapes.now) (piece_parts before.now) (piece_parts last.now)
+        line.now }
+{
+    if last.lines != 1 || !closes(before.begun.sort) {
+        return false;
+    }
+    if !ends_at(shapes, before.begun.sort, line) {
+        return false;
+    }
+    opens_always(shapes, line)
+}
+
+/// Whether what begins at a line is no note of a finding before it, whatever line comes behind it:
+/// what it is depends on whether that belongs to a text, and on whether it is an arrow.
+fn opens_always(shapes: &[Shape<'_>], line: &[u8]) -> bool
+    ensures { result ≡ true → OpensAlways (map shape_parts shapes.now) line.now }
+{
+    if says_aside(&what_begins(shapes, line, None).finding) {
+        return false;
+    }
+    if says_aside(&what_begins(shapes, line, Some(A_TEXT)).finding) {
+        return false;
+    }
+    !says_aside(&announced(line, Some(AN_ARROW)))
+}
+
+/// The most of the first pieces of so many lines behind which two lines stand, of which the last
+/// closes, and before one that is no note.
+fn gap_in(pieces: &[Piece<'_>], lines: usize) -> Option<Part>
+    ensures { IfSome result (IsGap (map piece_parts pieces.now) lines) }
+{
+    let mut sought = Sought {
+        part: None,
+        left: lines,
+        closed: true,
+    };
+    let mut at = 0;
+    for piece in pieces {
+        sought = past(sought, at, piece, lines);
+        at += 1;
+    }
+    sought.part
+}
+
+/// Goes on by a piece, before which there are so many.
+fn past(sought: Sought, at: usize, piece: &Piece<'_>, lines: usize) -> Sought
+    requires { sought.left ≤ lines }
+    ensures part { result.part
+        ≡ (if sought.closed && opens_there (piece_parts piece.now) && nat_le 2 sought.left
+        then Some (record { pieces = at; lines = lines - sought.left })
+        else sought.part) }
+    ensures left { result.left ≡ sought.left - piece.now.lines }
+    ensures closed { result.closed ≡ closes_sort piece.now.begun.sort }
+{
+    let may = sought.closed && opens(piece) && sought.left >= 2;
+    let here = Part {
+        pieces: at,
+        lines: lines - sought.left,
+    };
+    Sought {
+        part: if may { Some(here) } else { sought.part },
+        left: sought.left.saturating_sub(piece.lines),
+        closed: closes(piece.begun.sort),
+    }
+}
+
+/// Whether a piece is no note of a finding before it.
+fn opens(piece: &Piece<'_>) -> bool
+    ensures { result ≡ opens_there (piece_parts piece.now) }
+{
+    !says_aside(&piece.begun.finding)
+}
+
+fn says_aside(finding: &Option<Finding<'_>>) -> bool
+    ensures { result ≡ says_it_aside (option_map finding_parts finding.now) }
+{
+    match finding {
+        Some(finding) => finding.says.aside && finding.says.code.is_none(),
+        None => false,
+    }
+}
+
+/// Whether no line behind a piece of this sort stands below its heading.
+fn closes(sort: Sort) -> bool
+    ensures { result ≡ closes_sort sort }
+{
+    match sort {
+        Sort::Kept | Sort::Announced | Sort::Inline => true,
+        Sort::Heading | Sort::Below => false,
+    }
+}

@@ -1,0 +1,139 @@
+// What was drawn so far, and how pieces more are drawn.
+ghost use Rattle.std.specs.Prelude.{◌≡◌, ◌≤◌, ◌+◌, IfOk, map, string_bytes};
+ghost use Rattle.found_reports.specs.Listed.{held_in};
+ghost use Rattle.tool_lines.specs.Lines.{piece_parts};
+ghost use Rattle.line_reports.specs.Reports.{reports_in};
+ghost use Rattle.report_texts.specs.Texts.{drawn_count as drawn_of};
+ghost use Rattle.drawn_lines.specs.Lines.{columns_of as columns_meant};
+ghost use Rattle.drawn_lines.specs.Coming.{Draws, count_of as count_meant, count_with, counts_with};
+ghost use Rattle.drawn_lines.specs.Coming.{ending_by};
+
+use crate::reading::columns_of;
+use crate::walk::{count_of, in_place, still};
+use found_reports::ListedSources;
+use girzohal_asked::Asked;
+use line_reports::{names_of, reports_of};
+use report_counts::{Counts, counts_of, more_line, one_reaches, summary_line};
+use shown_reports::ShowError;
+use source_store::{Spelling, Store, gather_more};
+use std::alloc::{AllocError, Global};
+use tool_lines::lines::Piece;
+
+/// How many reports there are, and whether one is at or above the level.
+#[derive(Clone, Copy)]
+pub(crate) struct Count {
+    /// How many reports there are.
+    pub(crate) total: usize,
+    /// How many of each severity.
+    pub(crate) counts: Counts,
+    /// Whether one is at or above the level.
+    pub(crate) reached: bool,
+}
+
+/// What was drawn so far.
+#[derive(Drop)]
+pub(crate) struct Tally {
+    /// How many reports there were.
+    pub(crate) count: Count,
+    /// The sources that they are about.
+    pub(crate) sources: ListedSources,
+}
+
+/// What was drawn, and the tally with it.
+#[derive(Drop)]
+pub(crate) struct Drawn {
+    /// The drawings.
+    pub(crate) text: String,
+    /// The tally.
+    pub(crate) tally: Tally,
+}
+
+/// The pieces that these lines begin with as they are drawn behind others.
+pub(crate) fn draw<S: Store>(
+    alloc: Global,
+    asked: &Asked,
+    store: &S,
+    tally: Tally,
+    lines: &[&[u8]],
+    pieces: &[Piece<'_>],
+) -> Result<Drawn, ShowError>
+    ensures { IfOk result (λ it. Draws (S.told store.now) asked.now tally it.tally
+        (map (λ line. line.now) lines.now) (map piece_parts pieces.now) (string_bytes it.text)) }
+{
+    let Tally { count, mut sources } = tally;
+    let names = names_of(alloc, pieces)?;
+    gather_more(alloc, store, Spelling::Path, &mut sources, &names)?;
+    let most = still(asked.most, count.total);
+    let text = in_place(alloc, asked, most, lines, pieces, &sources)?;
+    let count = added(count, counted(alloc, asked, lines, pieces, &sources)?)?;
+    let tally = Tally { count, sources };
+    Ok(Drawn { text, tally })
+}
+
+/// How many reports these pieces mean.
+fn counted(
+    alloc: Global,
+    asked: &Asked,
+    lines: &[&[u8]],
+    pieces: &[Piece<'_>],
+    sources: &ListedSources,
+) -> Result<Count, AllocError>
+    ensures { IfOk result (λ count. count ≡ count_meant asked.now
+        (reports_in (columns_meant asked.now) (held_in sources.now.entries.items)
+        (map (λ line. line.now) lines.now) (map piece_parts pieces.now))) }
+{
+    let found = reports_of(alloc, lines, pieces, sources, columns_of(asked))?;
+    Ok(Count {
+        total: count_of(&found),
+        counts: counts_of(&found),
+        reached: one_reaches(asked.fail_on, &found),
+    })
+}
+
+/// Two counts together.
+fn added(a: Count, b: Count) -> Result<Count, ShowError>
+    ensures { IfOk result (λ count. count ≡ count_with a b) }
+{
+    let counts = Counts {
+        errors: sum(a.counts.errors, b.counts.errors)?,
+        warnings: sum(a.counts.warnings, b.counts.warnings)?,
+        notes: sum(a.counts.notes, b.counts.notes)?,
+    };
+    Ok(Count {
+        total: sum(a.total, b.total)?,
+        counts,
+        reached: a.reached || b.reached,
+    })
+}
+
+/// A sum; more than a `usize` holds count as too many.
+fn sum(a: usize, b: usize) -> Result<usize, ShowError>
+    ensures { IfOk result (λ sum. sum ≡ a + b) }
+{
+    match a.checked_add(b) {
+        Some(sum) => Ok(sum),
+        None => Err(ShowError::TooManyFiles),
+    }
+}
+
+/// That there are more reports than were drawn, and how many there are.
+pub(crate) fn ending(alloc: Global, asked: &Asked, count: Count) -> Result<String, AllocError>
+    ensures { IfOk result (λ text. string_bytes text ≡ ending_by asked.now count) }
+{
+    let mut text = more_line(alloc, count.total - drawn_count(asked.most, count.total))?;
+    if !asked.quiet {
+        text.push_str(summary_line(alloc, count.counts)?.as_str())?;
+    }
+    Ok(text)
+}
+
+/// How many of so many are drawn.
+fn drawn_count(most: Option<usize>, count: usize) -> usize
+    ensures count { result ≡ drawn_of most count }
+    ensures within { result ≤ count }
+{
+    match most {
+        Some(most) => most.min(count),
+        None => count,
+    }
+}

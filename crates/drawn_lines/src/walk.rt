@@ -1,0 +1,183 @@
+// Lines as they are drawn: their reports, and between them the lines that are kept.
+ghost use Rattle.std.specs.Prelude.{◌≡◌, ◌∷◌, [], ℕ, List, IfOk, true, false, length, map};
+ghost use Rattle.std.specs.Prelude.{string_bytes};
+ghost use Rattle.found_reports.specs.Held.{Held};
+ghost use Rattle.found_reports.specs.Listed.{held_in};
+ghost use Rattle.tool_lines.specs.Lines.{PieceParts, piece_parts, is_kept as is_kept_sort};
+ghost use Rattle.girzohal_asked.specs.declared.Asked.{Asked};
+ghost use Rattle.drawn_lines.specs.Lines.{in_place as placed, still as still_of};
+ghost use Rattle.drawn_lines.specs.Walk.{walked};
+
+use crate::kept::{behind, front, is_kept, push_kept};
+use crate::reading::columns_of;
+use found_reports::{FoundReports, ListedSources};
+use girzohal_asked::Asked;
+use line_reports::reports_of;
+use report_texts::first_drawings;
+use shown_reports::ShowError;
+use std::alloc::{AllocError, Global};
+use tool_lines::lines::Piece;
+
+/// How far lines are drawn.
+#[derive(Drop)]
+pub(crate) struct Walk<'l, 'a, 'p> {
+    /// What is drawn so far.
+    text: String,
+    /// How many reports are still drawn at most.
+    most: Option<usize>,
+    /// The pieces behind the last line that was kept.
+    before: Vec<Piece<'p>>,
+    /// The lines from the first of these pieces on.
+    from: &'l [&'a [u8]],
+    /// The lines behind them.
+    left: &'l [&'a [u8]],
+}
+
+/// Reports drawn, and between them the lines that are kept.
+pub(crate) fn in_place(
+    alloc: Global,
+    asked: &Asked,
+    most: Option<usize>,
+    lines: &[&[u8]],
+    pieces: &[Piece<'_>],
+    sources: &ListedSources,
+) -> Result<String, ShowError>
+    ensures { IfOk result (λ text. string_bytes text
+        ≡ placed asked.now (held_in sources.now.entries.items) most []
+        (map (λ line. line.now) lines.now) (map (λ line. line.now) lines.now)
+        (map piece_parts pieces.now)) }
+{
+    let mut walk = Walk {
+        text: String::new(alloc),
+        most,
+        before: Vec::new(alloc),
+        from: lines,
+        left: lines,
+    };
+    let mut rest = pieces;
+    while let [piece, more @ ..] = rest {
+        walk = step(alloc, asked, sources, walk, piece)?;
+        rest = more;
+    }
+    finish(alloc, asked, sources, walk)
+}
+
+/// Goes on by a piece.
+fn step<'l, 'a, 'p>(
+    alloc: Global,
+    asked: &Asked,
+    sources: &ListedSources,
+    walk: Walk<'l, 'a, 'p>,
+    piece: &Piece<'p>,
+) -> Result<Walk<'l, 'a, 'p>, ShowError>
+    ensures { IfOk result (λ next. (rest : List PieceParts)
+        → walked asked.now (held_in sources.now.entries.items) next rest
+        ≡ walked asked.now (held_in sources.now.entries.items) walk.entry
+        (piece_parts piece.now ∷ rest)) }
+{
+    if is_kept(piece.begun.sort) {
+        keep(alloc, asked, sources, walk, piece)
+    } else {
+        Ok(pass(walk, piece)?)
+    }
+}
+
+/// Goes on by a piece that is kept: the reports before it are drawn, and then its lines.
+fn keep<'l, 'a, 'p>(
+    alloc: Global,
+    asked: &Asked,
+    sources: &ListedSources,
+    walk: Walk<'l, 'a, 'p>,
+    piece: &Piece<'p>,
+) -> Result<Walk<'l, 'a, 'p>, ShowError>
+    requires { is_kept_sort piece.now.begun.sort ≡ true }
+    ensures { IfOk result (λ next. (rest : List PieceParts)
+        → walked asked.now (held_in sources.now.entries.items) next rest
+        ≡ walked asked.now (held_in sources.now.entries.items) walk.entry
+        (piece_parts piece.now ∷ rest)) }
+{
+    let Walk {
+        mut text,
+        most,
+        before,
+        from,
+        left,
+    } = walk;
+    let found = reports_of(alloc, from, &before, sources, columns_of(asked))?;
+    text.push_str(first_drawings(alloc, asked, most, &found)?.as_str())?;
+    push_kept(alloc, &mut text, asked, piece, front(left, piece.lines))?;
+    let left = behind(left, piece.lines);
+    Ok(Walk {
+        text,
+        most: still(most, count_of(&found)),
+        before: Vec::new(alloc),
+        from: left,
+        left,
+    })
+}
+
+/// How many reports there are.
+pub(crate) fn count_of(found: &FoundReports<'_>) -> usize
+    ensures { result ≡ length found.now.found }
+{
+    found.reports().len()
+}
+
+/// How many more reports are drawn behind so many.
+pub(crate) fn still(most: Option<usize>, count: usize) -> Option<usize>
+    ensures { result ≡ still_of most count }
+{
+    match most {
+        Some(most) => Some(most.saturating_sub(count)),
+        None => None,
+    }
+}
+
+/// Goes on by a piece that isn't kept.
+fn pass<'l, 'a, 'p>(
+    walk: Walk<'l, 'a, 'p>,
+    piece: &Piece<'p>,
+) -> Result<Walk<'l, 'a, 'p>, AllocError>
+    requires { is_kept_sort piece.now.begun.sort ≡ false }
+    ensures { IfOk result (λ next. (asked : Asked) (given : List ℕ → Held)
+        (rest : List PieceParts) → walked asked given next rest
+        ≡ walked asked given walk.entry (piece_parts piece.now ∷ rest)) }
+{
+    let Walk {
+        text,
+        most,
+        mut before,
+        from,
+        left,
+    } = walk;
+    before.push(*piece)?;
+    Ok(Walk {
+        text,
+        most,
+        before,
+        from,
+        left: behind(left, piece.lines),
+    })
+}
+
+/// Draws the reports behind the last line that was kept.
+fn finish(
+    alloc: Global,
+    asked: &Asked,
+    sources: &ListedSources,
+    walk: Walk<'_, '_, '_>,
+) -> Result<String, ShowError>
+    ensures { IfOk result (λ text. string_bytes text
+        ≡ walked asked.now (held_in sources.now.entries.items) walk.entry []) }
+{
+    let Walk {
+        mut text,
+        most,
+        before,
+        from,
+        left: _,
+    } = walk;
+    let found = reports_of(alloc, from, &before, sources, columns_of(asked))?;
+    text.push_str(first_drawings(alloc, asked, most, &found)?.as_str())?;
+    Ok(text)
+}
