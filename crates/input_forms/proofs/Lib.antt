@@ -1,2 +1,4 @@
 pub mod JsonLemmas
 pub mod KeyLemmas
+pub mod SpelledLemmas
+pub mod SureLemmas

@@ -1,3 +1,4 @@
 pub mod Begun
 pub mod Object
 pub mod Scanned
+pub mod Sure

@@ -58,7 +58,7 @@ fn in_bracket(rest: &[u8]) -> Begun
 }
 
 /// A text without a byte order mark before it.
-fn without_mark(bytes: &[u8]) -> &[u8]
+pub(crate) fn without_mark(bytes: &[u8]) -> &[u8]
     ensures { result.now ≡ behind_mark bytes.now }
 {
     match bytes.strip_prefix(&[0xEF, 0xBB, 0xBF]) {
@@ -68,7 +68,7 @@ fn without_mark(bytes: &[u8]) -> &[u8]
 }
 
 /// A text from its first byte on that is no blank.
-fn first_from(mut bytes: &[u8]) -> &[u8]
+pub(crate) fn first_from(mut bytes: &[u8]) -> &[u8]
     ensures { result.now ≡ first_from bytes.entry.now }
 {
     while let [first, rest @ ..] = bytes {

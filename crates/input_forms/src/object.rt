@@ -1,5 +1,5 @@
 // The JSON object among other lines.
-ghost use Rattle.std.specs.Prelude.{◌≡◌, ◌≤◌, IfOk, length};
+ghost use Rattle.std.specs.Prelude.{◌≡◌, ◌≤◌, IfOk, false, length};
 ghost use Rattle.std.specs.List.{list_any};
 ghost use Rattle.json.specs.Lex.{tokens};
 ghost use Rattle.json.specs.Reads.{token_of};
@@ -7,6 +7,7 @@ ghost use Rattle.input_forms.specs.Object.{IsJsonPart, has_files as has_key_file
 ghost use Rattle.input_forms.specs.Scanned.{is_files_key, names_files as names_key_files};
 
 use json::{Reader, Scratch, Token};
+use memchr::memmem;
 use sarif_log::log_in;
 use serde_json::Value;
 use std::alloc::{AllocError, Global};
@@ -26,7 +27,8 @@ pub fn json_part(bytes: &[u8]) -> Range<usize>
 
 /// Whether a text is JSON that has the key `files`, as documents of files and reports do.
 ///
-/// No value is made of a text without such a key, so that a log costs one pass over its tokens.
+/// A log costs a search for the key, and no value is made of it. Where escapes by numbers stand in
+/// it, which may spell the key otherwise, it costs a pass over its tokens.
 ///
 /// # Errors
 ///
@@ -35,7 +37,7 @@ pub fn json_part(bytes: &[u8]) -> Range<usize>
 pub fn has_files(alloc: Global, text: &[u8]) -> Result<bool, AllocError>
     ensures { IfOk result (λ has. has ≡ has_key_files text.now) }
 {
-    if names_files(alloc, text)? {
+    if may_name_files(text) && names_files(alloc, text)? {
         has_files_on_top(alloc, text)
     } else {
         Ok(false)
@@ -52,6 +54,15 @@ fn has_files_on_top(alloc: Global, text: &[u8]) -> Result<bool, AllocError>
         Err(e) if e.is_memory() => Err(AllocError),
         Err(_) => Ok(false),
     }
+}
+
+/// Whether a key of a text may be `files`: whether it stands there as it is spelled without escapes,
+/// or an escape by a number does, for no other escape is a letter.
+#[tactic(auto, using(crate::proofs::SpelledLemmas::none_found))]
+fn may_name_files(bytes: &[u8]) -> bool
+    ensures none { result ≡ false → names_key_files bytes.now ≡ false }
+{
+    memmem::find(bytes, b"files\"").is_some() || memmem::find(bytes, b"\\u").is_some()
 }
 
 /// Whether a key of a text is `files`, at any depth.

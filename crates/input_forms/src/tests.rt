@@ -1,5 +1,5 @@
 // Inputs as they begin, and JSON among other lines.
-use crate::{Begun, begins_as, has_files, json_part};
+use crate::{Begun, FirstBytes, begins_as, first_bytes, has_files, json_part};
 use std::test::Fail;
 
 #[test]
@@ -21,6 +21,28 @@ fn inputs_begin(rt: HostRuntime) -> Result<(), Fail> {
 }
 
 #[test]
+fn first_bytes_tell(rt: HostRuntime) -> Result<(), Fail> {
+    let rows: [(&[u8], FirstBytes); 12] = [
+        (b"", FirstBytes::Open),
+        (b" \n", FirstBytes::Open),
+        (b"[ ", FirstBytes::Open),
+        (b"\xEF\xBB", FirstBytes::Open),
+        (b"\xEF\xBB\xBF", FirstBytes::Open),
+        (b"\xEF\xBC", FirstBytes::SurelyLines),
+        (b"m", FirstBytes::SurelyLines),
+        (b"\n[w", FirstBytes::SurelyLines),
+        (b"[[", FirstBytes::SurelyLines),
+        (b"{", FirstBytes::Other),
+        (b"[\"", FirstBytes::Other),
+        (b"\xEF\xBB\xBF []", FirstBytes::Other),
+    ];
+    for (bytes, wanted) in rows {
+        assert!(rt; first_bytes(bytes) == wanted, "{bytes:?}");
+    }
+    Ok(())
+}
+
+#[test]
 fn json_among_lines(rt: HostRuntime) -> Result<(), Fail> {
     let alloc = rt.alloc();
     let rows = [
@@ -30,6 +52,7 @@ fn json_among_lines(rt: HostRuntime) -> Result<(), Fail> {
         ("{\"files\": 1", 0, 11, false),
         ("{\"f\\u0069les\": 1}", 0, 17, true),
         ("{\"files\": 1e999}", 0, 16, false),
+        ("{\"a\": \"\\u0066iles\"}", 0, 19, false),
     ];
     for (text, start, end, wanted) in rows {
         let range = json_part(text.as_bytes());
