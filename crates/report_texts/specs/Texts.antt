@@ -1,5 +1,5 @@
 -- What is written of reports.
-use Rattle.std.specs.Prelude.{◌≡◌, ℕ, ◌-◌, ◌++◌, ◌∷◌, List, [], length, take, min, unwrap_or, Bool, true, false, if◌then◌else◌, Option, Some, None, String, string_bytes, codes}
+use Rattle.std.specs.Prelude.{◌≡◌, ℕ, ◌-◌, ◌++◌, ◌∷◌, List, [], length, map, take, min, unwrap_or, Bool, true, false, if◌then◌else◌, Option, Some, None, String, string_bytes, codes}
 use Rattle.std.specs.declared.alloc.Global.{Global}
 use Rattle.std.specs.List.{flat_map}
 use Rattle.serde_json.specs.Written.{compact_text}
@@ -10,9 +10,11 @@ use Rattle.oxc_handlers.specs.JsonText.{json_of}
 use Rattle.oxc_handlers.specs.Report.{drawn, plan_of}
 use Rattle.documents.specs.Document.{Document}
 use Rattle.documents.specs.Written.{document_value}
-use Rattle.sarif_writing.specs.Written.{log_value}
-use Rattle.found_reports.specs.Found.{Found}
+use Rattle.sarif_writing.specs.Written.{log_with}
+use Rattle.found_reports.specs.Found.{Found, NamedHeld}
+use Rattle.found_reports.specs.Held.{Held, holds, lacks}
 use Rattle.found_reports.specs.Kept.{FoundParts}
+use Rattle.found_reports.specs.declared.places.GivenPlace.{GivenPlace}
 use Rattle.shown_reports.specs.Shown.{IsShown, shown_view}
 use Rattle.report_counts.specs.Counted.{counts_of, more_line, summary_line}
 use Rattle.girzohal_asked.specs.declared.Asked.{Asked}
@@ -80,10 +82,23 @@ abbrev pub tool_name : Option (String Global) → List ℕ
 tool_name None = codes "girzohal"
 tool_name (Some tool) = string_bytes tool
 
--- the text of a SARIF log of these reports
+abbrev pub lacks_text : Held → Bool
+lacks_text (holds text) = false
+lacks_text (lacks why) = true
+
+abbrev pub is_unread : NamedHeld → Bool
+is_unread file = lacks_text file.held
+
+-- where its tool says that a report stands
+abbrev pub given_place : Found → Option GivenPlace
+given_place it = it.place
+
+-- the text of a SARIF log of these reports: a file that wasn't read has no text there, and a report without a label has the
+-- place that its tool gave
 pub record IsSarifText (asked : Asked) (found : List Found) (text : List ℕ) : Type 0 where
   pub parts : FoundParts
   pub document : Document
   pub found_there : parts.found ≡ found
   pub shown : IsShown asked.raw parts document
-  pub is : text ≡ compact_text (log_value (tool_name asked.tool) document.files document.reports)
+  pub is : text ≡ compact_text
+      (log_with (tool_name asked.tool) document.files (map is_unread parts.files) document.reports (map given_place found))

@@ -1,16 +1,17 @@
 // Reports as JSON, as a document, and as a SARIF log.
-ghost use Rattle.std.specs.Prelude.{◌≡◌, ◌≤◌, IfOk, IsErrOf, length, string_bytes};
+ghost use Rattle.std.specs.Prelude.{◌≡◌, ◌≤◌, IfOk, IsErrOf, length, map, string_bytes};
+ghost use Rattle.found_reports.specs.Kept.{file_view};
 ghost use Rattle.shown_reports.specs.declared.shown.ShowError.TheVariants.{TooManyFiles};
 ghost use Rattle.report_texts.specs.Texts.{IsDocumentText, IsSarifText, json_text as json_of_all};
-ghost use Rattle.report_texts.specs.Texts.{tool_name};
+ghost use Rattle.report_texts.specs.Texts.{given_place, is_unread as is_unread_of, tool_name};
 
 use documents::write_document;
-use found_reports::FoundReports;
+use found_reports::{FoundFile, FoundReports, GivenPlace};
 use girzohal_asked::Asked;
 use render_files::files_json;
-use sarif_writing::write_log;
+use sarif_writing::write_log_with;
 use shown_reports::{ShowError, shown_reports};
-use std::alloc::Global;
+use std::alloc::{AllocError, Global};
 
 /// Each report as a line of JSON.
 ///
@@ -47,7 +48,8 @@ pub fn document_text(
     Ok(write_document(alloc, &shown.files, &shown.reports)?)
 }
 
-/// A SARIF log of the reports and their files, by the tool that was named, else by `girzohal`.
+/// A SARIF log of the reports and their files, by the tool that was named, else by `girzohal`. A file
+/// that wasn't read has no text there; a report without a label has the place that its tool gave.
 ///
 /// # Errors
 ///
@@ -61,11 +63,51 @@ pub fn sarif_text(
     ensures many { IsErrOf result TooManyFiles → 4294967295 ≤ length found.now.files }
 {
     let shown = shown_reports(alloc, found, asked.raw)?;
-    match write_log(alloc, tool(&asked.tool), &shown.files, &shown.reports) {
+    let unread = unread_files(alloc, found)?;
+    let places = given_places(alloc, found)?;
+    let name = tool(&asked.tool);
+    match write_log_with(alloc, name, &shown.files, &unread, &shown.reports, &places) {
         Ok(text) => Ok(text),
         // None of the reports is refused.
         Err(_) => Err(ShowError::OutOfMemory),
     }
+}
+
+/// Of each file whether it wasn't read.
+fn unread_files(alloc: Global, found: &FoundReports<'_>) -> Result<Vec<bool>, AllocError>
+    ensures { IfOk result (λ unread. unread.items ≡ map is_unread_of found.now.files) }
+{
+    let files = found.files();
+    let mut unread = Vec::with_capacity(alloc, files.len())?;
+    for file in files {
+        unread.push(is_unread(file))?;
+    }
+    Ok(unread)
+}
+
+/// Whether a file wasn't read.
+fn is_unread(file: &FoundFile<'_>) -> bool
+    ensures { result ≡ is_unread_of (file_view file.now) }
+{
+    match &file.source {
+        Ok(_) => false,
+        Err(_) => true,
+    }
+}
+
+/// The place of each report, where its tool gave one.
+fn given_places(
+    alloc: Global,
+    found: &FoundReports<'_>,
+) -> Result<Vec<Option<GivenPlace>>, AllocError>
+    ensures { IfOk result (λ places. places.items ≡ map given_place found.now.found) }
+{
+    let reports = found.reports();
+    let mut places = Vec::with_capacity(alloc, reports.len())?;
+    for report in reports {
+        places.push(report.place)?;
+    }
+    Ok(places)
 }
 
 /// The name by which a log is written.

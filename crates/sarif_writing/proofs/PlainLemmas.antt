@@ -1,8 +1,8 @@
 -- A log has no float, and isn't nested deep.
-use Rattle.std.proofs.Common.{◌≡◌, ℕ, suc, ◌≤◌, List, [], ◌∷◌, map, true, false, codes, Option, Some, None, option_map, unwrap_or, refl, arith}
+use Rattle.std.proofs.Common.{◌≡◌, ℕ, Bool, suc, ◌≤◌, List, [], ◌∷◌, map, true, false, codes, Option, Some, None, option_map, unwrap_or, refl, arith}
 use Rattle.std.specs.Prelude.{is_none, is_some, ◌&&◌, ◌++◌, slice_get, zero, if◌then◌else◌}
 use Rattle.std.specs.List.{remove}
-use Rattle.serde_json.specs.Data.{Data, string, array, item, no_items, Members, no_members, put, depth}
+use Rattle.serde_json.specs.Data.{Data, string, array, item, no_items, Members, member, no_members, object, put, depth}
 use Rattle.serde_json.specs.View.{items_of}
 use Rattle.serde_json.specs.Written.{has_float}
 use Rattle.codespan.specs.Texts.{NamedText}
@@ -10,10 +10,11 @@ use Rattle.documents.specs.Written.{put_some, text_value, whole_number}
 use Rattle.documents.proofs.PlainLemmas.{IsPlain, ArePlainItems, ArePlain, plain_put, plain_object}
 use Rattle.oxc_span.specs.Label.{Label}
 use Rattle.oxc_protocol.specs.Parts.{OxcParts}
+use Rattle.found_reports.specs.declared.places.GivenPlace.{GivenPlace}
 use Rattle.render_files.specs.Given.{GivenReport}
 use Rattle.render_files.specs.Shown.{placed_labels}
 use Rattle.sarif_writing.specs.Rules.{and_rule, and_rules, place_in, rule_of, rule_value, rules_of}
-use Rattle.sarif_writing.specs.Written.{artifact_value, breaks_value, file_location, head_place, label_location, level_text, log_of, log_value, message_value, place_members, reference_value, region_place, region_value, result_value, rule_place, run_of, run_value, said_members, some_array, tool_value}
+use Rattle.sarif_writing.specs.Written.{artifact_value, bare_location, breaks_value, counted, file_value, given_region, head_place, label_location, level_text, log_of, log_with, map_beside, message_value, place_members, placed_value, reference_value, region_given, region_place, region_value, rule_place, run_of, run_with, said_members, some_array, tool_value, unread_value}
 
 -- each of a list
 EachPlain : ℕ → List Data → Type 0
@@ -42,6 +43,13 @@ plain_array : (most : ℕ) (ds : List Data) → EachPlain most ds → IsPlain (s
 plain_array most ds each =
     let are = plain_items most ds each in
     record { whole = are.whole; shallow = omega (arith, are.shallow) }
+
+each_beside : {A B : Type 0} (most : ℕ) (f : B → A → Data) → ((y : B) (x : A) → IsPlain most (f y x)) → (other : B) (ys : List B) (xs : List A)
+    → EachPlain most (map_beside f other ys xs)
+unfolding EachPlain
+each_beside most f plain other ys [] = tt
+each_beside most f plain other [] (x ∷ xs) = (plain other x, each_beside most f plain other [] xs)
+each_beside most f plain other (y ∷ ys) (x ∷ xs) = (plain y x, each_beside most f plain other ys xs)
 
 each_map : {A : Type 0} (most : ℕ) (f : A → Data) → ((x : A) → IsPlain most (f x)) → (xs : List A) → EachPlain most (map f xs)
 unfolding EachPlain
@@ -134,9 +142,36 @@ plain_label files file it =
     plain_object 2 _ (plain_put_some 2 (codes "message") (option_map message_value it.text) (put (codes "physicalLocation") (region_place files file it) no_members)
     (plain_said_within it.text) (plain_put 2 (codes "physicalLocation") (region_place files file it) no_members (plain_region files file it) (record { whole = refl; shallow = omega arith })))
 
-plain_file : (files : List NamedText) (file : ℕ) → IsPlain 3 (file_location files file)
-unfolding file_location reference_value
-plain_file files file = record { whole = refl; shallow = omega arith }
+plain_given : (row : ℕ) (it : GivenPlace) → IsPlain 1 (given_region row it)
+unfolding given_region
+plain_given row it =
+    let first = put (codes "startLine") (whole_number row) no_members in
+    let begun = put_some (codes "startColumn") (option_map whole_number (counted it.column)) first in
+    let ended = put_some (codes "endLine") (option_map whole_number (counted it.end_line)) begun in
+    let plain_first : ArePlain 0 first = record { whole = refl; shallow = omega arith } in
+    plain_object 0 _ (plain_put_some 0 (codes "endColumn") (option_map whole_number (counted it.end_column)) ended (plain_number 0 (counted it.end_column))
+    (plain_put_some 0 (codes "endLine") (option_map whole_number (counted it.end_line)) begun (plain_number 0 (counted it.end_line))
+    (plain_put_some 0 (codes "startColumn") (option_map whole_number (counted it.column)) first (plain_number 0 (counted it.column)) plain_first)))
+
+plain_from : (row : Option ℕ) (it : GivenPlace) → OnePlain 1 (option_map (λ row. given_region row it) row)
+unfolding OnePlain
+plain_from None it = tt
+plain_from (Some row) it = plain_given row it
+
+plain_place : (it : Option GivenPlace) → OnePlain 1 (region_given it)
+unfolding OnePlain
+plain_place None = tt
+plain_place (Some it) = plain_from (counted it.line) it
+
+plain_bare : (files : List NamedText) (file : ℕ) (place : Option GivenPlace) → IsPlain 3 (bare_location files file place)
+unfolding bare_location reference_value
+plain_bare files file place =
+    let named = put (codes "artifactLocation") (reference_value files file) no_members in
+    let placed = put_some (codes "region") (region_given place) named in
+    let plain_named : ArePlain 1 named = record { whole = refl; shallow = omega arith } in
+    let physical : IsPlain 2 (object placed) = plain_object 1 placed (plain_put_some 1 (codes "region") (region_given place) named (plain_place place) plain_named) in
+    plain_object 2 (put (codes "physicalLocation") (object placed) no_members)
+    (plain_put 2 (codes "physicalLocation") (object placed) no_members physical (record { whole = refl; shallow = omega arith }))
 
 plain_said : (rules : List Data) (it : OxcParts) → ArePlain 4 (said_members rules it)
 unfolding said_members message_value
@@ -150,15 +185,16 @@ plain_said rules it =
     (plain_put_some 4 (codes "ruleId") (text_value it.code.number) told (plain_text 4 it.code.number)
     (plain_put 4 (codes "message") (message_value it.message) leveled plain_message plain_level))
 
-plain_result : (files : List NamedText) (rules : List Data) (it : GivenReport) → IsPlain 5 (result_value files rules it)
-unfolding result_value place_members
-plain_result files rules it =
+plain_result : (files : List NamedText) (rules : List Data) (place : Option GivenPlace) (it : GivenReport) → IsPlain 5 (placed_value files rules place it)
+unfolding placed_value place_members
+plain_result files rules place it =
+    let bare = bare_location files it.file place in
     let labels = placed_labels files it in
     let places = map (label_location files it.file) labels in
     let each : EachPlain 3 places = each_map 3 (label_location files it.file) (plain_label files it.file) labels in
-    let head = unwrap_or (slice_get places (head_place labels)) (file_location files it.file) in
+    let head = unwrap_or (slice_get places (head_place labels)) bare in
     let others = some_array (remove places (head_place labels)) in
-    let plain_head : IsPlain 3 head = one_of 3 places (head_place labels) (file_location files it.file) each (plain_file files it.file) in
+    let plain_head : IsPlain 3 head = one_of 3 places (head_place labels) bare each (plain_bare files it.file place) in
     let plain_one : IsPlain 4 (array (item head no_items)) = record { whole = rw plain_head.whole refl; shallow = omega (arith, plain_head.shallow) } in
     let said = said_members rules it.diagnostic in
     let located = put (codes "locations") (array (item head no_items)) said in
@@ -173,25 +209,38 @@ plain_artifact : (it : NamedText) → IsPlain 2 (artifact_value it)
 unfolding artifact_value
 plain_artifact it = record { whole = refl; shallow = omega arith }
 
-plain_run : (tool : List ℕ) (files : List NamedText) (its : List GivenReport) → IsPlain 8 (run_value tool files its)
-unfolding run_value run_of breaks_value tool_value
-plain_run tool files its =
-    let artifacts = plain_array 2 (map artifact_value files) (each_map 2 artifact_value plain_artifact files) in
-    let results = plain_array 5 (map (result_value files (rules_of its)) its) (each_map 5 (result_value files (rules_of its)) (plain_result files (rules_of its)) its) in
+plain_unread : (it : NamedText) → IsPlain 2 (unread_value it)
+unfolding unread_value
+plain_unread it = record { whole = refl; shallow = omega arith }
+
+plain_listed : (unread : Bool) (it : NamedText) → IsPlain 2 (file_value unread it)
+plain_listed true it = plain_unread it
+plain_listed false it = plain_artifact it
+
+plain_run : (tool : List ℕ) (files : List NamedText) (unread : List Bool) (its : List GivenReport) (places : List (Option GivenPlace))
+    → IsPlain 8 (run_with tool files unread its places)
+unfolding run_with run_of breaks_value tool_value
+plain_run tool files unread its places =
+    let value = placed_value files (rules_of its) in
+    let artifacts = plain_array 2 (map_beside file_value false unread files) (each_beside 2 file_value plain_listed false unread files) in
+    let results = plain_array 5 (map_beside value None places its) (each_beside 5 value (plain_result files (rules_of its)) None places its) in
     let rules = plain_array 1 (rules_of its) (all_rules its) in
     record {
       whole = rw (artifacts.whole, results.whole, rules.whole) refl;
       shallow = omega (arith, artifacts.shallow, results.shallow, rules.shallow);
     }
 
-plain_log : (tool : List ℕ) (files : List NamedText) (its : List GivenReport) → IsPlain 10 (log_value tool files its)
+plain_log : (tool : List ℕ) (files : List NamedText) (unread : List Bool) (its : List GivenReport) (places : List (Option GivenPlace))
+    → IsPlain 10 (log_with tool files unread its places)
 unfolding log_of
-plain_log tool files its =
-    let run = plain_run tool files its in
+plain_log tool files unread its places =
+    let run = plain_run tool files unread its places in
     record { whole = rw run.whole refl; shallow = omega (arith, run.shallow) }
 
-pub no_float : (tool : List ℕ) (files : List NamedText) (its : List GivenReport) → has_float (log_value tool files its) ≡ false
-no_float tool files its = (plain_log tool files its).whole
+pub no_float : (tool : List ℕ) (files : List NamedText) (unread : List Bool) (its : List GivenReport) (places : List (Option GivenPlace))
+    → has_float (log_with tool files unread its places) ≡ false
+no_float tool files unread its places = (plain_log tool files unread its places).whole
 
-pub shallow : (tool : List ℕ) (files : List NamedText) (its : List GivenReport) → depth (log_value tool files its) ≤ 127
-shallow tool files its = omega (arith, (plain_log tool files its).shallow)
+pub shallow : (tool : List ℕ) (files : List NamedText) (unread : List Bool) (its : List GivenReport) (places : List (Option GivenPlace))
+    → depth (log_with tool files unread its places) ≤ 127
+shallow tool files unread its places = omega (arith, (plain_log tool files unread its places).shallow)

@@ -1,5 +1,5 @@
 -- The JSON value of files and reports on them as a SARIF log of one run.
-use Rattle.std.specs.Prelude.{ℕ, List, [], ◌∷◌, map, codes, if◌then◌else◌, Option, Some, None, option_map, option_and_then, unwrap_or, suc, slice_get, length, ◌<◌}
+use Rattle.std.specs.Prelude.{ℕ, ◌==◌, Bool, false, List, [], ◌∷◌, map, codes, if◌then◌else◌, Option, Some, None, option_map, option_and_then, unwrap_or, suc, slice_get, length, ◌<◌}
 use Rattle.std.specs.List.{All, remove}
 use Rattle.std.specs.Str.{IsCharBoundary}
 use Rattle.serde_json.specs.Data.{Data, string, array, object, item, no_items, Members, member, no_members, put}
@@ -13,6 +13,7 @@ use Rattle.oxc_span.specs.Label.{Label, label_end}
 use Rattle.oxc_protocol.specs.Parts.{OxcParts}
 use Rattle.oxc_protocol.specs.declared.protocol.Severity.{Severity}
 use Rattle.oxc_protocol.specs.declared.protocol.Severity.TheVariants.{Advice, Warning, Error}
+use Rattle.found_reports.specs.declared.places.GivenPlace.{GivenPlace}
 use Rattle.render_files.specs.Given.{GivenReport}
 use Rattle.render_files.specs.Shown.{placed_labels}
 use Rattle.sarif_writing.specs.Rules.{place_in, rule_of, rules_of}
@@ -67,13 +68,39 @@ abbrev pub some_array : List Data → Option Data
 some_array [] = None
 some_array (first ∷ rest) = Some (array (items_of (first ∷ rest)))
 
--- the label at the head is the location, and a report without labels is about its file; the other labels are related locations
-unfoldable pub place_members : List NamedText → ℕ → List Label → Members → Members
-place_members files file labels members =
+-- the label at the head is the location, and a report without labels has the bare one; the other labels are related locations
+unfoldable pub place_members : List NamedText → ℕ → Data → List Label → Members → Members
+place_members files file bare labels members =
     let places = map (label_location files file) labels in
-    let head = unwrap_or (slice_get places (head_place labels)) (file_location files file) in
+    let head = unwrap_or (slice_get places (head_place labels)) bare in
     put_some (codes "relatedLocations") (some_array (remove places (head_place labels)))
     (put (codes "locations") (array (item head no_items)) members)
+
+-- ---- where tools put reports that have no label
+
+-- 0 says nothing where a row or a column is meant
+abbrev pub counted : Option ℕ → Option ℕ
+counted None = None
+counted (Some n) = if n == 0 then None else Some n
+
+-- from a row on, as far as the tool gave more
+unfoldable pub given_region : ℕ → GivenPlace → Data
+given_region row it =
+    object (put_some (codes "endColumn") (option_map whole_number (counted it.end_column))
+    (put_some (codes "endLine") (option_map whole_number (counted it.end_line))
+    (put_some (codes "startColumn") (option_map whole_number (counted it.column))
+    (put (codes "startLine") (whole_number row) no_members))))
+
+-- a place without a row is no region
+abbrev pub region_given : Option GivenPlace → Option Data
+region_given None = None
+region_given (Some it) = option_map (λ row. given_region row it) (counted it.line)
+
+-- a file, and where in it the tool puts the report
+unfoldable pub bare_location : List NamedText → ℕ → Option GivenPlace → Data
+bare_location files file place =
+    object (member (codes "physicalLocation") (object (put_some (codes "region") (region_given place)
+    (put (codes "artifactLocation") (reference_value files file) no_members))) no_members)
 
 -- ---- results
 
@@ -96,7 +123,12 @@ said_members rules it =
 
 unfoldable pub result_value : List NamedText → List Data → GivenReport → Data
 result_value files rules it =
-    object (place_members files it.file (placed_labels files it) (said_members rules it.diagnostic))
+    object (place_members files it.file (file_location files it.file) (placed_labels files it) (said_members rules it.diagnostic))
+
+-- the same of a report that its tool puts at a place, which counts where it has no label
+unfoldable pub placed_value : List NamedText → List Data → Option GivenPlace → GivenReport → Data
+placed_value files rules place it =
+    object (place_members files it.file (bare_location files it.file place) (placed_labels files it) (said_members rules it.diagnostic))
 
 -- ---- the log
 
@@ -105,6 +137,13 @@ unfoldable pub artifact_value : NamedText → Data
 artifact_value it =
     object (member (codes "contents") (object (member (codes "text") (string it.text) no_members))
     (member (codes "location") (object (member (codes "uri") (string it.name) no_members)) no_members))
+
+-- a file whose text isn't known
+unfoldable pub unread_value : NamedText → Data
+unread_value it = object (member (codes "location") (object (member (codes "uri") (string it.name) no_members)) no_members)
+
+abbrev pub file_value : Bool → NamedText → Data
+file_value unread it = if unread then unread_value it else artifact_value it
 
 -- the breaks of rows: where CRLF stands, CR alone doesn't count
 unfoldable pub breaks_value : Data
@@ -126,6 +165,20 @@ run_value tool files reports =
     run_of (array (items_of (map artifact_value files))) (array (items_of (map (result_value files rules) reports)))
     (tool_value tool (array (items_of rules)))
 
+-- what is made of each of a list and of that which stands beside it in another, or of `other` where that one has ended
+abbrev pub map_beside : {A B C : Type 0} → (B → A → C) → B → List B → List A → List C
+map_beside f other besides [] = []
+map_beside f other [] (it ∷ rest) = f other it ∷ map_beside f other [] rest
+map_beside f other (beside ∷ besides) (it ∷ rest) = f beside it ∷ map_beside f other besides rest
+
+-- the same with the files that weren't read, and with the places of the reports; past the ends of these lists a file was
+-- read, and a report has no place
+unfoldable pub run_with : List ℕ → List NamedText → List Bool → List GivenReport → List (Option GivenPlace) → Data
+run_with tool files unread reports places =
+    let rules = rules_of reports in
+    run_of (array (items_of (map_beside file_value false unread files)))
+    (array (items_of (map_beside (placed_value files rules) None places reports))) (tool_value tool (array (items_of rules)))
+
 -- a log of one run
 unfoldable pub log_of : Data → Data
 log_of run =
@@ -134,6 +187,9 @@ log_of run =
 
 abbrev pub log_value : List ℕ → List NamedText → List GivenReport → Data
 log_value tool files reports = log_of (run_value tool files reports)
+
+abbrev pub log_with : List ℕ → List NamedText → List Bool → List GivenReport → List (Option GivenPlace) → Data
+log_with tool files unread reports places = log_of (run_with tool files unread reports places)
 
 -- ---- what is known of reports that aren't refused
 

@@ -4,10 +4,12 @@
 //!
 //! - `rules`: the rules of reports, each once, and their places
 //! - `places`: where labels stand, in rows and columns
+//! - `given`: where tools put reports that have no label
 //! - `results`: what each report says
 //! - `written`: the log, and its text
 #![tactic(auto)]
 
+mod given;
 mod places;
 mod results;
 mod rules;
@@ -15,4 +17,4 @@ mod rules;
 mod tests;
 mod written;
 
-pub use written::write_log;
+pub use written::{write_log, write_log_with};

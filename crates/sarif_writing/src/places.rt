@@ -8,7 +8,7 @@ ghost use Rattle.serde_json.specs.View.{members_view, view};
 ghost use Rattle.documents.specs.Written.{put_some};
 ghost use Rattle.codespan.specs.Texts.{text_of};
 ghost use Rattle.source_location.specs.Index.{index_of};
-ghost use Rattle.sarif_writing.specs.Written.{Stands, file_location as file_meant};
+ghost use Rattle.sarif_writing.specs.Written.{Stands, bare_location as bare_meant};
 ghost use Rattle.sarif_writing.specs.Written.{head_place as head_meant};
 ghost use Rattle.sarif_writing.specs.Written.{label_location as label_meant};
 ghost use Rattle.sarif_writing.specs.Written.{message_value as message_meant, place_members};
@@ -17,14 +17,17 @@ ghost use Rattle.sarif_writing.specs.Written.{reference_value as reference_meant
 ghost use Rattle.sarif_writing.specs.Written.{region_value as region_meant};
 ghost use Rattle.sarif_writing.specs.Written.{region_place as region_place_meant};
 
+use crate::given::bare_location;
 use codespan::{FileId, Files};
+use found_reports::GivenPlace;
 use oxc_protocol::LabeledSpan;
 use serde_json::{Map, Value, json, put};
 use source_location::{LineIndex, SourceLocation};
 use std::alloc::{AllocError, Global};
 use text_size::TextSize;
 
-/// Where a report stands: the label at its head, or its file, and the other labels behind it.
+/// Where a report stands: the label at its head, or its file and where its tool puts it there, and
+/// the other labels behind it.
 #[tactic(auto, unfolding(crate::specs::Written::place_members))]
 pub(crate) fn put_places(
     alloc: Global,
@@ -33,17 +36,19 @@ pub(crate) fn put_places(
     file: FileId,
     index: &LineIndex,
     labels: &[LabeledSpan],
+    place: Option<GivenPlace>,
 ) -> Result<(), AllocError>
     requires held { file < length files.now }
     requires indexed { index.now ≡ index_of (text_of files.now file) }
     requires stand { All (Stands (text_of files.now file)) labels.now }
     ensures { OnOk result (members_view members.new.entries
-        ≡ place_members files.now file labels.now (members_view members.old.entries)) }
+        ≡ place_members files.now file (bare_meant files.now file place) labels.now
+        (members_view members.old.entries)) }
 {
     let mut places = label_locations(alloc, files, file, index, labels)?;
     let head = match take_at(&mut places, head_place(labels)) {
-        Some(place) => place,
-        None => file_location(alloc, files, file)?,
+        Some(head) => head,
+        None => bare_location(alloc, files, file, place)?,
     };
     put(members, alloc, "locations", one(alloc, head)?)?;
     put_array(alloc, members, "relatedLocations", places)
@@ -196,20 +201,15 @@ fn region_value(
 }
 
 #[tactic(auto, unfolding(crate::specs::Written::reference_value))]
-fn reference_value(alloc: Global, files: &Files<String>, file: FileId) -> Result<Value, AllocError>
+pub(crate) fn reference_value(
+    alloc: Global,
+    files: &Files<String>,
+    file: FileId,
+) -> Result<Value, AllocError>
     requires { file < length files.now }
     ensures { IfOk result (λ value. view value ≡ reference_meant files.now file) }
 {
     json!(in alloc; {"index": file.to_u32(), "uri": files.name(file)})
-}
-
-#[tactic(auto, unfolding(crate::specs::Written::file_location))]
-fn file_location(alloc: Global, files: &Files<String>, file: FileId) -> Result<Value, AllocError>
-    requires { file < length files.now }
-    ensures { IfOk result (λ value. view value ≡ file_meant files.now file) }
-{
-    let reference = reference_value(alloc, files, file)?;
-    json!(in alloc; {"physicalLocation": {"artifactLocation": reference}})
 }
 
 #[tactic(auto, unfolding(crate::specs::Written::message_value))]

@@ -1,5 +1,6 @@
 //! What reports say, as results.
-ghost use Rattle.std.specs.Prelude.{◌≡◌, ◌<◌, All, IfOk, OnOk, codes, map, option_map, length};
+ghost use Rattle.std.specs.Prelude.{◌≡◌, ◌<◌, All, IfOk, None, OnOk, codes, length, map};
+ghost use Rattle.std.specs.Prelude.{option_map, slice_index_or};
 ghost use Rattle.serde_json.specs.View.{members_view, view};
 ghost use Rattle.documents.specs.Written.{put_some, whole_number};
 ghost use Rattle.codespan.specs.Texts.{text_of};
@@ -10,20 +11,22 @@ ghost use Rattle.render_files.specs.Shown.{placed_labels};
 ghost use Rattle.sarif_writing.specs.Rules.{ArePlaces};
 ghost use Rattle.sarif_writing.specs.Written.{Stands, StandsInFile, index_in};
 ghost use Rattle.sarif_writing.specs.Written.{level_text as level_meant};
-ghost use Rattle.sarif_writing.specs.Written.{result_value as result_meant};
+ghost use Rattle.sarif_writing.specs.Written.{map_beside, placed_value};
 ghost use Rattle.sarif_writing.specs.Written.{said_members as said_meant};
 
 use crate::places::{message_value, put_places};
 use crate::rules::{Rules, put_text};
 use codespan::Files;
+use found_reports::GivenPlace;
 use oxc_protocol::{LabeledSpan, OxcDiagnosticInner, Severity};
 use render_files::FileReport;
 use serde_json::{Map, Value, put};
 use source_location::LineIndex;
 use std::alloc::{AllocError, Global};
 
-/// The results of reports on files that are indexed, with their labels.
-#[tactic(auto, using(crate::proofs::StandingLemmas::each_stands))]
+/// The results of reports on files that are indexed, with their labels and the places that their
+/// tool gave them.
+#[tactic(auto, using(crate::proofs::StandingLemmas::each_stands, crate::proofs::BesideLemmas::more_results))]
 pub(crate) fn results_of(
     alloc: Global,
     files: &Files<String>,
@@ -31,25 +34,37 @@ pub(crate) fn results_of(
     rules: &Rules,
     reports: &[FileReport],
     spans: &[Vec<LabeledSpan>],
+    places: &[Option<GivenPlace>],
 ) -> Result<Vec<Value>, AllocError>
     requires indexed { indexes.now ≡ map index_in files.now }
-    requires places { ArePlaces (map view rules.now.values.items) rules.now.places }
+    requires known { ArePlaces (map view rules.now.values.items) rules.now.places }
     requires placed { map (λ labels. labels.items) spans.now
         ≡ map (placed_labels files.now) (map given_report reports.now) }
     requires stand { All (StandsInFile files.now) (map given_report reports.now) }
     ensures { IfOk result (λ values. map view values.items
-        ≡ map (result_meant files.now (map view rules.now.values.items))
-        (map given_report reports.now)) }
+        ≡ map_beside (placed_value files.now (map view rules.now.values.items)) None
+        places.now (map given_report reports.now)) }
 {
     let mut values = Vec::with_capacity(alloc, reports.len())?;
-    for (place, report) in reports.iter().enumerate() {
+    for (at, report) in reports.iter().enumerate() {
         let index = &indexes[report.file.to_u32() as usize];
-        values.push(result_value(alloc, files, index, rules, report, &spans[place])?)?;
+        let place = place_at(places, at);
+        values.push(result_value(alloc, files, index, rules, report, &spans[at], place)?)?;
     }
     Ok(values)
 }
 
-#[tactic(auto, unfolding(crate::specs::Written::result_value))]
+/// The place of the report with a number; none past their end.
+fn place_at(places: &[Option<GivenPlace>], at: usize) -> Option<GivenPlace>
+    ensures { result ≡ slice_index_or places.now at None }
+{
+    match places.get(at) {
+        Some(place) => *place,
+        None => None,
+    }
+}
+
+#[tactic(auto, unfolding(crate::specs::Written::placed_value))]
 fn result_value(
     alloc: Global,
     files: &Files<String>,
@@ -57,6 +72,7 @@ fn result_value(
     rules: &Rules,
     report: &FileReport,
     labels: &[LabeledSpan],
+    place: Option<GivenPlace>,
 ) -> Result<Value, AllocError>
     requires held { report.now.file < length files.now }
     requires indexed { index.now ≡ index_of (text_of files.now report.now.file) }
@@ -64,10 +80,19 @@ fn result_value(
     requires placed { labels.now ≡ placed_labels files.now (given_report report.now) }
     requires stand { All (Stands (text_of files.now report.now.file)) labels.now }
     ensures { IfOk result (λ value. view value
-        ≡ result_meant files.now (map view rules.now.values.items) (given_report report.now)) }
+        ≡ placed_value files.now (map view rules.now.values.items) place
+        (given_report report.now)) }
 {
     let mut members = said_members(alloc, rules, report.diagnostic.inner())?;
-    put_places(alloc, &mut members, files, report.file, index, labels)?;
+    put_places(
+        alloc,
+        &mut members,
+        files,
+        report.file,
+        index,
+        labels,
+        place,
+    )?;
     Ok(Value::Object(members))
 }
 

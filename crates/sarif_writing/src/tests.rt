@@ -1,6 +1,7 @@
 // Logs of documents, as a program in another language writes them.
-use crate::write_log;
+use crate::{write_log, write_log_with};
 use documents::read_document;
+use found_reports::GivenPlace;
 use render_files::ReportError;
 use std::alloc::{AllocError, Global};
 use std::test::Fail;
@@ -73,6 +74,52 @@ const RULES_LOG: &str = "\
 \"tool\":{\"driver\":{\"name\":\"lint\",\"rules\":[{\"id\":\"1\"},{\"helpUri\":\"u\",\
 \"id\":\"\"},{\"helpUri\":\"u\",\"id\":\"1\"}]}}}],\"version\":\"2.1.0\"}";
 
+// A file that wasn't read: reports with a place, one with a label besides, one whose place has no
+// row, one with a row 0, and one past the end of the places.
+const PLACES: &str = "\
+{\"files\":[{\"name\":\"l.c\",\"source\":\"\"},{\"name\":\"a.c\",\"source\":\"ab\"}],\
+\"reports\":[{\"file\":0,\"message\":\"a\"},{\"file\":1,\"message\":\"b\",\
+\"labels\":[{\"start\":[1,2],\"end\":[1,3]}]},{\"file\":0,\"message\":\"c\"},\
+{\"file\":1,\"message\":\"d\"},{\"file\":0,\"message\":\"e\"},{\"file\":0,\"message\":\"f\"}]}";
+
+const PLACES_LOG: &str = "\
+{\"$schema\":\"https://json.schemastore.org/sarif-2.1.0.json\",\
+\"runs\":[{\"artifacts\":[{\"location\":{\"uri\":\"l.c\"}},\
+{\"contents\":{\"text\":\"ab\"},\"location\":{\"uri\":\"a.c\"}}],\
+\"columnKind\":\"unicodeCodePoints\",\
+\"newlineSequences\":[\"\\r\\n\",\"\\n\",\"\\r\"],\"results\":[{\"level\":\"error\",\
+\"locations\":[{\"physicalLocation\":{\"artifactLocation\":{\"index\":0,\
+\"uri\":\"l.c\"},\"region\":{\"endColumn\":9,\"endLine\":4,\"startColumn\":7,\
+\"startLine\":3}}}],\"message\":{\"text\":\"a\"}},{\"level\":\"error\",\
+\"locations\":[{\"physicalLocation\":{\"artifactLocation\":{\"index\":1,\
+\"uri\":\"a.c\"},\"region\":{\"endColumn\":3,\"endLine\":1,\"startColumn\":2,\
+\"startLine\":1}}}],\"message\":{\"text\":\"b\"}},{\"level\":\"error\",\
+\"locations\":[{\"physicalLocation\":{\"artifactLocation\":{\"index\":0,\
+\"uri\":\"l.c\"}}}],\"message\":{\"text\":\"c\"}},{\"level\":\"error\",\
+\"locations\":[{\"physicalLocation\":{\"artifactLocation\":{\"index\":1,\
+\"uri\":\"a.c\"},\"region\":{\"endColumn\":5,\"startLine\":6}}}],\
+\"message\":{\"text\":\"d\"}},{\"level\":\"error\",\
+\"locations\":[{\"physicalLocation\":{\"artifactLocation\":{\"index\":0,\
+\"uri\":\"l.c\"}}}],\"message\":{\"text\":\"e\"}},{\"level\":\"error\",\
+\"locations\":[{\"physicalLocation\":{\"artifactLocation\":{\"index\":0,\
+\"uri\":\"l.c\"}}}],\"message\":{\"text\":\"f\"}}],\
+\"tool\":{\"driver\":{\"name\":\"lint\",\"rules\":[]}}}],\"version\":\"2.1.0\"}";
+
+// A place of these numbers; row 0 and column 0 among them.
+fn place(
+    line: Option<u32>,
+    column: Option<u32>,
+    end_line: Option<u32>,
+    end_column: Option<u32>,
+) -> Option<GivenPlace> {
+    Some(GivenPlace {
+        line,
+        column,
+        end_line,
+        end_column,
+    })
+}
+
 // A document's reports as a log; none where it is no document, or a report is refused.
 fn written(alloc: Global, document: &str) -> Result<Option<String>, AllocError> {
     let Some(document) = read_document(alloc, document.as_bytes())? else {
@@ -91,6 +138,23 @@ fn logs_are_exact(rt: HostRuntime) -> Result<(), Fail> {
         let text = written(rt.alloc(), document)?;
         assert_eq!(rt; text.as_deref(), Some(wanted));
     }
+    Ok(())
+}
+
+#[test]
+fn reports_without_labels_stand_where_their_tool_puts_them(rt: HostRuntime) -> Result<(), Fail> {
+    let alloc = rt.alloc();
+    let document = read_document(alloc, PLACES.as_bytes())?.ok_or("no document")?;
+    let places = [
+        place(Some(3), Some(7), Some(4), Some(9)),
+        place(Some(1), Some(1), None, None),
+        place(None, Some(2), Some(3), Some(4)),
+        place(Some(6), Some(0), None, Some(5)),
+        place(Some(0), Some(1), None, None),
+    ];
+    let (files, reports) = (&document.files, &document.reports);
+    let log = write_log_with(alloc, "lint", files, &[true], reports, &places).ok();
+    assert_eq!(rt; log.as_deref(), Some(PLACES_LOG));
     Ok(())
 }
 

@@ -1,5 +1,6 @@
 //! A log of one run, and its text.
-ghost use Rattle.std.specs.Prelude.{◌≡◌, ◌<◌, IfOk, Some, map, length, string_bytes};
+ghost use Rattle.std.specs.Prelude.{◌≡◌, ◌<◌, IfOk, None, Some, map, length, string_bytes};
+ghost use Rattle.std.specs.Prelude.{false, slice_index_or};
 ghost use Rattle.codespan.specs.Texts.{name_of, text_of};
 ghost use Rattle.serde_json.specs.View.{view};
 ghost use Rattle.serde_json.specs.Read.{read};
@@ -9,13 +10,16 @@ ghost use Rattle.render_files.specs.Given.{given_report};
 ghost use Rattle.render_files.specs.Refusal.{refusal_of};
 ghost use Rattle.sarif_writing.specs.Written.{artifact_value as artifact_meant};
 ghost use Rattle.sarif_writing.specs.Written.{breaks_value as breaks_meant};
-ghost use Rattle.sarif_writing.specs.Written.{index_in, log_of, log_value as log_meant};
-ghost use Rattle.sarif_writing.specs.Written.{run_of as run_from, run_value as run_meant};
+ghost use Rattle.sarif_writing.specs.Written.{file_value as file_meant, index_in, log_of};
+ghost use Rattle.sarif_writing.specs.Written.{log_value as log_meant, log_with, map_beside};
+ghost use Rattle.sarif_writing.specs.Written.{run_of as run_from, run_with};
 ghost use Rattle.sarif_writing.specs.Written.{tool_value as tool_meant};
+ghost use Rattle.sarif_writing.specs.Written.{unread_value as unread_meant};
 
 use crate::results::results_of;
 use crate::rules::rules_of;
 use codespan::{FileId, Files};
+use found_reports::GivenPlace;
 use render_files::{FileReport, ReportError, place_labels};
 use serde_json::{Value, json};
 use source_location::LineIndex;
@@ -31,6 +35,7 @@ use std::alloc::{AllocError, Global};
 ///
 /// The first report that has a fault decides, as [`ReportError`] says. `OutOfMemory` may come
 /// before any other error, and `SinkFault` never comes.
+#[tactic(auto, using(crate::proofs::BesideLemmas::log_alone))]
 pub fn write_log(
     alloc: Global,
     tool: &str,
@@ -43,7 +48,33 @@ pub fn write_log(
         ≡ Some (log_meant tool.now files.now (map given_report reports.now))) }
     ensures cause { IsJudged (refusal_of files.now (map given_report reports.now)) result }
 {
-    let body = run_value(alloc, tool, files, reports)?;
+    write_log_with(alloc, tool, files, &[], reports, &[])
+}
+
+/// The same of files of which some weren't read, and of reports that their tool puts at a place.
+///
+/// A file that is `unread`, by its number, stands in the log without a text. A report without labels
+/// has the rows and columns that stand among `places` at its number, where there is a row; 0 says
+/// nothing. A file past the end of `unread` was read, and a report past that of `places` has none.
+///
+/// # Errors
+///
+/// Those of [`write_log`].
+pub fn write_log_with(
+    alloc: Global,
+    tool: &str,
+    files: &Files<String>,
+    unread: &[bool],
+    reports: &[FileReport],
+    places: &[Option<GivenPlace>],
+) -> Result<String, ReportError>
+    ensures text { IfOk result (λ text. string_bytes text ≡ compact_text
+        (log_with tool.now files.now unread.now (map given_report reports.now) places.now)) }
+    ensures reads_back { IfOk result (λ text. read (string_bytes text) ≡ Some
+        (log_with tool.now files.now unread.now (map given_report reports.now) places.now)) }
+    ensures cause { IsJudged (refusal_of files.now (map given_report reports.now)) result }
+{
+    let body = run_value(alloc, tool, files, unread, reports, places)?;
     let written = log_value(alloc, body)?;
     let text = written.to_string(alloc)?;
     Ok(text)
@@ -64,17 +95,19 @@ fn run_value(
     alloc: Global,
     tool: &str,
     files: &Files<String>,
+    unread: &[bool],
     reports: &[FileReport],
+    places: &[Option<GivenPlace>],
 ) -> Result<Value, ReportError>
     ensures value { IfOk result (λ value. view value
-        ≡ run_meant tool.now files.now (map given_report reports.now)) }
+        ≡ run_with tool.now files.now unread.now (map given_report reports.now) places.now) }
     ensures cause { IsJudged (refusal_of files.now (map given_report reports.now)) result }
 {
     let spans = place_labels(alloc, files, reports)?;
     let indexes = indexes_of(alloc, files)?;
     let rules = rules_of(alloc, reports)?;
-    let results = results_of(alloc, files, &indexes, &rules, reports, &spans)?;
-    let artifacts = artifacts_of(alloc, files)?;
+    let results = results_of(alloc, files, &indexes, &rules, reports, &spans, places)?;
+    let artifacts = artifacts_of(alloc, files, unread)?;
     let driver = tool_value(alloc, tool, Value::Array(rules.values))?;
     let body = run_of(
         alloc,
@@ -129,18 +162,62 @@ fn indexes_of(alloc: Global, files: &Files<String>) -> Result<Vec<LineIndex>, Al
     Ok(indexes)
 }
 
-/// Each file with its text.
-fn artifacts_of(alloc: Global, files: &Files<String>) -> Result<Vec<Value>, AllocError>
-    ensures { IfOk result (λ values. map view values.items ≡ map artifact_meant files.now) }
+/// Each file, with its text where it was read.
+#[tactic(auto, using(crate::proofs::BesideLemmas::more_files))]
+fn artifacts_of(
+    alloc: Global,
+    files: &Files<String>,
+    unread: &[bool],
+) -> Result<Vec<Value>, AllocError>
+    ensures { IfOk result (λ values. map view values.items
+        ≡ map_beside file_meant false unread.now files.now) }
 {
     let mut values = Vec::with_capacity(alloc, files.len())?;
     for index in 0..files.len() {
         let Some(file) = FileId::from_index(index as u32) else {
             unreachable!();
         };
-        values.push(artifact_value(alloc, files, file)?)?;
+        let is_unread = is_unread(unread, index);
+        values.push(file_value(alloc, files, file, is_unread)?)?;
     }
     Ok(values)
+}
+
+/// Whether the file with a number is unread; past their end none is.
+fn is_unread(unread: &[bool], index: usize) -> bool
+    ensures { result ≡ slice_index_or unread.now index false }
+{
+    match unread.get(index) {
+        Some(is) => *is,
+        None => false,
+    }
+}
+
+fn file_value(
+    alloc: Global,
+    files: &Files<String>,
+    file: FileId,
+    is_unread: bool,
+) -> Result<Value, AllocError>
+    requires { file < length files.now }
+    ensures { IfOk result (λ value. view value ≡ file_meant is_unread
+        (record { name = name_of files.now file; text = text_of files.now file })) }
+{
+    if is_unread {
+        unread_value(alloc, files, file)
+    } else {
+        artifact_value(alloc, files, file)
+    }
+}
+
+#[tactic(auto, unfolding(crate::specs::Written::unread_value))]
+fn unread_value(alloc: Global, files: &Files<String>, file: FileId) -> Result<Value, AllocError>
+    requires { file < length files.now }
+    ensures { IfOk result (λ value. view value
+        ≡ unread_meant
+        (record { name = name_of files.now file; text = text_of files.now file })) }
+{
+    json!(in alloc; {"location": {"uri": files.name(file)}})
 }
 
 #[tactic(auto, unfolding(crate::specs::Written::artifact_value))]

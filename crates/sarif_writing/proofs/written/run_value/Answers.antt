@@ -11,5 +11,6 @@ results_of-requires-clause-stand c = all_stand c.args.files.now (map given_repor
 
 pub returns-clause-value : goal.returns-clause-value
 returns-clause-value c =
-    run_is c.args.tool.now c.args.files.now (map given_report c.args.reports.now) c.in_ok-artifacts.artifacts c.in_ok-results.results c.in_ok-rules.rules.values
+    run_is c.args.tool.now c.args.files.now c.args.unread.now (map given_report c.args.reports.now) c.args.places.now
+    c.in_ok-artifacts.artifacts c.in_ok-results.results c.in_ok-rules.rules.values
     (view c.in_ok-driver.driver) (view c.in_ok-body.body) c.in_ok-body.ensures c.in_ok-artifacts.ensures c.in_ok-results.ensures c.in_ok-driver.ensures c.in_ok-rules.ensures.rules
