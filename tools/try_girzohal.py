@@ -11,6 +11,7 @@ import shutil
 import subprocess
 import sys
 import tempfile
+import threading
 import xml.etree.ElementTree as xml
 
 TOP = os.path.dirname(os.path.dirname(os.path.abspath(__file__)))
@@ -231,6 +232,35 @@ class Tries:
         full = subprocess.run([self.program], input=LINE, stdout=open("/dev/full", "wb"), stderr=subprocess.PIPE, cwd=self.room, env=PLAIN)
         self.check("a full output is 5", full.returncode == 5)
 
+    def try_slowly(self):
+        """Of a slow writer each finding is drawn once the finding behind it came, and the whole is as of one text."""
+        lines = [b"make all\n"] + [b"a.c:2:5: error: number %d\n" % n for n in range(8)] + [b"make: stop\n"]
+        ran = subprocess.Popen([self.program], stdin=subprocess.PIPE, stdout=subprocess.PIPE, cwd=self.room, env=PLAIN)
+        shown, grew = bytearray(), threading.Condition()
+
+        def take():
+            for part in iter(lambda: os.read(ran.stdout.fileno(), 65536), b""):
+                with grew:
+                    shown.extend(part)
+                    grew.notify()
+
+        reader = threading.Thread(target=take)
+        reader.start()
+        missing = None
+        for at, line in enumerate(lines):
+            ran.stdin.write(line)
+            ran.stdin.flush()
+            with grew:
+                # (the last line is no finding, and a line behind it might mark it)
+                if 1 < at < len(lines) - 1 and not grew.wait_for(lambda: b"number %d" % (at - 2) in shown, 120):
+                    missing = at - 2
+                    break
+        ran.stdin.close()
+        reader.join(120)
+        self.check(f"a slow writer: finding {missing} isn't drawn once the one behind it came", missing is None)
+        self.check("a slow writer's lines are drawn as one text", bytes(shown) == self.run(given=b"".join(lines)).stdout and ran.wait(120) == 1)
+        ran.stdout.close()
+
     # ---- formats
 
     def places(self, form, text):
@@ -282,11 +312,29 @@ class Tries:
         self.check("a log: its tool", run["tool"]["driver"]["name"] == "girzohal", said)
         named = json.loads(self.run("--to", "sarif", "--tool", "clang").stdout)
         self.check("a log: the tool that is named", named["runs"][0]["tool"]["driver"]["name"] == "clang")
-        lost = json.loads(self.run("--to", "sarif", given=b"lost.c:7:3: error: here\n").stdout)["runs"][0]
-        place = lost["results"][0]["locations"][0]["physicalLocation"]["artifactLocation"]["uri"]
-        self.check("a log: a finding without a source keeps its file", place == "lost.c")
         self.ends("a log that is read again: its place, with its tool as scope", 1, "--to", "problems", given=said.stdout,
                   out=b"a.c:2:5:2:9: error[girzohal(x)]: no such name")
+
+    def try_lost(self):
+        """A finding whose source isn't there, or has no such row, keeps its place in a log, and is read again there."""
+        places = [
+            ("lost.c:7:3:", {"startLine": 7, "startColumn": 3}, "line=7,col=3"),
+            ("lost.c:1:9:", {"startLine": 1, "startColumn": 9}, "line=1,col=9"),
+            ("lost.c:8:", {"startLine": 8}, "line=8"),
+            ("lost.c:7:3:8:5:", {"startLine": 7, "startColumn": 3, "endLine": 8, "endColumn": 5}, "line=7,endLine=8"),
+            ("a.c:99:4:", {"startLine": 99, "startColumn": 4}, "line=99,col=4"),
+        ]
+        for place, region, told in places:
+            name, line = place.split(":")[0], f"{place} error: here\n".encode()
+            said = self.run("--to", "sarif", given=line)
+            run = json.loads(said.stdout)["runs"][0]
+            where = run["results"][0]["locations"][0]["physicalLocation"]
+            self.check(f"a log: the place as it was given: {place}", where["artifactLocation"]["uri"] == name and where.get("region") == region, said)
+            self.check(f"a log: a text where it was read, and only there: {place}", ("contents" in run["artifacts"][0]) == (name == "a.c"), said)
+            for form, text in (("lines", line), ("sarif", said.stdout)):
+                back = self.run("--from", form, "--to", "github", given=text)
+                found = re.findall(rb"(?m)^::error (.*?)(?:,title=.*)?::here$", back.stdout)
+                self.check(f"its place again, of {form}: {place}", found == [f"file={name},{told}".encode()], back)
 
     def try_all(self):
         with tempfile.TemporaryDirectory() as self.room:
@@ -295,7 +343,7 @@ class Tries:
                 with open(f"{self.room}/{name}", "wb") as file:
                     file.write(text)
             for each in (self.try_words, self.try_looks, self.try_asking, self.try_inputs, self.try_sources, self.try_terminals,
-                         self.try_pipes, self.try_formats):
+                         self.try_pipes, self.try_slowly, self.try_formats, self.try_lost):
                 try:
                     each()
                 except (OSError, ValueError, subprocess.SubprocessError) as why:

@@ -1,5 +1,5 @@
 -- What was shown of the whole input.
-use Rattle.std.proofs.Common.{◌≡◌, ◌≤◌, List, ℕ, length, refl}
+use Rattle.std.proofs.Common.{◌≡◌, ◌≤◌, ◌⊎◌, inl, inr, List, ℕ, length, refl}
 use Rattle.std.specs.Io.KnownBytes.{Consumes, IsAtEnd}
 use Rattle.girzohal_asked.specs.declared.Asked.{Asked}
 use Rattle.girzohal.specs.Told.{Told}
@@ -7,20 +7,21 @@ use Rattle.girzohal.specs.Run.{Device, IsUntouched, Means, Sends, Shows, Texts, 
 use Rattle.girzohal.specs.declared.status.Status.{Status}
 use Rattle.girzohal.specs.declared.status.Status.TheVariants.{Clean, Reached, Usage, NoForm, ReadFault, SinkFault, OutOfMemory, InputTooLong, TooManyFiles}
 
-whole_of : {P : List ℕ → Type 0} (input : Device) (bytes : List ℕ) → Consumes input.before input.now bytes → IsAtEnd input.now → length bytes ≤ limit → P bytes → TookWhole input P
-whole_of input bytes taken ended within is = record { bytes = bytes; taken = taken; ended = ended; within = within; is = is }
+whole_of : {P : List ℕ → Type 0} (asked : Asked) (input : Device) (bytes : List ℕ) → Consumes input.before input.now bytes → IsAtEnd input.now → length bytes ≤ limit → P bytes
+    → TookWhole asked input P
+whole_of asked input bytes taken ended within is = record { bytes = bytes; taken = taken; ended = ended; within = λ some. within; is = is }
 
 pub shown_means : (result : Status) (asked : Asked) (told : Told) (input out err : Device) (bytes : List ℕ) → Consumes input.before input.now bytes → IsAtEnd input.now
     → length bytes ≤ limit → Shows result asked bytes told out err → Means result asked input told out err
-shown_means Clean asked told input out err bytes taken ended within shows = whole_of input bytes taken ended within shows
-shown_means Reached asked told input out err bytes taken ended within shows = whole_of input bytes taken ended within shows
+shown_means Clean asked told input out err bytes taken ended within shows = whole_of asked input bytes taken ended within shows
+shown_means Reached asked told input out err bytes taken ended within shows = whole_of asked input bytes taken ended within shows
 shown_means Usage asked told input out err bytes taken ended within shows = absurd shows
-shown_means NoForm asked told input out err bytes taken ended within shows = (whole_of input bytes taken ended within shows.0, shows.1)
+shown_means NoForm asked told input out err bytes taken ended within shows = (whole_of asked input bytes taken ended within shows.0, shows.1)
 shown_means ReadFault asked told input out err bytes taken ended within shows = absurd shows
-shown_means SinkFault asked told input out err bytes taken ended within shows = whole_of input bytes taken ended within shows
-shown_means OutOfMemory asked told input out err bytes taken ended within shows = shows
+shown_means SinkFault asked told input out err bytes taken ended within shows = inl (whole_of asked input bytes taken ended within shows)
+shown_means OutOfMemory asked told input out err bytes taken ended within shows = (inl shows.0, shows.1)
 shown_means InputTooLong asked told input out err bytes taken ended within shows = absurd shows
-shown_means TooManyFiles asked told input out err bytes taken ended within shows = shows
+shown_means TooManyFiles asked told input out err bytes taken ended within shows = (inl shows.0, shows.1)
 
 -- what was sent of what is made
 pub sent_shows : (result : Status) (asked : Asked) (told : Told) (texts : Texts) (out err : Device) (bytes : List ℕ) → IsMadeOf told asked texts bytes

@@ -5,5 +5,6 @@ pub mod Lines
 pub mod Logs
 pub mod Reads
 pub mod Made
-pub mod Walk
 pub mod Run
+pub mod Opens
+pub mod Live

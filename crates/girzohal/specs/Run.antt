@@ -1,10 +1,17 @@
 -- What the end of a run means.
-use Rattle.std.specs.Prelude.{◌≡◌, ◌≢◌, ◌⊎◌, ℕ, ◌<◌, ◌≤◌, List, length, Bool, true, false, Option, codes, string_bytes}
+use Rattle.std.specs.Prelude.{◌≡◌, ◌≢◌, ◌⊎◌, ℕ, ◌<◌, ◌≤◌, ◌&&◌, ◌++◌, List, [], length, Bool, true, false, Option, Some, None, codes, string_bytes}
 use Rattle.std.specs.Io.KnownBytes.{Appends, Keeps, Consumes, IsAtEnd}
 use Rattle.oxc_protocol.specs.Faults.{Rose}
 use Rattle.oxc_protocol.specs.Sink.{AppendsPrefix}
 use Rattle.girzohal_asked.specs.declared.Asked.{Asked}
+use Rattle.girzohal_asked.specs.declared.InputForm.{InputForm}
+use Rattle.girzohal_asked.specs.declared.InputForm.TheVariants as form
+use Rattle.input_forms.specs.Begun.{begins_as}
+use Rattle.input_forms.specs.declared.begun.Begun.{Begun}
+use Rattle.input_forms.specs.declared.begun.Begun.TheVariants.{Object, OtherJson, Lines}
+use Rattle.drawn_lines.specs.Coming.{IsBegun}
 use Rattle.girzohal.specs.Told.{Told}
+use Rattle.girzohal.specs.Lines.{is_drawing}
 use Rattle.girzohal.specs.Made.{IsMade, IsOfNoForm}
 use Rattle.girzohal.specs.declared.making.Made.{Made}
 use Rattle.girzohal.specs.declared.status.Status.{Status}
@@ -23,6 +30,10 @@ pub record Device : Type 0 where
 abbrev pub device : {D : Type 0} → (D → Option (List ℕ)) → (D → ℕ) → D → D → Device
 device told faults old new = record { before = told old; now = told new; faults_before = faults old; faults_now = faults new }
 
+-- the same, of what it told and counted at another time
+abbrev pub device_from : {D : Type 0} → (D → Option (List ℕ)) → (D → ℕ) → Option (List ℕ) → ℕ → D → Device
+device_from told faults before count new = record { before = before; now = told new; faults_before = count; faults_now = faults new }
+
 abbrev pub HasRisen : Device → Type 0
 HasRisen it = Rose it.faults_before it.faults_now
 
@@ -34,13 +45,58 @@ IsKept it = Keeps it.before it.now
 abbrev pub IsTold : Device → List ℕ → Type 0
 IsTold it bytes = Appends it.before it.now bytes ⊎ (AppendsPrefix it.before it.now bytes × HasRisen it)
 
--- the whole input was taken, to its end and within the limit, and these bytes are P
-pub record TookWhole (input : Device) (P : List ℕ → Type 0) : Type 0 where
+-- an input begins as lines
+abbrev pub begins_lines : Begun → Bool
+begins_lines Object = false
+begins_lines OtherJson = false
+begins_lines Lines = true
+
+abbrev pub reads_lines : InputForm → List ℕ → Bool
+reads_lines form.Auto bytes = begins_lines (begins_as bytes)
+reads_lines form.Document bytes = false
+reads_lines form.Sarif bytes = false
+reads_lines form.Lines bytes = true
+
+-- the input is lines that are drawn, and so they are as they come
+abbrev pub comes : Asked → List ℕ → Bool
+comes asked bytes = is_drawing asked.to && reads_lines asked.from bytes
+
+-- what an input holds isn't lines that are drawn as they come; of one that doesn't tell what it holds, whatever it may be
+abbrev pub NeverComes : Asked → Option (List ℕ) → Type 0
+NeverComes asked None = (bytes : List ℕ) → comes asked bytes ≡ false
+NeverComes asked (Some bytes) = comes asked bytes ≡ false
+
+-- the whole input was taken, to its end and within the limit, which lines have none that are drawn as they come; and these bytes are P
+pub record TookWhole (asked : Asked) (input : Device) (P : List ℕ → Type 0) : Type 0 where
   pub bytes : List ℕ
   pub taken : Consumes input.before input.now bytes
   pub ended : IsAtEnd input.now
-  pub within : length bytes ≤ limit
+  pub within : comes asked bytes ≡ false → length bytes ≤ limit
   pub is : P bytes
+
+-- the first bytes are lines that are drawn as they come, and of them this was drawn, whatever comes behind them; and all of it was written
+pub record Drew (told : Told) (asked : Asked) (input out : Device) : Type 0 where
+  pub bytes : List ℕ
+  pub behind : List ℕ
+  pub taken : Consumes input.before input.now (bytes ++ behind)
+  pub lines : (more : List ℕ) → comes asked (bytes ++ more) ≡ true
+  pub text : List ℕ
+  pub drawn : IsBegun told asked bytes text
+  pub written : Appends out.before out.now text
+
+-- the same, but the output failed, and received a first part of it
+pub record DrewPart (told : Told) (asked : Asked) (input out : Device) : Type 0 where
+  pub bytes : List ℕ
+  pub taken : Consumes input.before input.now bytes
+  pub lines : (more : List ℕ) → comes asked (bytes ++ more) ≡ true
+  pub text : List ℕ
+  pub drawn : IsBegun told asked bytes text
+  pub written : AppendsPrefix out.before out.now text
+  pub fault : HasRisen out
+
+-- the output is as it was; or lines were drawn as they came, as far as they did
+abbrev pub Stopped : Told → Asked → Device → Device → Type 0
+Stopped told asked input out = IsKept out ⊎ Drew told asked input out
 
 -- more bytes than the limit were taken
 pub record TookTooMuch (input : Device) : Type 0 where
@@ -90,23 +146,23 @@ pub record Refuses (asked : Asked) (bytes : List ℕ) (err : Device) : Type 0 wh
 -- what a status says of the input, of what a store tells, and of what was written
 abbrev pub Means : Status → Asked → Device → Told → Device → Device → Type 0
 -- all was written that is made of the whole input, and no report is at or above the level
-Means Clean asked input told out err = TookWhole input (λ bytes. Sent told asked false bytes out err)
+Means Clean asked input told out err = TookWhole asked input (λ bytes. Sent told asked false bytes out err)
 -- all was written, and a report is at or above the level
-Means Reached asked input told out err = TookWhole input (λ bytes. Sent told asked true bytes out err)
+Means Reached asked input told out err = TookWhole asked input (λ bytes. Sent told asked true bytes out err)
 -- no run ends so
 Means Usage asked input told out err = ⊥
 -- the whole input isn't of its form, and a line of this says why
-Means NoForm asked input told out err = TookWhole input (λ bytes. Refuses asked bytes err) × IsKept out
+Means NoForm asked input told out err = TookWhole asked input (λ bytes. Refuses asked bytes err) × IsKept out
 -- the input failed
-Means ReadFault asked input told out err = HasRisen input × IsKept out × IsTold err (codes "girzohal: input failed\n")
--- the output failed, and received a first part of what is made
-Means SinkFault asked input told out err = TookWhole input (λ bytes. SentPart told asked bytes out err)
+Means ReadFault asked input told out err = HasRisen input × Stopped told asked input out × IsTold err (codes "girzohal: input failed\n")
+-- the output failed, and received a first part of what is made, or of what was drawn of the lines that came
+Means SinkFault asked input told out err = TookWhole asked input (λ bytes. SentPart told asked bytes out err) ⊎ (DrewPart told asked input out × IsTold err [])
 -- want of memory is free
-Means OutOfMemory asked input told out err = IsKept out × IsTold err (codes "girzohal: out of memory\n")
--- the input is longer than a run reads
-Means InputTooLong asked input told out err = TookTooMuch input × IsKept out × IsTold err (codes "girzohal: input too long\n")
+Means OutOfMemory asked input told out err = Stopped told asked input out × IsTold err (codes "girzohal: out of memory\n")
+-- the input is longer than a run reads, or a piece of lines is that are drawn as they come
+Means InputTooLong asked input told out err = TookTooMuch input × Stopped told asked input out × IsTold err (codes "girzohal: input too long\n")
 -- the input names more files than can be numbered
-Means TooManyFiles asked input told out err = IsKept out × IsTold err (codes "girzohal: too many files\n")
+Means TooManyFiles asked input told out err = Stopped told asked input out × IsTold err (codes "girzohal: too many files\n")
 
 -- with every status but those of what is written the output is as it was
 abbrev pub IsUntouched : {O : Type 0} → Status → O → O → Type 0

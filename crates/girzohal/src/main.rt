@@ -10,7 +10,8 @@
 //! - `program`: the run itself: an input is read, and what is made of it is written
 //! - `making`: what is made of an input, in its form
 //! - `object`, `logs`: of a JSON object, which is a document or a log
-//! - `lines`, `walk`: of lines that a tool prints for people
+//! - `lines`: of lines that a tool prints for people
+//! - `opening`, `live`: of an input whose lines are drawn as they come
 //! - `texts`: what is written of reports
 //! - `fault`: why nothing is made
 //! - `status`: how a run ended
@@ -19,14 +20,17 @@
 mod fault;
 mod help;
 mod lines;
+mod live;
 mod logs;
 mod making;
 mod object;
+mod opening;
 mod program;
 mod status;
 mod surroundings;
+#[cfg(test)]
+mod tests;
 mod texts;
-mod walk;
 mod words;
 
 use documents::{ReaderSource, Source, StderrSink, StdinSource, StdoutSink};

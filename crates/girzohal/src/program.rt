@@ -1,23 +1,23 @@
 // The whole program, over any source, store and sinks.
-ghost use Rattle.std.specs.Prelude.{◌≡◌};
-ghost use Rattle.girzohal.specs.Run.{IsTold, IsUntouched, Means, Sends, Shows, device};
-ghost use Rattle.girzohal.specs.Run.{texts_of};
+ghost use Rattle.std.specs.Prelude.{◌≡◌, ◌≤◌, ◌++◌, ℕ, List, Option, IfOk, length};
+ghost use Rattle.std.specs.Io.KnownBytes.{Consumes};
+ghost use Rattle.girzohal.specs.Run.{IsTold, IsUntouched, Means, Sends, Shows, device, limit};
+ghost use Rattle.girzohal.specs.Run.{NeverComes, device_from, texts_of};
 
 use crate::fault::Fault;
+use crate::live::run_lines;
 use crate::making::{Made, make};
+use crate::opening::{LIMIT, Opening, open};
 use crate::status::Status;
 use documents::{Reading, Source, read_all};
 use girzohal_asked::Asked;
 use oxc_protocol::{Failed, Sink, write_all};
 use source_store::Store;
-use std::alloc::Global;
-
-/// The most bytes that a run reads, 64 MiB.
-const LIMIT: usize = 67_108_864;
+use std::alloc::{AllocError, Global};
 
 /// Reads an input to its end and writes what was asked for of the reports that it means, with the
 /// sources that a store has, to `out`; what is none of them goes to `err`, and a line that says why
-/// nothing is written.
+/// nothing is written. Lines that are drawn are drawn as they come.
 pub fn run<I: Source, S: Store, O: Sink, E: Sink>(
     alloc: Global,
     asked: &Asked,
@@ -33,16 +33,59 @@ pub fn run<I: Source, S: Store, O: Sink, E: Sink>(
         (S.told store.now) (device O.received O.faults out.old out.new)
         (device E.received E.faults err.old err.new) }
 
-    // With every status but `Clean`, `Reached` and `SinkFault` the output is as it was, whether it
-    // tells what it received or not.
+    // Of an input that isn't lines that are drawn as they come: with every status but `Clean`,
+    // `Reached` and `SinkFault` the output is as it was, whether it tells what it received or not.
+    ensures untouched { NeverComes asked.now (I.left input.old)
+        → IsUntouched result out.old out.new }
+{
+    match open(alloc, asked, input) {
+        Opening::Lines(bytes) => run_lines(alloc, asked, &bytes, input, store, out, err),
+        Opening::Whole(bytes) => run_whole(alloc, asked, bytes, input, store, out, err),
+        Opening::TooLong => fail(err, "girzohal: input too long\n", Status::InputTooLong),
+        Opening::Fault => fail(err, "girzohal: input failed\n", Status::ReadFault),
+        Opening::OutOfMemory => fail(err, "girzohal: out of memory\n", Status::OutOfMemory),
+    }
+}
+
+/// The same of an input that is read whole, of which these bytes came already.
+fn run_whole<I: Source, S: Store, O: Sink, E: Sink>(
+    alloc: Global,
+    asked: &Asked,
+    bytes: Vec<u8>,
+    input: &mut I,
+    store: &S,
+    out: &mut O,
+    err: &mut E,
+) -> Status
+    requires { length bytes.items ≤ limit }
+    ensures means { (before : Option (List ℕ)) (faults : ℕ)
+        → Consumes before (I.left input.old) bytes.items → faults ≤ I.faults input.old
+        → Means result asked.now (device_from I.left I.faults before faults input.new)
+        (S.told store.now) (device O.received O.faults out.old out.new)
+        (device E.received E.faults err.old err.new) }
     ensures untouched { IsUntouched result out.old out.new }
 {
-    match read_all(alloc, input, LIMIT) {
-        Reading::Whole(bytes) => show(alloc, asked, &bytes, store, out, err),
+    match read_all(alloc, input, LIMIT - bytes.len()) {
+        Reading::Whole(rest) => match joined(bytes, rest) {
+            Ok(bytes) => show(alloc, asked, &bytes, store, out, err),
+            Err(_) => fail(err, "girzohal: out of memory\n", Status::OutOfMemory),
+        },
         Reading::TooLong => fail(err, "girzohal: input too long\n", Status::InputTooLong),
         Reading::Fault => fail(err, "girzohal: input failed\n", Status::ReadFault),
         Reading::OutOfMemory => fail(err, "girzohal: out of memory\n", Status::OutOfMemory),
     }
+}
+
+/// Bytes, and others behind them.
+fn joined(bytes: Vec<u8>, rest: Vec<u8>) -> Result<Vec<u8>, AllocError>
+    ensures { IfOk result (λ all. all.items ≡ bytes.items ++ rest.items) }
+{
+    if bytes.is_empty() {
+        return Ok(rest);
+    }
+    let mut all = bytes;
+    all.extend_from_slice(&rest)?;
+    Ok(all)
 }
 
 /// Writes what was asked for of the reports that bytes mean.
@@ -84,7 +127,7 @@ fn send<O: Sink, E: Sink>(made: &Made, out: &mut O, err: &mut E) -> Status
 }
 
 /// Says why nothing is written, and gives the status that stands for it.
-fn fail<E: Sink>(err: &mut E, line: &str, status: Status) -> Status
+pub(crate) fn fail<E: Sink>(err: &mut E, line: &str, status: Status) -> Status
     ensures told { IsTold (device E.received E.faults err.old err.new) line.now }
     ensures status { result ≡ status }
 {
@@ -93,7 +136,7 @@ fn fail<E: Sink>(err: &mut E, line: &str, status: Status) -> Status
 }
 
 /// Writes bytes to a sink. One that fails receives a first part of them, and nothing else changes.
-fn tell<E: Sink>(err: &mut E, bytes: &[u8])
+pub(crate) fn tell<E: Sink>(err: &mut E, bytes: &[u8])
     ensures { IsTold (device E.received E.faults err.old err.new) bytes.now }
 {
     let _told = write_all(err, bytes);

@@ -1,10 +1,8 @@
--- What was shown is what the whole input is.
-use Rattle.girzohal.proofs.RunLemmas.{shown_means}
-use Rattle.girzohal.specs.Run.{device}
+-- An input that never comes doesn't begin as lines that do.
+use Rattle.girzohal.proofs.LiveLemmas.{comes_never}
 use Rattle.girzohal.proofs.program.run.Goals as goal
 
-pub returns-in-Whole-clause-means : goal.returns-in-Whole-clause-means
-returns-in-Whole-clause-means g c =
-    let shows = rw c.deref.ensures.value at c.show.ensures.shows in
-    shown_means c.show.result c.args.asked.now (g.S.Store.told c.args.store.now) (device g.I.Source.left g.I.Source.faults c.args.input.now c.read_all.new.input) _ _ c.in-Whole.bytes.items
-    c.in-Whole.ensures.says.1 c.in-Whole.ensures.says.2 c.in-Whole.ensures.says.0 shows
+pub returns-in-Lines-clause-untouched : goal.returns-in-Lines-clause-untouched
+returns-in-Lines-clause-untouched g c = λ never.
+    comes_never c.args.asked.now (g.I.Source.left c.args.input.now) (g.I.Source.left c.open.new.input) c.in-Lines.bytes.items c.in-Lines.ensures.opens.0
+    c.in-Lines.ensures.opens.2 never

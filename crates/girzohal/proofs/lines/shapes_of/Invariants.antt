@@ -1,8 +1,0 @@
--- The shapes of the tool before are there, and the others come next.
-use Rattle.std.proofs.Common.{◌≡◌, ◌++◌, drop, map}
-use Rattle.line_shapes.specs.Shape.{shape_parts}
-use Rattle.girzohal.proofs.lines.shapes_of.Given as goal
-
-abbrev pub invariant-loop-shape : goal.invariant-loop-shape
-invariant-loop-shape l =
-    map shape_parts l.shapes.items ++ map shape_parts (drop l.shape-index l.shape-items) ≡ map shape_parts l.initial.shapes.items ++ map shape_parts l.shape-items

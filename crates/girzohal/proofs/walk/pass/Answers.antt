@@ -1,8 +1,0 @@
-use Rattle.std.proofs.Common.{string_bytes}
-use Rattle.girzohal.proofs.WalkLemmas.{pass_is}
-use Rattle.girzohal.proofs.walk.pass.Goals as goal
-
-pub returns : goal.returns
-returns c = λ asked given rest.
-    pass_is asked given c.args.walk.most (string_bytes c.args.walk.text) c.args.walk.before.items c.push.new.self.items c.args.piece.now
-    c.args.walk.from.now c.args.walk.left.now c.behind.result.now rest c.requires c.in_ok-push.ensures.items c.behind.ensures
