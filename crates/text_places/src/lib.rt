@@ -12,6 +12,7 @@ mod page_text;
 mod pieces;
 mod place;
 mod places;
+mod plain;
 mod seek;
 #[cfg(test)]
 mod tests;

@@ -1,15 +1,16 @@
 // The text of a page, with what answers for its rows and units at once.
-ghost use Rattle.std.specs.Prelude.{◌≡◌, ◌+◌, ◌*◌, ◌^◌, ◌<◌, ◌≤◌, length, IfOk, IfSome};
+ghost use Rattle.std.specs.Prelude.{◌≡◌, ◌+◌, ◌*◌, ◌^◌, ◌<◌, ◌≤◌, length, true, IfOk, IfSome};
 ghost use Rattle.std.specs.Prelude.{slice_range, string_bytes};
 ghost use Rattle.source_location.specs.Breaks.{breaks_of};
 ghost use Rattle.source_location.specs.Rows.{row_of};
 ghost use Rattle.text_places.specs.Bytes.{begun, before};
 ghost use Rattle.text_places.specs.Ends.{AreEnds, IsRowEnd};
 ghost use Rattle.text_places.specs.Pages.{IsLastUpTo};
+ghost use Rattle.text_places.specs.Plain.{IsPlain};
 
 use crate::Encoding;
 use crate::page::{PAGE, Reached, count_rows, count_units, ends_row, place_by_byte, row_end};
-use memchr::memchr2;
+use memchr::{memchr, memchr2};
 use std::alloc::{AllocError, Global};
 use std::marker::Model;
 
@@ -21,6 +22,8 @@ const SHORT: usize = 8;
 pub(crate) struct PageText {
     text: String,
     is_ascii: bool,
+    /// Whether it is ASCII without a CR.
+    is_plain: bool,
     /// The places behind the row ends, where there are few.
     ends: Option<Vec<u16>>,
 }
@@ -31,13 +34,15 @@ impl Model for PageText {
     ghost use Rattle.std.specs.Prelude.{String};
     ghost use Rattle.std.specs.declared.alloc.Global.{Global};
     ghost use Rattle.text_places.specs.Ends.{AreEnds};
+    ghost use Rattle.text_places.specs.Plain.{IsPlain};
 
     ghost Value = { String Global };
 
     ghost view = { λ s. s.text };
 
     ghost invariant = { λ s. (s.is_ascii ≡ true → IsAscii (string_bytes s.text))
-        × IfSome s.ends (λ ends. AreEnds (string_bytes s.text) ends.items) };
+        × IfSome s.ends (λ ends. AreEnds (string_bytes s.text) ends.items)
+        × (s.is_plain ≡ true → IsPlain (string_bytes s.text)) };
 }
 
 impl PageText {
@@ -49,6 +54,7 @@ impl PageText {
         Ok(PageText {
             text: String::from_str(alloc, text)?,
             is_ascii: text.is_ascii(),
+            is_plain: is_plain(text.as_bytes()),
             ends,
         })
     }
@@ -80,6 +86,17 @@ impl PageText {
         match &self.ends {
             Some(ends) => ends[row - 1] as usize,
             None => row_end(self.text.as_bytes(), row),
+        }
+    }
+
+    /// The places behind the row ends, where they are listed and the text is ASCII without a CR.
+    pub(crate) fn plain_ends(&self) -> Option<&[u16]>
+        ensures plain { IfSome result (λ _. IsPlain (string_bytes self.now)) }
+        ensures ends { IfSome result (λ ends. AreEnds (string_bytes self.now) ends.now) }
+    {
+        match &self.ends {
+            Some(ends) if self.is_plain => Some(ends.as_slice()),
+            _ => None,
         }
     }
 
@@ -118,6 +135,16 @@ impl PageText {
         } else {
             place_by_byte(encoding, &self.text.as_bytes()[..to], from, most)
         }
+    }
+}
+
+/// Whether a text is ASCII without a CR.
+fn is_plain(bytes: &[u8]) -> bool
+    ensures { result ≡ true → IsPlain bytes.now }
+{
+    match memchr(b'\r', bytes) {
+        Some(_) => false,
+        None => bytes.is_ascii(),
     }
 }
 

@@ -12,11 +12,12 @@ ghost use Rattle.text_places.specs.Pages.{most_bytes, least_bytes};
 use crate::alone::{
     Replacement, client_place_alone, line_alone, nearest_alone, offset_alone, replace_alone,
 };
-use crate::answers::{nearest_in, place_in};
+use crate::answers::{nearest_at_once, nearest_in, nearest_near, place_in};
 use crate::build::{nothing, pages_of, recount_from};
 use crate::mend::{replace, text_in};
 use crate::page::{Counts, Page};
 use crate::pieces::Pieces;
+use crate::plain::{offset_in_plain, plain_line, plain_line_near, share_of_rows};
 use crate::{Encoding, Place};
 use oxc_windows::Steps;
 use std::alloc::{AllocError, Global};
@@ -29,6 +30,8 @@ use text_size::{TextRange, TextSize};
 pub struct TextPlaces {
     pages: Vec<Page>,
     end: Counts,
+    /// How many pages come to a row, in parts of 2^32: where a page is looked for first.
+    share: u64,
 }
 
 impl Model for TextPlaces {
@@ -43,6 +46,16 @@ impl Model for TextPlaces {
     ghost invariant = { λ s. IsPaged s.pages.items s.end };
 }
 
+/// An offset that may be missing as a size.
+fn as_size(offset: Option<u32>) -> Option<TextSize>
+    ensures { result ≡ offset }
+{
+    match offset {
+        Some(offset) => Some(TextSize::new(offset)),
+        None => None,
+    }
+}
+
 impl TextPlaces {
     /// The places of a text that fits (`source_location::fits` tests it).
     ///
@@ -55,7 +68,8 @@ impl TextPlaces {
     {
         let mut pages = pages_of(alloc, text)?;
         let end = recount_from(&mut pages, 0, nothing());
-        Ok(TextPlaces { pages, end })
+        let share = share_of_rows(pages.as_slice());
+        Ok(TextPlaces { pages, end, share })
     }
 
     /// The place of a boundary of the text. Of an offset that is none, or past the text, the place
@@ -71,15 +85,21 @@ impl TextPlaces {
     pub fn offset_of(&self, encoding: Encoding, place: Place) -> Option<TextSize>
         ensures { IsOffsetOf encoding self.now place result }
     {
-        match offset_alone::<Brand>(
-            self.pages.as_slice(),
-            self.end,
-            encoding,
-            place,
-            Blank::new(1),
-        ) {
-            Some(offset) => Some(TextSize::new(offset)),
-            None => None,
+        match plain_line(self.pages.as_slice(), self.share, place.line) {
+            Some(line) => as_size(offset_in_plain(line, place)),
+            None => self.offset_looked_for(encoding, place),
+        }
+    }
+
+    /// The same, where its line isn't found at once.
+    #[inline(never)]
+    fn offset_looked_for(&self, encoding: Encoding, place: Place) -> Option<TextSize>
+        ensures { IsOffsetOf encoding self.now place result }
+    {
+        let pages = self.pages.as_slice();
+        match plain_line_near(pages, self.share, place.line) {
+            Some(line) => as_size(offset_in_plain(line, place)),
+            None => as_size(offset_alone::<Brand>(pages, self.end, encoding, place, Blank::new(1))),
         }
     }
 
@@ -89,8 +109,29 @@ impl TextPlaces {
         ensures nearest { IsNearest encoding self.now place result }
         ensures boundary { IsCharBoundary self.now result }
     {
+        match nearest_at_once(self.pages.as_slice(), self.share, encoding, place) {
+            Some(offset) => TextSize::new(offset),
+            None => self.nearest_looked_for(encoding, place),
+        }
+    }
+
+    /// The same, where its line isn't found at once.
+    #[inline(never)]
+    fn nearest_looked_for(&self, encoding: Encoding, place: Place) -> TextSize
+        ensures nearest { IsNearest encoding self.now place result }
+        ensures boundary { IsCharBoundary self.now result }
+    {
         let pages = self.pages.as_slice();
-        TextSize::new(nearest_alone::<Brand>(pages, self.end, encoding, place, Blank::new(1)))
+        match nearest_near(pages, self.share, encoding, place) {
+            Some(offset) => TextSize::new(offset),
+            None => TextSize::new(nearest_alone::<Brand>(
+                pages,
+                self.end,
+                encoding,
+                place,
+                Blank::new(1),
+            )),
+        }
     }
 
     /// The same, where the bytes that are looked at are counted: at most those of three pages.
@@ -104,7 +145,11 @@ impl TextPlaces {
         ensures boundary { IsCharBoundary self.now result }
         ensures ticks { steps.new ≤ steps.old + 3 * most_bytes }
     {
-        TextSize::new(nearest_in(self.pages.as_slice(), self.end, encoding, place, steps))
+        let pages = self.pages.as_slice();
+        match nearest_near(pages, self.share, encoding, place) {
+            Some(offset) => TextSize::new(offset),
+            None => TextSize::new(nearest_in(pages, self.end, encoding, place, steps)),
+        }
     }
 
     /// The place at which a client sees a boundary: that of the CR for the LF of a CRLF.
@@ -232,6 +277,7 @@ impl TextPlaces {
     {
         let (start, end) = (range.start().to_u32(), range.end().to_u32());
         self.end = replace(alloc, &mut self.pages, start, end, insert, steps)?;
+        self.share = share_of_rows(self.pages.as_slice());
         Ok(())
     }
 

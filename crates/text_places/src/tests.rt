@@ -255,6 +255,36 @@ fn long_texts_change_as_plain_ones(rt: HostRuntime) -> Result<(), Fail> {
     Ok(())
 }
 
+// Lines of ASCII that lie in a page, and those that go on in the next one.
+#[test]
+fn lines_of_ascii_are_found(rt: HostRuntime) -> Result<(), Fail> {
+    let text = "sixteen letters!\n".repeat(rt.alloc(), 200)?;
+    let places = index(rt.alloc(), text.as_str())?;
+    for line in 0..200u32 {
+        let start = 17 * line;
+        assert!(rt;
+            has_nearest(
+                &places,
+                Encoding::Utf16,
+                (line, 7),
+                start + 7,
+                Some(start + 7)
+            )
+        );
+        assert!(rt;
+            has_nearest(
+                &places,
+                Encoding::Utf8,
+                (line, 16),
+                start + 16,
+                Some(start + 16)
+            )
+        );
+        assert!(rt; has_nearest(&places, Encoding::Utf32, (line, 17), start + 16, None));
+    }
+    Ok(())
+}
+
 #[test]
 fn pieces_make_the_text(rt: HostRuntime) -> Result<(), Fail> {
     let alloc = rt.alloc();
