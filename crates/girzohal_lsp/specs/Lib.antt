@@ -1,1 +1,4 @@
 pub mod Matching
+pub mod Logs
+pub mod Found
+pub mod Served

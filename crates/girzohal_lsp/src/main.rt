@@ -5,25 +5,28 @@
 //! [--first-column 0|1] LOG`. LOG is read when a file is opened, and anew when one is saved.
 //!
 //! - `words`: what the words ask for
-//! - `matching`: which findings are of an open file
-//! - `log`: the findings that a log has for a file
+//! - `log`: a log, read
+//! - `matching`: which names mean an open file
+//! - `found`: the findings that a log has for it
 //! - `serve`: messages in, answers out
 #![tactic(auto)]
 
+mod found;
 mod log;
 mod matching;
 mod serve;
 mod words;
 
-pub use log::{LogFile, found_in, read_bytes};
-pub use matching::{is_named, path_of};
-pub use serve::serve;
+pub use found::found_in;
+pub use log::{LogFile, read_bytes};
+pub use matching::{is_named, means_file};
+pub use serve::{refresh, serve};
 use std::env;
 use std::process::ExitCode;
 pub use words::{Asked, Form, read_words};
 
-const USAGE: &str =
-    "usage: girzohal_lsp [--from auto|lines|sarif] [--tool NAME] [--columns bytes|characters|utf16|cells] [--first-column 0|1] LOG\n";
+const USAGE: &str = "usage: girzohal_lsp [--from auto|lines|sarif] [--tool NAME] \
+    [--columns bytes|characters|utf16|cells] [--first-column 0|1] LOG\n";
 
 fn main(rt: HostRuntime) -> ExitCode {
     let alloc = rt.alloc();

@@ -1,34 +1,36 @@
-// Which findings are of an open file.
-ghost use Rattle.std.specs.Prelude.{◌≡◌, ◌≤◌, length};
-ghost use Rattle.girzohal_lsp.specs.Matching.{is_meant, plain_name, stands_apart};
+// Which names mean an open file.
+ghost use Rattle.std.specs.Prelude.{◌≡◌, ◌≤◌, IfOk, length};
+ghost use Rattle.girzohal_lsp.specs.Matching.{is_named as is_named_by, means_file as file_meant};
+ghost use Rattle.girzohal_lsp.specs.Matching.{plain_name, stands_apart};
 
-use percent_encoding::percent_decode;
+use source_store::{Spelling, path_in};
 use std::alloc::{AllocError, Global};
 
-/// The path in a URI of the scheme `file`, with its escapes read, or the text as it is without that
-/// scheme. What isn't UTF-8 behind the escapes is replaced by U+FFFD.
+/// Whether a name in a log means the file of this path: the path that the name says is the file's,
+/// or is what the file's ends in behind a slash.
 ///
 /// # Errors
 ///
 /// Want of memory.
-pub fn path_of(alloc: Global, uri: &str) -> Result<String, AllocError> {
-    let Some(rest) = uri.strip_prefix("file://") else {
-        return String::from_str(alloc, uri);
-    };
-    let path = match rest.find("/") {
-        Some(start) => &rest[start..],
-        None => rest,
-    };
-    let mut bytes = Vec::new(alloc);
-    percent_decode(path.as_bytes()).append_to(&mut bytes)?;
-    let text = String::from_utf8_lossy(alloc, &bytes)?;
-    Ok(text)
+#[tactic(auto, unfolding(crate::specs::Matching::means_file))]
+pub fn means_file(
+    alloc: Global,
+    spelling: Spelling,
+    path: &str,
+    name: &str,
+) -> Result<bool, AllocError>
+    ensures { IfOk result (λ means. means ≡ file_meant spelling path.now name.now) }
+{
+    match path_in(alloc, spelling, name)? {
+        Some(name) => Ok(is_named(path.as_bytes(), name.as_bytes())),
+        None => Ok(false),
+    }
 }
 
 /// Whether a file of this path is meant by a name: the path is the name, or ends in it behind a
 /// slash. A `./` before the name says nothing.
 pub fn is_named(path: &[u8], name: &[u8]) -> bool
-    ensures { result ≡ is_meant path.now (plain_name name.now) }
+    ensures { result ≡ is_named_by path.now name.now }
 {
     let name = plain(name);
     !name.is_empty()

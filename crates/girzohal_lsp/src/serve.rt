@@ -1,9 +1,16 @@
 // Messages in, answers out.
-use crate::log::{LogFile, found_in, read_bytes};
+ghost use Rattle.std.specs.Prelude.{◌≡◌, ◌++◌, [], IfOk, OnErr, OnOk};
+ghost use Rattle.std.specs.List.{flat_map};
+ghost use Rattle.lsp_server.specs.Documents.{IsKept, document_of};
+ghost use Rattle.lsp_server.specs.Session.{answered, answered_by};
+ghost use Rattle.girzohal_lsp.specs.Served.{AnswersBody, IsRefreshed};
+
+use crate::found::found_in;
+use crate::log::{LogFile, read_bytes};
 use crate::words::Asked;
 use lsp_frames::{End, Frames, write_frame};
 use lsp_server::{Answer, Message, Notice, Server, answer_text, message_in};
-use std::alloc::{Alloc, Global};
+use std::alloc::{Alloc, AllocError, Global};
 use std::fs;
 use std::io::{self, ErrorKind, Read, Write};
 use std::rt::Files;
@@ -74,6 +81,54 @@ fn take_all<F: Files + Alloc, W: Write>(
     Ok(true)
 }
 
+/// Takes one message; false where the session is over.
+fn handle<F: Files + Alloc, W: Write>(
+    rt: &F,
+    session: &mut Session<'_>,
+    body: &[u8],
+    out: &mut W,
+) -> io::Result<bool> {
+    let answers = answers_to(rt, session, body)?;
+    for answer in answers {
+        send(session.alloc, answer, out)?;
+    }
+    Ok(!session.server.is_ended())
+}
+
+/// Takes the message that a body holds, looks up the findings that it asks for, and gives what is
+/// answered and told.
+fn answers_to<F: Files + Alloc>(
+    rt: &F,
+    session: &mut Session<'_>,
+    body: &[u8],
+) -> io::Result<Vec<Answer>>
+    ensures { IfOk result (λ answers.
+        AnswersBody session.old.server body.now session.new.server answers.items) }
+{
+    let alloc = session.alloc;
+    let message = message_in(alloc, body)?;
+    let wanted = wanted_by(alloc, &message)?;
+    let mut answers = Vec::new(alloc);
+    let answer = session.server.take(alloc, message)?;
+    add_told(&mut answers, answer)?;
+    look_up(rt, session, wanted, &mut answers)?;
+    Ok(answers)
+}
+
+/// Appends what is told, if there is any.
+fn add_told(answers: &mut Vec<Answer>, told: Option<Answer>) -> Result<(), AllocError>
+    ensures { OnOk result (flat_map answered_by answers.new.items
+        ≡ flat_map answered_by answers.old.items ++ answered told) }
+{
+    match told {
+        None => Ok(()),
+        Some(told) => {
+            answers.push(told)?;
+            Ok(())
+        }
+    }
+}
+
 /// Which documents findings are looked up for.
 #[derive(Drop)]
 enum Wanted {
@@ -82,36 +137,8 @@ enum Wanted {
     All,
 }
 
-/// Takes one message; false where the session is over.
-fn handle<F: Files + Alloc, W: Write>(
-    rt: &F,
-    session: &mut Session<'_>,
-    body: &[u8],
-    out: &mut W,
-) -> io::Result<bool> {
-    let alloc = session.alloc;
-    let message = message_in(alloc, body)?;
-    let wanted = wanted_by(alloc, &message)?;
-    if let Some(answer) = session.server.take(alloc, message)? {
-        send(alloc, answer, out)?;
-    }
-    match wanted {
-        Wanted::None => {}
-        Wanted::Of(uri) => {
-            let mut uris = Vec::new(alloc);
-            uris.push(uri)?;
-            show_all(rt, session, uris, out)?;
-        }
-        Wanted::All => {
-            let uris = session.server.uris(alloc)?;
-            show_all(rt, session, uris, out)?;
-        }
-    }
-    Ok(!session.server.is_ended())
-}
-
 /// The document that is opened, or all where one is saved.
-fn wanted_by(alloc: Global, message: &Message) -> io::Result<Wanted> {
+fn wanted_by(alloc: Global, message: &Message) -> Result<Wanted, AllocError> {
     match message {
         Message::Notification(Notice::Opened(uri, _, _)) => {
             let uri = String::from_str(alloc, uri.as_str())?;
@@ -122,44 +149,116 @@ fn wanted_by(alloc: Global, message: &Message) -> io::Result<Wanted> {
     }
 }
 
-/// Reads the log, and shows what it has for each of these documents.
-fn show_all<F: Files + Alloc, W: Write>(
+/// Looks up the findings in the documents that are wanted, and adds what is told of them.
+fn look_up<F: Files + Alloc>(
     rt: &F,
     session: &mut Session<'_>,
-    uris: Vec<String>,
-    out: &mut W,
-) -> io::Result<()> {
-    let alloc = session.alloc;
-    let log = log_file(rt, alloc, session.asked)?;
-    if let LogFile::Fault(why) = &log {
-        let path = session.asked.log;
-        let why = why.as_str();
-        let text = format!(in alloc; "{path}: {why}")?;
-        send(alloc, Answer::Logged(text), out)?;
+    wanted: Wanted,
+    answers: &mut Vec<Answer>,
+) -> io::Result<()>
+    ensures none { OnOk result (flat_map answered_by answers.new.items
+        ≡ flat_map answered_by answers.old.items) }
+    ensures phase { OnOk result (session.new.server.phase ≡ session.old.server.phase) }
+{
+    match wanted {
+        Wanted::None => Ok(()),
+        Wanted::Of(uri) => {
+            let mut uris = Vec::new(session.alloc);
+            uris.push(uri)?;
+            show_all(rt, session, &uris, answers)
+        }
+        Wanted::All => {
+            let uris = session.server.uris(session.alloc)?;
+            show_all(rt, session, &uris, answers)
+        }
     }
+}
+
+/// Reads the log, shows what it has for each of these documents, and adds what is told of them.
+fn show_all<F: Files + Alloc>(
+    rt: &F,
+    session: &mut Session<'_>,
+    uris: &[String],
+    answers: &mut Vec<Answer>,
+) -> io::Result<()>
+    ensures none { OnOk result (flat_map answered_by answers.new.items
+        ≡ flat_map answered_by answers.old.items) }
+    ensures phase { OnOk result (session.new.server.phase ≡ session.old.server.phase) }
+{
+    let alloc = session.alloc;
+    let asked = session.asked;
+    let log = log_file(rt, alloc, asked)?;
+    let fault = told_of_fault(alloc, asked, &log)?;
+    add_told(answers, fault)?;
+    refresh_all(alloc, asked, &log, &mut session.server, uris, answers)?;
+    Ok(())
+}
+
+/// What is told of a log that is none.
+fn told_of_fault(
+    alloc: Global,
+    asked: Asked<'_>,
+    log: &LogFile,
+) -> Result<Option<Answer>, AllocError>
+    ensures { IfOk result (λ told. answered told ≡ []) }
+{
+    let LogFile::Fault(why) = log else {
+        return Ok(None);
+    };
+    let path = asked.log;
+    let why = why.as_str();
+    let text = format!(in alloc; "{path}: {why}")?;
+    Ok(Some(Answer::Logged(text)))
+}
+
+/// Shows in each of these documents what a log has for it, and adds what is told of them.
+fn refresh_all(
+    alloc: Global,
+    asked: Asked<'_>,
+    log: &LogFile,
+    server: &mut Server,
+    uris: &[String],
+    answers: &mut Vec<Answer>,
+) -> Result<(), AllocError>
+    ensures none { OnOk result (flat_map answered_by answers.new.items
+        ≡ flat_map answered_by answers.old.items) }
+    ensures phase { OnOk result (server.new.phase ≡ server.old.phase) }
+{
     for uri in uris {
-        show_one(session, &log, uri, out)?;
+        let told = refresh(alloc, asked, log, server, uri.as_str())?;
+        add_told(answers, told)?;
     }
     Ok(())
 }
 
-/// Shows what the log has for a document.
-fn show_one<W: Write>(
-    session: &mut Session<'_>,
+/// Shows in an open document what a log has for it, in place of what it shows, and gives what is
+/// told of it; nothing where it isn't open.
+///
+/// # Errors
+///
+/// Want of memory: all is as it was.
+pub fn refresh(
+    alloc: Global,
+    asked: Asked<'_>,
     log: &LogFile,
-    uri: String,
-    out: &mut W,
-) -> io::Result<()> {
-    let alloc = session.alloc;
-    let Some(document) = session.server.document(uri.as_str()) else {
-        return Ok(());
+    server: &mut Server,
+    uri: &str,
+) -> Result<Option<Answer>, AllocError>
+    ensures shown { IfOk result (IsRefreshed asked.entry log.now server.old.agreed uri.now
+        (document_of server.old uri.now)
+        (document_of server.old) (document_of server.new)) }
+    ensures none { IfOk result (λ told. answered told ≡ []) }
+    ensures phase { server.new.phase ≡ server.old.phase }
+    ensures agreed { server.new.agreed ≡ server.old.agreed }
+    ensures err { OnErr result (IsKept server.old server.new) }
+{
+    let Some(document) = server.document(uri) else {
+        return Ok(None);
     };
     let text = document.client().to_text(alloc)?;
-    let found = found_in(alloc, session.asked, log, uri.as_str(), text.as_str())?;
-    if let Some(answer) = session.server.show(alloc, uri.as_str(), found)? {
-        send(alloc, answer, out)?;
-    }
-    Ok(())
+    let found = found_in(alloc, asked, log, uri, text.as_str())?;
+    let told = server.show(alloc, uri, found)?;
+    Ok(told)
 }
 
 /// Reads the log's file; a fault of it is told, and ends nothing.
@@ -167,7 +266,7 @@ fn log_file<F: Files + Alloc>(rt: &F, alloc: Global, asked: Asked<'_>) -> io::Re
     match fs::read(rt, asked.log) {
         Ok(bytes) => {
             let bytes = Vec::from_slice(alloc, bytes.as_slice())?;
-            let log = read_bytes(alloc, asked, bytes)?;
+            let log = read_bytes(alloc, asked.from, bytes)?;
             Ok(log)
         }
         Err(_) => {

@@ -1,5 +1,5 @@
 -- A map of documents, seen by its URIs.
-use Rattle.std.proofs.Common.{◌≡◌, ◌≢◌, ℕ, Bool, true, false, cond, bytes_eq, List, Option, String, Global, refl, sym, ◌∙◌, ap}
+use Rattle.std.proofs.Common.{◌≡◌, ◌≢◌, ℕ, Bool, true, false, cond, bytes_eq, List, Option, refl, ◌∙◌, ap}
 use Rattle.std.proofs.lemmas.Slice.Eq.{bytes_eq-Decides}
 use Rattle.lsp_server.specs.Views.{OpenView}
 use Rattle.lsp_server.specs.Told.{Documents, OnlyAt}

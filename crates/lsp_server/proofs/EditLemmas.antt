@@ -1,5 +1,5 @@
 -- Changes of an open document.
-use Rattle.std.proofs.Common.{◌≡◌, ℕ, ℤ, ◌+◌, ◌-◌, ◌^◌, ◌<◌, ◌≤◌, List, [], ◌∷◌, ◌++◌, append-nil, length, take, drop, get_or, length-append, string_bytes, Option, Some, None, refl, sym, ◌∙◌, ap, ap₂, subst, arith, inl, inr, ⊎_elim, IfSome}
+use Rattle.std.proofs.Common.{◌≡◌, ℕ, ◌+◌, ◌-◌, ◌<◌, List, [], ◌∷◌, ◌++◌, append-nil, length, take, drop, get_or, length-append, string_bytes, Option, Some, None, refl, sym, ◌∙◌, ap, ap₂, subst, arith, inl, inr, ⊎_elim, IfSome}
 use Rattle.std.proofs.lemmas.Bool.{cases_lt}
 use Rattle.std.proofs.lemmas.List.{drop_all, drop_more}
 use Rattle.std.proofs.lemmas.Str.{IsUtf8-string_bytes, IsCharBoundary-end, IsCharBoundary-start}
@@ -7,22 +7,22 @@ use Rattle.std.specs.List.{All, filter_map, replace_range}
 use Rattle.std.specs.Str.{IsUtf8, IsCharBoundary}
 use Rattle.source_location.specs.Breaks.{breaks_of}
 use Rattle.source_location.specs.Index.{Fits}
-use Rattle.text_places.specs.Places.{AreNearest, IsNearest}
+use Rattle.text_places.specs.Places.{IsNearest}
 use Rattle.text_places.specs.declared.encoding.Encoding.{Encoding}
 use Rattle.text_places.specs.declared.place.Place.{Place}
-use Rattle.client_text.specs.Changes.{AllChange, Changes, IsChanged, IsFault, IsFirstFault, IsReplaced}
-use Rattle.client_text.specs.Document.{Document, IsEdited}
+use Rattle.client_text.specs.Changes.{AllChange, Changes, IsChanged, IsFault, IsFirstFault}
+use Rattle.client_text.specs.Document.{Document}
 use Rattle.client_text.specs.declared.change.Change.{Change}
 use Rattle.client_text.specs.declared.change.Fault.{Fault}
 use Rattle.client_text.proofs.ChangeLemmas.{AreMade, made_more}
 use Rattle.oxc_protocol.specs.Parts.{OxcParts}
-use Rattle.lsp_marks.specs.Moved.{CutsNone, changed}
+use Rattle.lsp_marks.specs.Moved.{changed}
 use Rattle.lsp_marks.specs.declared.Change.{Change as Moving}
 use Rattle.lsp_marks.proofs.Texts.{changed_text}
 use Rattle.lsp_diagnostics.specs.Seen.{StandIn}
 use Rattle.lsp_server.specs.Moved.{moved_diagnostic}
 use Rattle.lsp_server.specs.Views.{IsSpareOf, OpenView, open_view}
-use Rattle.lsp_server.specs.Edits.{Holds, IsWhere, MovesAll, MovesOne, moving, with_version}
+use Rattle.lsp_server.specs.Edits.{Holds, IsWhere, MovesAll, MovesOne, moving}
 use Rattle.lsp_server.proofs.MovedLemmas.{IsFitting, found_stand}
 
 -- ---- where a change lies

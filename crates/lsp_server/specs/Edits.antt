@@ -1,5 +1,5 @@
 -- What changes make of an open document.
-use Rattle.std.specs.Prelude.{◌≡◌, ℕ, ℤ, ◌≤◌, List, [], ◌∷◌, length, string_bytes, Option, Some, None, All, ⊤}
+use Rattle.std.specs.Prelude.{◌≡◌, ℕ, ℤ, List, [], ◌∷◌, length, string_bytes, Option, Some, None, All, ⊤}
 use Rattle.std.specs.List.{filter_map}
 use Rattle.std.specs.Str.{IsUtf8}
 use Rattle.text_places.specs.Places.{AreNearest}

@@ -1,5 +1,5 @@
 -- Findings that move with the text.
-use Rattle.std.specs.Prelude.{ℕ, ◌+◌, ◌-◌, ◌^◌, ◌<◌, ◌≤◌, Bool, false, List, [], ◌∷◌, Option, Some, None, option_map, is_none, All, if◌then◌else◌}
+use Rattle.std.specs.Prelude.{◌-◌, ◌^◌, ◌<◌, ◌≤◌, Bool, false, List, [], ◌∷◌, Option, Some, None, option_map, is_none, All, if◌then◌else◌}
 use Rattle.std.specs.List.{filter_map}
 use Rattle.oxc_span.specs.Label.{Label, label_end}
 use Rattle.oxc_protocol.specs.Parts.{OxcParts}

@@ -1,5 +1,5 @@
 -- How a session goes: its phases, what requests are answered, and what both sides agree on.
-use Rattle.std.specs.Prelude.{◌≡◌, ℕ, Bool, true, false, List, [], ◌∷◌, Option, Some, None}
+use Rattle.std.specs.Prelude.{Bool, true, false, List, [], ◌∷◌, Option, Some, None}
 use Rattle.lsp_server.specs.declared.message.Id.{Id}
 use Rattle.lsp_server.specs.declared.message.Agreed.{Agreed}
 use Rattle.lsp_server.specs.declared.message.Method.{Method}

@@ -9,7 +9,6 @@ use Rattle.oxc_protocol.specs.Parts.{OxcParts}
 use Rattle.lsp_diagnostics.specs.Seen.{Seen, StandIn}
 use Rattle.lsp_diagnostics.specs.Diagnostics.{published_value}
 use Rattle.lsp_server.specs.Edits.{MovesAll, opened, with_version}
-use Rattle.lsp_server.specs.Session.{is_running}
 use Rattle.lsp_server.specs.Views.{OpenView}
 use Rattle.lsp_server.specs.declared.message.Agreed.{Agreed}
 use Rattle.lsp_server.specs.declared.message.Answer.{Answer}
@@ -21,9 +20,6 @@ use Rattle.lsp_server.specs.declared.message.Refused.TheVariants as why
 use Rattle.lsp_server.specs.declared.message.Notice.{Notice}
 use Rattle.lsp_server.specs.declared.message.Notice.TheVariants.{Exit, Opened, Changed, Saved, Closed, Malformed}
 use Rattle.lsp_server.specs.declared.message.Notice.TheVariants as notice
-use Rattle.lsp_server.specs.declared.message.Message.{Message}
-use Rattle.lsp_server.specs.declared.message.Message.TheVariants.{Request, Notification, NoJson}
-use Rattle.lsp_server.specs.declared.server.Phase.{Phase}
 
 -- the documents by their URIs
 abbrev pub Documents : Type 0

@@ -1,4 +1,4 @@
-use Rattle.std.proofs.Common.{◌+◌, drop, ◌∙◌, subst, sym}
+use Rattle.std.proofs.Common.{◌+◌, drop, ◌∙◌, subst}
 use Rattle.client_text.specs.Changes.{Changes}
 use Rattle.client_text.proofs.ChangeLemmas.{made_at, made_more}
 use Rattle.text_places.specs.declared.encoding.Encoding.{Encoding}

@@ -1,9 +1,9 @@
-use Rattle.std.proofs.Common.{◌≡◌, ◌+◌, drop, length, arith, length-drop, subst}
+use Rattle.std.proofs.Common.{◌+◌, drop, subst}
 use Rattle.client_text.specs.Changes.{IsFault}
 use Rattle.client_text.proofs.ChangeLemmas.{made_faulty}
 use Rattle.text_places.specs.declared.encoding.Encoding.{Encoding}
 use Rattle.lsp_server.specs.Views.{open_view}
-use Rattle.lsp_server.proofs.EditLemmas.{moved_all_made, moved_more, next_change}
+use Rattle.lsp_server.proofs.EditLemmas.{moved_more, next_change}
 use Rattle.lsp_server.proofs.documents.edited.Goals as goal
 
 pub returns-in-Some-clause-edit : goal.returns-in-Some-clause-edit

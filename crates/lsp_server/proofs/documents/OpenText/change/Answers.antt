@@ -1,8 +1,6 @@
 -- The findings stand in the text after the changes, and the document that was is the spare one, once they are made in it too.
-use Rattle.std.proofs.Common.{ap, ◌∙◌, sym, subst, Option, IfSome}
+use Rattle.std.proofs.Common.{ap, ◌∙◌, sym, subst, IfSome}
 use Rattle.client_text.specs.Document.{Document}
-use Rattle.client_text.specs.Changes.{AllChange}
-use Rattle.text_places.specs.declared.encoding.Encoding.{Encoding}
 use Rattle.lsp_server.specs.Edits.{Holds}
 use Rattle.lsp_server.specs.Views.{IsSpareOf}
 use Rattle.lsp_server.proofs.EditLemmas.{spare_of}

@@ -1,0 +1,242 @@
+// The findings that a log has for an open file.
+ghost use Rattle.std.specs.Prelude.{◌≡◌, ◌++◌, ◌<◌, All, IfOk, OnOk, length, map};
+ghost use Rattle.std.specs.List.{filter_map};
+ghost use Rattle.std.specs.Option.{option_to_list};
+ghost use Rattle.found_reports.specs.Kept.{file_view, report_view};
+ghost use Rattle.line_shapes.specs.Shape.{shape_parts};
+ghost use Rattle.lsp_diagnostics.specs.Seen.{StandIn};
+ghost use Rattle.sarif_log.specs.Log.{log_view};
+ghost use Rattle.source_store.specs.Named.{path_in as path_meant};
+ghost use Rattle.source_store.specs.declared.named.Spelling.TheVariants.{Uri};
+ghost use Rattle.girzohal_lsp.specs.Found.{AreFitted, AreShown, IsFitted, IsPicked, ShowsAt, ShowsLines};
+ghost use Rattle.girzohal_lsp.specs.Found.{ShowsLog, columns_of as columns_meant};
+ghost use Rattle.girzohal_lsp.specs.Found.{log_columns as columns_of_log, pick, tool_name as name_of};
+
+use crate::log::LogFile;
+use crate::matching::{is_named, means_file};
+use crate::words::Asked;
+use found_reports::{FoundFile, FoundReport, FoundReports, Lack, stand_in};
+use line_shapes::tables::Unit;
+use line_shapes::tools::{Columns, columns_of_tool, tool_shapes};
+use oxc_protocol::{Diagnostic, OxcDiagnostic};
+use sarif::{ColumnKind, Log};
+use source_store::{Fetched, Spelling, Store, gather, path_in};
+use std::alloc::{AllocError, Global};
+use tool_lines::lines::{lines_of, pieces_of};
+use tool_lines::paint::without_paint;
+
+/// The findings of a log in a file with this URI and text. Their labels stand in the text; one whose
+/// labels don't has none.
+///
+/// # Errors
+///
+/// Want of memory.
+pub fn found_in(
+    alloc: Global,
+    asked: Asked<'_>,
+    log: &LogFile,
+    uri: &str,
+    text: &str,
+) -> Result<Vec<OxcDiagnostic>, AllocError>
+    ensures shown { IfOk result (λ shown.
+        ShowsAt asked.entry log.now (path_meant Uri uri.now) text.now shown.items) }
+    ensures stand { IfOk result (λ shown. All (StandIn text.now) shown.items) }
+{
+    let Some(path) = path_in(alloc, Spelling::Uri, uri)? else {
+        return Ok(Vec::new(alloc));
+    };
+    match log {
+        LogFile::Sarif(log) => found_in_log(alloc, asked, log, path.as_str(), text),
+        LogFile::Lines(bytes) => found_in_lines(alloc, asked, bytes, path.as_str(), text),
+        LogFile::Fault(_) => Ok(Vec::new(alloc)),
+    }
+}
+
+fn found_in_log(
+    alloc: Global,
+    asked: Asked<'_>,
+    log: &Log,
+    path: &str,
+    text: &str,
+) -> Result<Vec<OxcDiagnostic>, AllocError>
+    ensures shown { IfOk result (λ shown.
+        ShowsLog asked.entry (log_view log.now) path.now text.now shown.items) }
+    ensures stand { IfOk result (λ shown. All (StandIn text.now) shown.items) }
+{
+    let file = OpenFile { path, text };
+    let names = sarif::names_of(alloc, log)?;
+    let sources = gather(alloc, &file, Spelling::Uri, &names)?;
+    let found = sarif::reports_of(alloc, log, &sources, log_columns(asked.columns))?;
+    let shown = shown_of(alloc, Spelling::Uri, &found, path, text)?;
+    Ok(shown)
+}
+
+fn found_in_lines(
+    alloc: Global,
+    asked: Asked<'_>,
+    bytes: &[u8],
+    path: &str,
+    text: &str,
+) -> Result<Vec<OxcDiagnostic>, AllocError>
+    ensures shown { IfOk result (λ shown.
+        ShowsLines asked.entry bytes.now path.now text.now shown.items) }
+    ensures stand { IfOk result (λ shown. All (StandIn text.now) shown.items) }
+{
+    let file = OpenFile { path, text };
+    let plain = without_paint(alloc, bytes)?;
+    let lines = lines_of(alloc, &plain)?;
+    let shapes = tool_shapes(alloc, tool_name(asked))?;
+    let pieces = pieces_of(alloc, &lines, &shapes)?;
+    let names = line_reports::names_of(alloc, &pieces)?;
+    let sources = gather(alloc, &file, Spelling::Path, &names)?;
+    let found = line_reports::reports_of(alloc, &lines, &pieces, &sources, columns_of(asked))?;
+    let shown = shown_of(alloc, Spelling::Path, &found, path, text)?;
+    Ok(shown)
+}
+
+/// The name of the tool, empty where none is named.
+fn tool_name(asked: Asked<'_>) -> &str
+    ensures { result.now ≡ name_of asked.entry.tool }
+{
+    match asked.tool {
+        Some(tool) => tool,
+        None => "",
+    }
+}
+
+/// How columns count: as the words say, as the tool does, and else characters from 1.
+fn columns_of(asked: Asked<'_>) -> Columns
+    ensures { result ≡ columns_meant asked.entry }
+{
+    let usual = Columns {
+        unit: Unit::Characters,
+        first: 1,
+        with_end: true,
+    };
+    let known = columns_of_tool(tool_name(asked)).unwrap_or(usual);
+    Columns {
+        unit: asked.columns.unwrap_or(known.unit),
+        first: asked.first_column.unwrap_or(known.first),
+        with_end: known.with_end,
+    }
+}
+
+/// What columns of a log count, where the words say it and logs can count it.
+fn log_columns(unit: Option<Unit>) -> Option<ColumnKind>
+    ensures { result ≡ columns_of_log unit }
+{
+    match unit {
+        Some(Unit::Characters) => Some(ColumnKind::Characters),
+        Some(Unit::Utf16) => Some(ColumnKind::Utf16),
+        Some(Unit::Bytes | Unit::Cells) | None => None,
+    }
+}
+
+/// The one file that is open, as a store: a path that means it has its text.
+#[derive(Drop)]
+struct OpenFile<'a> {
+    path: &'a str,
+    text: &'a str,
+}
+
+impl<'a> Store for OpenFile<'a> {
+    ghost use Rattle.girzohal_lsp.specs.Found.{told_open};
+
+    ghost told = { λ file other. told_open file.path.now file.text.now other };
+
+    fn fetch(&self, alloc: Global, path: &str) -> Fetched {
+        if !is_named(self.path.as_bytes(), path.as_bytes()) {
+            return Fetched::Lacking(Lack::Missing);
+        }
+        match String::from_str(alloc, self.text) {
+            Ok(text) => Fetched::Text(text),
+            Err(_) => Fetched::OutOfMemory,
+        }
+    }
+}
+
+/// What is shown of reports: those on the file, each with its labels where they stand in the text.
+fn shown_of(
+    alloc: Global,
+    spelling: Spelling,
+    found: &FoundReports<'_>,
+    path: &str,
+    text: &str,
+) -> Result<Vec<OxcDiagnostic>, AllocError>
+    ensures shown { IfOk result (λ shown.
+        AreShown spelling path.now text.now found.now.found shown.items) }
+    ensures stand { IfOk result (λ shown. All (StandIn text.now) shown.items) }
+{
+    let files = found.files();
+    let reports = found.reports();
+    let shown = picked(alloc, spelling, files, reports, path, text)?;
+    Ok(shown)
+}
+
+fn picked(
+    alloc: Global,
+    spelling: Spelling,
+    files: &[FoundFile<'_>],
+    reports: &[FoundReport],
+    path: &str,
+    text: &str,
+) -> Result<Vec<OxcDiagnostic>, AllocError>
+    requires { All (λ report. report.file < length files.now) reports.now }
+    ensures shown { IfOk result (λ shown. AreFitted text.now
+        (filter_map (λ report. pick spelling path.now
+        (report_view (map file_view files.now) report)) reports.now) shown.items) }
+    ensures stand { IfOk result (λ shown. All (StandIn text.now) shown.items) }
+{
+    let mut shown = Vec::new(alloc);
+    for report in reports {
+        let one = picked_one(alloc, spelling, files, report, path, text)?;
+        add(&mut shown, one)?;
+    }
+    Ok(shown)
+}
+
+/// Appends a finding, if there is one.
+fn add(shown: &mut Vec<OxcDiagnostic>, one: Option<OxcDiagnostic>) -> Result<(), AllocError>
+    ensures { OnOk result (shown.new.items ≡ shown.old.items ++ option_to_list one) }
+{
+    match one {
+        None => Ok(()),
+        Some(it) => {
+            shown.push(it)?;
+            Ok(())
+        }
+    }
+}
+
+/// What is shown of a report; nothing where it is on another file.
+#[tactic(auto, unfolding(crate::specs::Found::pick))]
+fn picked_one(
+    alloc: Global,
+    spelling: Spelling,
+    files: &[FoundFile<'_>],
+    report: &FoundReport,
+    path: &str,
+    text: &str,
+) -> Result<Option<OxcDiagnostic>, AllocError>
+    requires { report.now.file < length files.now }
+    ensures { IfOk result (IsPicked text.now
+        (pick spelling path.now (report_view (map file_view files.now) report.now))) }
+{
+    let file = &files[report.file];
+    if !means_file(alloc, spelling, path, file.name.as_str())? {
+        return Ok(None);
+    }
+    let shown = fitted(alloc, &report.diagnostic, text)?;
+    Ok(Some(shown))
+}
+
+/// A finding with its labels, where they stand in the text, and else without.
+fn fitted(alloc: Global, it: &OxcDiagnostic, text: &str) -> Result<OxcDiagnostic, AllocError>
+    ensures { IfOk result (IsFitted text.now it.now) }
+{
+    let copy = it.try_clone(alloc)?;
+    if stand_in(&Ok(text), copy.labels()) {
+        return Ok(copy);
+    }
+    copy.with_labels(alloc, Vec::new(alloc))
+}
