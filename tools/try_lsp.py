@@ -1,10 +1,13 @@
 #!/usr/bin/env python3
-"""Tries the built girzohal_lsp. usage: try_lsp.py PROGRAM [FOLDER]
+"""Tries the built girzohal_lsp. usage: try_lsp.py PROGRAM
 
-PROGRAM is what `rt build` or `rt run` left in crates/girzohal_lsp/out. A transcript of a client goes in as a whole and in
-random cuttings, and the answers are compared; each fault of a frame ends the program; a document that is changed by many
-ranges is compared with a plain replay. With FOLDER (real logs, and `src/cart.c`) and Neovim installed, its own client opens
-a file and types above, in and below what a log found (tools/try_lsp.lua), and what it shows is printed and checked."""
+PROGRAM is what `rt run` left in crates/girzohal_lsp/out. A transcript of a client goes in as a whole and in random
+cuttings, and the answers are compared; each fault of a frame ends the program; a document that is changed by many ranges is
+compared with a plain replay. Where Neovim is installed, its own client opens a file and types above, in and below what a log
+found (tools/try_lsp.lua), and what it shows is checked: over a log of this script, and over what tools printed of the
+sources in examples/outputs.
+
+The last line is `N passed, M failed`; the status is 0 where M is 0."""
 import json
 import os
 import random
@@ -48,11 +51,13 @@ def run(words, data):
 
 def check(what, holds):
     print(("ok      " if holds else "FAILED  ") + what)
-    if not holds:
+    if holds:
+        check.passed += 1
+    else:
         check.failed += 1
 
 
-check.failed = 0
+check.passed = check.failed = 0
 
 
 def place_of(text, offset, encoding):
@@ -176,8 +181,14 @@ def try_replay(folder, seed, encoding):
     return not same and len(said) == 1 and len(told) == 41 and told[-1]["params"]["version"] == (40 if faulty != 39 else 39)
 
 
-def looks_of(folder, words, file):
-    environment = dict(os.environ, LSP_PROGRAM=PROGRAM, LSP_WORDS="\n".join(words), LSP_FILE=file)
+# the steps of tools/try_lsp.lua: before the mark is typed over, while it covers what was typed, and behind
+BEFORE = ["a line above", "past ASCII in front", "typed above", "joined and parted", "line above deleted"]
+TYPED = ["in the mark", "below", "undone", "mark redone"]
+STEPS = ["opened"] + BEFORE + TYPED[:3] + ["mark undone", "mark redone", "emptied", "all emptied", "all undone", "saved"]
+
+
+def looks_of(folder, words, file, units):
+    environment = dict(os.environ, LSP_PROGRAM=PROGRAM, LSP_WORDS="\n".join(words), LSP_FILE=file, LSP_UNITS=units)
     got = subprocess.run(["nvim", "--headless", "--clean", "-c", "luafile " + os.path.join(HERE, "try_lsp.lua")],
                          env=environment, cwd=folder, capture_output=True, timeout=120)
     looks = {}
@@ -189,45 +200,95 @@ def looks_of(folder, words, file):
 
 
 def covered(look):
-    """What the shown findings cover, a text each."""
+    """What the shown findings cover: the first line of each message, and a text."""
     out = []
     for start, column, end, last, message, _ in look["shown"]:
-        lines = [line.encode() for line in look["text"]]
-        if start == end:
-            out.append((message.split("\n")[0], lines[start][column:last].decode(errors="replace") if start < len(lines) else ""))
-        else:
-            out.append((message.split("\n")[0], "several lines"))
+        rows = [row.encode() for row in look["text"][start:end + 1]] or [b""]
+        rows[-1] = rows[-1][:last]
+        rows[0] = rows[0][column:]
+        out.append((message.split("\n")[0], b"\n".join(rows).decode(errors="replace")))
     return out
 
 
-def try_neovim(folder, logs):
-    shutil.copy(os.path.join(logs, "src", "cart.c"), os.path.join(folder, "cart.c"))
-    os.chmod(os.path.join(folder, "cart.c"), 0o644)
-    sarif = os.path.join(folder, "clang16.sarif")
-    with open(os.path.join(logs, "clang16.sarif"), encoding="utf-8") as log, open(sarif, "w", encoding="utf-8") as out:
+def own_logs(folder, end):
+    """A source and a log of this script: the words, and what the findings cover."""
+    text = "int main(void) {\n    int total = 0; /* \u00e9 */ int rest;\n    return totl;\n}\n"
+    with open(os.path.join(folder, "own.c"), "w", encoding="utf-8", newline=end) as out:
+        out.write(text)
+    with open(os.path.join(folder, "own.txt"), "w", encoding="utf-8") as out:
+        out.write("own.c:3:12: error: 'totl' undeclared [x]\nown.c:2:9: warning: unused [y]\nown.c:2:32: warning: unused [y]\n"
+                  "other.c:1:1: error: elsewhere\n")
+    return ["--tool", "gcc", os.path.join(folder, "own.txt")], ["totl", "total", "rest"]
+
+
+def real_logs(folder, examples):
+    """Logs that tools left, each with its source."""
+    for source in ("cart.c", "cart.py", "cart.sh", "cart.yaml", "cart.go", "Cart.java", "cart.rs"):
+        shutil.copyfile(os.path.join(examples, "outputs", "src", source), os.path.join(folder, source))
+    sarif = os.path.join(folder, "clang_16.sarif")
+    with open(os.path.join(examples, "logs", "clang_16.sarif"), encoding="utf-8") as log, open(sarif, "w", encoding="utf-8") as out:
         out.write(log.read().replace("file:///project/", ""))
-    for words in (["--tool", "clang", os.path.join(logs, "clang.txt")], ["--tool", "gcc", os.path.join(logs, "gcc.txt")],
-                  [sarif]):
-        looks = looks_of(folder, words, os.path.join(folder, "cart.c"))
-        print("--", os.path.basename(words[-1]), {name: len(look["shown"]) for name, look in looks.items()})
-        names = ["opened", "a line above", "past ASCII in front", "in the mark", "below", "undone", "emptied"]
-        check("Neovim looked each time", list(looks) == names and all(look["came"] for look in looks.values()))
-        if list(looks) != names:
-            continue
-        first = covered(looks["opened"])
-        check("it shows findings", len(first) > 0)
-        for name in ("a line above", "past ASCII in front"):
-            check(f"after '{name}' they cover the same texts", covered(looks[name]) == first)
-        check("the mark that was typed over covers what was typed", covered(looks["in the mark"])[0] == (first[0][0], "X\U0001f4a3"))
-        check("what was undone is as before", covered(looks["undone"]) == covered(looks["in the mark"]))
-        check("nothing with a range is left of an emptied file", all(s[0] == s[2] == 0 and s[1] == s[3] == 0 for s in looks["emptied"]["shown"]))
-        for what in first[:4]:
-            print("       ", what)
+    outputs = os.path.join(examples, "outputs")
+    tools = [("clang", "clang.txt", "cart.c"), ("clang", "clang-color.txt", "cart.c"), ("gcc", "gcc.txt", "cart.c"),
+             ("gcc", "gcc-color.txt", "cart.c"), ("flake8", "flake8.txt", "cart.py"), ("mypy", "mypy-columns.txt", "cart.py"),
+             ("shellcheck", "shellcheck.txt", "cart.sh"), ("yamllint", "yamllint.txt", "cart.yaml"), ("go-vet", "go-vet.txt", "cart.go"),
+             ("javac", "javac.txt", "Cart.java"), ("cppcheck", "cppcheck.txt", "cart.c"), ("rustc", "rustc.txt", "cart.rs")]
+    return [(["--tool", tool, os.path.join(outputs, log)], source) for tool, log, source in tools] + [([sarif], "cart.c")]
+
+
+def try_neovim(folder, examples):
+    for units, end in (("", "\n"), ("utf-8", "\n"), ("utf-32", "\n"), ("", "\r\n")):
+        words, wanted = own_logs(folder, end)
+        texts = try_looks(folder, words, "own.c", units)
+        check("the findings are at the words that the log means", texts == wanted)
+    found = {}
+    for words, source in real_logs(folder, examples):
+        found[os.path.basename(words[-1])] = try_looks(folder, words, source, "")
+    for tool in ("gcc", "clang"):
+        check(f"a log in color of {tool} has the findings of the plain one", found[tool + "-color.txt"] == found[tool + ".txt"])
+
+
+def try_looks(folder, words, source, units):
+    """Types into a file that a log is of; gives what the findings covered when it was opened."""
+    looks = looks_of(folder, words, os.path.join(folder, source), units)
+    print("--", os.path.basename(words[-1]), units, {name: len(look["shown"]) for name, look in looks.items()})
+    came = list(looks) == STEPS and all(look["came"] for look in looks.values())
+    check("Neovim was told of each step", came)
+    if not came:
+        print("        ", [name for name in STEPS if name not in looks or not looks[name]["came"]])
+        return []
+    first = covered(looks["opened"])
+    check("places count in what was agreed on", looks["opened"]["units"] == (units or "utf-16"))
+    check("each change could be made", looks["saved"]["said"] == [])
+    # what is typed just where a mark begins becomes part of it, so those at the beginning of a row are left out
+    places = looks["opened"]["shown"]
+    inner = [number for number, place in enumerate(places) if place[1] > 0]
+    typed = [number for number in inner if places[number][0] == places[number][2] and places[number][1] < places[number][3]][0]
+    others = [number for number in inner if places[number][0] != places[typed][0]]
+    for name in BEFORE + ["mark undone"]:
+        check(f"'{name}': they cover the same texts", those(looks[name], inner) == those(looks["opened"], inner))
+    for name in TYPED:
+        check(f"'{name}': the mark that was typed over covers what was typed", those(looks[name], [typed]) == [(first[typed][0], "X\U0001f4a3")])
+        check(f"'{name}': those in other rows cover the same texts", those(looks[name], others) == those(looks["opened"], others))
+    check("nothing with a range is left of an emptied file", all(text == "" for _, text in covered(looks["all emptied"])))
+    check("once all is undone and saved they are as they were", looks["saved"]["shown"] == looks["opened"]["shown"])
+    for what in first[:4]:
+        print("        ", what)
+    return [text for _, text in first]
+
+
+def those(look, numbers):
+    """What the findings of these numbers cover."""
+    found = covered(look)
+    return [found[number] if number < len(found) else None for number in numbers]
 
 
 with tempfile.TemporaryDirectory() as place:
     try_messages(place)
     check("30 replays", all(try_replay(place, seed, ["utf-8", "utf-16", "utf-32"][seed % 3]) for seed in range(30)))
-    if len(sys.argv) > 2 and shutil.which("nvim"):
-        try_neovim(place, os.path.abspath(sys.argv[2]))
+    if shutil.which("nvim"):
+        try_neovim(place, os.path.join(os.path.dirname(HERE), "examples"))
+    else:
+        print("skipped: Neovim's client: there is no nvim")
+print(f"{check.passed} passed, {check.failed} failed")
 sys.exit(1 if check.failed else 0)
