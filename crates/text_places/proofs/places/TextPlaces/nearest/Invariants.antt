@@ -1,4 +1,0 @@
-use Rattle.text_places.proofs.places.TextPlaces.nearest.Given as goal
-
-abbrev pub ghosts-nearest_alone : goal.ghosts-nearest_alone
-ghosts-nearest_alone a = record { number = a.blank.name; pieces = a.blank.parts }
