@@ -1,6 +1,6 @@
 #!/usr/bin/env python3
 """Holds the program `girzohal` against `line_reader.py`, a second reader of the lines that tools print: what each table row says,
-the outputs of real tools, and lines made at random of the parts of shapes.
+lines of many tools one behind the other (lines.txt), the outputs of real tools, and lines made at random of the parts of shapes.
 
 usage: try_lines.py PROGRAM [LINES [SEED]]      (crates/girzohal/out/girzohal after `rt run` there)
 
@@ -224,14 +224,14 @@ def lines_in(text):
     return text.split("\n")[:-1] if text.endswith("\n") else text.split("\n") if text else []
 
 
-UNESCAPED = {"\\\\": "\\", "\\n": "\n", "\\t": "\t", "\\e": "\x1b"}
+UNESCAPED = {"\\\\": "\\", "\\n": "\n", "\\r": "\r", "\\t": "\t", "\\e": "\x1b"}
 
 
 def table():
     """The rows of lines.tsv: a tool, its name as a word or `-`, its line or lines, and what they are read as."""
     with open(os.path.join(TOP, "tools", "lines.tsv"), encoding="utf-8") as it:
         for row in filter(None, it.read().split("\n")):
-            yield [re.sub(r"\\[\\nte]", lambda found: UNESCAPED[found[0]], cell) for cell in row.split("\t")]
+            yield [re.sub(r"\\[\\nrte]", lambda found: UNESCAPED[found[0]], cell) for cell in row.split("\t")]
 
 
 def reading(it):
@@ -260,7 +260,7 @@ def main():
         empty, full = os.path.join(room, "empty"), os.path.join(room, "full")
         os.mkdir(empty)
         try_table(tries, empty)
-        for path in sorted(glob.glob(os.path.join(TOP, "examples", "outputs", "*.txt"))):
+        for path in [os.path.join(TOP, "tools", "lines.txt"), *sorted(glob.glob(os.path.join(TOP, "examples", "outputs", "*.txt")))]:
             with open(path, encoding="utf-8", newline="") as it:
                 tries.text(os.path.basename(path), it.read(), empty)
         rows = [f"let value_{row} = call({row}); \té𝕏 b{row}" for row in range(1, 30)] + ["", "  end  "]

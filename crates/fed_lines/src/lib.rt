@@ -7,6 +7,8 @@
 
 mod ends;
 mod lines;
+#[cfg(test)]
+mod tests;
 pub mod whole;
 
 pub use ends::ends_at;

@@ -12,7 +12,9 @@ use tool_lines::lines::Sort;
 /// What a piece takes of the lines: so many, and what it is.
 #[derive(Clone, Copy, Debug, PartialEq, Eq)]
 pub struct Cut {
+    /// What begins at its first line.
     pub sort: Sort,
+    /// How many lines it has.
     pub lines: usize,
 }
 

@@ -12,6 +12,8 @@ mod names;
 mod rows;
 mod runs;
 mod spans;
+#[cfg(test)]
+mod tests;
 mod told;
 
 pub use gathered::reports_of;

@@ -1,19 +1,19 @@
 -- Lines at which nothing begins.
-use Rattle.std.proofs.Common.{◌≡◌, ℕ, suc, ◌&&◌, ◌||◌, ◌==◌, not, if◌then◌else◌, List, [], ◌∷◌, length, map, Option, Some, None, Bool, true, false, refl, sym, ◌∙◌, ap, arith, eqb-true}
+use Rattle.std.proofs.Common.{◌≡◌, ℕ, ◌&&◌, ◌==◌, not, if◌then◌else◌, List, [], ◌∷◌, length, map, Option, Some, None, true, false, refl, ◌∙◌, ap, arith, eqb-true}
 use Rattle.std.specs.Option.{option_and_then, option_map, is_some}
 use Rattle.std.proofs.lemmas.Bool.{and_parts, and_right, not-true, or_parts}
 use Rattle.line_shapes.specs.declared.name.NameKind.TheVariants.{Any}
 use Rattle.line_shapes.specs.declared.tables.Manner.TheVariants.{Plain}
 use Rattle.line_shapes.specs.declared.tables.TheConstants.{ANNOUNCED, ARROW, ARROW_PLACE, UNDER}
-use Rattle.line_shapes.specs.Part.{Seen, before, fit, may_begin}
-use Rattle.line_shapes.specs.Place.{Place, has_figure, place}
-use Rattle.line_shapes.specs.Said.{meant, whole}
+use Rattle.line_shapes.specs.Part.{Seen, before, may_begin}
+use Rattle.line_shapes.specs.Place.{Place, has_figure}
+use Rattle.line_shapes.specs.Said.{meant}
 use Rattle.line_shapes.specs.Shape.{ShapeParts, first_named}
 use Rattle.line_shapes.proofs.FigureLemmas.{no_place_there}
 use Rattle.line_shapes.proofs.PartLemmas.{not_begun}
 use Rattle.tool_lines.specs.declared.lines.Sort.TheVariants.{Kept}
 use Rattle.tool_lines.specs.Marks.{begins_blank}
-use Rattle.tool_lines.specs.Lines.{BegunParts, FindingParts, announced, announced_by, begun, begun_of, below, inline, is_heading, is_placing, is_plain, text_below, told, uncoloned, whole_among}
+use Rattle.tool_lines.specs.Lines.{BegunParts, announced, announced_by, begun, begun_of, below, inline, is_heading, is_placing, is_plain, text_below, told, uncoloned, whole_among}
 
 pub not_announced : (line : List ℕ) (next : Option (List ℕ)) → is_placing next ≡ false → announced line next ≡ None
 unfolding announced_by

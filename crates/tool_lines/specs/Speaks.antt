@@ -1,5 +1,5 @@
 -- When a message alone makes a finding of a line that has a place.
-use Rattle.std.specs.Prelude.{ℕ, ◌+◌, ◌-◌, ◌==◌, ◌&&◌, ◌||◌, not, nat_lt, Bool, true, false, List, [], ◌∷◌, length, take, drop, slice_index, Option, Some, None, codes}
+use Rattle.std.specs.Prelude.{ℕ, ◌-◌, ◌==◌, ◌&&◌, ◌||◌, not, nat_lt, Bool, false, List, [], ◌∷◌, length, take, drop, slice_index, Option, Some, None, codes}
 use Rattle.std.specs.List.{list_any, suffix_len}
 use Rattle.std.specs.Option.{is_some}
 use Rattle.line_shapes.specs.declared.bytes.Kind.TheVariants.{Blank, Digit, LetterOrDigit, InBrackets}

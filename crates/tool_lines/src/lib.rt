@@ -7,3 +7,5 @@ pub mod lines;
 pub mod marks;
 pub mod paint;
 mod speaks;
+#[cfg(test)]
+mod tests;

@@ -40,7 +40,9 @@ use std::alloc::{AllocError, Global};
 /// begins and the next one.
 #[derive(Clone, Copy, Debug, Drop)]
 pub struct Finding<'a> {
+    /// The name of its file, and the rows and columns.
     pub place: Placed<'a>,
+    /// How grave it is, its code and its message.
     pub says: Statement<'a>,
 }
 
@@ -62,14 +64,18 @@ pub enum Sort {
 /// What begins at a line, with its finding.
 #[derive(Clone, Copy, Debug, Drop)]
 pub struct Begun<'a> {
+    /// What it is.
     pub sort: Sort,
+    /// Its finding, where it is one.
     pub finding: Option<Finding<'a>>,
 }
 
 /// A piece: so many lines.
 #[derive(Clone, Copy, Debug, Drop)]
 pub struct Piece<'a> {
+    /// How many lines it has, the first one among them.
     pub lines: usize,
+    /// What begins at its first line.
     pub begun: Begun<'a>,
 }
 

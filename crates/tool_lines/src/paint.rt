@@ -19,9 +19,12 @@ use std::alloc::{AllocError, Global};
 /// # Errors
 ///
 /// Want of memory.
-#[tactic(auto, using(crate::proofs::PaintLemmas::plain_end))]
+#[tactic(auto, using(crate::proofs::PaintLemmas::plain_end, crate::proofs::PaintLemmas::lines_kept))]
 pub fn without_paint(alloc: Global, text: &[u8]) -> Result<Vec<u8>, AllocError>
-    ensures { IfOk result (λ plain. plain.items ≡ unpainted text.now) }
+    ensures text { IfOk result (λ plain. plain.items ≡ unpainted text.now) }
+    ensures lines { IfOk result (λ plain.
+        count_by (λ byte. byte == 0x0A) plain.items
+        ≡ count_by (λ byte. byte == 0x0A) text.now) }
 {
     let mut plain = Vec::new(alloc);
     let mut rest = text;
