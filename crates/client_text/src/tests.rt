@@ -3,11 +3,14 @@
 ghost use Rattle.std.specs.Prelude.{◌≡◌, OnOk, OnErr};
 ghost use Rattle.client_text.specs.Document.{IsEdited};
 
+mod transcript;
+
 use crate::{Change, ClientText, Fault, Refusal};
 use source_location::fits;
 use std::alloc::{AllocError, Global};
 use std::test::Fail;
 use text_places::{Encoding, Place};
+use transcript::{START, TRANSCRIPT};
 
 // What a server does with `didChange`: the notification's changes, or none of them.
 fn did_change(client: &mut ClientText, version: i32, changes: &[Change]) -> Result<(), Refusal>
@@ -250,91 +253,9 @@ fn changes_are_made_in_turn_or_refused(rt: HostRuntime) -> Result<(), Fail> {
     Ok(())
 }
 
-// What a client with UTF-16 sends one after another.
-const TRANSCRIPT: [Notification<'static>; 9] = [
-    Notification {
-        version: 2,
-        changes: &[
-            (Some(((6, 7), (6, 8))), "\r\n"),
-            (Some(((2, 12), (2, 12))), "\n"),
-            (Some(((1, 2), (1, 7))), ""),
-        ],
-        refused: None,
-        text: "// \u{e9}\r\nle '\u{1f600}';\rfn f() {\n\n  g(\u{6f22}, 2)\n}\nend\r\n",
-    },
-    Notification {
-        version: 3,
-        changes: &[
-            (Some(((7, 10), (7, 10))), ""),
-            (Some(((8, 0), (8, 1))), "\r\n"),
-            (Some(((9, 0), (9, 5))), "\r\n"),
-        ],
-        refused: None,
-        text: "// \u{e9}\r\nle '\u{1f600}';\rfn f() {\n\n  g(\u{6f22}, 2)\n}\nend\r\n\r\n\r\n",
-    },
-    Notification {
-        version: 4,
-        changes: &[(Some(((10, 0), (10, 0))), "two\nrows")],
-        refused: None,
-        text: "// \u{e9}\r\nle '\u{1f600}';\rfn f() {\n\n  g(\u{6f22}, 2)\n}\nend\r\n\r\n\r\ntwo\nrows",
-    },
-    Notification {
-        version: 5,
-        changes: &[
-            (Some(((6, 8), (6, 11))), "\r\n"),
-            (Some(((8, 1), (8, 4))), "x"),
-        ],
-        refused: None,
-        text: "// \u{e9}\r\nle '\u{1f600}';\rfn f() {\n\n  g(\u{6f22}, 2)\n}\nend\r\n\r\nx\r\n\r\ntwo\nrows",
-    },
-    Notification {
-        version: 6,
-        changes: &[
-            (Some(((0, 0), (0, 0))), "kept?"),
-            (Some(((0, 5), (0, 2))), "-"),
-            (Some(((0, 0), (0, 1))), ""),
-        ],
-        refused: Some((1, Fault::Reversed)),
-        text: "// \u{e9}\r\nle '\u{1f600}';\rfn f() {\n\n  g(\u{6f22}, 2)\n}\nend\r\n\r\nx\r\n\r\ntwo\nrows",
-    },
-    Notification {
-        version: 6,
-        changes: &[
-            (Some(((5, 1), (5, 5))), "\u{1f600}b"),
-            (Some(((12, 1), (12, 1))), ""),
-        ],
-        refused: None,
-        text: "// \u{e9}\r\nle '\u{1f600}';\rfn f() {\n\n  g(\u{6f22}, 2)\n}\u{1f600}b\nend\r\n\r\nx\r\n\r\ntwo\nrows",
-    },
-    Notification {
-        version: 7,
-        changes: &[(Some(((7, 2), (7, 2))), "\r\n")],
-        refused: None,
-        text: "// \u{e9}\r\nle '\u{1f600}';\rfn f() {\n\n  g(\u{6f22}, 2)\n}\u{1f600}b\nend\
-\r\n\r\n\r\nx\r\n\r\ntwo\nrows",
-    },
-    Notification {
-        version: 8,
-        changes: &[
-            (None, "new\r\n\u{e9}\n"),
-            (Some(((1, 6), (1, 6))), "x"),
-            (Some(((3, 0), (3, 6))), "\r"),
-        ],
-        refused: None,
-        text: "new\r\n\u{e9}x\n\r",
-    },
-    Notification {
-        version: 9,
-        changes: &[(Some(((1, 2), (1, 2))), "x")],
-        refused: None,
-        text: "new\r\n\u{e9}xx\n\r",
-    },
-];
-
 #[test]
 fn a_transcript_is_replayed(rt: HostRuntime) -> Result<(), Fail> {
-    let text = "// \u{e9}\r\nlet a = '\u{1f600}';\rfn f() {\n  g(\u{6f22}, 2)\n}\nend";
-    let mut client = opened(rt.alloc(), Encoding::Utf16, text, 1)?;
+    let mut client = opened(rt.alloc(), Encoding::Utf16, START, 1)?;
     assert!(rt; client.encoding() == Encoding::Utf16);
     for sent in TRANSCRIPT {
         assert!(rt; takes(rt.alloc(), &mut client, &sent)?);

@@ -1,13 +1,12 @@
 -- A client sees offsets in their order.
-use Rattle.std.proofs.Common.{◌≡◌, ℕ, ◌+◌, ◌-◌, ◌<◌, ◌≤◌, ◌⊎◌, Bool, true, false, cond, List, ap, subst, arith, inl, inr, ⊎_elim}
+use Rattle.std.proofs.Common.{◌≡◌, ℕ, ◌+◌, ◌-◌, ◌≤◌, Bool, true, false, cond, List, ap, subst, arith, inl, inr, ⊎_elim}
 use Rattle.std.proofs.lemmas.Bool.{cases_lt}
-use Rattle.std.specs.Str.{IsUtf8, IsCharBoundary}
 use Rattle.source_location.specs.Breaks.{breaks_of}
 use Rattle.source_location.specs.Rows.{is_second_byte}
 use Rattle.text_places.specs.Places.{place_at, client_offset, IsBefore}
 use Rattle.text_places.specs.declared.place.Place.{Place}
 use Rattle.text_places.proofs.PlaceLemmas.{ascending, client_parts_none}
-use Rattle.lsp_diagnostics.specs.Seen.{Seen, client_place}
+use Rattle.lsp_diagnostics.specs.Seen.{client_place}
 use Rattle.lsp_diagnostics.specs.Ordered.{RangesAreOrdered}
 
 -- at most one byte before the offset

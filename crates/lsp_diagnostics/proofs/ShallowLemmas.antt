@@ -1,15 +1,15 @@
 -- What is published isn't nested deep.
-use Rattle.std.proofs.Common.{ℕ, ℤ, pos, negsuc, suc, ◌≤◌, List, [], ◌∷◌, map, length, nat_lt, Bool, true, false, if◌then◌else◌, codes, Option, Some, None, option_map, Ordering, Less, Equal, Greater, nat_cmp, arith}
+use Rattle.std.proofs.Common.{ℕ, ℤ, pos, negsuc, suc, ◌≤◌, List, [], ◌∷◌, map, length, nat_lt, Bool, true, false, if◌then◌else◌, codes, Option, Some, None, Ordering, Less, Equal, Greater, nat_cmp, arith}
 use Rattle.std.specs.Cmp.Lexicographic.{slice_cmp}
 use Rattle.std.specs.Ordering.{match_ordering}
-use Rattle.serde_json.specs.Data.{Data, number, unsigned, string, array, object, Items, Members, no_members, member, put, depth, items_depth, members_depth}
+use Rattle.serde_json.specs.Data.{Data, string, array, object, Members, no_members, member, put, depth, items_depth, members_depth}
 use Rattle.serde_json.specs.View.{items_of}
 use Rattle.oxc_span.specs.Label.{Label, label_end}
 use Rattle.oxc_protocol.specs.Parts.{OxcParts}
 use Rattle.text_places.specs.declared.place.Place.{Place}
-use Rattle.lsp_diagnostics.specs.Seen.{Seen, client_place, others}
+use Rattle.lsp_diagnostics.specs.Seen.{Seen, client_place, head_label, others}
 use Rattle.lsp_diagnostics.specs.Messages.{message_text, said}
-use Rattle.lsp_diagnostics.specs.Diagnostics.{diagnostic_value, first_members, head_range, label_range, location_value, more_members, published_value, put_some, range_value, related_value, related_values, severity_number, some_link, some_related, some_version, text_value, version_value, whole}
+use Rattle.lsp_diagnostics.specs.Diagnostics.{diagnostic_value, first_members, head_range, label_range, location_value, more_members, published_value, put_some, range_value, related_value, related_values, severity_number, some_link, some_range, some_related, some_version, text_value, whole}
 
 -- arrays and objects nest so deep at most
 record IsShallow (most : ℕ) (it : Data) : Type 0 where
@@ -68,10 +68,13 @@ label_shallow : (file : Seen) (label : Label) → IsShallow 2 (label_range file 
 unfolding label_range
 label_shallow file label = range_shallow (client_place file label.offset) (client_place file (label_end label))
 
+some_shallow : (file : Seen) (label : Option Label) → IsShallow 2 (some_range file label)
+some_shallow file None = range_shallow (record { line = 0; unit = 0 }) (record { line = 0; unit = 0 })
+some_shallow file (Some label) = label_shallow file label
+
 head_shallow : (file : Seen) (labels : List Label) → IsShallow 2 (head_range file labels)
 unfolding head_range
-head_shallow file [] = range_shallow (record { line = 0; unit = 0 }) (record { line = 0; unit = 0 })
-head_shallow file (first ∷ rest) = label_shallow file first
+head_shallow file labels = some_shallow file (head_label labels)
 
 location_shallow : (file : Seen) (label : Label) → IsShallow 3 (location_value file label)
 location_shallow file label =

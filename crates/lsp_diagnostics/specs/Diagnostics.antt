@@ -1,5 +1,5 @@
 -- Diagnostics as JSON values.
-use Rattle.std.specs.Prelude.{ℕ, ℤ, List, [], ◌∷◌, length, nat_lt, map, Option, Some, None, option_map, codes, if◌then◌else◌}
+use Rattle.std.specs.Prelude.{ℕ, ℤ, List, length, nat_lt, map, Option, Some, None, option_map, codes, if◌then◌else◌}
 use Rattle.serde_json.specs.Data.{Data, number, unsigned, string, array, object, Members, no_members, put}
 use Rattle.serde_json.specs.Find.{of_integer}
 use Rattle.serde_json.specs.View.{items_of}
@@ -8,7 +8,7 @@ use Rattle.oxc_protocol.specs.Parts.{OxcParts}
 use Rattle.oxc_protocol.specs.declared.protocol.Severity.{Severity}
 use Rattle.oxc_protocol.specs.declared.protocol.Severity.TheVariants.{Advice, Warning, Error}
 use Rattle.text_places.specs.declared.place.Place.{Place}
-use Rattle.lsp_diagnostics.specs.Seen.{Seen, client_place, others}
+use Rattle.lsp_diagnostics.specs.Seen.{Seen, client_place, head_label, others}
 use Rattle.lsp_diagnostics.specs.Messages.{said, message_text}
 
 abbrev pub whole : ℕ → Data
@@ -34,10 +34,14 @@ range_value start end = object (put (codes "start") (place_value start) (put (co
 unfoldable pub label_range : Seen → Label → Data
 label_range file label = range_value (client_place file label.offset) (client_place file (label_end label))
 
--- the range of the first label, and the text's beginning without labels
+-- the range of a label, and the text's beginning without one
+abbrev pub some_range : Seen → Option Label → Data
+some_range file None = range_value (record { line = 0; unit = 0 }) (record { line = 0; unit = 0 })
+some_range file (Some label) = label_range file label
+
+-- the range of the head label
 unfoldable pub head_range : Seen → List Label → Data
-head_range file [] = range_value (record { line = 0; unit = 0 }) (record { line = 0; unit = 0 })
-head_range file (first ∷ rest) = label_range file first
+head_range file labels = some_range file (head_label labels)
 
 -- ---- related information
 

@@ -1,5 +1,4 @@
 -- What contracts see of a file that is open.
-use Rattle.text_places.specs.declared.encoding.Encoding.{Encoding}
 use Rattle.lsp_diagnostics.specs.declared.told.OpenFile.{OpenFile}
 use Rattle.lsp_diagnostics.specs.Seen.{Seen}
 

@@ -1,5 +1,5 @@
 -- The order of a range's ends.
-use Rattle.std.specs.Prelude.{ℕ, ◌≤◌, List}
+use Rattle.std.specs.Prelude.{ℕ, ◌≤◌}
 use Rattle.std.specs.Str.{IsUtf8, IsCharBoundary}
 use Rattle.text_places.specs.Places.{IsBefore}
 use Rattle.lsp_diagnostics.specs.Seen.{Seen, client_place}

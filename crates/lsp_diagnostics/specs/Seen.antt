@@ -1,9 +1,10 @@
 -- A file as a client sees it, and where a client sees offsets.
-use Rattle.std.specs.Prelude.{ℕ, ℤ, Bool, List, [], ◌∷◌, Option, All, drop}
+use Rattle.std.specs.Prelude.{ℕ, ℤ, Bool, List, Option, All, unwrap_or}
+use Rattle.std.specs.List.{position, remove, slice_get}
 use Rattle.text_places.specs.Places.{place_at, client_offset}
 use Rattle.text_places.specs.declared.encoding.Encoding.{Encoding}
 use Rattle.text_places.specs.declared.place.Place.{Place}
-use Rattle.oxc_span.specs.Label.{Label, label_end}
+use Rattle.oxc_span.specs.Label.{Label}
 use Rattle.oxc_protocol.specs.Parts.{OxcParts}
 use Rattle.found_reports.specs.Found.{StandsIn}
 
@@ -23,6 +24,14 @@ client_place file offset = place_at file.encoding file.text (client_offset file.
 abbrev pub StandIn : List ℕ → OxcParts → Type 0
 StandIn text diagnostic = All (StandsIn text) diagnostic.labels
 
--- all labels but the head one
+-- the place of the label that a diagnostic is about: the first primary one, else the first
+abbrev pub head_place : List Label → ℕ
+head_place labels = unwrap_or (position (λ label. label.primary) labels) 0
+
+-- that label, if there is one
+abbrev pub head_label : List Label → Option Label
+head_label labels = slice_get labels (head_place labels)
+
+-- all labels but that one, in their order
 abbrev pub others : List Label → List Label
-others labels = drop 1 labels
+others labels = remove labels (head_place labels)

@@ -5,6 +5,7 @@
 //!   same as a value, for whoever puts them into a message.
 #![tactic(auto)]
 
+mod heads;
 mod laws;
 mod messages;
 mod ranges;
@@ -12,5 +13,6 @@ mod ranges;
 mod tests;
 mod told;
 
+pub use heads::head_label;
 pub use laws::ranges_are_ordered;
 pub use told::{OpenFile, all_stand, publish, published};

@@ -6,8 +6,9 @@ ghost use Rattle.found_reports.specs.Found.{StandsIn};
 ghost use Rattle.lsp_diagnostics.specs.Files.{seen};
 ghost use Rattle.lsp_diagnostics.specs.Messages.{label_line, label_lines, message_text};
 ghost use Rattle.lsp_diagnostics.specs.Messages.{more_lines, part_text, place_text, said as said_of};
-ghost use Rattle.lsp_diagnostics.specs.Seen.{StandIn, others as others_of};
+ghost use Rattle.lsp_diagnostics.specs.Seen.{StandIn};
 
+use crate::heads::others;
 use crate::ranges::client_place;
 use crate::told::OpenFile;
 use itoa::Buffer;
@@ -15,17 +16,6 @@ use oxc_protocol::{OxcDiagnostic, OxcDiagnosticInner};
 use oxc_span::LabeledSpan;
 use std::alloc::{AllocError, Global};
 use text_places::Place;
-
-/// All labels but the head one.
-pub fn others(labels: &[LabeledSpan]) -> &[LabeledSpan]
-    ensures { result.now ≡ others_of labels.now }
-{
-    if labels.is_empty() {
-        labels
-    } else {
-        &labels[1..]
-    }
-}
 
 /// What a label says: its text, or the diagnostic's message.
 pub fn said<'a>(label: &'a LabeledSpan, message: &'a str) -> &'a str
@@ -90,8 +80,10 @@ fn push_more(
     if file.related {
         return Ok(());
     }
-    let labels = others(parts.labels.as_slice());
-    push_lines(out, file, parts.message.as_str(), labels)
+    let message = parts.message.as_str();
+    let (before, behind) = others(parts.labels.as_slice());
+    push_lines(out, file, message, before)?;
+    push_lines(out, file, message, behind)
 }
 
 /// Appends a line for each label.

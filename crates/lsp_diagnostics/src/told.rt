@@ -1,5 +1,5 @@
 // What a client is told of a file.
-ghost use Rattle.std.specs.Prelude.{◌≡◌, ◌≤◌, ◌↔◌, All, codes, IfOk, IsTrue, OnOk, Some};
+ghost use Rattle.std.specs.Prelude.{◌≡◌, ◌≤◌, ◌++◌, ◌↔◌, All, codes, IfOk, IsTrue, OnOk, Some};
 ghost use Rattle.std.specs.Prelude.{map, string_bytes};
 ghost use Rattle.std.specs.Option.{option_copied};
 ghost use Rattle.serde_json.specs.Data.{array, depth};
@@ -17,9 +17,10 @@ ghost use Rattle.lsp_diagnostics.specs.Diagnostics.{severity_number as number_of
 ghost use Rattle.lsp_diagnostics.specs.Diagnostics.{some_link, some_version, text_value};
 ghost use Rattle.lsp_diagnostics.specs.Files.{seen};
 ghost use Rattle.lsp_diagnostics.specs.Messages.{message_text};
-ghost use Rattle.lsp_diagnostics.specs.Seen.{StandIn};
+ghost use Rattle.lsp_diagnostics.specs.Seen.{StandIn, others as others_of};
 
-use crate::messages::{message_of, others, said};
+use crate::heads::{head_label, others};
+use crate::messages::{message_of, said};
 use crate::ranges::{label_range, range_value};
 use found_reports::stand_in;
 use oxc_protocol::{Diagnostic, OxcDiagnostic, OxcDiagnosticInner, Severity};
@@ -45,10 +46,11 @@ pub struct OpenFile<'a> {
 
 /// The parameters of `textDocument/publishDiagnostics` for all diagnostics on a file, as JSON.
 ///
-/// A diagnostic has the range of its first label, or that of the text's beginning without labels.
-/// Its scope is the source, its number the code. Help and note stand behind its message, each on
-/// lines of its own. Its other labels are related information; where the client shows none, each is
-/// a line behind the message, `LINE:CHARACTER: TEXT` from 1. Labels are by bytes of the text.
+/// A diagnostic has the range of its head label, the first primary one or else the first, or that of
+/// the text's beginning without labels. Its scope is the source, its number the code. Help and note
+/// stand behind its message, each on lines of its own. Its other labels are related information;
+/// where the client shows none, each is a line behind the message, `LINE:CHARACTER: TEXT` from 1.
+/// Labels are by bytes of the text.
 ///
 /// # Errors
 ///
@@ -213,7 +215,7 @@ fn severity_number(severity: Severity) -> u32
     }
 }
 
-/// The range of the first label, and of the text's beginning without labels.
+/// The range of the head label, and of the text's beginning without labels.
 #[tactic(auto, unfolding(crate::specs::Diagnostics::head_range))]
 fn head_range(
     alloc: Global,
@@ -223,12 +225,12 @@ fn head_range(
     requires { All (StandsIn file.now.places.now) labels.now }
     ensures { IfOk result (λ value. view value ≡ head_range_of (seen file.now) labels.now) }
 {
-    match labels {
-        [] => {
+    match head_label(labels) {
+        None => {
             let origin = Place { line: 0, unit: 0 };
             range_value(alloc, origin, origin)
         }
-        [first, ..] => label_range(alloc, file, first),
+        Some(head) => label_range(alloc, file, head),
     }
 }
 
@@ -301,14 +303,15 @@ fn put_related(
         (related_values_of (seen file.now) (inner_parts parts.now))
         (members_view members.old.entries)) }
 {
-    let labels = others(parts.labels.as_slice());
-    if !file.related || labels.is_empty() {
+    let labels = parts.labels.as_slice();
+    if !file.related || labels.len() < 2 {
         return Ok(());
     }
     let values = related_values(alloc, file, parts.message.as_str(), labels)?;
     put(members, alloc, "relatedInformation", values)
 }
 
+/// All labels but the head one as related information.
 fn related_values(
     alloc: Global,
     file: &OpenFile<'_>,
@@ -317,13 +320,31 @@ fn related_values(
 ) -> Result<Value, AllocError>
     requires { All (StandsIn file.now.places.now) labels.now }
     ensures { IfOk result (λ value. view value
-        ≡ array (items_of (map (related_of (seen file.now) message.now) labels.now))) }
+        ≡ array (items_of (map (related_of (seen file.now) message.now) (others_of labels.now)))) }
 {
-    let mut values = Vec::with_capacity(alloc, labels.len())?;
+    let (before, behind) = others(labels);
+    let mut values = Vec::new(alloc);
+    push_related(alloc, &mut values, file, message, before)?;
+    push_related(alloc, &mut values, file, message, behind)?;
+    Ok(Value::Array(values))
+}
+
+/// Appends labels as related information.
+fn push_related(
+    alloc: Global,
+    values: &mut Vec<Value>,
+    file: &OpenFile<'_>,
+    message: &str,
+    labels: &[LabeledSpan],
+) -> Result<(), AllocError>
+    requires { All (StandsIn file.now.places.now) labels.now }
+    ensures { OnOk result (map view values.new.items ≡ map view values.old.items
+        ++ map (related_of (seen file.now) message.now) labels.now) }
+{
     for label in labels {
         values.push(related_value(alloc, file, message, label)?)?;
     }
-    Ok(Value::Array(values))
+    Ok(())
 }
 
 /// A label as related information: where it stands, and what it says.

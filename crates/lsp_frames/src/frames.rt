@@ -39,7 +39,9 @@ pub enum End {
 /// What a call came to, and how many bytes it used.
 #[derive(Drop)]
 pub struct Taken {
+    /// How many of the bytes were used: the call behind it takes those from there on.
     pub used: usize,
+    /// A message, no message yet, or why there is none.
     pub end: End,
 }
 

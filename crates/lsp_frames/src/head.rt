@@ -37,6 +37,7 @@ pub enum Place {
 /// What is read of a head.
 #[derive(Clone, Copy, Debug)]
 pub struct Head {
+    /// Where in it the next byte stands.
     pub place: Place,
     /// The body's length, once it has been read.
     pub length: Option<u32>,
@@ -58,9 +59,11 @@ pub enum Why {
 /// What a byte of a head leads to.
 #[derive(Clone, Copy, Debug)]
 pub enum Step {
+    /// The head goes on.
     On(Head),
     /// The head ends here, and so many bytes follow.
     Begins(u32),
+    /// No frame has the byte there.
     Fault(Why),
 }
 

@@ -1,5 +1,5 @@
 -- A text around an offset that moves.
-use Rattle.std.proofs.Common.{◌≡◌, ℕ, ◌+◌, ◌-◌, ◌<◌, ◌≤◌, ⊎_elim, List, ◌++◌, length, take, drop, refl, sym, ◌∙◌, ap, subst, append_assoc, arith, length-append}
+use Rattle.std.proofs.Common.{◌≡◌, ℕ, ◌+◌, ◌-◌, ◌<◌, ◌≤◌, ⊎_elim, List, ◌++◌, length, take, drop, sym, ◌∙◌, ap, subst, append_assoc, arith, length-append}
 use Rattle.std.proofs.lemmas.Grind.{common_steps}
 use Rattle.std.proofs.lemmas.Bool.{cases_lt}
 use Rattle.std.proofs.lemmas.Bool.Decides.{nat_tests}
@@ -8,7 +8,7 @@ use Rattle.std.proofs.lemmas.Str.{IsUtf8-append, IsUtf8-drop, IsUtf8-take, IsCha
 use Rattle.std.proofs.Math.Seq.{drop-append-add}
 use Rattle.std.specs.Str.{IsUtf8, IsCharBoundary}
 use Rattle.lsp_marks.specs.declared.Change.{Change}
-use Rattle.lsp_marks.specs.Moved.{moved_offset, changed, CutsNone, IsChangeOf, KeepsBoundaries, KeepsText, MovesInOrder, MovesWithText}
+use Rattle.lsp_marks.specs.Moved.{moved_offset, changed, CutsNone, IsChangeOf, KeepsBoundaries, MovesInOrder, MovesWithText}
 
 stays : (change : Change) (offset : ℕ) → offset ≤ change.start → moved_offset change offset ≡ offset
 stays change offset h = grind (arith, nat_tests)

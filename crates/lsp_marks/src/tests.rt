@@ -1,6 +1,21 @@
 // One change, and what it does to offsets and marks.
+ghost use Rattle.std.specs.Prelude.{◌<◌, IsTrue};
+
 use crate::{Change, Mark, move_mark, move_marks, move_offset};
 use std::test::Fail;
+
+// Whether an offset moves when a byte is put in front of a text: each but the first does.
+fn moves(offset: u32) -> bool
+    requires { 0 < offset }
+    ensures { IsTrue result }
+{
+    let change = Change {
+        start: 0,
+        end: 0,
+        inserted: 1,
+    };
+    move_offset(change, offset as usize) > offset as usize
+}
 
 const CHANGE: Change = Change {
     start: 4,
@@ -23,6 +38,11 @@ fn offsets_stay_go_and_shift(rt: HostRuntime) {
     for (offset, wanted) in rows {
         assert_eq!(rt; move_offset(CHANGE, offset), wanted);
     }
+}
+
+#[test]
+fn all_move_behind_a_first_byte(rt: HostRuntime) {
+    assert!(rt; moves(1) && moves(u32::MAX));
 }
 
 #[test]

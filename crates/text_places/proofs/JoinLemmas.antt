@@ -1,9 +1,8 @@
 -- A part with the page before it or behind it.
-use Rattle.std.proofs.Common.{◌≡◌, ℕ, ◌+◌, ◌-◌, ◌≤◌, ◌<◌, List, [], ◌++◌, length, take, drop, get_or, refl, sym, ap, subst, ◌∙◌, arith, append_assoc}
-use Rattle.std.specs.List.{replace_range}
-use Rattle.std.proofs.lemmas.List.{length-append, drop_all, get_or_append_left, get_or_past}
+use Rattle.std.proofs.Common.{◌≡◌, ℕ, ◌+◌, ◌-◌, ◌≤◌, ◌<◌, List, [], ◌++◌, length, drop, get_or, sym, ap, subst, ◌∙◌, arith, append_assoc}
+use Rattle.std.proofs.lemmas.List.{drop_all, get_or_append_left, get_or_past}
 use Rattle.text_places.specs.Pages.{most_bytes, least_bytes, bytes_in, text_of, front_of, ArePages}
-use Rattle.text_places.specs.Mending.{IsBetween, PartNone}
+use Rattle.text_places.specs.Mending.{IsBetween}
 use Rattle.text_places.specs.declared.page.Page.{Page}
 use Rattle.text_places.proofs.PagesLemmas.{rest-more, front-more, text-nil, cut_before, cut_behind, last_behind}
 

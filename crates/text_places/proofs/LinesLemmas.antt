@@ -1,5 +1,5 @@
 -- Lines that lie in one page.
-use Rattle.std.proofs.Common.{◌≡◌, ⊎_elim, ℕ, ◌+◌, ◌-◌, ◌<◌, ◌≤◌, List, length, get_or, refl, sym, ap, subst, ◌∙◌, arith, suc, add-one, Some, None, true, cond, ◌==◌}
+use Rattle.std.proofs.Common.{◌≡◌, ⊎_elim, ℕ, ◌+◌, ◌-◌, ◌<◌, ◌≤◌, List, length, get_or, refl, sym, ap, subst, ◌∙◌, arith, add-one, Some, None, true, cond, ◌==◌}
 use Rattle.std.specs.Str.{IsUtf8, IsCharBoundary}
 use Rattle.std.proofs.lemmas.Bool.{cases_lt, and_parts, eqb-true}
 use Rattle.std.proofs.lemmas.Str.{IsCharBoundary-before_ascii}
@@ -11,7 +11,7 @@ use Rattle.text_places.specs.Bytes.{before}
 use Rattle.text_places.specs.Ends.{IsRowEnd}
 use Rattle.text_places.specs.Places.{place_at, line_start_of, line_end, IsOffsetOf, IsNearest}
 use Rattle.text_places.specs.Pages.{bytes_in, units_in, HasOffset, TellsText, IsLastUpTo, ends_pair}
-use Rattle.text_places.specs.Lines.{LiesIn, IsLineInPage}
+use Rattle.text_places.specs.Lines.{IsLineInPage}
 use Rattle.text_places.specs.declared.seek.LineInPage.{LineInPage}
 use Rattle.text_places.specs.declared.encoding.Encoding.{Encoding}
 use Rattle.text_places.specs.declared.page.Page.{Page}
@@ -21,7 +21,6 @@ use Rattle.text_places.proofs.LineLemmas.{starts_at, line_start-row, before_next
 use Rattle.text_places.proofs.PlaceLemmas.{place_units, line_known, one_offset, break_low}
 use Rattle.text_places.proofs.PagesLemmas.{two_bytes, shaped}
 use Rattle.text_places.proofs.AnswersLemmas.{place_counted, nearest_upto, start_to_end}
-use Rattle.text_places.proofs.ListedLemmas.{end-le}
 
 -- an offset whose row starts in its page
 pub place_in_page : (e : Encoding) (text : List ℕ) (o row start unit line : ℕ) (page : Page) → IsUtf8 text → IsCharBoundary text o → HasOffset text o page → TellsText text page → 1 ≤ row

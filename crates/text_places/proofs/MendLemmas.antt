@@ -1,11 +1,11 @@
 -- A change of a text in its pages.
-use Rattle.std.proofs.Common.{◌≡◌, ◌⊎◌, inl, inr, ℕ, ◌+◌, ◌-◌, ◌^◌, ◌<◌, ◌≤◌, Bool, true, false, ltb, leb, List, [], ◌∷◌, ◌++◌, length, take, drop, get_or, refl, sym, ap, subst, ◌∙◌, arith, suc, zero, ⊎_elim, append_assoc, append-nil, add-one}
-use Rattle.std.specs.Str.{IsUtf8, IsCharBoundary}
-use Rattle.std.specs.List.{replace_range, splice}
+use Rattle.std.proofs.Common.{◌≡◌, ◌⊎◌, inl, inr, ℕ, ◌+◌, ◌-◌, ◌<◌, ◌≤◌, true, false, ltb, leb, List, [], ◌++◌, length, take, drop, get_or, refl, sym, ap, subst, ◌∙◌, arith, ⊎_elim, append_assoc}
+use Rattle.std.specs.Str.{IsCharBoundary}
+use Rattle.std.specs.List.{replace_range}
 use Rattle.std.specs.List.Sorted.{IsPartitionPoint}
-use Rattle.std.proofs.lemmas.Bool.{cases_lt, false≢true, leb-true, leb-false, ltb-true, ltb-false}
+use Rattle.std.proofs.lemmas.Bool.{cases_lt, leb-true, leb-false, ltb-true, ltb-false}
 use Rattle.std.proofs.Math.Seq.{take-add}
-use Rattle.std.proofs.lemmas.List.{get_or_default, take-append-drop, length-take-le, length-drop, length-take, drop-drop, drop-append-le, length-append, get_or-append-add, get_or_append_left, get_or_past, get_or-take, get_or-drop, take_at, drop_at, take-append-le, take-take, take_all, drop_all}
+use Rattle.std.proofs.lemmas.List.{get_or_default, take-append-drop, length-take-le, length-drop, length-take, drop-drop, drop-append-le, length-append, get_or-append-add, get_or_append_left, get_or_past, get_or-take, get_or-drop, take_at, drop_at, take-append-le, take-take, drop_all}
 use Rattle.std.proofs.lemmas.List.Elements.{All-append, All-take, All-drop}
 use Rattle.source_location.specs.Index.{Fits}
 use Rattle.source_location.specs.Breaks.{breaks_of}

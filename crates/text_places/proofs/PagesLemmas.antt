@@ -1,6 +1,7 @@
 -- Pages of a text, and what is counted in them.
-use Rattle.std.proofs.Common.{◌≡◌, ◌⊎◌, ℕ, ◌+◌, ◌-◌, ◌<◌, ◌≤◌, Bool, true, false, cond, ltb, leb, ◌&&◌, Some, List, [], ◌∷◌, ◌++◌, length, map, take, drop, get_or, refl, sym, ap, subst, ◌∙◌, arith, suc, zero, ⊎_elim, append-nil, add-one, ◌==◌}
+use Rattle.std.proofs.Common.{◌≡◌, ℕ, ◌+◌, ◌*◌, ◌-◌, ◌<◌, ◌≤◌, Bool, true, false, cond, ltb, leb, ◌&&◌, Some, List, [], ◌∷◌, ◌++◌, length, map, take, drop, get_or, refl, sym, ap, subst, ◌∙◌, arith, suc, zero, ⊎_elim, append-nil, add-one, ◌==◌}
 use Rattle.std.specs.Str.{IsUtf8}
+use Rattle.std.specs.Prelude.{All}
 use Rattle.std.specs.List.{concat}
 use Rattle.std.specs.List.Sorted.{IsNonDecreasingBy, IsPartitionPoint}
 use Rattle.std.proofs.Math.Seq.{take-add}
@@ -8,6 +9,7 @@ use Rattle.std.proofs.lemmas.Bool.{cases_lt, and_parts, false_from_ne_true, eqb-
 use Rattle.std.proofs.lemmas.Bool.Decides.{nat_tests}
 use Rattle.std.proofs.lemmas.List.{take_more, take-take, take-append-drop, drop_more, drop_all, take_all, length-append, length-take-le, length-drop, get_or-take, get_or-drop, take_at, drop_at, take-append-le, get_or-append-add, get_or_append_left, get_or_past, get_or-map}
 use Rattle.std.proofs.lemmas.List.Concat.{flat_map-append}
+use Rattle.std.proofs.lemmas.List.Elements.{All-head, All-tail}
 use Rattle.std.proofs.lemmas.List.Sums.{sum_by-append, sum_by-cons}
 use Rattle.std.proofs.lemmas.Str.{IsUtf8-append, IsUtf8-string_bytes, IsUtf8-nil}
 use Rattle.source_location.specs.Breaks.{LineBreak, break_at, break_with, breaks_of, moved}
@@ -18,7 +20,7 @@ use Rattle.source_location.proofs.RowsLemmas.{row_le, row_start-le, row_start_af
 use Rattle.source_location.proofs.CutLemmas.{PartsNone, breaks_of-append}
 use Rattle.text_places.specs.Bytes.{begun, before}
 use Rattle.text_places.specs.Places.{line_end}
-use Rattle.text_places.specs.Pages.{bytes_in, text_of, front_of, counts_of, units_in, IsCounted, ArePages, IsInPage, IsRowPage, IsUnitPage, HasOffset, HasRowEnd, HasUnits, IsLastWithin, TellsText, ends_pair}
+use Rattle.text_places.specs.Pages.{least_bytes, bytes_in, text_of, front_of, counts_of, units_in, ArePages, IsInPage, IsRowPage, IsUnitPage, HasOffset, HasRowEnd, HasUnits, IsLastWithin, TellsText, ends_pair}
 use Rattle.text_places.specs.Ends.{IsRowEnd}
 use Rattle.text_places.specs.Ranges.{IsAmong}
 use Rattle.text_places.specs.declared.seek.Range.{Range}
@@ -65,6 +67,23 @@ pub concat-pages : (pages : List Page) → concat (map bytes_in pages) ≡ text_
 unfolding text_of
 concat-pages [] = refl
 concat-pages (page ∷ pages) = ap (λ l. bytes_in page ++ l) (concat-pages pages)
+
+-- pages of so many bytes at least
+full-pages : (pages : List Page) → All (λ page. least_bytes ≤ length (bytes_in page)) pages → least_bytes * length pages ≤ length (text_of pages)
+full-pages [] each = omega arith
+full-pages (page ∷ pages) each =
+    let first = All-head (λ (p : Page). least_bytes ≤ length (bytes_in p)) page pages each in
+    let rest = full-pages pages (All-tail (λ (p : Page). least_bytes ≤ length (bytes_in p)) page pages each) in
+    let joined = ap length (text-cons page pages) ∙ length-append (bytes_in page) (text_of pages) in
+    omega (arith, first, rest, joined)
+
+pub few-pages : (pages : List Page) → (1 < length pages → All (λ page. least_bytes ≤ length (bytes_in page)) pages)
+    → least_bytes * length pages ≤ length (text_of pages) + least_bytes
+few-pages [] least = omega arith
+few-pages (page ∷ []) least = omega arith
+few-pages (page ∷ next ∷ pages) least =
+    let full = full-pages (page ∷ next ∷ pages) (least (omega arith)) in
+    omega (arith, full)
 
 pub text_utf8 : (pages : List Page) → IsUtf8 (text_of pages)
 text_utf8 [] = subst IsUtf8 (sym text-nil) IsUtf8-nil

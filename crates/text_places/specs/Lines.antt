@@ -2,7 +2,7 @@
 use Rattle.std.specs.Prelude.{◌≡◌, ℕ, ◌+◌, ◌-◌, ◌^◌, ◌<◌, ◌≤◌, List, length}
 use Rattle.source_location.specs.Breaks.{breaks_of}
 use Rattle.text_places.specs.Places.{line_begin, line_end}
-use Rattle.text_places.specs.Pages.{most_bytes, bytes_in, TellsText}
+use Rattle.text_places.specs.Pages.{bytes_in, TellsText}
 use Rattle.text_places.specs.declared.seek.LineInPage.{LineInPage}
 
 -- a line lies in a page: its start, and behind it the beginning and the end of its break

@@ -1,5 +1,5 @@
 -- Pages among which one is looked for.
-use Rattle.std.specs.Prelude.{◌≡◌, ℕ, ◌<◌, ◌≤◌, Bool, true, false, List, length, slice_index_or}
+use Rattle.std.specs.Prelude.{◌≡◌, ◌<◌, ◌≤◌, Bool, true, false, List, length, slice_index_or}
 use Rattle.text_places.specs.declared.page.Page.{Page}
 use Rattle.text_places.specs.declared.seek.Range.{Range}
 

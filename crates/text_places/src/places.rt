@@ -72,8 +72,8 @@ impl TextPlaces {
         Ok(TextPlaces { pages, end, share })
     }
 
-    /// The place of a boundary of the text. Of an offset that is none, or past the text, the place
-    /// isn't said.
+    /// The place of a boundary of the text, which is an offset in bytes from 0. Of an offset that is
+    /// none, or past the text, the place isn't said.
     pub fn place_of(&self, encoding: Encoding, offset: TextSize) -> Place
         ensures { IsCharBoundary self.now offset → result ≡ place_at encoding self.now offset }
     {
@@ -81,7 +81,7 @@ impl TextPlaces {
         place_in(self.pages.as_slice(), encoding, at)
     }
 
-    /// The boundary with the place; None exactly where no boundary has it.
+    /// The boundary with the place, as an offset in bytes; None exactly where no boundary has it.
     pub fn offset_of(&self, encoding: Encoding, place: Place) -> Option<TextSize>
         ensures { IsOffsetOf encoding self.now place result }
     {
@@ -217,7 +217,8 @@ impl TextPlaces {
         self.end.rows + 1
     }
 
-    /// Where a line lies, without its break; None where there is no such line.
+    /// Where a line lies, without its break, in bytes; lines count from 0. None where there is no such
+    /// line.
     pub fn line_range(&self, line: u32) -> Option<TextRange>
         ensures some { IsSome result ↔ (line ≤ length (breaks_of self.now)) }
         ensures value { IfSome result (λ range. IsLineRange self.now line range.0 range.1) }
@@ -234,7 +235,7 @@ impl TextPlaces {
         Some(TextRange::new(TextSize::new(start), TextSize::new(end)))
     }
 
-    /// Replaces a part of the text.
+    /// Replaces a part of the text, a range of bytes.
     ///
     /// # Errors
     ///
@@ -287,6 +288,7 @@ impl TextPlaces {
         ensures text { concat result ≡ self.now }
         ensures most { All (λ piece. length piece ≤ most_bytes) result }
         ensures least { 1 < length result → All (λ piece. least_bytes ≤ length piece) result }
+        ensures few { least_bytes * length result ≤ length self.now + least_bytes }
     {
         Pieces::of_pages(self.pages.as_slice())
     }

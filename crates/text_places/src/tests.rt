@@ -130,7 +130,7 @@ fn boundaries_behind_a_mark_and_past_ascii_have_places(rt: HostRuntime) -> Resul
 }
 
 // An encoding, a text, a place, the nearest boundary, and the one with the place.
-const NEAREST: [(Encoding, &str, (u32, u32), u32, Option<u32>); 19] = [
+const NEAREST: [(Encoding, &str, (u32, u32), u32, Option<u32>); 20] = [
     (Encoding::Utf16, "", (0, 0), 0, Some(0)),
     (Encoding::Utf16, "", (0, 9), 0, None),
     (Encoding::Utf16, "", (3, 2), 0, None),
@@ -143,6 +143,7 @@ const NEAREST: [(Encoding, &str, (u32, u32), u32, Option<u32>); 19] = [
     (Encoding::Utf16, "ab\r\nc", (0, 4), 2, None),
     (Encoding::Utf8, "ab\rc", (0, 9), 2, None),
     (Encoding::Utf8, "ab\rc", (1, 9), 4, None),
+    (Encoding::Utf8, "ab\nc", (2, 0), 4, None),
     (Encoding::Utf32, "ab\n", (1, 0), 3, Some(3)),
     (Encoding::Utf32, "ab\n", (1, 1), 3, None),
     (Encoding::Utf32, "ab\n", (2, 0), 3, None),

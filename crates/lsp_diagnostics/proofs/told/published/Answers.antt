@@ -1,4 +1,4 @@
-use Rattle.std.proofs.Common.{◌≤◌, ℕ, sym, ap, subst}
+use Rattle.std.proofs.Common.{◌≤◌, sym, subst}
 use Rattle.serde_json.specs.Data.{Data, depth}
 use Rattle.lsp_diagnostics.specs.Files.{seen}
 use Rattle.lsp_diagnostics.proofs.ShallowLemmas.{published_shallow}

@@ -1,6 +1,3 @@
-use Rattle.std.proofs.Common.{arith, ◌+◌, subst, ap, ◌∙◌}
-use Rattle.text_places.specs.Bytes.{before}
-use Rattle.text_places.specs.Pages.{bytes_in, IsLastUpTo}
 use Rattle.text_places.proofs.LinesLemmas.{nearest_in_page}
 use Rattle.text_places.proofs.answers.nearest_of_line.Goals as goal
 

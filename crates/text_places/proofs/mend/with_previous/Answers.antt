@@ -1,4 +1,4 @@
-use Rattle.std.proofs.Common.{arith, subst, sym, ◌∙◌, ◌+◌, ◌-◌, ◌<◌, ◌++◌, ap, length}
+use Rattle.std.proofs.Common.{arith, subst, sym, ◌∙◌, ◌-◌, ◌++◌, ap, length}
 use Rattle.std.proofs.lemmas.List.{length-append}
 use Rattle.std.specs.String.{string_bytes}
 use Rattle.text_places.specs.Pages.{bytes_in}

@@ -1,4 +1,4 @@
-use Rattle.std.proofs.Common.{arith, ◌+◌, ◌<◌, ℕ}
+use Rattle.std.proofs.Common.{arith}
 use Rattle.text_places.proofs.UnitsLemmas.{before-more}
 use Rattle.text_places.proofs.page.place_by_byte.Goals as goal
 

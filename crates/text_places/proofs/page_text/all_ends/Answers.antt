@@ -1,4 +1,4 @@
-use Rattle.std.proofs.Common.{arith, ap, sym, ◌≡◌, ◌∙◌, ◌+◌, ◌++◌, ◌∷◌, [], ℕ, cond, length}
+use Rattle.std.proofs.Common.{arith, ap, sym, ◌≡◌, ◌∙◌, ◌+◌, ◌∷◌, [], ℕ, cond, length}
 use Rattle.std.proofs.lemmas.List.{length-append}
 use Rattle.source_location.specs.Breaks.{breaks_of}
 use Rattle.source_location.specs.Rows.{row_of}

@@ -1,4 +1,4 @@
-use Rattle.std.proofs.Common.{length, ◌<◌, ◌-◌}
+use Rattle.std.proofs.Common.{length, ◌<◌}
 use Rattle.text_places.proofs.plain.back_to_row.Given as goal
 
 abbrev pub invariant-loop-at : goal.invariant-loop-at

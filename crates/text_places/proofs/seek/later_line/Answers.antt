@@ -1,8 +1,6 @@
-use Rattle.std.proofs.Common.{arith, ◌-◌, ◌+◌, ap, length, ◌∙◌}
-use Rattle.source_location.specs.Breaks.{breaks_of}
-use Rattle.text_places.specs.Pages.{text_of, bytes_in}
+use Rattle.std.proofs.Common.{arith, ◌-◌}
+use Rattle.text_places.specs.Pages.{text_of}
 use Rattle.text_places.proofs.PagesLemmas.{text_utf8}
-use Rattle.text_places.proofs.LineLemmas.{starts_at}
 use Rattle.text_places.proofs.LinesLemmas.{line_lies}
 use Rattle.text_places.proofs.seek.later_line.Goals as goal
 

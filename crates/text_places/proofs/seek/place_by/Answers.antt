@@ -1,5 +1,5 @@
-use Rattle.std.proofs.Common.{◌-◌, ◌∙◌, ap, length, sym, subst}
-use Rattle.text_places.specs.Pages.{units_in, bytes_in, IsLastWithin}
+use Rattle.std.proofs.Common.{◌-◌, ◌∙◌, ap, length}
+use Rattle.text_places.specs.Pages.{units_in, bytes_in}
 use Rattle.text_places.proofs.ListedLemmas.{reach_all}
 use Rattle.text_places.proofs.seek.place_by.Goals as goal
 

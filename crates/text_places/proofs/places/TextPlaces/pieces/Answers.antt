@@ -1,9 +1,9 @@
-use Rattle.std.proofs.Common.{map, ap, arith, ◌≡◌, ◌∙◌, ℕ, List, length, ◌≤◌, ◌<◌}
+use Rattle.std.proofs.Common.{map, ap, arith, ◌∙◌, ℕ, List, length, ◌≤◌, ◌<◌}
 use Rattle.std.specs.List.{concat}
 use Rattle.std.proofs.lemmas.List.{length-map}
 use Rattle.std.proofs.lemmas.List.Elements.{All-map, All-same}
 use Rattle.text_places.specs.Pages.{most_bytes, least_bytes, bytes_in}
-use Rattle.text_places.proofs.PagesLemmas.{concat-pages}
+use Rattle.text_places.proofs.PagesLemmas.{concat-pages, few-pages}
 use Rattle.text_places.proofs.places.TextPlaces.pieces.Goals as goal
 
 pub returns-clause-text : goal.returns-clause-text
@@ -22,3 +22,9 @@ returns-clause-least c more =
     let some : 1 < length items = omega (arith, more, ap length same, length-map items bytes_in) in
     All-same (λ (piece : List ℕ). least_bytes ≤ length piece) c.of_pages.result (map bytes_in items) same
     (All-map (λ (piece : List ℕ). least_bytes ≤ length piece) bytes_in items (c.self.invariant.known.filled.least some))
+
+pub returns-clause-few : goal.returns-clause-few
+returns-clause-few c =
+    let items = c.self.inside.pages.items in
+    let same = c.of_pages.ensures ∙ ap (map bytes_in) c.as_slice.ensures.value in
+    omega (arith, few-pages items c.self.invariant.known.filled.least, ap length same, length-map items bytes_in, ap length c.self.view_is)
