@@ -10,12 +10,12 @@ use Rattle.ci_formats.specs.Files.{along}
 use Rattle.ci_formats.specs.Gitlab.{is_same_issue, issue_value, one_issue}
 use Rattle.ci_formats.proofs.FilesLemmas.{along_more}
 
-pub more_issues : (done values : List Value) (value : Value) (before : ℕ) (fs : List Finding) (i : ℕ) (x : Finding)
-    → i < length fs → x ≡ get_or fs i x → values ≡ done ++ value ∷ [] → view value ≡ issue_value before (finding_parts x)
+pub more_issues : (usual : List ℕ) (done values : List Value) (value : Value) (before : ℕ) (fs : List Finding) (i : ℕ) (x : Finding)
+    → i < length fs → x ≡ get_or fs i x → values ≡ done ++ value ∷ [] → view value ≡ issue_value usual before (finding_parts x)
     → before ≡ count_by (is_same_issue (finding_parts x)) (map finding_parts (take i fs))
-    → map view done ≡ along one_issue [] (map finding_parts (take i fs))
-    → map view values ≡ along one_issue [] (map finding_parts (take (i + 1) fs))
-more_issues done values value before fs i x within is pushed written counted so_far =
+    → map view done ≡ along (one_issue usual) [] (map finding_parts (take i fs))
+    → map view values ≡ along (one_issue usual) [] (map finding_parts (take (i + 1) fs))
+more_issues usual done values value before fs i x within is pushed written counted so_far =
     ap (map view) pushed ∙ map_push view done value
-    ∙ ap₂ (λ l d. l ++ d ∷ []) so_far (written ∙ ap (λ n. issue_value n (finding_parts x)) counted)
-    ∙ sym (along_more one_issue fs i x within is)
+    ∙ ap₂ (λ l d. l ++ d ∷ []) so_far (written ∙ ap (λ n. issue_value usual n (finding_parts x)) counted)
+    ∙ sym (along_more (one_issue usual) fs i x within is)

@@ -51,6 +51,14 @@ begin_of f = unwrap_or f.start.row 1
 abbrev pub last_of : FindingParts → ℕ
 last_of f = unwrap_or f.end.row (begin_of f)
 
+-- the check of a finding without a code: the tool, else the program
+abbrev pub usual_check : Option (List ℕ) → List ℕ
+usual_check tool = unwrap_or tool (codes "girzohal")
+
+-- the check of a finding: its code, else the usual one
+abbrev pub check_of : List ℕ → FindingParts → List ℕ
+check_of usual f = unwrap_or f.code usual
+
 abbrev pub whole : ℕ → Data
 whole n = number (unsigned n)
 
@@ -60,20 +68,20 @@ location_value f =
     (put (codes "lines") (object (put (codes "end") (whole (last_of f)) (put (codes "begin") (whole (begin_of f)) no_members))) no_members))
 
 -- a finding, before which this many of its fingerprint stand
-unfoldable pub issue_value : ℕ → FindingParts → Data
-issue_value before f =
+unfoldable pub issue_value : List ℕ → ℕ → FindingParts → Data
+issue_value usual before f =
     object (put (codes "location") (location_value f)
     (put (codes "severity") (string (grade f.severity))
     (put (codes "fingerprint") (string (fingerprint (path_of f.name) (code_of f.code) f.message before))
-    (put (codes "check_name") (string (unwrap_or f.code (codes "girzohal")))
+    (put (codes "check_name") (string (check_of usual f))
     (put (codes "description") (string f.message) no_members)))))
 
-abbrev pub one_issue : List FindingParts → FindingParts → List Data
-one_issue earlier f = issue_value (count_by (is_same_issue f) earlier) f ∷ []
+abbrev pub one_issue : List ℕ → List FindingParts → FindingParts → List Data
+one_issue usual earlier f = issue_value usual (count_by (is_same_issue f) earlier) f ∷ []
 
--- the report: an array of all, in order
-unfoldable pub gitlab_value : List FindingParts → Data
-gitlab_value findings = array (items_of (along one_issue [] findings))
+-- the report of a tool's findings: an array of all, in order
+unfoldable pub gitlab_value : Option (List ℕ) → List FindingParts → Data
+gitlab_value tool findings = array (items_of (along (one_issue (usual_check tool)) [] findings))
 
-abbrev pub gitlab_of : List FindingParts → List ℕ
-gitlab_of findings = compact_text (gitlab_value findings)
+abbrev pub gitlab_of : Option (List ℕ) → List FindingParts → List ℕ
+gitlab_of tool findings = compact_text (gitlab_value tool findings)

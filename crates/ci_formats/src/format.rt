@@ -42,7 +42,7 @@ pub enum SendError {
     OutOfMemory,
 }
 
-/// The text of findings in a format.
+/// The text of findings in a format. For GitLab no tool is named.
 ///
 /// # Errors
 ///
@@ -53,7 +53,7 @@ pub fn text_in(alloc: Global, format: CiFormat, findings: &[Finding]) -> Result<
 {
     match format {
         CiFormat::Github => github_text(alloc, findings),
-        CiFormat::Gitlab => gitlab_text(alloc, findings),
+        CiFormat::Gitlab => gitlab_text(alloc, None, findings),
         CiFormat::Checkstyle => checkstyle_text(alloc, findings),
         CiFormat::Junit => junit_text(alloc, findings),
         CiFormat::Stylish => stylish_text(alloc, findings),

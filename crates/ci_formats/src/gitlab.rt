@@ -1,13 +1,15 @@
 // The JSON of GitLab's code quality reports.
-ghost use Rattle.std.specs.Prelude.{◌≡◌, IfOk, Some, codes, map, string_bytes, unwrap_or};
+ghost use Rattle.std.specs.Prelude.{◌≡◌, IfOk, Some, map, string_bytes};
+ghost use Rattle.std.specs.Option.{option_copied};
 ghost use Rattle.serde_json.specs.Read.{read};
 ghost use Rattle.serde_json.specs.View.{view};
 ghost use Rattle.ci_findings.specs.Finding.{finding_parts};
-ghost use Rattle.ci_formats.specs.Gitlab.{begin_of, code_of as code_for, gitlab_of, gitlab_value};
+ghost use Rattle.ci_formats.specs.Gitlab.{begin_of, check_of, code_of as code_for};
+ghost use Rattle.ci_formats.specs.Gitlab.{gitlab_of, gitlab_value};
 ghost use Rattle.ci_formats.specs.Gitlab.{grade as grade_of};
 ghost use Rattle.ci_formats.specs.Gitlab.{issue_parts, issue_value as issue_of, key_parts};
 ghost use Rattle.ci_formats.specs.Gitlab.{last_of, location_value as location_of};
-ghost use Rattle.ci_formats.specs.Gitlab.{path_of as path_for};
+ghost use Rattle.ci_formats.specs.Gitlab.{path_of as path_for, usual_check as usual_for};
 
 use crate::counted::count_once;
 use crate::fingerprints::fingerprint;
@@ -26,31 +28,38 @@ pub struct IssueKey<'a> {
     pub path: &'a str,
 }
 
-/// The JSON of a code quality report of GitLab: an array of the findings, in order.
+/// The JSON of a code quality report of GitLab: an array of the findings, in order. The check of a
+/// finding without a code is the tool that is named, else `girzohal`.
 ///
 /// # Errors
 ///
 /// Want of memory.
-pub fn gitlab_text(alloc: Global, findings: &[Finding]) -> Result<String, AllocError>
+pub fn gitlab_text(
+    alloc: Global,
+    tool: Option<&str>,
+    findings: &[Finding],
+) -> Result<String, AllocError>
     ensures text { IfOk result (λ text. string_bytes text
-        ≡ gitlab_of (map finding_parts findings.now)) }
+        ≡ gitlab_of (option_copied tool.entry) (map finding_parts findings.now)) }
     ensures reads_back { IfOk result (λ text. read (string_bytes text)
-        ≡ Some (gitlab_value (map finding_parts findings.now))) }
+        ≡ Some (gitlab_value (option_copied tool.entry) (map finding_parts findings.now))) }
 {
-    let report = report(alloc, findings)?;
+    let report = report(alloc, tool, findings)?;
     let text = report.to_string(alloc)?;
     Ok(text)
 }
 
 /// The report as JSON.
-fn report(alloc: Global, findings: &[Finding]) -> Result<Value, AllocError>
-    ensures { IfOk result (λ value. view value ≡ gitlab_value (map finding_parts findings.now)) }
+fn report(alloc: Global, tool: Option<&str>, findings: &[Finding]) -> Result<Value, AllocError>
+    ensures { IfOk result (λ value. view value
+        ≡ gitlab_value (option_copied tool.entry) (map finding_parts findings.now)) }
 {
+    let usual = usual_check(tool);
     let mut issues = Vec::with_capacity(alloc, findings.len())?;
     let mut counts = BTreeMap::new(alloc);
     for finding in findings {
         let before = count_once(&mut counts, issue_key(finding))?;
-        issues.push(issue(alloc, before, finding)?)?;
+        issues.push(issue(alloc, usual, before, finding)?)?;
     }
     Ok(Value::Array(issues))
 }
@@ -68,15 +77,16 @@ fn issue_key(finding: &Finding) -> IssueKey<'_>
 
 /// A finding as JSON, before which this many of its fingerprint stand.
 #[tactic(auto, unfolding(crate::specs::Gitlab::issue_value))]
-fn issue(alloc: Global, before: usize, finding: &Finding) -> Result<Value, AllocError>
-    ensures { IfOk result (λ value. view value ≡ issue_of before (finding_parts finding.now)) }
+fn issue(alloc: Global, usual: &str, before: usize, finding: &Finding) -> Result<Value, AllocError>
+    ensures { IfOk result (λ value. view value
+        ≡ issue_of usual.now before (finding_parts finding.now)) }
 {
     let (path, code) = (path_of(finding), code_of(finding));
     let print = fingerprint(alloc, path, code, finding.message.as_str(), before)?;
     let place = location(alloc, finding)?;
     json!(in alloc; {
         "description": finding.message.as_str(),
-        "check_name": check_name(finding),
+        "check_name": check_name(usual, finding),
         "fingerprint": print,
         "severity": grade(finding.severity),
         "location": place
@@ -127,13 +137,23 @@ fn code_of(finding: &Finding) -> &str
     }
 }
 
-/// The name of the check: the code, or the program's name.
-fn check_name(finding: &Finding) -> &str
-    ensures { result.now ≡ unwrap_or (finding_parts finding.now).code (codes "girzohal") }
+/// The check of findings without a code: the tool, or the program.
+fn usual_check(tool: Option<&str>) -> &str
+    ensures { result.now ≡ usual_for (option_copied tool.entry) }
+{
+    match tool {
+        Some(tool) => tool,
+        None => "girzohal",
+    }
+}
+
+/// The check of a finding: its code, or the usual one.
+fn check_name<'a>(usual: &'a str, finding: &'a Finding) -> &'a str
+    ensures { result.now ≡ check_of usual.now (finding_parts finding.now) }
 {
     match &finding.code {
         Some(code) => code.as_str(),
-        None => "girzohal",
+        None => usual,
     }
 }
 

@@ -1,5 +1,5 @@
 // Whole texts, as a model in Python has them that shares no code with this.
-use crate::{CiFormat, fingerprint, send, text_in, xml_escape};
+use crate::{CiFormat, fingerprint, gitlab_text, send, text_in, xml_escape};
 use ci_findings::{Finding, Location};
 use oxc_protocol::{MemorySink, Severity};
 use std::alloc::{AllocError, Global};
@@ -148,6 +148,22 @@ fn texts_are_those_of_the_model(rt: HostRuntime) -> Result<(), Fail> {
     ];
     for (format, wanted) in rows {
         assert_eq!(rt; text_in(alloc, format, &findings)?.as_str(), wanted);
+    }
+    Ok(())
+}
+
+#[test]
+fn a_finding_without_a_code_is_by_its_tool(rt: HostRuntime) -> Result<(), Fail> {
+    let alloc = rt.alloc();
+    let findings = findings(alloc)?;
+    let rows = [
+        (None, "\"girzohal\",\"description\":\"Oops\""),
+        (Some("mypy"), "\"mypy\",\"description\":\"Oops\""),
+        (Some("mypy"), "\"n\",\"description\":\"two\\nrows"),
+    ];
+    for (tool, wanted) in rows {
+        let text = gitlab_text(alloc, tool, &findings)?;
+        assert!(rt; text.as_str().contains(wanted), "{wanted}");
     }
     Ok(())
 }

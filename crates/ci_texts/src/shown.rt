@@ -1,7 +1,10 @@
 // What is written of reports for CI systems.
 ghost use Rattle.std.specs.Prelude.{◌≡◌, IfOk, map, string_bytes};
+ghost use Rattle.std.specs.Option.{option_copied};
 ghost use Rattle.ci_findings.specs.Finding.{finding_parts};
-ghost use Rattle.ci_texts.specs.Texts.{ci_text as ci_text_of, shown_finding as finding_shown};
+ghost use Rattle.ci_texts.specs.Texts.{ci_text as ci_text_of, findings_in};
+ghost use Rattle.ci_texts.specs.Texts.{gitlab_text as gitlab_text_of};
+ghost use Rattle.ci_texts.specs.Texts.{shown_finding as finding_shown};
 
 use ci_findings::{Finding, findings_of};
 use ci_formats::{CiFormat, text_in};
@@ -24,9 +27,38 @@ pub fn ci_text(
 ) -> Result<String, AllocError>
     ensures { IfOk result (λ text. string_bytes text ≡ ci_text_of format raw found.now.found) }
 {
-    let findings = findings_of(alloc, found)?;
-    let shown = shown_findings(alloc, raw, &findings)?;
+    let shown = findings(alloc, raw, found)?;
     text_in(alloc, format, &shown)
+}
+
+/// The findings of reports as a code quality report of GitLab. The check of a finding without a code
+/// is the tool that is named, whose name is shown as others are, else `girzohal`.
+///
+/// # Errors
+///
+/// Want of memory.
+#[tactic(auto, unfolding(crate::specs::Texts::gitlab_text))]
+pub fn gitlab_text(
+    alloc: Global,
+    tool: Option<&str>,
+    raw: bool,
+    found: &FoundReports<'_>,
+) -> Result<String, AllocError>
+    ensures { IfOk result (λ text. string_bytes text
+        ≡ gitlab_text_of (option_copied tool.entry) raw found.now.found) }
+{
+    let name = shown_if(alloc, raw, Kind::Name, tool)?;
+    let shown = findings(alloc, raw, found)?;
+    ci_formats::gitlab_text(alloc, name.as_deref(), &shown)
+}
+
+/// The findings of reports, whose texts can't drive a terminal, unless they are to stay raw.
+fn findings(alloc: Global, raw: bool, found: &FoundReports<'_>) -> Result<Vec<Finding>, AllocError>
+    ensures { IfOk result (λ shown. map finding_parts shown.items
+        ≡ findings_in raw found.now.found) }
+{
+    let findings = findings_of(alloc, found)?;
+    shown_findings(alloc, raw, &findings)
 }
 
 /// Findings whose texts can't drive a terminal, unless they are to stay raw.

@@ -2,7 +2,8 @@
 #![tactic(auto)]
 
 ghost use Rattle.std.specs.Prelude.{◌≡◌, IfOk, string_bytes};
-ghost use Rattle.harmless.specs.Harmless.{HasNoHarm, KeepsPlaces, harmless as harmless_text};
+ghost use Rattle.harmless.specs.Harmless.{HasNoHarm, IsTameSource, KeepsPlaces};
+ghost use Rattle.harmless.specs.Harmless.{harmless as harmless_text};
 ghost use Rattle.harmless.specs.Harmless.{harmless_char as harmless_of};
 ghost use Rattle.harmless.specs.Harmless.{harmless_source as source_text, is_between};
 ghost use Rattle.harmless.specs.Harmless.{is_high_control, is_layout as layout_of, is_low_control};
@@ -112,10 +113,11 @@ fn replaced(alloc: Global, kind: Kind, text: &str) -> Result<String, AllocError>
 /// # Errors
 ///
 /// Want of memory.
-#[tactic(auto, using(crate::proofs::SourceLemmas::source_keeps_places))]
+#[tactic(auto, using(crate::proofs::SourceLemmas::source_rules))]
 pub fn harmless_source(alloc: Global, text: &str) -> Result<String, AllocError>
     ensures text { IfOk result (λ out. string_bytes out ≡ source_text text.now) }
     ensures places { IfOk result (λ out. KeepsPlaces text.now (string_bytes out)) }
+    ensures tame { IfOk result (λ out. IsTameSource (string_bytes out)) }
 {
     settled(alloc, text)
 }

@@ -2,6 +2,7 @@
 use Rattle.std.specs.Prelude.{◌≡◌, ℕ, ◌-◌, ◌++◌, ◌∷◌, List, [], length, map, take, min, unwrap_or, Bool, true, false, if◌then◌else◌, Option, Some, None, String, string_bytes, codes}
 use Rattle.std.specs.declared.alloc.Global.{Global}
 use Rattle.std.specs.List.{flat_map}
+use Rattle.std.specs.Str.{bytes_eq}
 use Rattle.serde_json.specs.Written.{compact_text}
 use Rattle.oxc_handlers.specs.declared.theme.GraphicalTheme.{GraphicalTheme}
 use Rattle.oxc_handlers.specs.Theme.{none_theme, unicode_theme, unicode_nocolor_theme}
@@ -77,10 +78,14 @@ pub record IsDocumentText (raw : Bool) (found : List Found) (text : List ℕ) : 
   pub shown : IsShown raw parts document
   pub is : text ≡ compact_text (document_value document.files document.reports)
 
+-- the tool that a word names: `sarif` stands for logs of any tool, and names none
+abbrev pub named_tool : Option (String Global) → Option (List ℕ)
+named_tool None = None
+named_tool (Some word) = if bytes_eq (string_bytes word) (codes "sarif") then None else Some (string_bytes word)
+
 -- the name by which a log is written
 abbrev pub tool_name : Option (String Global) → List ℕ
-tool_name None = codes "girzohal"
-tool_name (Some tool) = string_bytes tool
+tool_name word = unwrap_or (named_tool word) (codes "girzohal")
 
 abbrev pub lacks_text : Held → Bool
 lacks_text (holds text) = false

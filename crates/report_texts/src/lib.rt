@@ -4,7 +4,7 @@
 //!   its two parts.
 //! - [`json_text`]: each report as a line of JSON.
 //! - [`document_text`]: the reports and their files as a document.
-//! - [`sarif_text`]: the same as a SARIF log.
+//! - [`sarif_text`]: the same as a SARIF log, by the tool of [`named_tool`].
 #![tactic(auto)]
 
 mod drawing;
@@ -13,4 +13,4 @@ mod tests;
 mod texts;
 
 pub use drawing::{drawing_text, ending_text, first_drawings};
-pub use texts::{document_text, json_text, sarif_text};
+pub use texts::{document_text, json_text, named_tool, sarif_text};

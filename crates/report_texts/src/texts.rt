@@ -1,9 +1,11 @@
 // Reports as JSON, as a document, and as a SARIF log.
 ghost use Rattle.std.specs.Prelude.{◌≡◌, ◌≤◌, IfOk, IsErrOf, length, map, string_bytes};
+ghost use Rattle.std.specs.Option.{option_copied};
 ghost use Rattle.found_reports.specs.Kept.{file_view};
 ghost use Rattle.shown_reports.specs.declared.shown.ShowError.TheVariants.{TooManyFiles};
 ghost use Rattle.report_texts.specs.Texts.{IsDocumentText, IsSarifText, json_text as json_of_all};
-ghost use Rattle.report_texts.specs.Texts.{given_place, is_unread as is_unread_of, tool_name};
+ghost use Rattle.report_texts.specs.Texts.{given_place, is_unread as is_unread_of};
+ghost use Rattle.report_texts.specs.Texts.{named_tool as tool_named, tool_name};
 
 use documents::write_document;
 use found_reports::{FoundFile, FoundReports, GivenPlace};
@@ -65,7 +67,7 @@ pub fn sarif_text(
     let shown = shown_reports(alloc, found, asked.raw)?;
     let unread = unread_files(alloc, found)?;
     let places = given_places(alloc, found)?;
-    let name = tool(&asked.tool);
+    let name = tool(asked);
     match write_log_with(alloc, name, &shown.files, &unread, &shown.reports, &places) {
         Ok(text) => Ok(text),
         // None of the reports is refused.
@@ -110,12 +112,22 @@ fn given_places(
     Ok(places)
 }
 
-/// The name by which a log is written.
-fn tool(named: &Option<String>) -> &str
-    ensures { result.now ≡ tool_name named.now }
+/// The tool that the words name. `sarif` stands for logs of any tool, and names none.
+pub fn named_tool(asked: &Asked) -> Option<&str>
+    ensures { option_copied result ≡ tool_named asked.now.tool }
 {
-    match named {
-        Some(tool) => tool.as_str(),
+    match &asked.tool {
+        Some(word) if word.as_str() != "sarif" => Some(word.as_str()),
+        _ => None,
+    }
+}
+
+/// The name by which a log is written.
+fn tool(asked: &Asked) -> &str
+    ensures { result.now ≡ tool_name asked.now.tool }
+{
+    match named_tool(asked) {
+        Some(tool) => tool,
         None => "girzohal",
     }
 }

@@ -19,7 +19,7 @@ use Rattle.render_files.specs.Given.{GivenReport}
 use Rattle.render_files.specs.Refusal.{first_at, outside, reversed, refusal_in, refusal_of}
 use Rattle.render_files.specs.Shown.{placed, placed_labels, view_of}
 use Rattle.documents.specs.Document.{Document}
-use Rattle.shown_reports.specs.Shown.{shown_file, shown_source, shown_text, shown_view, shown_label, label_by_bytes, shown_parts, IsShownAs, IsShown}
+use Rattle.shown_reports.specs.Shown.{breaks_held, breaks_shown, shown_file, shown_source, shown_text, shown_view, shown_label, label_by_bytes, shown_parts, IsShownAs, IsShown}
 use Rattle.shown_reports.specs.Standing.{KeepsFile, shown_as}
 use Rattle.shown_reports.proofs.StandingLemmas as standing
 
@@ -116,6 +116,13 @@ shown_is raw found held reports document files is stand keeps shown placed =
     subst (λ it. IsShown raw found it) (ap₂ (λ fs rs. record { files = fs; reports = rs }) (sym shown) (sym placed))
     (subst (λ it. IsShown raw it (record { files = map (shown_file raw) held; reports = map (shown_as raw held) reports })) same
     (shown_from raw held reports (subst (λ fs. All (Stands fs) reports) (sym files) stand) keeps))
+
+-- the rows of the files
+pub rows_shown : (raw : Bool) (held : List NamedHeld) → All (KeepsFile raw) held → map breaks_shown (map (shown_file raw) held) ≡ map breaks_held held
+unfolding shown_file
+rows_shown raw [] keeps = refl
+rows_shown raw (file ∷ rest) keeps =
+    ap₂ (λ x xs. x ∷ xs) (All-head (KeepsFile raw) file rest keeps).rows (rows_shown raw rest (All-tail (KeepsFile raw) file rest keeps))
 
 -- one file more keeps its places
 pub places_more : (raw : Bool) (held : List FoundFile) (at : ℕ) (file : FoundFile) → at < length held → file ≡ get_or held at file

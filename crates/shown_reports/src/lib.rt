@@ -8,6 +8,8 @@
 
 mod given;
 mod shown;
+#[cfg(test)]
+mod tests;
 mod texts;
 
 pub use given::document_reports;

@@ -8,7 +8,8 @@ ghost use Rattle.documents.specs.Views.{document_view};
 ghost use Rattle.found_reports.specs.Found.{found_on};
 ghost use Rattle.found_reports.specs.Held.{held_of};
 ghost use Rattle.found_reports.specs.Kept.{IsShort, Stands, file_view};
-ghost use Rattle.shown_reports.specs.Shown.{IsShown, label_by_bytes as by_bytes, shown_file};
+ghost use Rattle.shown_reports.specs.Shown.{IsShown, breaks_held, breaks_shown};
+ghost use Rattle.shown_reports.specs.Shown.{label_by_bytes as by_bytes, shown_file};
 ghost use Rattle.shown_reports.specs.Shown.{shown_code, shown_note, shown_parts};
 ghost use Rattle.shown_reports.specs.Standing.{KeepsFile, KeepsHeld, shown_as};
 
@@ -46,7 +47,8 @@ impl From<AllocError> for ShowError {
 
 /// Reports that were found, as a document to draw: their texts harmless, or as they are where they
 /// are to be `raw`; labels by bytes; and where a report has none, a last line of its note that says
-/// where its tool puts it. None of its reports is refused by a drawing.
+/// where its tool puts it. None of its reports is refused by a drawing, and each file has the rows
+/// of its source.
 ///
 /// # Errors
 ///
@@ -57,6 +59,8 @@ pub fn shown_reports(
     raw: bool,
 ) -> Result<Document, ShowError>
     ensures shown { IfOk result (λ it. IsShown raw found.now (document_view it)) }
+    ensures rows { IfOk result (λ it. map breaks_shown (document_view it).files
+        ≡ map breaks_held found.now.files) }
     ensures many { IsErrOf result ShowError.TooManyFiles
         → 4294967295 ≤ length found.now.files }
 {
@@ -71,7 +75,7 @@ fn shown_files(alloc: Global, held: &[FoundFile<'_>], raw: bool) -> Result<Files
     requires { All IsShort (map file_view held.now) }
     ensures files { IfOk result (λ files. files ≡ map (shown_file raw) (map file_view held.now)) }
     ensures few { IfOk result (λ files. length held.now ≤ 4294967295) }
-    ensures places { IfOk result (λ files. All (KeepsFile raw) (map file_view held.now)) }
+    ensures kept { IfOk result (λ files. All (KeepsFile raw) (map file_view held.now)) }
     ensures many { IsErrOf result ShowError.TooManyFiles → 4294967295 ≤ length held.now }
 {
     let mut files = Files::new(alloc);
@@ -92,7 +96,7 @@ fn add_file(
     requires { IsShort (file_view file.now) }
     ensures added { OnOk result (files.new ≡ files.old ++ shown_file raw (file_view file.now) ∷ []) }
     ensures few { OnOk result (length files.old < 4294967295) }
-    ensures places { OnOk result (KeepsHeld raw (held_of file.now.source)) }
+    ensures kept { OnOk result (KeepsHeld raw (held_of file.now.source)) }
     ensures many { IsErrOf result ShowError.TooManyFiles → 4294967295 ≤ length files.old }
 {
     let name = shown_text(alloc, raw, Kind::Name, file.name.as_str())?;

@@ -8,4 +8,4 @@ use Rattle.ci_formats.proofs.gitlab.report.Given as goal
 
 abbrev pub invariant-loop-finding : goal.invariant-loop-finding
 invariant-loop-finding l =
-    (map view l.issues.items ≡ along one_issue [] (map finding_parts (take l.finding-index l.findings))) × IssuesCounted l.counts (map finding_parts (take l.finding-index l.findings))
+    (map view l.issues.items ≡ along (one_issue l.usual) [] (map finding_parts (take l.finding-index l.findings))) × IssuesCounted l.counts (map finding_parts (take l.finding-index l.findings))
