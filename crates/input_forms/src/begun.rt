@@ -57,8 +57,8 @@ fn in_bracket(rest: &[u8]) -> Begun
     }
 }
 
-/// A text without a byte order mark before it.
-pub(crate) fn without_mark(bytes: &[u8]) -> &[u8]
+/// A text without a byte order mark before it, which is skipped once.
+pub fn without_mark(bytes: &[u8]) -> &[u8]
     ensures { result.now ≡ behind_mark bytes.now }
 {
     match bytes.strip_prefix(&[0xEF, 0xBB, 0xBF]) {

@@ -4,6 +4,7 @@
 //! - [`first_bytes`]: whether it is lines for sure, once its first bytes came.
 //! - [`json_part`]: the JSON object among other lines.
 //! - [`has_files`]: whether a JSON object is a document of files, and no log.
+//! - [`without_mark`]: a text without a byte order mark before it.
 #![tactic(auto)]
 
 mod begun;
@@ -12,6 +13,6 @@ mod sure;
 #[cfg(test)]
 mod tests;
 
-pub use begun::{Begun, begins_as};
+pub use begun::{Begun, begins_as, without_mark};
 pub use object::{has_files, json_part};
 pub use sure::{FirstBytes, first_bytes};

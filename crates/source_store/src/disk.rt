@@ -36,7 +36,7 @@ impl<R: Files> Store for DiskStore<'_, R> {
     fn fetch(&self, alloc: Global, path: &str) -> Fetched {
         match locate(alloc, self.root.as_str(), path, self.anywhere) {
             Ok(Some(found)) => self.read(alloc, found.as_str()),
-            Ok(None) => Fetched::Lacking(Lack::Outside),
+            Ok(None) => self.read_by_link(alloc, path),
             Err(_) => Fetched::OutOfMemory,
         }
     }
@@ -45,19 +45,38 @@ impl<R: Files> Store for DiskStore<'_, R> {
 impl<R: Files> DiskStore<'_, R> {
     /// Reads a file, unless a link leads out of the root.
     fn read(&self, alloc: Global, path: &str) -> Fetched {
-        match self.rt.metadata(path) {
-            Ok(about) if !about.is_file() => return Fetched::Lacking(Lack::NoFile),
-            Ok(about) if about.len() > LIMIT as u64 => return Fetched::Lacking(Lack::TooLong),
-            Ok(_) => {}
-            Err(e) => return lacking(e.kind()),
-        }
         match self.rt.canonicalize(alloc, path) {
             Ok(real) if self.anywhere || real.as_path().starts_with(self.root.as_str()) => {
-                read_file(self.rt, alloc, real.as_path().as_str())
+                read_plain(self.rt, alloc, real.as_path().as_str())
             }
             Ok(_) => Fetched::Lacking(Lack::Outside),
             Err(e) => lacking(e.kind()),
         }
+    }
+
+    /// Reads a file whose absolute path leads elsewhere by its words, but into the root by a link: a
+    /// folder may be spelled in two ways.
+    fn read_by_link(&self, alloc: Global, path: &str) -> Fetched {
+        if !path.starts_with('/') {
+            return Fetched::Lacking(Lack::Outside);
+        }
+        match self.rt.canonicalize(alloc, path) {
+            Ok(real) if real.as_path().starts_with(self.root.as_str()) => {
+                read_plain(self.rt, alloc, real.as_path().as_str())
+            }
+            Err(e) if e.kind() == ErrorKind::OutOfMemory => Fetched::OutOfMemory,
+            _ => Fetched::Lacking(Lack::Outside),
+        }
+    }
+}
+
+/// Reads what is a plain file, and not too long.
+fn read_plain<R: Files>(rt: &R, alloc: Global, path: &str) -> Fetched {
+    match rt.metadata(path) {
+        Ok(about) if !about.is_file() => Fetched::Lacking(Lack::NoFile),
+        Ok(about) if about.len() > LIMIT as u64 => Fetched::Lacking(Lack::TooLong),
+        Ok(_) => read_file(rt, alloc, path),
+        Err(e) => lacking(e.kind()),
     }
 }
 
