@@ -1,10 +1,10 @@
 -- What was drawn of the bytes so far, whatever comes behind them.
-use Rattle.std.proofs.Common.{◌≡◌, ℕ, ◌+◌, ◌-◌, ◌≤◌, ◌||◌, if◌then◌else◌, Bool, true, false, cond, List, [], ◌∷◌, ◌++◌, length, map, take, drop, Option, Some, None, Result, Ok, Err, Vec, Global, All, refl, sym, ap, ap₂, ◌∙◌, subst, append_assoc, append-nil, arith}
+use Rattle.std.proofs.Common.{◌≡◌, ℕ, ◌+◌, ◌≤◌, Bool, true, false, cond, List, [], ◌∷◌, ◌++◌, length, map, take, drop, Option, None, Result, Ok, Err, Vec, Global, All, refl, sym, ap, ap₂, ◌∙◌, subst, append_assoc, append-nil, arith}
 use Rattle.std.specs.Prelude.{IfOk, string_bytes}
-use Rattle.std.specs.List.{count_by, list_any}
+use Rattle.std.specs.List.{count_by, drop-map}
 use Rattle.std.specs.Str.Lossy.{utf8_lossy}
 use Rattle.oxc_protocol.specs.declared.protocol.Severity.TheVariants.{Advice, Warning, Error}
-use Rattle.std.proofs.lemmas.List.{length-append, length-map, take-append-drop}
+use Rattle.std.proofs.lemmas.List.{length-append, length-map, map-append, take-append-drop}
 use Rattle.std.proofs.lemmas.List.Sums.{sum_by-append}
 use Rattle.std.proofs.lemmas.List.Folds.{list_any-append}
 use Rattle.std.proofs.lemmas.List.Elements.{All-nil, All-cons, All-head, All-tail, All-append, All-same}
@@ -19,11 +19,11 @@ use Rattle.line_shapes.specs.Shape.{ShapeParts}
 use Rattle.tool_lines.specs.Lines.{ArePieces, PieceParts}
 use Rattle.line_reports.specs.Names.{names_in}
 use Rattle.line_reports.specs.Reports.{reports_in}
-use Rattle.report_counts.specs.Counted.{counts_of, is_of, more_line, one_reaches, reaches, severity_of, summary_line}
-use Rattle.report_texts.specs.Texts.{drawn_count, ending_text}
+use Rattle.report_counts.specs.Counted.{counts_of, is_of, reaches, severity_of}
+use Rattle.report_texts.specs.Texts.{ending_text}
 use Rattle.girzohal_asked.specs.declared.Asked.{Asked}
-use Rattle.drawn_lines.specs.Text.{lines_behind, lines_of, to_come}
-use Rattle.drawn_lines.specs.Lines.{columns_of, in_place, lines_drawing, shapes_of, still}
+use Rattle.drawn_lines.specs.Text.{AreRead, came_of, came_to_come, lines_of, read_line, rest_to_come, to_come}
+use Rattle.drawn_lines.specs.Lines.{aside_text, columns_of, ending, shapes_of, still, written}
 use Rattle.drawn_lines.specs.Coming.{Agrees, Draws, GoesOn, IsComing, IsDrawn, Looks, Told, count_of, count_with, counts_with, ending_by, most_of, sources_of}
 use Rattle.drawn_lines.specs.Seam.{IsPart, IsSeam, all_open, span}
 use Rattle.drawn_lines.specs.declared.coming.Come.{Come}
@@ -31,8 +31,10 @@ use Rattle.drawn_lines.specs.declared.held.HeldLines.{HeldLines}
 use Rattle.drawn_lines.specs.declared.seam.Part.{Part}
 use Rattle.drawn_lines.specs.declared.tally.Count.{Count}
 use Rattle.drawn_lines.specs.declared.tally.Tally.{Tally}
-use Rattle.drawn_lines.proofs.NameLemmas.{agreed_drawing, agreed_reports, named_append, named_names, names_named}
-use Rattle.drawn_lines.proofs.PartLemmas.{drawn_parted, reports_parted, still_none, still_parts}
+use Rattle.drawn_lines.proofs.PlainLemmas.{lines_are}
+use Rattle.drawn_lines.proofs.LineLemmas.{aside_parted}
+use Rattle.drawn_lines.proofs.NameLemmas.{agreed_reports, agreed_text, named_append, named_names, names_named}
+use Rattle.drawn_lines.proofs.PartLemmas.{reports_parted, still_none, still_parts, text_parted}
 use Rattle.drawn_lines.proofs.SeamLemmas.{BarePieces, all_bare}
 
 -- ---- counts
@@ -83,164 +85,212 @@ none_counted : (asked : Asked) → count_of asked [] ≡ record { total = 0; cou
 unfolding counts_of
 none_counted asked = refl
 
-pub nothing_came : (told : Told) (asked : Asked) (held : HeldLines) (tally : Tally) → ((more : List ℕ) → to_come held more ≡ lines_of more)
-    → tally.count ≡ record { total = 0; counts = record { errors = 0; warnings = 0; notes = 0 }; reached = false } → sources_of tally ≡ [] → IsComing told asked [] [] held tally
-nothing_came told asked held tally comes count none =
+whole_goes : (told : Told) (asked : Asked) (given : List ℕ → Held) (lines came left still_came : List (List ℕ)) (most : Option ℕ) (ps : List PieceParts)
+    → left ≡ lines → still_came ≡ came → most ≡ asked.most → ArePieces (shapes_of asked) None left ps → GoesOn told asked given lines came [] [] [] most left still_came ps
+whole_goes told asked given lines came left still_came most ps lines_are came_are most_is are =
+    record {
+      all = ps;
+      are = subst (λ ls. ArePieces (shapes_of asked) None ls ps) lines_are are;
+      drawn = ap₂ (λ ls n. written asked given n ls came ps) (sym lines_are) (sym most_is) ∙ ap (λ ls. written asked given most left ls ps) (sym came_are);
+      stands = ap (λ ls. aside_text asked ls ps) (sym lines_are);
+      reports = ap (λ ls. reports_in (columns_of asked) given ls ps) (sym lines_are);
+      said = λ is. is;
+    }
+
+pub nothing_came : (told : Told) (asked : Asked) (held : HeldLines) (tally : Tally) → ((more : List ℕ) → came_to_come held more ≡ came_of more) → AreRead held
+    → tally.count ≡ record { total = 0; counts = record { errors = 0; warnings = 0; notes = 0 }; reached = false } → sources_of tally ≡ [] → IsComing told asked [] [] [] held tally
+nothing_came told asked held tally comes read count none =
     record {
       found = [];
       told_so = All-same (MeetsTold told Path) _ _ none (All-nil (MeetsTold told Path));
       counted = count ∙ sym (none_counted asked);
+      read = read;
       goes_on = λ given agrees more ps are.
-          record {
-            all = ps;
-            are = subst (λ ls. ArePieces (shapes_of asked) None ls ps) (comes more) are;
-            drawn = ap₂ (λ ls n. in_place asked given n [] ls ls ps) (sym (comes more)) (sym (ap (λ (c : Count). still asked.most c.total) count ∙ still_none asked.most));
-            reports = ap (λ ls. reports_in (columns_of asked) given ls ps) (sym (comes more));
-            said = λ is. is;
-          };
+          whole_goes told asked given (lines_of more) (came_of more) (to_come held more) (came_to_come held more) (most_of asked tally) ps
+          (ap (map read_line) (comes more) ∙ lines_are more) (comes more) (ap (λ (c : Count). still asked.most c.total) count ∙ still_none asked.most) are;
     }
 
-pub nothing_drawn : (told : Told) (asked : Asked) (taken text none : List ℕ) (held : HeldLines) (tally : Tally) → none ≡ [] → IsComing told asked taken text held tally
-    → IsComing told asked taken (text ++ none) held tally
-nothing_drawn told asked taken text none held tally is coming =
-    subst (λ t. IsComing told asked taken t held tally) (sym (ap (λ t. text ++ t) is ∙ append-nil text)) coming
+pub nothing_drawn : (told : Told) (asked : Asked) (taken text aside none no_line : List ℕ) (held : HeldLines) (tally : Tally) → none ≡ [] → no_line ≡ []
+    → IsComing told asked taken text aside held tally → IsComing told asked taken (text ++ none) (aside ++ no_line) held tally
+nothing_drawn told asked taken text aside none no_line held tally is aside_is coming =
+    subst (λ t. IsComing told asked taken t (aside ++ no_line) held tally) (sym (ap (λ t. text ++ t) is ∙ append-nil text))
+    (subst (λ t. IsComing told asked taken text t held tally) (sym (ap (λ t. aside ++ t) aside_is ∙ append-nil aside)) coming)
 
 -- ---- bytes came
 
-pub bytes_came : (told : Told) (asked : Asked) (taken bytes text : List ℕ) (held next : HeldLines) (tally : Tally)
-    → ((more : List ℕ) → to_come next more ≡ to_come held (bytes ++ more)) → IsComing told asked taken text held tally → IsComing told asked (taken ++ bytes) text next tally
-bytes_came told asked taken bytes text held next tally comes coming =
+pub bytes_came : (told : Told) (asked : Asked) (taken bytes text aside : List ℕ) (held next : HeldLines) (tally : Tally)
+    → ((more : List ℕ) → came_to_come next more ≡ came_to_come held (bytes ++ more)) → (AreRead held → AreRead next)
+    → IsComing told asked taken text aside held tally → IsComing told asked (taken ++ bytes) text aside next tally
+bytes_came told asked taken bytes text aside held next tally comes read coming =
     record {
       found = coming.found;
       told_so = coming.told_so;
       counted = coming.counted;
+      read = read coming.read;
       goes_on = λ given agrees more ps are.
-          subst (λ whole. GoesOn told asked given (lines_of whole) text coming.found (most_of asked tally) (to_come next more) ps) (sym (append_assoc taken bytes more))
-          (subst (λ ls. GoesOn told asked given (lines_of (taken ++ (bytes ++ more))) text coming.found (most_of asked tally) ls ps) (sym (comes more))
-          (coming.goes_on given agrees (bytes ++ more) ps (subst (λ ls. ArePieces (shapes_of asked) None ls ps) (comes more) are)));
+          subst (λ whole. GoesOn told asked given (lines_of whole) (came_of whole) text aside coming.found (most_of asked tally) (to_come next more) (came_to_come next more) ps)
+          (sym (append_assoc taken bytes more))
+          (subst (λ ls. GoesOn told asked given (lines_of (taken ++ (bytes ++ more))) (came_of (taken ++ (bytes ++ more))) text aside coming.found (most_of asked tally) (map read_line ls) ls ps)
+          (sym (comes more))
+          (coming.goes_on given agrees (bytes ++ more) ps (subst (λ ls. ArePieces (shapes_of asked) None (map read_line ls) ps) (comes more) are)));
     }
 
 pub come_of : {E : Type 0} (result : Result Come E) (told : Told) (asked : Asked) (bytes : List ℕ) (held next : HeldLines) (tally : Tally)
-    → ((more : List ℕ) → to_come next more ≡ to_come held (bytes ++ more))
-    → IfOk result (λ come. (taken text : List ℕ) → IsComing told asked taken text next tally
-    → IsComing told asked taken (text ++ string_bytes come.text) come.coming.held come.coming.tally)
-    → IfOk result (λ come. (taken text : List ℕ) → IsComing told asked taken text held tally
-    → IsComing told asked (taken ++ bytes) (text ++ string_bytes come.text) come.coming.held come.coming.tally)
-come_of (Ok come) told asked bytes held next tally comes is = λ taken text coming. is (taken ++ bytes) text (bytes_came told asked taken bytes text held next tally comes coming)
-come_of (Err why) told asked bytes held next tally comes is = tt
+    → ((more : List ℕ) → came_to_come next more ≡ came_to_come held (bytes ++ more)) → (AreRead held → AreRead next)
+    → IfOk result (λ come. (taken text aside : List ℕ) → IsComing told asked taken text aside next tally
+    → IsComing told asked taken (text ++ string_bytes come.text) (aside ++ string_bytes come.aside) come.coming.held come.coming.tally)
+    → IfOk result (λ come. (taken text aside : List ℕ) → IsComing told asked taken text aside held tally
+    → IsComing told asked (taken ++ bytes) (text ++ string_bytes come.text) (aside ++ string_bytes come.aside) come.coming.held come.coming.tally)
+come_of (Ok come) told asked bytes held next tally comes read is =
+    λ taken text aside coming. is (taken ++ bytes) text aside (bytes_came told asked taken bytes text aside held next tally comes read coming)
+come_of (Err why) told asked bytes held next tally comes read is = tt
 
 -- ---- the first pieces are drawn
 
-front_goes : (told : Told) (asked : Asked) (given : List ℕ → Held) (whole : List (List ℕ)) (text drawn : List ℕ) (found here : List Found) (most next : Option ℕ)
-    (lines more : List (List ℕ)) (front ps : List PieceParts) → span front ≤ length lines → BarePieces front → all_open ps ≡ true
-    → drawn ≡ in_place asked given most [] lines lines front → here ≡ reports_in (columns_of asked) given lines front → next ≡ still most (length here)
-    → IsGiven told Path (names_in front) given
-    → GoesOn told asked given whole text found most (lines ++ more) (front ++ ps)
-    → GoesOn told asked given whole (text ++ drawn) (found ++ here) next (drop (span front) lines ++ more) ps
-front_goes told asked given whole text drawn found here most next lines more front ps within bare open_there drawn_is here_is next_is said on =
+front_goes : (told : Told) (asked : Asked) (given : List ℕ → Held) (whole whole_came : List (List ℕ)) (text aside drawn stands : List ℕ) (found here : List Found) (most next : Option ℕ)
+    (lines came more rest : List (List ℕ)) (front ps : List PieceParts)
+    → span front ≤ length lines → span front ≤ length came → BarePieces front → all_open ps ≡ true
+    → drawn ≡ written asked given most lines came front → stands ≡ aside_text asked lines front → here ≡ reports_in (columns_of asked) given lines front
+    → next ≡ still most (length here) → IsGiven told Path (names_in front) given
+    → GoesOn told asked given whole whole_came text aside found most (lines ++ more) (came ++ rest) (front ++ ps)
+    → GoesOn told asked given whole whole_came (text ++ drawn) (aside ++ stands) (found ++ here) next (drop (span front) lines ++ more) (drop (span front) came ++ rest) ps
+front_goes told asked given whole whole_came text aside drawn stands found here most next lines came more rest front ps within room bare open_there drawn_is stands_is here_is next_is said on =
     let left : List (List ℕ) = drop (span front) lines ++ more in
-    let parted : in_place asked given most [] (lines ++ more) (lines ++ more) (front ++ ps) ≡ drawn ++ in_place asked given next [] left left ps =
-    drawn_parted asked given most lines more front ps within bare open_there
-    ∙ ap₂ (λ d n. d ++ in_place asked given n [] left left ps) (sym drawn_is) (ap (λ fs. still most (length fs)) (sym here_is) ∙ sym next_is) in
+    let later : List (List ℕ) = drop (span front) came ++ rest in
+    let parted : written asked given most (lines ++ more) (came ++ rest) (front ++ ps) ≡ drawn ++ written asked given next left later ps =
+    text_parted asked given most lines came more rest front ps within room bare open_there
+    ∙ ap₂ (λ d n. d ++ written asked given n left later ps) (sym drawn_is) (ap (λ fs. still most (length fs)) (sym here_is) ∙ sym next_is) in
+    let aside_there : aside_text asked (lines ++ more) (front ++ ps) ≡ stands ++ aside_text asked left ps =
+    aside_parted asked lines more front ps within ∙ ap (λ t. t ++ aside_text asked left ps) (sym stands_is) in
     let reported : reports_in (columns_of asked) given (lines ++ more) (front ++ ps) ≡ here ++ reports_in (columns_of asked) given left ps =
     reports_parted asked given lines more front ps within open_there ∙ ap (λ fs. fs ++ reports_in (columns_of asked) given left ps) (sym here_is) in
     record {
       all = on.all;
       are = on.are;
-      drawn = on.drawn ∙ (ap (λ t. text ++ t) parted ∙ sym (append_assoc text drawn (in_place asked given next [] left left ps)));
+      drawn = on.drawn ∙ (ap (λ t. text ++ t) parted ∙ sym (append_assoc text drawn (written asked given next left later ps)));
+      stands = on.stands ∙ (ap (λ t. aside ++ t) aside_there ∙ sym (append_assoc aside stands (aside_text asked left ps)));
       reports = on.reports ∙ (ap (λ fs. found ++ fs) reported ∙ sym (append_assoc found here (reports_in (columns_of asked) given left ps)));
       said = λ rest. on.said (given_more told given front ps said rest);
     }
 
-front_drawn : (told : Told) (asked : Asked) (taken text drawn : List ℕ) (held next : HeldLines) (before now : Tally) (pieces : List PieceParts) (at : ℕ)
-    → (let lines : List (List ℕ) = map (λ line. line.items) held.lines.items in ArePieces (shapes_of asked) None lines pieces → IsSeam (shapes_of asked) lines pieces at
-    → Draws told asked before now lines (take at pieces) drawn
-    → map (λ line. line.items) next.lines.items ≡ drop (span (take at pieces)) lines → next.tail.items ≡ held.tail.items
-    → IsComing told asked taken text held before → IsComing told asked taken (text ++ drawn) next now)
-front_drawn told asked taken text drawn held next before now pieces at are seam draws left_are tail_is coming =
+-- the first lines that came are let go with those that are read
+dropped_read : (held next : HeldLines) (count : ℕ) → map (λ line. line.items) next.lines.items ≡ drop count (map (λ line. line.items) held.lines.items)
+    → map (λ line. line.items) next.came.items ≡ drop count (map (λ line. line.items) held.came.items) → AreRead held → AreRead next
+dropped_read held next count lines came read =
+    lines ∙ (ap (drop count) read ∙ (drop-map read_line count (map (λ line. line.items) held.came.items) ∙ ap (map read_line) (sym came)))
+
+-- what is held and then comes, read
+read_behind : (held : HeldLines) (rest : List (List ℕ)) → AreRead held
+    → map read_line (map (λ line. line.items) held.came.items ++ rest) ≡ map (λ line. line.items) held.lines.items ++ map read_line rest
+read_behind held rest read = map-append read_line (map (λ line. line.items) held.came.items) rest ∙ ap (λ ls. ls ++ map read_line rest) (sym read)
+
+as_many : (held : HeldLines) → AreRead held → length (map (λ line. line.items) held.lines.items) ≡ length (map (λ line. line.items) held.came.items)
+as_many held read = ap length read ∙ length-map (map (λ line. line.items) held.came.items) read_line
+
+front_drawn : (told : Told) (asked : Asked) (taken text aside drawn stands : List ℕ) (held next : HeldLines) (before now : Tally) (pieces : List PieceParts) (at : ℕ)
+    → (let lines : List (List ℕ) = map (λ line. line.items) held.lines.items in let came : List (List ℕ) = map (λ line. line.items) held.came.items in
+    ArePieces (shapes_of asked) None lines pieces → IsSeam (shapes_of asked) lines pieces at → Draws told asked before now lines came (take at pieces) drawn stands
+    → map (λ line. line.items) next.lines.items ≡ drop (span (take at pieces)) lines → map (λ line. line.items) next.came.items ≡ drop (span (take at pieces)) came
+    → next.tail.items ≡ held.tail.items → next.begun ≡ held.begun → IsComing told asked taken text aside held before → IsComing told asked taken (text ++ drawn) (aside ++ stands) next now)
+front_drawn told asked taken text aside drawn stands held next before now pieces at are seam draws lines_are came_are tail_is begun_is coming =
     let lines : List (List ℕ) = map (λ line. line.items) held.lines.items in
+    let came : List (List ℕ) = map (λ line. line.items) held.came.items in
     let front : List PieceParts = take at pieces in
     let left : List (List ℕ) = drop (span front) lines in
+    let later : List (List ℕ) = drop (span front) came in
     let bare : BarePieces front =
     all_bare (shapes_of asked) None lines front (drop at pieces) (subst (ArePieces (shapes_of asked) None lines) (sym (take-append-drop at pieces)) are) in
     let told_all : All (MeetsTold told Path) (sources_of now) =
     All-same (MeetsTold told Path) _ _ draws.sources (All-append (MeetsTold told Path) (sources_of before) draws.more coming.told_so draws.told_so) in
+    let next_read : AreRead next = dropped_read held next (span front) lines_are came_are coming.read in
     record {
       found = coming.found ++ draws.found;
       told_so = told_all;
       counted = draws.counted ∙ (ap (λ c. count_with c (count_of asked draws.found)) coming.counted ∙ sym (counted_append asked coming.found draws.found));
+      read = next_read;
       goes_on = λ given agrees more ps comes.
-          let rest : List (List ℕ) = lines_behind held.tail.items more in
-          let next_is : to_come next more ≡ left ++ rest = ap₂ (λ ls t. ls ++ lines_behind t more) left_are tail_is in
-          let here : ArePieces (shapes_of asked) None (left ++ rest) ps = subst (λ ls. ArePieces (shapes_of asked) None ls ps) next_is comes in
+          let rest : List (List ℕ) = rest_to_come held.begun held.tail.items more in
+          let rest_is : rest_to_come next.begun next.tail.items more ≡ rest = ap₂ (λ b t. rest_to_come b t more) begun_is tail_is in
+          let reads : List (List ℕ) = map read_line rest in
+          let whole : List (List ℕ) = lines_of (taken ++ more) in
+          let whole_came : List (List ℕ) = came_of (taken ++ more) in
+          let next_came : came_to_come next more ≡ later ++ rest = ap₂ (λ ls r. ls ++ r) came_are rest_is in
+          let next_is : to_come next more ≡ left ++ reads =
+          read_behind next (rest_to_come next.begun next.tail.items more) next_read ∙ ap₂ (λ ls r. ls ++ map read_line r) lines_are rest_is in
+          let here : ArePieces (shapes_of asked) None (left ++ reads) ps = subst (λ ls. ArePieces (shapes_of asked) None ls ps) next_is comes in
           let same : All (λ name. held_in (sources_of now) name ≡ given name) (names_in front) = same_here (sources_of now) given (names_in front) agrees draws.there in
-          let on : GoesOn told asked given (lines_of (taken ++ more)) text coming.found (most_of asked before) (lines ++ rest) (front ++ ps) =
-          coming.goes_on given (agrees_before (sources_of before) draws.more (sources_of now) given draws.sources agrees) more (front ++ ps) (seam.stays rest ps here) in
-          subst (λ ls. GoesOn told asked given (lines_of (taken ++ more)) (text ++ drawn) (coming.found ++ draws.found) (most_of asked now) ls ps) (sym next_is)
-          (front_goes told asked given (lines_of (taken ++ more)) text drawn coming.found draws.found (most_of asked before) (most_of asked now) lines rest front ps
-          seam.within bare (seam.open_behind rest ps here)
-          (draws.text_is ∙ agreed_drawing asked (held_in (sources_of now)) given (most_of asked before) lines front same)
+          let split : to_come held more ≡ lines ++ reads = read_behind held rest coming.read in
+          let on : GoesOn told asked given whole whole_came text aside coming.found (most_of asked before) (lines ++ reads) (came ++ rest) (front ++ ps) =
+          subst (λ ls. GoesOn told asked given whole whole_came text aside coming.found (most_of asked before) ls (came ++ rest) (front ++ ps)) split
+          (coming.goes_on given (agrees_before (sources_of before) draws.more (sources_of now) given draws.sources agrees) more (front ++ ps)
+          (subst (λ ls. ArePieces (shapes_of asked) None ls (front ++ ps)) (sym split) (seam.stays reads ps here))) in
+          subst (λ ls. GoesOn told asked given whole whole_came (text ++ drawn) (aside ++ stands) (coming.found ++ draws.found) (most_of asked now) ls (came_to_come next more) ps) (sym next_is)
+          (subst (λ ls. GoesOn told asked given whole whole_came (text ++ drawn) (aside ++ stands) (coming.found ++ draws.found) (most_of asked now) (left ++ reads) ls ps) (sym next_came)
+          (front_goes told asked given whole whole_came text aside drawn stands coming.found draws.found (most_of asked before) (most_of asked now) lines came reads rest front ps
+          seam.within (omega (arith, seam.within, as_many held coming.read)) bare (seam.open_behind reads ps here)
+          (draws.text_is ∙ agreed_text asked (held_in (sources_of now)) given (most_of asked before) lines came front same)
+          draws.aside_is
           (draws.found_is ∙ agreed_reports asked (held_in (sources_of now)) given lines front same)
           (ap (λ (c : Count). still asked.most c.total) draws.counted ∙ sym (still_parts asked.most before.count.total (length draws.found)))
-          (said_here told (sources_of now) given (names_in front) told_all agrees draws.there) on);
+          (said_here told (sources_of now) given (names_in front) told_all agrees draws.there) on));
     }
 
 -- ---- what was looked at
 
-looks_are : (told : Told) (asked : Asked) (before now : Tally) (lines : List (List ℕ)) (pieces front : List PieceParts) (part : Part) (text : List ℕ)
+looks_are : (told : Told) (asked : Asked) (before now : Tally) (lines came : List (List ℕ)) (pieces front : List PieceParts) (part : Part) (text aside : List ℕ)
     → ArePieces (shapes_of asked) None lines pieces → IsPart (shapes_of asked) lines pieces part → front ≡ take part.pieces pieces
-    → Draws told asked before now lines front text → Looks told asked before now lines text part.lines
-looks_are told asked before now lines pieces front part text are is front_is draws =
+    → Draws told asked before now lines came front text aside → Looks told asked before now lines came text aside part.lines
+looks_are told asked before now lines came pieces front part text aside are is front_is draws =
     record {
       pieces = pieces;
       are = are;
       at = part.pieces;
       seam = is.seam;
-      draws = subst (λ ps. Draws told asked before now lines ps text) front_is draws;
+      draws = subst (λ ps. Draws told asked before now lines came ps text aside) front_is draws;
       lines_are = is.lines_are;
     }
 
-pub looks_from : (told : Told) (asked : Asked) (before now : Tally) (shapes : List ShapeParts) (lent lines : List (List ℕ)) (pieces front : List PieceParts) (part : Part) (text : List ℕ)
-    → shapes ≡ shapes_of asked → lent ≡ lines → ArePieces shapes None lent pieces → IsPart shapes lent pieces part → front ≡ take part.pieces pieces
-    → Draws told asked before now lent front text → Looks told asked before now lines text part.lines
-looks_from told asked before now shapes lent lines pieces front part text shapes_is lent_is are is front_is draws =
-    subst (λ ls. Looks told asked before now ls text part.lines) lent_is
-    (looks_are told asked before now lent pieces front part text (subst (λ s. ArePieces s None lent pieces) shapes_is are)
+pub looks_from : (told : Told) (asked : Asked) (before now : Tally) (shapes : List ShapeParts) (lent lines came : List (List ℕ)) (pieces front : List PieceParts) (part : Part)
+    (text aside : List ℕ) → shapes ≡ shapes_of asked → lent ≡ lines → ArePieces shapes None lent pieces → IsPart shapes lent pieces part → front ≡ take part.pieces pieces
+    → Draws told asked before now lent came front text aside → Looks told asked before now lines came text aside part.lines
+looks_from told asked before now shapes lent lines came pieces front part text aside shapes_is lent_is are is front_is draws =
+    subst (λ ls. Looks told asked before now ls came text aside part.lines) lent_is
+    (looks_are told asked before now lent came pieces front part text aside (subst (λ s. ArePieces s None lent pieces) shapes_is are)
     (subst (λ s. IsPart s lent pieces part) shapes_is is) front_is draws)
 
-pub look_within : (told : Told) (asked : Asked) (before now : Tally) (held : HeldLines) (text : List ℕ) (count : ℕ)
-    → Looks told asked before now (map (λ line. line.items) held.lines.items) text count → count ≤ length held.lines.items
-look_within told asked before now held text count looks = omega (arith, looks.seam.within, looks.lines_are, length-map held.lines.items (λ (line : Vec ℕ Global). line.items))
-
-pub look_drawn : (told : Told) (asked : Asked) (taken text drawn : List ℕ) (held next : HeldLines) (before now : Tally) (count : ℕ)
-    → Looks told asked before now (map (λ line. line.items) held.lines.items) drawn count
-    → map (λ line. line.items) next.lines.items ≡ drop count (map (λ line. line.items) held.lines.items) → next.tail.items ≡ held.tail.items
-    → IsComing told asked taken text held before → IsComing told asked taken (text ++ drawn) next now
-look_drawn told asked taken text drawn held next before now count looks left tail coming =
-    front_drawn told asked taken text drawn held next before now looks.pieces looks.at looks.are looks.seam looks.draws
-    (left ∙ ap (λ n. drop n (map (λ (line : Vec ℕ Global). line.items) held.lines.items)) looks.lines_are) tail coming
+pub look_drawn : (told : Told) (asked : Asked) (taken text aside drawn stands : List ℕ) (held next : HeldLines) (before now : Tally) (count : ℕ)
+    → Looks told asked before now (map (λ line. line.items) held.lines.items) (map (λ line. line.items) held.came.items) drawn stands count
+    → map (λ line. line.items) next.lines.items ≡ drop count (map (λ line. line.items) held.lines.items)
+    → map (λ line. line.items) next.came.items ≡ drop count (map (λ line. line.items) held.came.items) → next.tail.items ≡ held.tail.items → next.begun ≡ held.begun
+    → IsComing told asked taken text aside held before → IsComing told asked taken (text ++ drawn) (aside ++ stands) next now
+look_drawn told asked taken text aside drawn stands held next before now count looks left later tail begun coming =
+    front_drawn told asked taken text aside drawn stands held next before now looks.pieces looks.at looks.are looks.seam looks.draws
+    (left ∙ ap (λ n. drop n (map (λ (line : Vec ℕ Global). line.items) held.lines.items)) looks.lines_are)
+    (later ∙ ap (λ n. drop n (map (λ (line : Vec ℕ Global). line.items) held.came.items)) looks.lines_are) tail begun coming
 
 -- ---- the end
 
-ending_is : (asked : Asked) (found : List Found) (count : Count) → count ≡ count_of asked found → ending_by asked count ≡ ending_text asked found
-unfolding ending_text
+ending_is : (asked : Asked) (found : List Found) (count : Count) → count ≡ count_of asked found → ending_by asked count ≡ ending asked found
+unfolding ending ending_text
 ending_is asked found count is = ap (ending_by asked) is
 
-pub all_drawn : (told : Told) (asked : Asked) (taken text drawn end : List ℕ) (held : HeldLines) (before now : Tally) (lines : List (List ℕ)) (pieces : List PieceParts)
-    → lines ≡ to_come held [] → ArePieces (shapes_of asked) None lines pieces → Draws told asked before now lines pieces drawn → end ≡ ending_by asked now.count
-    → IsComing told asked taken text held before → IsDrawn told asked taken (text ++ (drawn ++ end)) now.count.reached
-unfolding lines_drawing
-all_drawn told asked taken text drawn end held before now lines pieces lines_are are draws end_is coming =
+pub all_drawn : (told : Told) (asked : Asked) (taken text aside drawn stands end : List ℕ) (held all : HeldLines) (before now : Tally) (lines : List (List ℕ)) (pieces : List PieceParts)
+    → lines ≡ map (λ line. line.items) all.lines.items → map (λ line. line.items) all.came.items ≡ came_to_come held [] → (AreRead held → AreRead all)
+    → ArePieces (shapes_of asked) None lines pieces → Draws told asked before now lines (map (λ line. line.items) all.came.items) pieces drawn stands → end ≡ ending_by asked now.count
+    → IsComing told asked taken text aside held before → IsDrawn told asked taken (text ++ (drawn ++ end)) (aside ++ stands) now.count.reached
+all_drawn told asked taken text aside drawn stands end held all before now lines pieces lines_are came_are read are draws end_is coming =
     let given : List ℕ → Held = held_in (sources_of now) in
     let agrees : Agrees (sources_of now) given = λ name here. refl in
     let told_all : All (MeetsTold told Path) (sources_of now) =
     All-same (MeetsTold told Path) _ _ draws.sources (All-append (MeetsTold told Path) (sources_of before) draws.more coming.told_so draws.told_so) in
-    let whole : lines_of (taken ++ []) ≡ lines_of taken = ap lines_of (append-nil taken) in
-    let on : GoesOn told asked given (lines_of taken) text coming.found (most_of asked before) lines pieces =
-    subst (λ ls. GoesOn told asked given ls text coming.found (most_of asked before) lines pieces) whole
-    (subst (λ ls. GoesOn told asked given (lines_of (taken ++ [])) text coming.found (most_of asked before) ls pieces) (sym lines_are)
+    let came : List (List ℕ) = map (λ line. line.items) all.came.items in
+    let left : lines ≡ to_come held [] = lines_are ∙ (read coming.read ∙ ap (map read_line) came_are) in
+    let on : GoesOn told asked given (lines_of taken) (came_of taken) text aside coming.found (most_of asked before) lines came pieces =
+    subst (λ bytes. GoesOn told asked given (lines_of bytes) (came_of bytes) text aside coming.found (most_of asked before) lines came pieces) (append-nil taken)
+    (subst (λ ls. GoesOn told asked given (lines_of (taken ++ [])) (came_of (taken ++ [])) text aside coming.found (most_of asked before) lines ls pieces) (sym came_are)
+    (subst (λ ls. GoesOn told asked given (lines_of (taken ++ [])) (came_of (taken ++ [])) text aside coming.found (most_of asked before) ls (came_to_come held []) pieces) (sym left)
     (coming.goes_on given (agrees_before (sources_of before) draws.more (sources_of now) given draws.sources agrees) [] pieces
-    (subst (λ ls. ArePieces (shapes_of asked) None ls pieces) lines_are are))) in
+    (subst (λ ls. ArePieces (shapes_of asked) None ls pieces) left are)))) in
     let found : List Found = coming.found ++ draws.found in
     let counted : now.count ≡ count_of asked found =
     draws.counted ∙ (ap (λ c. count_with c (count_of asked draws.found)) coming.counted ∙ sym (counted_append asked coming.found draws.found)) in
@@ -253,6 +303,7 @@ all_drawn told asked taken text drawn end held before now lines pieces lines_are
       reports = sym (on.reports ∙ ap (λ fs. coming.found ++ fs) (sym draws.found_is));
       drawn =
           ap₂ (λ d e. text ++ (d ++ e)) draws.text_is (end_is ∙ ending_is asked found now.count counted)
-          ∙ (sym (append_assoc text (in_place asked given (most_of asked before) [] lines lines pieces) (ending_text asked found)) ∙ ap (λ t. t ++ ending_text asked found) (sym on.drawn));
+          ∙ (sym (append_assoc text (written asked given (most_of asked before) lines came pieces) (ending asked found)) ∙ ap (λ t. t ++ ending asked found) (sym on.drawn));
+      aside_is = ap (λ t. aside ++ t) draws.aside_is ∙ sym on.stands;
       level = ap (λ (c : Count). c.reached) counted;
     }

@@ -1,5 +1,5 @@
 -- What holds of the names that pieces ask for.
-use Rattle.std.proofs.Common.{◌≡◌, ℕ, List, [], ◌∷◌, ◌++◌, map, Bool, true, false, if◌then◌else◌, Option, Some, None, option_map, refl, sym, ◌∙◌, ap, ap₂, subst, append_assoc, length, take, drop}
+use Rattle.std.proofs.Common.{◌≡◌, ℕ, List, [], ◌∷◌, ◌++◌, map, true, false, if◌then◌else◌, Option, Some, None, ◌∙◌, ap, length, take, drop}
 use Rattle.std.specs.Prelude.{⊤, IfSome}
 use Rattle.std.specs.List.{All, cons_option, filter_map}
 use Rattle.std.specs.Str.Lossy.{utf8_lossy}
@@ -11,8 +11,10 @@ use Rattle.line_reports.specs.Names.{changes, is_same, name_in, names_in}
 use Rattle.line_reports.specs.Reports.{reports_in}
 use Rattle.line_reports.proofs.NamesLemmas.{changes_more, names_decide, of_lossy}
 use Rattle.report_texts.specs.Texts.{first_drawings}
+use Rattle.ci_formats.specs.declared.format.CiFormat.TheVariants as ci
+use Rattle.ci_texts.specs.Texts.{ci_text}
 use Rattle.girzohal_asked.specs.declared.Asked.{Asked}
-use Rattle.drawn_lines.specs.Lines.{columns_of, in_place, kept_if, still}
+use Rattle.drawn_lines.specs.Lines.{annotates, columns_of, has_colors, in_place, kept_if, shown_of, still, written}
 
 -- P holds of the name of each finding
 abbrev pub Named : (List ℕ → Type 0) → List PieceParts → Type 0
@@ -76,22 +78,23 @@ reports_same : (asked : Asked) (told other : List ℕ → Held) (lines : List (L
     → reports_in (columns_of asked) told lines ps ≡ reports_in (columns_of asked) other lines ps
 reports_same asked told other lines ps named = names_decide (columns_of asked) told other lines ps (names_named (Same told other) ps named)
 
-drawn_same : (asked : Asked) (told other : List ℕ → Held) (most : Option ℕ) (before : List PieceParts) (from lines : List (List ℕ)) (ps : List PieceParts)
+drawn_same : (asked : Asked) (told other : List ℕ → Held) (most : Option ℕ) (before : List PieceParts) (from lines shown : List (List ℕ)) (ps : List PieceParts)
     → Named (λ name. Same told other (utf8_lossy name)) before → Named (λ name. Same told other (utf8_lossy name)) ps
-    → in_place asked told most before from lines ps ≡ in_place asked other most before from lines ps
+    → in_place asked told most before from lines shown ps ≡ in_place asked other most before from lines shown ps
 unfolding in_place
-drawn_same asked told other most before from lines [] b named = ap (first_drawings asked most) (reports_same asked told other from before b)
-drawn_same asked told other most before from lines (p ∷ ps) b named =
+drawn_same asked told other most before from lines shown [] b named = ap (first_drawings asked most) (reports_same asked told other from before b)
+drawn_same asked told other most before from lines shown (p ∷ ps) b named =
     let A : List Found = reports_in (columns_of asked) told from before in
     let B : List Found = reports_in (columns_of asked) other from before in
-    let kept : List ℕ = kept_if asked p (take p.lines lines) in
+    let kept : List ℕ = kept_if asked (has_colors asked.theme) p (take p.lines shown) in
     let behind : List (List ℕ) = drop p.lines lines in
+    let later : List (List ℕ) = drop p.lines shown in
     elim (is_kept p.begun.sort) as (λ v.
-    (if v then first_drawings asked most A ++ kept ++ in_place asked told (still most (length A)) [] behind behind ps else in_place asked told most (before ++ p ∷ []) from behind ps)
-    ≡ (if v then first_drawings asked most B ++ kept ++ in_place asked other (still most (length B)) [] behind behind ps else in_place asked other most (before ++ p ∷ []) from behind ps)) [
-      | true ↦ ap (λ fs. first_drawings asked most fs ++ kept ++ in_place asked told (still most (length fs)) [] behind behind ps) (reports_same asked told other from before b)
-          ∙ ap (λ t. first_drawings asked most B ++ kept ++ t) (drawn_same asked told other (still most (length B)) [] behind behind ps tt named.1)
-      | false ↦ drawn_same asked told other most (before ++ p ∷ []) from behind ps
+    (if v then first_drawings asked most A ++ kept ++ in_place asked told (still most (length A)) [] behind behind later ps else in_place asked told most (before ++ p ∷ []) from behind later ps)
+    ≡ (if v then first_drawings asked most B ++ kept ++ in_place asked other (still most (length B)) [] behind behind later ps else in_place asked other most (before ++ p ∷ []) from behind later ps)) [
+      | true ↦ ap (λ fs. first_drawings asked most fs ++ kept ++ in_place asked told (still most (length fs)) [] behind behind later ps) (reports_same asked told other from before b)
+          ∙ ap (λ t. first_drawings asked most B ++ kept ++ t) (drawn_same asked told other (still most (length B)) [] behind behind later ps tt named.1)
+      | false ↦ drawn_same asked told other most (before ++ p ∷ []) from behind later ps
           (named_append (λ name. Same told other (utf8_lossy name)) before (p ∷ []) b (named.0, tt)) named.1
     ]
 
@@ -99,6 +102,14 @@ pub agreed_reports : (asked : Asked) (told other : List ℕ → Held) (lines : L
     → reports_in (columns_of asked) told lines ps ≡ reports_in (columns_of asked) other lines ps
 agreed_reports asked told other lines ps all = names_decide (columns_of asked) told other lines ps all
 
-pub agreed_drawing : (asked : Asked) (told other : List ℕ → Held) (most : Option ℕ) (lines : List (List ℕ)) (ps : List PieceParts) → All (λ name. told name ≡ other name) (names_in ps)
-    → in_place asked told most [] lines lines ps ≡ in_place asked other most [] lines lines ps
-agreed_drawing asked told other most lines ps all = drawn_same asked told other most [] lines lines ps tt (named_names (Same told other) ps all)
+pub agreed_text : (asked : Asked) (told other : List ℕ → Held) (most : Option ℕ) (lines came : List (List ℕ)) (ps : List PieceParts) → All (λ name. told name ≡ other name) (names_in ps)
+    → written asked told most lines came ps ≡ written asked other most lines came ps
+unfolding written
+agreed_text asked told other most lines came ps all =
+    let shown : List (List ℕ) = shown_of asked lines came in
+    elim (annotates asked.to) as (λ v.
+    (if v then ci_text ci.Github asked.raw (reports_in (columns_of asked) told lines ps) else in_place asked told most [] lines lines shown ps)
+    ≡ (if v then ci_text ci.Github asked.raw (reports_in (columns_of asked) other lines ps) else in_place asked other most [] lines lines shown ps)) [
+      | true ↦ ap (ci_text ci.Github asked.raw) (agreed_reports asked told other lines ps all)
+      | false ↦ drawn_same asked told other most [] lines lines shown ps tt (named_names (Same told other) ps all)
+    ]

@@ -1,9 +1,8 @@
 -- Where pieces are parted, what is drawn and found of them is parted too.
-use Rattle.std.proofs.Common.{◌≡◌, ℕ, zero, suc, ◌+◌, ◌-◌, ◌≤◌, ◌&&◌, not, if◌then◌else◌, min, Bool, true, false, List, [], ◌∷◌, ◌++◌, length, map, take, drop, Option, Some, None, option_map, refl, sym, ap, ap₂, ◌∙◌, subst, append_assoc, append-nil, length-drop, arith}
+use Rattle.std.proofs.Common.{◌≡◌, ℕ, zero, suc, ◌+◌, ◌-◌, ◌≤◌, not, if◌then◌else◌, Bool, true, false, List, [], ◌∷◌, ◌++◌, length, map, take, drop, Option, Some, None, option_map, refl, sym, ap, ap₂, ◌∙◌, append_assoc, append-nil, length-drop, arith}
 use Rattle.std.specs.Prelude.{⊤}
-use Rattle.std.specs.Option.{is_none}
 use Rattle.std.specs.List.{flat_map}
-use Rattle.std.proofs.Math.Seq.{take-nil, drop-nil}
+use Rattle.std.proofs.Math.Seq.{take-nil}
 use Rattle.std.proofs.lemmas.Grind.{flat_map-append}
 use Rattle.std.proofs.lemmas.List.{map-append, drop-drop, drop-append-le, take-append-le, length-append, take_all}
 use Rattle.found_reports.specs.Held.{Held}
@@ -17,25 +16,28 @@ use Rattle.line_reports.specs.Joined.{GroupParts, after, alone, belongs, ended, 
 use Rattle.line_reports.specs.Reports.{all_reports, group_reports, reports_in}
 use Rattle.line_reports.proofs.FileLemmas.{no_true}
 use Rattle.report_texts.specs.Texts.{drawing_of, drawings, drawn_count, first_drawings, handler_of}
+use Rattle.ci_formats.specs.declared.format.CiFormat.TheVariants as ci
+use Rattle.ci_texts.specs.Texts.{ci_text}
 use Rattle.girzohal_asked.specs.declared.Asked.{Asked}
-use Rattle.drawn_lines.specs.Lines.{columns_of, in_place, kept_if, still}
+use Rattle.drawn_lines.specs.Lines.{annotates, columns_of, has_colors, in_place, kept_if, shown_of, still, written}
 use Rattle.drawn_lines.specs.Seam.{all_open, opens, says_aside, span}
 use Rattle.drawn_lines.proofs.LineLemmas.{take_within}
 use Rattle.drawn_lines.proofs.SeamLemmas.{BarePieces}
 use Rattle.drawn_lines.proofs.SoughtLemmas.{span_push}
 
--- ---- pieces with their lines
+-- ---- pieces with their lines, and what is shown of these
 
 pub record Parcel : Type 0 where
   pub piece : PieceParts
   pub run : List (List ℕ)
+  pub shown : List (List ℕ)
 
-abbrev parcel : PieceParts → List (List ℕ) → Parcel
-parcel piece run = record { piece = piece; run = run }
+abbrev parcel : PieceParts → List (List ℕ) → List (List ℕ) → Parcel
+parcel piece run shown = record { piece = piece; run = run; shown = shown }
 
-abbrev pub parcels : List (List ℕ) → List PieceParts → List Parcel
-parcels lines [] = []
-parcels lines (p ∷ ps) = parcel p (take p.lines lines) ∷ parcels (drop p.lines lines) ps
+abbrev pub parcels : List (List ℕ) → List (List ℕ) → List PieceParts → List Parcel
+parcels lines shown [] = []
+parcels lines shown (p ∷ ps) = parcel p (take p.lines lines) (take p.lines shown) ∷ parcels (drop p.lines lines) (drop p.lines shown) ps
 
 abbrev told_by : Parcel → Option ToldParts
 told_by q = told_of q.run q.piece
@@ -46,27 +48,36 @@ tellings_by qs = map told_by qs
 abbrev pub reports : Asked → (List ℕ → Held) → List Parcel → List Found
 reports asked given qs = all_reports (columns_of asked) given (joined None (tellings_by qs))
 
-tellings_are : (lines : List (List ℕ)) (ps : List PieceParts) → tellings lines ps ≡ tellings_by (parcels lines ps)
-tellings_are lines [] = refl
-tellings_are lines (p ∷ ps) = ap (λ (ts : List (Option ToldParts)). told_of (take p.lines lines) p ∷ ts) (tellings_are (drop p.lines lines) ps)
+tellings_are : (lines shown : List (List ℕ)) (ps : List PieceParts) → tellings lines ps ≡ tellings_by (parcels lines shown ps)
+tellings_are lines shown [] = refl
+tellings_are lines shown (p ∷ ps) = ap (λ (ts : List (Option ToldParts)). told_of (take p.lines lines) p ∷ ts) (tellings_are (drop p.lines lines) (drop p.lines shown) ps)
 
-pub reports_are : (asked : Asked) (given : List ℕ → Held) (lines : List (List ℕ)) (ps : List PieceParts)
-    → reports_in (columns_of asked) given lines ps ≡ reports asked given (parcels lines ps)
+pub reports_are : (asked : Asked) (given : List ℕ → Held) (lines shown : List (List ℕ)) (ps : List PieceParts)
+    → reports_in (columns_of asked) given lines ps ≡ reports asked given (parcels lines shown ps)
 unfolding reports_in
-reports_are asked given lines ps = ap (λ ts. all_reports (columns_of asked) given (joined None ts)) (tellings_are lines ps)
+reports_are asked given lines shown ps = ap (λ ts. all_reports (columns_of asked) given (joined None ts)) (tellings_are lines shown ps)
 
-pub parcels_append : (lines : List (List ℕ)) (fore bs : List PieceParts) → parcels lines (fore ++ bs) ≡ parcels lines fore ++ parcels (drop (span fore) lines) bs
-parcels_append lines [] bs = refl
-parcels_append lines (a ∷ fore) bs =
-    ap (λ (qs : List Parcel). parcel a (take a.lines lines) ∷ qs)
-    (parcels_append (drop a.lines lines) fore bs ∙ ap (λ ls. parcels (drop a.lines lines) fore ++ parcels ls bs) (drop-drop (span fore) a.lines lines))
+pub parcels_append : (lines shown : List (List ℕ)) (fore bs : List PieceParts)
+    → parcels lines shown (fore ++ bs) ≡ parcels lines shown fore ++ parcels (drop (span fore) lines) (drop (span fore) shown) bs
+parcels_append lines shown [] bs = refl
+parcels_append lines shown (a ∷ fore) bs =
+    let left : List (List ℕ) = drop a.lines lines in
+    let later : List (List ℕ) = drop a.lines shown in
+    ap (λ (qs : List Parcel). parcel a (take a.lines lines) (take a.lines shown) ∷ qs)
+    (parcels_append left later fore bs
+    ∙ ap₂ (λ ls ss. parcels left later fore ++ parcels ls ss bs) (drop-drop (span fore) a.lines lines) (drop-drop (span fore) a.lines shown))
 
-pub parcels_more : (lines more : List (List ℕ)) (fore : List PieceParts) → span fore ≤ length lines → parcels (lines ++ more) fore ≡ parcels lines fore
-parcels_more lines more [] within = refl
-parcels_more lines more (a ∷ fore) within =
-    ap₂ (λ run (qs : List Parcel). parcel a run ∷ qs) (take-append-le a.lines lines more (omega (arith, within)))
-    (ap (λ ls. parcels ls fore) (drop-append-le a.lines lines more (omega (arith, within)))
-    ∙ parcels_more (drop a.lines lines) more fore (omega (arith, within, length-drop a.lines lines)))
+pub parcels_more : (lines shown more rest : List (List ℕ)) (fore : List PieceParts) → span fore ≤ length lines → span fore ≤ length shown
+    → parcels (lines ++ more) (shown ++ rest) fore ≡ parcels lines shown fore
+parcels_more lines shown more rest [] within room = refl
+parcels_more lines shown more rest (a ∷ fore) within room =
+    let left : List (List ℕ) = drop a.lines lines in
+    let later : List (List ℕ) = drop a.lines shown in
+    ap₂ (λ run here. parcel a run here ∷ parcels (drop a.lines (lines ++ more)) (drop a.lines (shown ++ rest)) fore)
+    (take-append-le a.lines lines more (omega (arith, within))) (take-append-le a.lines shown rest (omega (arith, room)))
+    ∙ ap (λ (qs : List Parcel). parcel a (take a.lines lines) (take a.lines shown) ∷ qs)
+    (ap₂ (λ ls ss. parcels ls ss fore) (drop-append-le a.lines lines more (omega (arith, within))) (drop-append-le a.lines shown rest (omega (arith, room)))
+    ∙ parcels_more left later more rest fore (omega (arith, within, length-drop a.lines lines)) (omega (arith, room, length-drop a.lines shown)))
 
 -- ---- findings with their notes
 
@@ -177,29 +188,36 @@ abbrev text_from : Asked → (List ℕ → Held) → Option ℕ → List Parcel 
 text_from asked given most before [] = first_drawings asked most (reports asked given before)
 text_from asked given most before (q ∷ qs) =
     if is_kept q.piece.begun.sort
-    then first_drawings asked most (reports asked given before) ++ kept_if asked q.piece q.run ++ text_from asked given (still most (length (reports asked given before))) [] qs
+    then first_drawings asked most (reports asked given before) ++ kept_if asked (has_colors asked.theme) q.piece q.shown ++ text_from asked given (still most (length (reports asked given before))) [] qs
     else text_from asked given most (before ++ q ∷ []) qs
 
 abbrev with_kept : Asked → (List ℕ → Held) → Option ℕ → List ℕ → List Parcel → List Found → List ℕ
 with_kept asked given most kept qs found = first_drawings asked most found ++ kept ++ text_from asked given (still most (length found)) [] qs
 
-placed_from : (asked : Asked) (given : List ℕ → Held) (most : Option ℕ) (before : List PieceParts) (from lines : List (List ℕ)) (ps : List PieceParts)
-    → lines ≡ drop (span before) from → in_place asked given most before from lines ps ≡ text_from asked given most (parcels from before) (parcels lines ps)
+one_behind : (before : List PieceParts) (p : PieceParts) (from lines : List (List ℕ)) → lines ≡ drop (span before) from → drop p.lines lines ≡ drop (span (before ++ p ∷ [])) from
+one_behind before p from lines is = ap (drop p.lines) is ∙ (drop-drop p.lines (span before) from ∙ ap (λ n. drop n from) (sym (span_push before p)))
+
+placed_from : (asked : Asked) (given : List ℕ → Held) (most : Option ℕ) (before : List PieceParts) (from lines first shown : List (List ℕ)) (ps : List PieceParts)
+    → lines ≡ drop (span before) from → shown ≡ drop (span before) first
+    → in_place asked given most before from lines shown ps ≡ text_from asked given most (parcels from first before) (parcels lines shown ps)
 unfolding in_place
-placed_from asked given most before from lines [] is = ap (first_drawings asked most) (reports_are asked given from before)
-placed_from asked given most before from lines (p ∷ ps) is =
+placed_from asked given most before from lines first shown [] is shown_is = ap (first_drawings asked most) (reports_are asked given from first before)
+placed_from asked given most before from lines first shown (p ∷ ps) is shown_is =
     let R : List Found = reports_in (columns_of asked) given from before in
-    let kept : List ℕ = kept_if asked p (take p.lines lines) in
+    let kept : List ℕ = kept_if asked (has_colors asked.theme) p (take p.lines shown) in
     let behind : List (List ℕ) = drop p.lines lines in
+    let later : List (List ℕ) = drop p.lines shown in
     elim (is_kept p.begun.sort) as (λ v.
-    (if v then first_drawings asked most R ++ kept ++ in_place asked given (still most (length R)) [] behind behind ps else in_place asked given most (before ++ p ∷ []) from behind ps)
-    ≡ (if v then with_kept asked given most kept (parcels behind ps) (reports asked given (parcels from before))
-    else text_from asked given most (parcels from before ++ parcel p (take p.lines lines) ∷ []) (parcels behind ps))) [
-      | true ↦ ap (λ t. first_drawings asked most R ++ kept ++ t) (placed_from asked given (still most (length R)) [] behind behind ps refl)
-          ∙ ap (with_kept asked given most kept (parcels behind ps)) (reports_are asked given from before)
-      | false ↦ placed_from asked given most (before ++ p ∷ []) from behind ps (ap (drop p.lines) is ∙ (drop-drop p.lines (span before) from ∙ ap (λ n. drop n from) (sym (span_push before p))))
-          ∙ ap (λ qs. text_from asked given most qs (parcels behind ps))
-          (parcels_append from before (p ∷ []) ∙ ap (λ ls. parcels from before ++ parcel p (take p.lines ls) ∷ []) (sym is))
+    (if v then first_drawings asked most R ++ kept ++ in_place asked given (still most (length R)) [] behind behind later ps
+    else in_place asked given most (before ++ p ∷ []) from behind later ps)
+    ≡ (if v then with_kept asked given most kept (parcels behind later ps) (reports asked given (parcels from first before))
+    else text_from asked given most (parcels from first before ++ parcel p (take p.lines lines) (take p.lines shown) ∷ []) (parcels behind later ps))) [
+      | true ↦ ap (λ t. first_drawings asked most R ++ kept ++ t) (placed_from asked given (still most (length R)) [] behind behind later later ps refl refl)
+          ∙ ap (with_kept asked given most kept (parcels behind later ps)) (reports_are asked given from first before)
+      | false ↦ placed_from asked given most (before ++ p ∷ []) from behind first later ps (one_behind before p from lines is) (one_behind before p first shown shown_is)
+          ∙ ap (λ qs. text_from asked given most qs (parcels behind later ps))
+          (parcels_append from first before (p ∷ [])
+          ∙ ap₂ (λ ls ss. parcels from first before ++ parcel p (take p.lines ls) (take p.lines ss) ∷ []) (sym is) (sym shown_is))
     ]
 
 -- what opens parts what is drawn
@@ -211,7 +229,7 @@ behind_seam asked given most b g gs [] is =
 behind_seam asked given most b g gs (q ∷ qs) is =
     let R : List Found = reports asked given b in
     let G : List Found = reports asked given (g ∷ gs) in
-    let kept : List ℕ = kept_if asked q.piece q.run in
+    let kept : List ℕ = kept_if asked (has_colors asked.theme) q.piece q.shown in
     let m : Option ℕ = still most (length R) in
     elim (is_kept q.piece.begun.sort) as (λ v.
     (if v then with_kept asked given most kept qs (reports asked given (b ++ g ∷ gs)) else text_from asked given most ((b ++ g ∷ gs) ++ q ∷ []) qs)
@@ -238,7 +256,7 @@ at_seam asked given most b [] is =
     ∙ ap (λ t. first_drawings asked most (reports asked given b) ++ t) (sym (first_none asked (still most (length (reports asked given b)))))
 at_seam asked given most b (q ∷ qs) is =
     let R : List Found = reports asked given b in
-    let kept : List ℕ = kept_if asked q.piece q.run in
+    let kept : List ℕ = kept_if asked (has_colors asked.theme) q.piece q.shown in
     let m : Option ℕ = still most (length R) in
     elim (is_kept q.piece.begun.sort) as (λ v.
     (if v then with_kept asked given most kept qs R else text_from asked given most (b ++ q ∷ []) qs)
@@ -261,7 +279,7 @@ parts_from asked given most b [] qs bare is =
     ∙ ap (λ xs. first_drawings asked most (reports asked given b) ++ text_from asked given (still most (length (reports asked given xs))) [] qs) (sym (append-nil b))
 parts_from asked given most b (p ∷ ps) qs bare is =
     let R : List Found = reports asked given b in
-    let kept : List ℕ = kept_if asked p.piece p.run in
+    let kept : List ℕ = kept_if asked (has_colors asked.theme) p.piece p.shown in
     let m : Option ℕ = still most (length R) in
     let rest : List ℕ = text_from asked given (still most (length (reports asked given (b ++ p ∷ ps)))) [] qs in
     elim (is_kept p.piece.begun.sort) as (λ v. is_kept p.piece.begun.sort ≡ v →
@@ -283,40 +301,82 @@ parts_from asked given most b (p ∷ ps) qs bare is =
 
 -- ---- the same of pieces of lines
 
-bare_parcels : (lines : List (List ℕ)) (ps : List PieceParts) → BarePieces ps → Bares (parcels lines ps)
-bare_parcels lines [] bare = tt
-bare_parcels lines (p ∷ ps) bare = (bare.0, bare_parcels (drop p.lines lines) ps bare.1)
+bare_parcels : (lines shown : List (List ℕ)) (ps : List PieceParts) → BarePieces ps → Bares (parcels lines shown ps)
+bare_parcels lines shown [] bare = tt
+bare_parcels lines shown (p ∷ ps) bare = (bare.0, bare_parcels (drop p.lines lines) (drop p.lines shown) ps bare.1)
 
-open_pieces : (lines : List (List ℕ)) (ps : List PieceParts) → all_open ps ≡ true → open_parcels (parcels lines ps) ≡ true
-open_pieces lines [] is = refl
-open_pieces lines (p ∷ ps) is = is
+open_pieces : (lines shown : List (List ℕ)) (ps : List PieceParts) → all_open ps ≡ true → open_parcels (parcels lines shown ps) ≡ true
+open_pieces lines shown [] is = refl
+open_pieces lines shown (p ∷ ps) is = is
 
-parted : (lines more : List (List ℕ)) (front ps : List PieceParts) → span front ≤ length lines
-    → parcels (lines ++ more) (front ++ ps) ≡ parcels lines front ++ parcels (drop (span front) lines ++ more) ps
-parted lines more front ps within =
-    parcels_append (lines ++ more) front ps
-    ∙ ap₂ (λ qs ls. qs ++ parcels ls ps) (parcels_more lines more front within) (drop-append-le (span front) lines more within)
+parted : (lines shown more rest : List (List ℕ)) (front ps : List PieceParts) → span front ≤ length lines → span front ≤ length shown
+    → parcels (lines ++ more) (shown ++ rest) (front ++ ps)
+    ≡ parcels lines shown front ++ parcels (drop (span front) lines ++ more) (drop (span front) shown ++ rest) ps
+parted lines shown more rest front ps within room =
+    parcels_append (lines ++ more) (shown ++ rest) front ps
+    ∙ (ap₂ (λ ls ss. parcels (lines ++ more) (shown ++ rest) front ++ parcels ls ss ps) (drop-append-le (span front) lines more within) (drop-append-le (span front) shown rest room)
+    ∙ ap (λ qs. qs ++ parcels (drop (span front) lines ++ more) (drop (span front) shown ++ rest) ps) (parcels_more lines shown more rest front within room))
 
 pub reports_parted : (asked : Asked) (given : List ℕ → Held) (lines more : List (List ℕ)) (front ps : List PieceParts) → span front ≤ length lines → all_open ps ≡ true
     → reports_in (columns_of asked) given (lines ++ more) (front ++ ps)
     ≡ reports_in (columns_of asked) given lines front ++ reports_in (columns_of asked) given (drop (span front) lines ++ more) ps
 reports_parted asked given lines more front ps within is =
     let left : List (List ℕ) = drop (span front) lines ++ more in
-    reports_are asked given (lines ++ more) (front ++ ps)
-    ∙ (ap (reports asked given) (parted lines more front ps within)
-    ∙ (reports_append asked given (parcels lines front) (parcels left ps) (open_all (parcels left ps) (open_pieces left ps is))
-    ∙ ap₂ (λ fore bs. fore ++ bs) (sym (reports_are asked given lines front)) (sym (reports_are asked given left ps))))
+    reports_are asked given (lines ++ more) (lines ++ more) (front ++ ps)
+    ∙ (ap (reports asked given) (parted lines lines more more front ps within within)
+    ∙ (reports_append asked given (parcels lines lines front) (parcels left left ps) (open_all (parcels left left ps) (open_pieces left left ps is))
+    ∙ ap₂ (λ fore bs. fore ++ bs) (sym (reports_are asked given lines lines front)) (sym (reports_are asked given left left ps))))
 
-pub drawn_parted : (asked : Asked) (given : List ℕ → Held) (most : Option ℕ) (lines more : List (List ℕ)) (front ps : List PieceParts) → span front ≤ length lines
-    → BarePieces front → all_open ps ≡ true
-    → in_place asked given most [] (lines ++ more) (lines ++ more) (front ++ ps)
-    ≡ in_place asked given most [] lines lines front
-    ++ in_place asked given (still most (length (reports_in (columns_of asked) given lines front))) [] (drop (span front) lines ++ more) (drop (span front) lines ++ more) ps
-drawn_parted asked given most lines more front ps within bare is =
+drawn_parted : (asked : Asked) (given : List ℕ → Held) (most : Option ℕ) (lines shown more rest : List (List ℕ)) (front ps : List PieceParts)
+    → span front ≤ length lines → span front ≤ length shown → BarePieces front → all_open ps ≡ true
+    → in_place asked given most [] (lines ++ more) (lines ++ more) (shown ++ rest) (front ++ ps)
+    ≡ in_place asked given most [] lines lines shown front
+    ++ in_place asked given (still most (length (reports_in (columns_of asked) given lines front))) [] (drop (span front) lines ++ more) (drop (span front) lines ++ more)
+    (drop (span front) shown ++ rest) ps
+drawn_parted asked given most lines shown more rest front ps within room bare is =
     let left : List (List ℕ) = drop (span front) lines ++ more in
-    placed_from asked given most [] (lines ++ more) (lines ++ more) (front ++ ps) refl
-    ∙ (ap (text_from asked given most []) (parted lines more front ps within)
-    ∙ (parts_from asked given most [] (parcels lines front) (parcels left ps) (bare_parcels lines front bare) (open_pieces left ps is)
-    ∙ ap₂ (λ a b. a ++ b) (sym (placed_from asked given most [] lines lines front refl))
-    (ap (λ fs. text_from asked given (still most (length fs)) [] (parcels left ps)) (sym (reports_are asked given lines front))
-    ∙ sym (placed_from asked given (still most (length (reports_in (columns_of asked) given lines front))) [] left left ps refl))))
+    let later : List (List ℕ) = drop (span front) shown ++ rest in
+    placed_from asked given most [] (lines ++ more) (lines ++ more) (shown ++ rest) (shown ++ rest) (front ++ ps) refl refl
+    ∙ (ap (text_from asked given most []) (parted lines shown more rest front ps within room)
+    ∙ (parts_from asked given most [] (parcels lines shown front) (parcels left later ps) (bare_parcels lines shown front bare) (open_pieces left later ps is)
+    ∙ ap₂ (λ a b. a ++ b) (sym (placed_from asked given most [] lines lines shown shown front refl refl))
+    (ap (λ fs. text_from asked given (still most (length fs)) [] (parcels left later ps)) (sym (reports_are asked given lines shown front))
+    ∙ sym (placed_from asked given (still most (length (reports_in (columns_of asked) given lines front))) [] left left later later ps refl refl))))
+
+-- ---- what is written of them
+
+mapped_append : {A B C : Type 0} (first : A → B) (next : B → C) (last : C → List ℕ) (fore bs : List A)
+    → flat_map last (map next (map first (fore ++ bs))) ≡ flat_map last (map next (map first fore)) ++ flat_map last (map next (map first bs))
+mapped_append first next last fore bs =
+    ap (λ xs. flat_map last (map next xs)) (map-append first fore bs)
+    ∙ (ap (flat_map last) (map-append next (map first fore) (map first bs)) ∙ flat_map-append last (map next (map first fore)) (map next (map first bs)))
+
+annotations_append : (raw : Bool) (fore bs : List Found) → ci_text ci.Github raw (fore ++ bs) ≡ ci_text ci.Github raw fore ++ ci_text ci.Github raw bs
+unfolding ci_text
+annotations_append raw fore bs = mapped_append _ _ _ fore bs
+
+pub text_parted : (asked : Asked) (given : List ℕ → Held) (most : Option ℕ) (lines came more rest : List (List ℕ)) (front ps : List PieceParts)
+    → span front ≤ length lines → span front ≤ length came → BarePieces front → all_open ps ≡ true
+    → written asked given most (lines ++ more) (came ++ rest) (front ++ ps)
+    ≡ written asked given most lines came front
+    ++ written asked given (still most (length (reports_in (columns_of asked) given lines front))) (drop (span front) lines ++ more) (drop (span front) came ++ rest) ps
+unfolding written
+text_parted asked given most lines came more rest front ps within room bare is =
+    let left : List (List ℕ) = drop (span front) lines ++ more in
+    let later : List (List ℕ) = drop (span front) came ++ rest in
+    let R : List Found = reports_in (columns_of asked) given lines front in
+    let next : Option ℕ = still most (length R) in
+    elim (annotates asked.to) as (λ v.
+    (if v then ci_text ci.Github asked.raw (reports_in (columns_of asked) given (lines ++ more) (front ++ ps))
+    else in_place asked given most [] (lines ++ more) (lines ++ more) (shown_of asked (lines ++ more) (came ++ rest)) (front ++ ps))
+    ≡ (if v then ci_text ci.Github asked.raw R else in_place asked given most [] lines lines (shown_of asked lines came) front)
+    ++ (if v then ci_text ci.Github asked.raw (reports_in (columns_of asked) given left ps) else in_place asked given next [] left left (shown_of asked left later) ps)) [
+      | true ↦ ap (ci_text ci.Github asked.raw) (reports_parted asked given lines more front ps within is)
+          ∙ annotations_append asked.raw R (reports_in (columns_of asked) given left ps)
+      | false ↦ elim (has_colors asked.theme) as (λ w.
+          in_place asked given most [] (lines ++ more) (lines ++ more) (if w then came ++ rest else (lines ++ more)) (front ++ ps)
+          ≡ in_place asked given most [] lines lines (if w then came else lines) front ++ in_place asked given next [] left left (if w then later else left) ps) [
+            | true ↦ drawn_parted asked given most lines came more rest front ps within room bare is
+            | false ↦ drawn_parted asked given most lines lines more more front ps within within bare is
+          ]
+    ]

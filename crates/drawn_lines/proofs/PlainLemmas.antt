@@ -1,5 +1,5 @@
 -- Paint ends with its line: a text without its paint has the same lines, each without its own.
-use Rattle.std.proofs.Common.{◌≡◌, ℕ, zero, suc, ◌+◌, ◌-◌, ◌<◌, ◌≤◌, ◌==◌, if◌then◌else◌, not, Bool, true, false, cond, List, [], ◌∷◌, ◌++◌, length, map, All, take, drop, get_or, Option, Some, None, refl, sym, ap, ap₂, ◌∙◌, subst, append_assoc, append-nil, length-drop, arith}
+use Rattle.std.proofs.Common.{◌≡◌, ℕ, zero, suc, ◌+◌, ◌-◌, ◌<◌, ◌≤◌, ◌==◌, if◌then◌else◌, not, Bool, true, false, cond, List, [], ◌∷◌, ◌++◌, length, map, All, take, drop, Some, None, refl, sym, ap, ap₂, ◌∙◌, append_assoc, append-nil, length-drop, arith}
 use Rattle.std.specs.Prelude.{unwrap_or, slice_index}
 use Rattle.std.specs.List.{onto_first, prefix_len, slice_split}
 use Rattle.std.proofs.lemmas.Bool.Decides.{nat_tests}
@@ -8,11 +8,10 @@ use Rattle.std.proofs.lemmas.List.Elements.{All-nil, All-cons, All-head, All-tai
 use Rattle.std.proofs.lemmas.List.Splits.{length-slice_split, slice_split-cons_yes, slice_split-cons_no, slice_split_none, slice_split_at}
 use Rattle.std.proofs.lemmas.List.Sums.{prefix_len-le-length}
 use Rattle.memchr.specs.Find.{is_byte}
-use Rattle.line_shapes.specs.Bytes.{before_last}
 use Rattle.tool_lines.specs.Lines.{lines_of as lines_in, without_cr}
 use Rattle.tool_lines.specs.Paint.{behind_bracket, behind_escape, color_end, color_len, ends_color, ends_link, is_color_byte, link_end, link_len, paint_len, unpainted, unpainted_from}
 use Rattle.fed_lines.proofs.FeedLemmas.{some_length}
-use Rattle.drawn_lines.specs.Text.{lines_in_text, lines_of, without_lf, begun_with, lines_behind, without_empty_end}
+use Rattle.drawn_lines.specs.Text.{begun_with, came_behind, came_of, lines_in_text, lines_of, read_line, without_bare_end, without_lf, without_mark}
 
 abbrev pub cuts : List ℕ → List (List ℕ)
 cuts text = slice_split (is_byte 0x0A) text
@@ -192,7 +191,13 @@ plain_behind c (y ∷ text) uncut =
 
 -- ---- a last LF begins no line
 
-pub ended_line : (line : List ℕ) (rest : List (List ℕ)) → 1 ≤ length rest → without_empty_end (line ∷ rest) ≡ line ∷ without_empty_end rest
+-- the last line doesn't count where it is empty
+abbrev without_empty_end : List (List ℕ) → List (List ℕ)
+without_empty_end [] = []
+without_empty_end (line ∷ []) = if length line == 0 then [] else line ∷ []
+without_empty_end (line ∷ (next ∷ rest)) = line ∷ without_empty_end (next ∷ rest)
+
+ended_line : (line : List ℕ) (rest : List (List ℕ)) → 1 ≤ length rest → without_empty_end (line ∷ rest) ≡ line ∷ without_empty_end rest
 ended_line line [] some = absurd (omega (arith, some))
 ended_line line (next ∷ rest) some = refl
 
@@ -237,8 +242,21 @@ text_lines [] = refl
 text_lines (x ∷ text) =
     ap (map without_cr) (end_dropped x text) ∙ ap (λ v. if v then [] else map without_cr (cuts (without_lf (x ∷ text)))) (sym (some_length x text))
 
--- the lines of a text, of which nothing came before
-pub lines_are : (text : List ℕ) → lines_behind [] text ≡ lines_of text
-unfolding lines_behind
+-- lines as they came, each read
+read_ended : (lines : List (List ℕ)) → map read_line (without_bare_end lines) ≡ map without_cr (without_empty_end (map unpainted lines))
+unfolding read_line
+read_ended [] = refl
+read_ended (line ∷ []) =
+    elim (length (unpainted line) == 0) as (λ v. map read_line (if v then [] else line ∷ []) ≡ map without_cr (if v then [] else unpainted line ∷ [])) [
+      | true ↦ refl
+      | false ↦ refl
+    ]
+read_ended (line ∷ (next ∷ rest)) = ap (λ ls. without_cr (unpainted line) ∷ ls) (read_ended (next ∷ rest))
+
+-- the lines of a text as they came are its lines, once they are read
+pub lines_are : (text : List ℕ) → map read_line (came_of text) ≡ lines_of text
+unfolding came_behind
 lines_are text =
-    ap (λ ls. map without_cr (without_empty_end ls)) (sym (plain_behind [] text (All-nil (λ byte. is_byte 0x0A byte ≡ false)))) ∙ text_lines (unpainted text)
+    read_ended (begun_with [] (cuts (without_mark text)))
+    ∙ (ap (λ ls. map without_cr (without_empty_end ls)) (sym (plain_behind [] (without_mark text) (All-nil (λ byte. is_byte 0x0A byte ≡ false))))
+    ∙ text_lines (unpainted (without_mark text)))

@@ -1,5 +1,5 @@
 -- Pieces that no line behind them changes.
-use Rattle.std.proofs.Common.{◌≡◌, ℕ, ◌+◌, ◌-◌, ◌≤◌, ◌&&◌, ◌||◌, not, if◌then◌else◌, Bool, true, false, List, [], ◌∷◌, ◌++◌, length, take, drop, get_or, Option, Some, None, refl, sym, ap, ◌∙◌, subst, append_assoc, append-nil, length-drop, arith}
+use Rattle.std.proofs.Common.{◌≡◌, ℕ, ◌+◌, ◌-◌, ◌≤◌, not, Bool, true, false, List, [], ◌∷◌, ◌++◌, length, take, drop, get_or, Option, Some, None, refl, sym, ap, ◌∙◌, subst, append_assoc, append-nil, length-drop, arith}
 use Rattle.std.specs.Prelude.{⊤, IfSome}
 use Rattle.std.proofs.Math.Seq.{drop-append_seam, take-append_seam}
 use Rattle.std.proofs.lemmas.List.{drop-drop, drop-append-le, length-append, take-append-drop, take_all, take_more}
@@ -9,7 +9,7 @@ use Rattle.tool_lines.specs.declared.lines.Sort.TheVariants.{Kept, Heading, Belo
 use Rattle.tool_lines.specs.Lines.{ArePieces, BegunParts, FindingParts, PieceParts, announced, begun, begun_of, behind, below_at, head, inline, is_heading, is_kept, name_behind, piece, piece_of}
 use Rattle.fed_lines.specs.Feed.{ends_at, known_piece}
 use Rattle.fed_lines.proofs.FeedLemmas.{held_few, known_by_end, known_first, known_name, piece_some}
-use Rattle.drawn_lines.specs.Seam.{EndsKnown, IsEnd, IsGap, IsPart, OpensAlways, all_open, closes, ends_closed, opens, says_aside, span}
+use Rattle.drawn_lines.specs.Seam.{EndsKnown, IsEnd, IsGap, IsPart, OpensAlways, all_open, closes, ends_closed, opens, span}
 use Rattle.drawn_lines.specs.declared.seam.Part.{Part}
 use Rattle.drawn_lines.proofs.SoughtLemmas.{closed_push}
 

@@ -1,5 +1,5 @@
 -- One step of a walk over pieces.
-use Rattle.std.proofs.Common.{◌≡◌, ℕ, Bool, true, false, List, [], ◌∷◌, ◌++◌, length, map, take, drop, Option, Bor, refl, sym, ap, ap₂, ◌∙◌, append_assoc}
+use Rattle.std.proofs.Common.{◌≡◌, ℕ, true, false, List, [], ◌∷◌, ◌++◌, length, map, take, drop, Option, Bor, refl, sym, ap, ap₂, ◌∙◌, append_assoc}
 use Rattle.std.specs.List.{drop-map}
 use Rattle.std.proofs.lemmas.List.{map-append, take-map}
 use Rattle.found_reports.specs.Held.{Held}
@@ -9,80 +9,89 @@ use Rattle.tool_lines.specs.Lines.{PieceParts, piece_parts, is_kept}
 use Rattle.line_reports.specs.Reports.{reports_in}
 use Rattle.report_texts.specs.Texts.{first_drawings}
 use Rattle.girzohal_asked.specs.declared.Asked.{Asked}
-use Rattle.drawn_lines.specs.Lines.{columns_of, in_place, kept_if, still}
+use Rattle.drawn_lines.specs.Lines.{columns_of, has_colors, in_place, kept_if, still}
 
-in_place_kept : (asked : Asked) (given : List ℕ → Held) (most : Option ℕ) (before : List PieceParts) (from lines : List (List ℕ)) (piece : PieceParts) (pieces : List PieceParts)
+in_place_kept : (asked : Asked) (given : List ℕ → Held) (most : Option ℕ) (before : List PieceParts) (from lines shown : List (List ℕ)) (piece : PieceParts) (pieces : List PieceParts)
     → is_kept piece.begun.sort ≡ true
-    → in_place asked given most before from lines (piece ∷ pieces)
-    ≡ first_drawings asked most (reports_in (columns_of asked) given from before) ++ kept_if asked piece (take piece.lines lines)
-    ++ in_place asked given (still most (length (reports_in (columns_of asked) given from before))) [] (drop piece.lines lines) (drop piece.lines lines) pieces
+    → in_place asked given most before from lines shown (piece ∷ pieces)
+    ≡ first_drawings asked most (reports_in (columns_of asked) given from before) ++ kept_if asked (has_colors asked.theme) piece (take piece.lines shown)
+    ++ in_place asked given (still most (length (reports_in (columns_of asked) given from before))) [] (drop piece.lines lines) (drop piece.lines lines) (drop piece.lines shown) pieces
 unfolding in_place
-in_place_kept asked given most before from lines piece pieces is = rw is refl
+in_place_kept asked given most before from lines shown piece pieces is = rw is refl
 
-in_place_passed : (asked : Asked) (given : List ℕ → Held) (most : Option ℕ) (before : List PieceParts) (from lines : List (List ℕ)) (piece : PieceParts) (pieces : List PieceParts)
+in_place_passed : (asked : Asked) (given : List ℕ → Held) (most : Option ℕ) (before : List PieceParts) (from lines shown : List (List ℕ)) (piece : PieceParts) (pieces : List PieceParts)
     → is_kept piece.begun.sort ≡ false
-    → in_place asked given most before from lines (piece ∷ pieces) ≡ in_place asked given most (before ++ piece ∷ []) from (drop piece.lines lines) pieces
+    → in_place asked given most before from lines shown (piece ∷ pieces)
+    ≡ in_place asked given most (before ++ piece ∷ []) from (drop piece.lines lines) (drop piece.lines shown) pieces
 unfolding in_place
-in_place_passed asked given most before from lines piece pieces is = rw is refl
+in_place_passed asked given most before from lines shown piece pieces is = rw is refl
 
 -- a piece that is kept: the text so far with the reports before it, and then its lines
-pub kept_next : (asked : Asked) (given : List ℕ → Held) (most : Option ℕ) (before : List PieceParts) (from lines : List (List ℕ)) (piece : PieceParts) (pieces : List PieceParts)
+kept_next : (asked : Asked) (given : List ℕ → Held) (most : Option ℕ) (before : List PieceParts) (from lines shown : List (List ℕ)) (piece : PieceParts) (pieces : List PieceParts)
     (text drawn now : List ℕ) → is_kept piece.begun.sort ≡ true
-    → drawn ≡ text ++ first_drawings asked most (reports_in (columns_of asked) given from before) → now ≡ drawn ++ kept_if asked piece (take piece.lines lines)
-    → now ++ in_place asked given (still most (length (reports_in (columns_of asked) given from before))) [] (drop piece.lines lines) (drop piece.lines lines) pieces
-    ≡ text ++ in_place asked given most before from lines (piece ∷ pieces)
-kept_next asked given most before from lines piece pieces text drawn now is drawn_is now_is =
+    → drawn ≡ text ++ first_drawings asked most (reports_in (columns_of asked) given from before)
+    → now ≡ drawn ++ kept_if asked (has_colors asked.theme) piece (take piece.lines shown)
+    → now ++ in_place asked given (still most (length (reports_in (columns_of asked) given from before))) [] (drop piece.lines lines) (drop piece.lines lines) (drop piece.lines shown) pieces
+    ≡ text ++ in_place asked given most before from lines shown (piece ∷ pieces)
+kept_next asked given most before from lines shown piece pieces text drawn now is drawn_is now_is =
     let first = first_drawings asked most (reports_in (columns_of asked) given from before) in
-    let kept = kept_if asked piece (take piece.lines lines) in
-    let rest = in_place asked given (still most (length (reports_in (columns_of asked) given from before))) [] (drop piece.lines lines) (drop piece.lines lines) pieces in
+    let kept = kept_if asked (has_colors asked.theme) piece (take piece.lines shown) in
+    let rest = in_place asked given (still most (length (reports_in (columns_of asked) given from before))) [] (drop piece.lines lines) (drop piece.lines lines) (drop piece.lines shown) pieces in
     ap (λ t. t ++ rest) (now_is ∙ ap (λ t. t ++ kept) drawn_is) ∙ ap (λ t. t ++ rest) (append_assoc text first kept) ∙ append_assoc text (first ++ kept) rest
-    ∙ ap (λ t. text ++ t) (sym (in_place_kept asked given most before from lines piece pieces is))
+    ∙ ap (λ t. text ++ t) (sym (in_place_kept asked given most before from lines shown piece pieces is))
 
-pub passed_next : (asked : Asked) (given : List ℕ → Held) (most : Option ℕ) (before : List PieceParts) (from lines : List (List ℕ)) (piece : PieceParts) (pieces : List PieceParts)
+passed_next : (asked : Asked) (given : List ℕ → Held) (most : Option ℕ) (before : List PieceParts) (from lines shown : List (List ℕ)) (piece : PieceParts) (pieces : List PieceParts)
     (text : List ℕ) → is_kept piece.begun.sort ≡ false
-    → text ++ in_place asked given most (before ++ piece ∷ []) from (drop piece.lines lines) pieces ≡ text ++ in_place asked given most before from lines (piece ∷ pieces)
-passed_next asked given most before from lines piece pieces text is =
-    ap (λ t. text ++ t) (sym (in_place_passed asked given most before from lines piece pieces is))
+    → text ++ in_place asked given most (before ++ piece ∷ []) from (drop piece.lines lines) (drop piece.lines shown) pieces
+    ≡ text ++ in_place asked given most before from lines shown (piece ∷ pieces)
+passed_next asked given most before from lines shown piece pieces text is =
+    ap (λ t. text ++ t) (sym (in_place_passed asked given most before from lines shown piece pieces is))
 
-pub placed_last : (asked : Asked) (given : List ℕ → Held) (most : Option ℕ) (before : List PieceParts) (from lines : List (List ℕ))
-    → in_place asked given most before from lines [] ≡ first_drawings asked most (reports_in (columns_of asked) given from before)
+placed_last : (asked : Asked) (given : List ℕ → Held) (most : Option ℕ) (before : List PieceParts) (from lines shown : List (List ℕ))
+    → in_place asked given most before from lines shown [] ≡ first_drawings asked most (reports_in (columns_of asked) given from before)
 unfolding in_place
-placed_last asked given most before from lines = refl
+placed_last asked given most before from lines shown = refl
 
 -- ---- the same of values as the program has them
 
 abbrev texts_of : List (Bor (List ℕ)) → List (List ℕ)
 texts_of lines = map (λ line. line.now) lines
 
-pub pass_is : (asked : Asked) (given : List ℕ → Held) (most : Option ℕ) (text : List ℕ) (before now : List Piece) (piece : Piece) (from left behind : List (Bor (List ℕ)))
-    (pieces : List PieceParts) → is_kept piece.begun.sort ≡ false → now ≡ before ++ piece ∷ [] → behind ≡ drop piece.lines left
-    → text ++ in_place asked given most (map piece_parts now) (map (λ line. line.now) from) (map (λ line. line.now) behind) pieces
-    ≡ text ++ in_place asked given most (map piece_parts before) (map (λ line. line.now) from) (map (λ line. line.now) left) (piece_parts piece ∷ pieces)
-pass_is asked given most text before now piece from left behind pieces is now_is behind_is =
+behind_is : (lines behind : List (Bor (List ℕ))) (count : ℕ) → behind ≡ drop count lines → texts_of behind ≡ drop count (texts_of lines)
+behind_is lines behind count is = ap texts_of is ∙ sym (drop-map (λ (line : Bor (List ℕ)). line.now) count lines)
+
+pub pass_is : (asked : Asked) (given : List ℕ → Held) (most : Option ℕ) (text : List ℕ) (before now : List Piece) (piece : Piece)
+    (from left shown behind later : List (Bor (List ℕ))) (pieces : List PieceParts)
+    → is_kept piece.begun.sort ≡ false → now ≡ before ++ piece ∷ [] → behind ≡ drop piece.lines left → later ≡ drop piece.lines shown
+    → text ++ in_place asked given most (map piece_parts now) (map (λ line. line.now) from) (map (λ line. line.now) behind) (map (λ line. line.now) later) pieces
+    ≡ text ++ in_place asked given most (map piece_parts before) (map (λ line. line.now) from) (map (λ line. line.now) left) (map (λ line. line.now) shown) (piece_parts piece ∷ pieces)
+pass_is asked given most text before now piece from left shown behind later pieces is now_is left_is shown_is =
     let parts : map piece_parts now ≡ map piece_parts before ++ piece_parts piece ∷ [] = ap (map piece_parts) now_is ∙ map-append piece_parts before (piece ∷ []) in
-    let lines : texts_of behind ≡ drop piece.lines (texts_of left) = ap texts_of behind_is ∙ sym (drop-map (λ (line : Bor (List ℕ)). line.now) piece.lines left) in
-    ap₂ (λ b l. text ++ in_place asked given most b (texts_of from) l pieces) parts lines
-    ∙ passed_next asked given most (map piece_parts before) (texts_of from) (texts_of left) (piece_parts piece) pieces text is
+    ap₂ (λ b l. text ++ in_place asked given most b (texts_of from) l (texts_of later) pieces) parts (behind_is left behind piece.lines left_is)
+    ∙ ap (λ l. text ++ in_place asked given most (map piece_parts before ++ piece_parts piece ∷ []) (texts_of from) (drop piece.lines (texts_of left)) l pieces)
+    (behind_is shown later piece.lines shown_is)
+    ∙ passed_next asked given most (map piece_parts before) (texts_of from) (texts_of left) (texts_of shown) (piece_parts piece) pieces text is
 
 pub keep_is : (asked : Asked) (given : List ℕ → Held) (most next : Option ℕ) (text drawn now : List ℕ) (before : List Piece) (piece : Piece)
-    (from left front behind : List (Bor (List ℕ))) (found : List Found) (pieces : List PieceParts) → is_kept piece.begun.sort ≡ true
+    (from left shown front behind later : List (Bor (List ℕ))) (found : List Found) (pieces : List PieceParts) → is_kept piece.begun.sort ≡ true
     → found ≡ reports_in (columns_of asked) given (map (λ line. line.now) from) (map piece_parts before) → drawn ≡ text ++ first_drawings asked most found
-    → front ≡ take piece.lines left → now ≡ drawn ++ kept_if asked (piece_parts piece) (map (λ line. line.now) front) → behind ≡ drop piece.lines left
-    → next ≡ still most (length found)
-    → now ++ in_place asked given next [] (map (λ line. line.now) behind) (map (λ line. line.now) behind) pieces
-    ≡ text ++ in_place asked given most (map piece_parts before) (map (λ line. line.now) from) (map (λ line. line.now) left) (piece_parts piece ∷ pieces)
-keep_is asked given most next text drawn now before piece from left front behind found pieces is found_is drawn_is front_is now_is behind_is next_is =
-    let lines : texts_of behind ≡ drop piece.lines (texts_of left) = ap texts_of behind_is ∙ sym (drop-map (λ (line : Bor (List ℕ)). line.now) piece.lines left) in
-    let first : texts_of front ≡ take piece.lines (texts_of left) = ap texts_of front_is ∙ sym (take-map (λ (line : Bor (List ℕ)). line.now) piece.lines left) in
+    → front ≡ take piece.lines shown → now ≡ drawn ++ kept_if asked (has_colors asked.theme) (piece_parts piece) (map (λ line. line.now) front)
+    → behind ≡ drop piece.lines left → later ≡ drop piece.lines shown → next ≡ still most (length found)
+    → now ++ in_place asked given next [] (map (λ line. line.now) behind) (map (λ line. line.now) behind) (map (λ line. line.now) later) pieces
+    ≡ text ++ in_place asked given most (map piece_parts before) (map (λ line. line.now) from) (map (λ line. line.now) left) (map (λ line. line.now) shown) (piece_parts piece ∷ pieces)
+keep_is asked given most next text drawn now before piece from left shown front behind later found pieces is found_is drawn_is front_is now_is left_is shown_is next_is =
+    let first : texts_of front ≡ take piece.lines (texts_of shown) = ap texts_of front_is ∙ sym (take-map (λ (line : Bor (List ℕ)). line.now) piece.lines shown) in
     let more : next ≡ still most (length (reports_in (columns_of asked) given (texts_of from) (map piece_parts before))) =
     next_is ∙ ap (λ fs. still most (length fs)) found_is in
-    ap₂ (λ m l. now ++ in_place asked given m [] l l pieces) more lines
-    ∙ kept_next asked given most (map piece_parts before) (texts_of from) (texts_of left) (piece_parts piece) pieces text drawn now is
-    (drawn_is ∙ ap (λ fs. text ++ first_drawings asked most fs) found_is) (now_is ∙ ap (λ l. drawn ++ kept_if asked (piece_parts piece) l) first)
+    ap₂ (λ m l. now ++ in_place asked given m [] l l (texts_of later) pieces) more (behind_is left behind piece.lines left_is)
+    ∙ ap (λ l. now ++ in_place asked given (still most (length (reports_in (columns_of asked) given (texts_of from) (map piece_parts before)))) []
+    (drop piece.lines (texts_of left)) (drop piece.lines (texts_of left)) l pieces) (behind_is shown later piece.lines shown_is)
+    ∙ kept_next asked given most (map piece_parts before) (texts_of from) (texts_of left) (texts_of shown) (piece_parts piece) pieces text drawn now is
+    (drawn_is ∙ ap (λ fs. text ++ first_drawings asked most fs) found_is) (now_is ∙ ap (λ l. drawn ++ kept_if asked (has_colors asked.theme) (piece_parts piece) l) first)
 
-pub finish_is : (asked : Asked) (given : List ℕ → Held) (most : Option ℕ) (text drawn : List ℕ) (before : List Piece) (from left : List (Bor (List ℕ))) (found : List Found)
+pub finish_is : (asked : Asked) (given : List ℕ → Held) (most : Option ℕ) (text drawn : List ℕ) (before : List Piece) (from left shown : List (Bor (List ℕ))) (found : List Found)
     → found ≡ reports_in (columns_of asked) given (map (λ line. line.now) from) (map piece_parts before) → drawn ≡ text ++ first_drawings asked most found
-    → drawn ≡ text ++ in_place asked given most (map piece_parts before) (map (λ line. line.now) from) (map (λ line. line.now) left) []
-finish_is asked given most text drawn before from left found found_is drawn_is =
+    → drawn ≡ text ++ in_place asked given most (map piece_parts before) (map (λ line. line.now) from) (map (λ line. line.now) left) (map (λ line. line.now) shown) []
+finish_is asked given most text drawn before from left shown found found_is drawn_is =
     drawn_is ∙ ap (λ fs. text ++ first_drawings asked most fs) found_is
-    ∙ ap (λ t. text ++ t) (sym (placed_last asked given most (map piece_parts before) (texts_of from) (texts_of left)))
+    ∙ ap (λ t. text ++ t) (sym (placed_last asked given most (map piece_parts before) (texts_of from) (texts_of left) (texts_of shown)))

@@ -10,4 +10,5 @@ use Rattle.drawn_lines.specs.declared.walk.Walk.{Walk}
 abbrev pub walked : Asked → (List ℕ → Held) → Walk → List PieceParts → List ℕ
 walked asked given walk pieces =
     string_bytes walk.text
-    ++ in_place asked given walk.most (map piece_parts walk.before.items) (map (λ line. line.now) walk.from.now) (map (λ line. line.now) walk.left.now) pieces
+    ++ in_place asked given walk.most (map piece_parts walk.before.items) (map (λ line. line.now) walk.from.now) (map (λ line. line.now) walk.left.now)
+    (map (λ line. line.now) walk.shown.now) pieces

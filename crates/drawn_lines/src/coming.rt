@@ -27,13 +27,15 @@ pub struct Coming {
     wait: usize,
 }
 
-/// What is drawn of lines that came.
+/// What is written of lines that came.
 #[derive(Drop)]
 pub struct Come {
     /// What is to come.
     pub coming: Coming,
-    /// The drawing of what is known now.
+    /// What is written of what is known now.
     pub text: String,
+    /// The lines of it that stand aside.
+    pub aside: String,
     /// Whether pieces were let go.
     pub known: bool,
 }
@@ -41,8 +43,10 @@ pub struct Come {
 /// The end of lines that came.
 #[derive(Drop)]
 pub struct Ended {
-    /// What is drawn at the end.
+    /// What is written at the end.
     pub text: String,
+    /// The lines of it that stand aside.
+    pub aside: String,
     /// Whether a report is at or above the level.
     pub reached: bool,
 }
@@ -51,7 +55,7 @@ impl Coming {
     /// No lines yet.
     #[tactic(auto, using(crate::proofs::ComingLemmas::nothing_came))]
     pub fn new(alloc: Global) -> Coming
-        ensures { (told : Told) (asked : AskedFor) → IsComing told asked [] [] result.held
+        ensures { (told : Told) (asked : AskedFor) → IsComing told asked [] [] [] result.held
             result.tally }
     {
         let counts = Counts {
@@ -74,8 +78,9 @@ impl Coming {
         }
     }
 
-    /// Takes the bytes that come next, and gives the drawing of what is known now and wasn't before:
-    /// the pieces that no line to come changes or adds to.
+    /// Takes the bytes that come next, and gives what is written of what is known now and wasn't
+    /// before, the pieces that no line to come changes or adds to; and the lines of it that stand
+    /// aside.
     ///
     /// A piece that goes on for many lines isn't looked at again with each of them, but once there
     /// are an eighth more.
@@ -93,10 +98,11 @@ impl Coming {
         bytes: &[u8],
     ) -> Result<Come, ShowError>
         requires { map shape_parts shapes.now ≡ shapes_meant asked.now }
-        ensures { IfOk result (λ come. (taken text : List ℕ)
-            → IsComing (S.told store.now) asked.now taken text self.held self.tally
+        ensures { IfOk result (λ come. (taken text aside : List ℕ)
+            → IsComing (S.told store.now) asked.now taken text aside self.held self.tally
             → IsComing (S.told store.now) asked.now (taken ++ bytes.now)
-            (text ++ string_bytes come.text) come.coming.held come.coming.tally) }
+            (text ++ string_bytes come.text) (aside ++ string_bytes come.aside)
+            come.coming.held come.coming.tally) }
     {
         let Coming { held, tally, wait } = self;
         let held = held.with_bytes(alloc, bytes)?;
@@ -106,7 +112,8 @@ impl Coming {
         cut(alloc, asked, shapes, store, held, tally)
     }
 
-    /// Draws what is left, and says how many reports there were.
+    /// What is written of what is left, and behind drawings how many reports there were; and the
+    /// lines of it that stand aside.
     ///
     /// # Errors
     ///
@@ -119,37 +126,47 @@ impl Coming {
         store: &S,
     ) -> Result<Ended, ShowError>
         requires { map shape_parts shapes.now ≡ shapes_meant asked.now }
-        ensures { IfOk result (λ end. (taken text : List ℕ)
-            → IsComing (S.told store.now) asked.now taken text self.held self.tally
+        ensures { IfOk result (λ end. (taken text aside : List ℕ)
+            → IsComing (S.told store.now) asked.now taken text aside self.held self.tally
             → IsDrawn (S.told store.now) asked.now taken (text ++ string_bytes end.text)
-            end.reached) }
+            (aside ++ string_bytes end.aside) end.reached) }
     {
         let Coming {
             held,
             tally,
             wait: _,
         } = self;
-        let lines = held.ended(alloc)?;
-        let lines = lent(alloc, &lines)?;
+        let held = held.ended(alloc)?;
+        let lines = lent(alloc, &held.lines)?;
         let pieces = pieces_of(alloc, &lines, shapes)?;
-        let Drawn { mut text, tally } = draw(alloc, asked, store, tally, &lines, &pieces)?;
+        let drawn = draw(alloc, asked, store, tally, &lines, &held.came, &pieces)?;
+        let Drawn {
+            mut text,
+            aside,
+            tally,
+        } = drawn;
         text.push_str(ending(alloc, asked, tally.count)?.as_str())?;
         let reached = tally.count.reached;
-        Ok(Ended { text, reached })
+        Ok(Ended {
+            text,
+            aside,
+            reached,
+        })
     }
 }
 
-/// Nothing is drawn.
+/// Nothing is written.
 #[tactic(auto, using(crate::proofs::ComingLemmas::nothing_drawn))]
 fn unchanged(alloc: Global, held: HeldLines, tally: Tally, wait: usize) -> Come
-    ensures { (told : Told) (asked : AskedFor) (taken text : List ℕ)
-        → IsComing told asked taken text held tally
-        → IsComing told asked taken (text ++ string_bytes result.text) result.coming.held
-        result.coming.tally }
+    ensures { (told : Told) (asked : AskedFor) (taken text aside : List ℕ)
+        → IsComing told asked taken text aside held tally
+        → IsComing told asked taken (text ++ string_bytes result.text)
+        (aside ++ string_bytes result.aside) result.coming.held result.coming.tally }
 {
     Come {
         coming: Coming { held, tally, wait },
         text: String::new(alloc),
+        aside: String::new(alloc),
         known: false,
     }
 }
@@ -173,12 +190,12 @@ fn cut<S: Store>(
     tally: Tally,
 ) -> Result<Come, ShowError>
     requires { map shape_parts shapes.now ≡ shapes_meant asked.now }
-    ensures { IfOk result (λ come. (taken text : List ℕ)
-        → IsComing (S.told store.now) asked.now taken text held tally
+    ensures { IfOk result (λ come. (taken text aside : List ℕ)
+        → IsComing (S.told store.now) asked.now taken text aside held tally
         → IsComing (S.told store.now) asked.now taken (text ++ string_bytes come.text)
-        come.coming.held come.coming.tally) }
+        (aside ++ string_bytes come.aside) come.coming.held come.coming.tally) }
 {
-    match look_at(alloc, asked, shapes, store, &held.lines, tally)? {
+    match look_at(alloc, asked, shapes, store, &held.lines, &held.came, tally)? {
         Look::Nothing(tally) => {
             let wait = next_look(held.lines.len());
             Ok(unchanged(alloc, held, tally, wait))
@@ -189,21 +206,36 @@ fn cut<S: Store>(
 
 /// Lets the first lines go, which are drawn.
 fn without_first(held: HeldLines, drawn: Drawn, count: usize) -> Come
-    requires { count ≤ length held.lines.items }
     ensures lines { map (λ line. line.items) result.coming.held.lines.items
         ≡ drop count (map (λ line. line.items) held.lines.items) }
+    ensures came { map (λ line. line.items) result.coming.held.came.items
+        ≡ drop count (map (λ line. line.items) held.came.items) }
     ensures tail { result.coming.held.tail.items ≡ held.tail.items }
+    ensures begun { result.coming.held.begun ≡ held.begun }
     ensures tally { result.coming.tally ≡ drawn.tally }
     ensures text { result.text ≡ drawn.text }
+    ensures aside { result.aside ≡ drawn.aside }
 {
-    let HeldLines { mut lines, tail } = held;
-    let Drawn { text, tally } = drawn;
+    let HeldLines {
+        mut lines,
+        mut came,
+        tail,
+        begun,
+    } = held;
+    let Drawn { text, aside, tally } = drawn;
     drop_first(&mut lines, count);
+    drop_first(&mut came, count);
     let wait = next_look(lines.len());
-    let held = HeldLines { lines, tail };
+    let held = HeldLines {
+        lines,
+        came,
+        tail,
+        begun,
+    };
     Come {
         coming: Coming { held, tally, wait },
         text,
+        aside,
         known: true,
     }
 }
@@ -215,18 +247,19 @@ fn look_at<S: Store>(
     shapes: &[Shape<'_>],
     store: &S,
     lines: &[Vec<u8>],
+    came: &[Vec<u8>],
     tally: Tally,
 ) -> Result<Look, ShowError>
     requires { map shape_parts shapes.now ≡ shapes_meant asked.now }
     ensures { IfOk result (IsLook (S.told store.now) asked.now tally
-        (map (λ line. line.items) lines.now)) }
+        (map (λ line. line.items) lines.now) (map (λ line. line.items) came.now)) }
 {
     let lines = lent(alloc, lines)?;
     let pieces = pieces_of(alloc, &lines, shapes)?;
     match part_of(shapes, &lines, &pieces) {
         Some(part) => {
             let front = pieces.split_at(part.pieces).0;
-            let drawn = draw(alloc, asked, store, tally, &lines, front)?;
+            let drawn = draw(alloc, asked, store, tally, &lines, came, front)?;
             Ok(Look::Known(drawn, part.lines))
         }
         None => Ok(Look::Nothing(tally)),

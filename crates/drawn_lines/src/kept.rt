@@ -2,15 +2,21 @@
 ghost use Rattle.std.specs.Prelude.{◌≡◌, ◌++◌, ◌∷◌, IfOk, List, OnOk, drop, map, string_bytes};
 ghost use Rattle.std.specs.Prelude.{take};
 ghost use Rattle.std.specs.List.{flat_map};
+ghost use Rattle.std.specs.Str.Lossy.{utf8_lossy};
 ghost use Rattle.harmless.specs.declared.Kind.TheVariants.{Prose};
 ghost use Rattle.shown_reports.specs.Shown.{shown_text};
 ghost use Rattle.tool_lines.specs.Lines.{PieceParts, piece_parts, is_kept as is_kept_sort};
-ghost use Rattle.drawn_lines.specs.Lines.{kept_if, kept_line, kept_run, kept_text as kept_of};
+ghost use Rattle.drawn_lines.specs.Lines.{aside_text as aside_of, begins_link as begins_a_link};
+ghost use Rattle.drawn_lines.specs.Lines.{holds_link as holds_a_link, kept_if, kept_line};
+ghost use Rattle.drawn_lines.specs.Lines.{kept_text as kept_of, line_text as line_text_of};
+ghost use Rattle.drawn_lines.specs.Lines.{painted_text as painted_text_of};
 
+use crate::form::annotates;
+use crate::held::read_line;
 use girzohal_asked::Asked;
-use harmless::{Kind, harmless};
+use harmless::{Kind, harmless, harmless_line};
 use std::alloc::{AllocError, Global};
-use tool_lines::lines::{Piece, Sort};
+use tool_lines::lines::{Piece, Sort, without_cr};
 
 /// How far lines are kept: the text, and the lines that are left.
 #[derive(Drop)]
@@ -19,7 +25,7 @@ struct KeptLines<'l, 'a> {
     left: &'l [&'a [u8]],
 }
 
-/// The lines of pieces that are kept.
+/// The lines of pieces that are kept, without their paint.
 ///
 /// # Errors
 ///
@@ -60,7 +66,14 @@ fn keep_next<'l, 'a>(
         (piece_parts piece.now ∷ rest)) }
 {
     let KeptLines { mut text, left } = so_far;
-    push_kept(alloc, &mut text, asked, piece, front(left, piece.lines))?;
+    push_kept(
+        alloc,
+        &mut text,
+        asked,
+        false,
+        piece,
+        front(left, piece.lines),
+    )?;
     let left = behind(left, piece.lines);
     Ok(KeptLines { text, left })
 }
@@ -83,38 +96,39 @@ pub(crate) fn behind<'l, 'a>(lines: &'l [&'a [u8]], count: usize) -> &'l [&'a [u
     lines.split_at(count).1
 }
 
+/// The lines of pieces that stand aside.
+pub(crate) fn aside_text(
+    alloc: Global,
+    asked: &Asked,
+    lines: &[&[u8]],
+    pieces: &[Piece<'_>],
+) -> Result<String, AllocError>
+    ensures { IfOk result (λ text. string_bytes text ≡ aside_of asked.now
+        (map (λ line. line.now) lines.now) (map piece_parts pieces.now)) }
+{
+    if annotates(asked.to) {
+        kept_text(alloc, asked, lines, pieces)
+    } else {
+        Ok(String::new(alloc))
+    }
+}
+
 /// Appends the lines of a piece that is kept, unless only findings are asked for.
 pub(crate) fn push_kept(
     alloc: Global,
     text: &mut String,
     asked: &Asked,
+    painted: bool,
     piece: &Piece<'_>,
     run: &[&[u8]],
 ) -> Result<(), AllocError>
     ensures { OnOk result (string_bytes text.new ≡ string_bytes text.old
-        ++ kept_if asked.now (piece_parts piece.now) (map (λ line. line.now) run.now)) }
+        ++ kept_if asked.now painted (piece_parts piece.now) (map (λ line. line.now) run.now)) }
 {
-    if asked.only_findings {
+    if asked.only_findings || !is_kept(piece.begun.sort) {
         return Ok(());
     }
-    push_run(alloc, text, asked.raw, piece, run)
-}
-
-/// Appends the lines of a piece that is kept.
-fn push_run(
-    alloc: Global,
-    text: &mut String,
-    raw: bool,
-    piece: &Piece<'_>,
-    run: &[&[u8]],
-) -> Result<(), AllocError>
-    ensures { OnOk result (string_bytes text.new ≡ string_bytes text.old
-        ++ kept_run raw (piece_parts piece.now) (map (λ line. line.now) run.now)) }
-{
-    if !is_kept(piece.begun.sort) {
-        return Ok(());
-    }
-    push_lines(alloc, text, raw, run)
+    push_lines(alloc, text, painted, asked.raw, run)
 }
 
 /// Whether a piece is kept.
@@ -128,33 +142,97 @@ pub(crate) fn is_kept(sort: Sort) -> bool
 }
 
 /// Appends lines.
-fn push_lines(alloc: Global, text: &mut String, raw: bool, run: &[&[u8]]) -> Result<(), AllocError>
+fn push_lines(
+    alloc: Global,
+    text: &mut String,
+    painted: bool,
+    raw: bool,
+    run: &[&[u8]],
+) -> Result<(), AllocError>
     ensures { OnOk result (string_bytes text.new ≡ string_bytes text.old
-        ++ flat_map (kept_line raw) (map (λ line. line.now) run.now)) }
+        ++ flat_map (kept_line painted raw) (map (λ line. line.now) run.now)) }
 {
     for line in run {
-        push_line(alloc, text, raw, line)?;
+        push_line(alloc, text, painted, raw, line)?;
     }
     Ok(())
 }
 
 /// Appends a line.
-fn push_line(alloc: Global, text: &mut String, raw: bool, line: &[u8]) -> Result<(), AllocError>
+fn push_line(
+    alloc: Global,
+    text: &mut String,
+    painted: bool,
+    raw: bool,
+    line: &[u8],
+) -> Result<(), AllocError>
     ensures { OnOk result (string_bytes text.new
-        ≡ string_bytes text.old ++ kept_line raw line.now) }
+        ≡ string_bytes text.old ++ kept_line painted raw line.now) }
 {
-    let line = String::from_utf8_lossy(alloc, line)?;
-    text.push_str(shown(alloc, raw, line)?.as_str())?;
+    text.push_str(line_text(alloc, painted, raw, line)?.as_str())?;
     text.push('\n')
 }
 
-/// A line that can't drive a terminal, unless it is to stay as it is.
-fn shown(alloc: Global, raw: bool, line: String) -> Result<String, AllocError>
-    ensures { IfOk result (λ text. string_bytes text ≡ shown_text raw Prose (string_bytes line)) }
+/// A line as it is shown: as it came with its paint, or as it was read.
+fn line_text(alloc: Global, painted: bool, raw: bool, line: &[u8]) -> Result<String, AllocError>
+    ensures { IfOk result (λ text. string_bytes text ≡ line_text_of painted raw line.now) }
 {
+    if painted {
+        painted_text(alloc, raw, line)
+    } else {
+        plain_text(alloc, raw, line)
+    }
+}
+
+/// A line as it came, with its paint; without it where it holds a link.
+#[tactic(auto, unfolding(crate::specs::Lines::painted_text))]
+fn painted_text(alloc: Global, raw: bool, line: &[u8]) -> Result<String, AllocError>
+    ensures { IfOk result (λ text. string_bytes text ≡ painted_text_of raw line.now) }
+{
+    if raw {
+        String::from_utf8_lossy(alloc, without_cr(line))
+    } else if holds_link(line) {
+        plain_text(alloc, false, &read_line(alloc, line)?)
+    } else {
+        harmless_line(
+            alloc,
+            String::from_utf8_lossy(alloc, without_cr(line))?.as_str(),
+        )
+    }
+}
+
+/// A line that can't drive a terminal, unless it is to stay as it is.
+fn plain_text(alloc: Global, raw: bool, line: &[u8]) -> Result<String, AllocError>
+    ensures { IfOk result (λ text. string_bytes text
+        ≡ shown_text raw Prose (utf8_lossy line.now)) }
+{
+    let line = String::from_utf8_lossy(alloc, line)?;
     if raw {
         Ok(line)
     } else {
         harmless(alloc, Kind::Prose, line.as_str())
+    }
+}
+
+/// Whether ESC and `]` stand in a line, which begin a link.
+fn holds_link(line: &[u8]) -> bool
+    ensures { result ≡ holds_a_link line.now }
+{
+    let mut rest = line;
+    while let [_, behind @ ..] = rest {
+        if begins_link(rest) {
+            return true;
+        }
+        rest = behind;
+    }
+    false
+}
+
+fn begins_link(text: &[u8]) -> bool
+    ensures { result ≡ begins_a_link text.now }
+{
+    match text {
+        [0x1B, b']', ..] => true,
+        _ => false,
     }
 }

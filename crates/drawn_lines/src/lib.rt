@@ -1,11 +1,13 @@
 //! Lines that a tool prints for people, drawn as they come.
 //!
-//! - [`Coming`]: takes bytes as they come, and gives the drawing of what they make known.
+//! - [`Coming`]: takes bytes as they come, and gives what is written of what they make known.
 //! - [`shapes_of`], [`columns_of`]: how lines are read, as it was asked for.
+//! - [`annotates`]: whether annotations are written in the place of drawings.
 //! - [`lines_of`]: the lines of a text; [`kept_text`]: those that are no findings.
 #![tactic(auto)]
 
 mod coming;
+mod form;
 mod held;
 mod kept;
 mod reading;
@@ -16,6 +18,7 @@ mod tests;
 mod walk;
 
 pub use coming::{Come, Coming, Ended};
+pub use form::annotates;
 pub use held::{lent, lines_of};
 pub use kept::kept_text;
 pub use reading::{columns_of, shapes_of};

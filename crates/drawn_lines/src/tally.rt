@@ -4,13 +4,16 @@ ghost use Rattle.found_reports.specs.Listed.{held_in};
 ghost use Rattle.tool_lines.specs.Lines.{piece_parts};
 ghost use Rattle.line_reports.specs.Reports.{reports_in};
 ghost use Rattle.report_texts.specs.Texts.{drawn_count as drawn_of};
-ghost use Rattle.drawn_lines.specs.Lines.{columns_of as columns_meant};
+ghost use Rattle.drawn_lines.specs.Lines.{columns_of as columns_meant, written as written_of};
 ghost use Rattle.drawn_lines.specs.Coming.{Draws, count_of as count_meant, count_with, counts_with};
-ghost use Rattle.drawn_lines.specs.Coming.{ending_by};
+ghost use Rattle.drawn_lines.specs.Coming.{count_text as count_said, ending_by};
 
+use crate::form::annotates;
+use crate::kept::aside_text;
 use crate::reading::columns_of;
-use crate::walk::{count_of, in_place, still};
-use found_reports::ListedSources;
+use crate::walk::{count_of, drawings, still};
+use ci_texts::{CiFormat, ci_text};
+use found_reports::{FoundReports, ListedSources};
 use girzohal_asked::Asked;
 use line_reports::{names_of, reports_of};
 use report_counts::{Counts, counts_of, more_line, one_reaches, summary_line};
@@ -39,55 +42,87 @@ pub(crate) struct Tally {
     pub(crate) sources: ListedSources,
 }
 
-/// What was drawn, and the tally with it.
+/// What was written, and the tally with it.
 #[derive(Drop)]
 pub(crate) struct Drawn {
-    /// The drawings.
+    /// The drawings with the kept lines in their place, or the annotations.
     pub(crate) text: String,
+    /// The lines that stand aside.
+    pub(crate) aside: String,
     /// The tally.
     pub(crate) tally: Tally,
 }
 
-/// The pieces that these lines begin with as they are drawn behind others.
+/// What pieces add to what was written, and to the reports.
+#[derive(Drop)]
+struct Share {
+    text: String,
+    count: Count,
+}
+
+/// The pieces that these lines begin with as they are written behind others.
 pub(crate) fn draw<S: Store>(
     alloc: Global,
     asked: &Asked,
     store: &S,
     tally: Tally,
     lines: &[&[u8]],
+    came: &[Vec<u8>],
     pieces: &[Piece<'_>],
 ) -> Result<Drawn, ShowError>
     ensures { IfOk result (λ it. Draws (S.told store.now) asked.now tally it.tally
-        (map (λ line. line.now) lines.now) (map piece_parts pieces.now) (string_bytes it.text)) }
+        (map (λ line. line.now) lines.now) (map (λ line. line.items) came.now)
+        (map piece_parts pieces.now) (string_bytes it.text) (string_bytes it.aside)) }
 {
     let Tally { count, mut sources } = tally;
     let names = names_of(alloc, pieces)?;
     gather_more(alloc, store, Spelling::Path, &mut sources, &names)?;
     let most = still(asked.most, count.total);
-    let text = in_place(alloc, asked, most, lines, pieces, &sources)?;
-    let count = added(count, counted(alloc, asked, lines, pieces, &sources)?)?;
+    let Share { text, count: here } = written(alloc, asked, most, lines, came, pieces, &sources)?;
+    let aside = aside_text(alloc, asked, lines, pieces)?;
+    let count = added(count, here)?;
     let tally = Tally { count, sources };
-    Ok(Drawn { text, tally })
+    Ok(Drawn { text, aside, tally })
 }
 
-/// How many reports these pieces mean.
-fn counted(
+/// What is written of these pieces, at most so many reports where they are drawn.
+#[tactic(auto, unfolding(crate::specs::Lines::written))]
+fn written(
     alloc: Global,
     asked: &Asked,
+    most: Option<usize>,
     lines: &[&[u8]],
+    came: &[Vec<u8>],
     pieces: &[Piece<'_>],
     sources: &ListedSources,
-) -> Result<Count, AllocError>
-    ensures { IfOk result (λ count. count ≡ count_meant asked.now
+) -> Result<Share, ShowError>
+    ensures text { IfOk result (λ it. string_bytes it.text ≡ written_of asked.now
+        (held_in sources.now.entries.items) most (map (λ line. line.now) lines.now)
+        (map (λ line. line.items) came.now) (map piece_parts pieces.now)) }
+    ensures count { IfOk result (λ it. it.count ≡ count_meant asked.now
         (reports_in (columns_meant asked.now) (held_in sources.now.entries.items)
         (map (λ line. line.now) lines.now) (map piece_parts pieces.now))) }
 {
     let found = reports_of(alloc, lines, pieces, sources, columns_of(asked))?;
-    Ok(Count {
-        total: count_of(&found),
-        counts: counts_of(&found),
-        reached: one_reaches(asked.fail_on, &found),
-    })
+    let count = counted(asked, &found);
+    if annotates(asked.to) {
+        let text = ci_text(alloc, CiFormat::Github, asked.raw, &found)?;
+        Ok(Share { text, count })
+    } else {
+        let text = drawings(alloc, asked, most, lines, came, pieces, sources)?;
+        Ok(Share { text, count })
+    }
+}
+
+/// How many reports there are.
+fn counted(asked: &Asked, found: &FoundReports<'_>) -> Count
+    ensures { result ≡ count_meant asked.now found.now.found }
+{
+    Count {
+        total: count_of(found),
+        counts: counts_of(found),
+        reached: one_reaches(asked.fail_on, found),
+    }
 }
 
 /// Two counts together.
@@ -116,9 +151,20 @@ fn sum(a: usize, b: usize) -> Result<usize, ShowError>
     }
 }
 
-/// That there are more reports than were drawn, and how many there are.
+/// What stands behind all drawings.
 pub(crate) fn ending(alloc: Global, asked: &Asked, count: Count) -> Result<String, AllocError>
     ensures { IfOk result (λ text. string_bytes text ≡ ending_by asked.now count) }
+{
+    if annotates(asked.to) {
+        Ok(String::new(alloc))
+    } else {
+        count_text(alloc, asked, count)
+    }
+}
+
+/// That there are more reports than were drawn, and how many there are.
+fn count_text(alloc: Global, asked: &Asked, count: Count) -> Result<String, AllocError>
+    ensures { IfOk result (λ text. string_bytes text ≡ count_said asked.now count) }
 {
     let mut text = more_line(alloc, count.total - drawn_count(asked.most, count.total))?;
     if !asked.quiet {

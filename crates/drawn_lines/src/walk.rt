@@ -5,9 +5,11 @@ ghost use Rattle.found_reports.specs.Held.{Held};
 ghost use Rattle.found_reports.specs.Listed.{held_in};
 ghost use Rattle.tool_lines.specs.Lines.{PieceParts, piece_parts, is_kept as is_kept_sort};
 ghost use Rattle.girzohal_asked.specs.declared.Asked.{Asked};
-ghost use Rattle.drawn_lines.specs.Lines.{in_place as placed, still as still_of};
+ghost use Rattle.drawn_lines.specs.Lines.{in_place as placed, shown_of, still as still_of};
 ghost use Rattle.drawn_lines.specs.Walk.{walked};
 
+use crate::form::has_colors;
+use crate::held::lent;
 use crate::kept::{behind, front, is_kept, push_kept};
 use crate::reading::columns_of;
 use found_reports::{FoundReports, ListedSources};
@@ -31,21 +33,49 @@ pub(crate) struct Walk<'l, 'a, 'p> {
     from: &'l [&'a [u8]],
     /// The lines behind them.
     left: &'l [&'a [u8]],
+    /// These as they are shown.
+    shown: &'l [&'a [u8]],
 }
 
-/// Reports drawn, and between them the lines that are kept.
-pub(crate) fn in_place(
+/// Reports drawn, and between them the lines that are kept, as they came where the theme has
+/// colors.
+pub(crate) fn drawings(
     alloc: Global,
     asked: &Asked,
     most: Option<usize>,
     lines: &[&[u8]],
+    came: &[Vec<u8>],
     pieces: &[Piece<'_>],
     sources: &ListedSources,
 ) -> Result<String, ShowError>
     ensures { IfOk result (λ text. string_bytes text
         ≡ placed asked.now (held_in sources.now.entries.items) most []
         (map (λ line. line.now) lines.now) (map (λ line. line.now) lines.now)
+        (shown_of asked.now (map (λ line. line.now) lines.now) (map (λ line. line.items) came.now))
         (map piece_parts pieces.now)) }
+{
+    if has_colors(asked.theme) {
+        let came = lent(alloc, came)?;
+        in_place(alloc, asked, most, lines, &came, pieces, sources)
+    } else {
+        in_place(alloc, asked, most, lines, lines, pieces, sources)
+    }
+}
+
+/// The same, where the kept lines are shown so.
+fn in_place<'l, 'a>(
+    alloc: Global,
+    asked: &Asked,
+    most: Option<usize>,
+    lines: &'l [&'a [u8]],
+    shown: &'l [&'a [u8]],
+    pieces: &[Piece<'_>],
+    sources: &ListedSources,
+) -> Result<String, ShowError>
+    ensures { IfOk result (λ text. string_bytes text
+        ≡ placed asked.now (held_in sources.now.entries.items) most []
+        (map (λ line. line.now) lines.now) (map (λ line. line.now) lines.now)
+        (map (λ line. line.now) shown.now) (map piece_parts pieces.now)) }
 {
     let mut walk = Walk {
         text: String::new(alloc),
@@ -53,6 +83,7 @@ pub(crate) fn in_place(
         before: Vec::new(alloc),
         from: lines,
         left: lines,
+        shown,
     };
     let mut rest = pieces;
     while let [piece, more @ ..] = rest {
@@ -102,17 +133,21 @@ fn keep<'l, 'a, 'p>(
         before,
         from,
         left,
+        shown,
     } = walk;
     let found = reports_of(alloc, from, &before, sources, columns_of(asked))?;
     text.push_str(first_drawings(alloc, asked, most, &found)?.as_str())?;
-    push_kept(alloc, &mut text, asked, piece, front(left, piece.lines))?;
+    let run = front(shown, piece.lines);
+    push_kept(alloc, &mut text, asked, has_colors(asked.theme), piece, run)?;
     let left = behind(left, piece.lines);
+    let shown = behind(shown, piece.lines);
     Ok(Walk {
         text,
         most: still(most, count_of(&found)),
         before: Vec::new(alloc),
         from: left,
         left,
+        shown,
     })
 }
 
@@ -149,14 +184,18 @@ fn pass<'l, 'a, 'p>(
         mut before,
         from,
         left,
+        shown,
     } = walk;
     before.push(*piece)?;
+    let left = behind(left, piece.lines);
+    let shown = behind(shown, piece.lines);
     Ok(Walk {
         text,
         most,
         before,
         from,
-        left: behind(left, piece.lines),
+        left,
+        shown,
     })
 }
 
@@ -176,6 +215,7 @@ fn finish(
         before,
         from,
         left: _,
+        shown: _,
     } = walk;
     let found = reports_of(alloc, from, &before, sources, columns_of(asked))?;
     text.push_str(first_drawings(alloc, asked, most, &found)?.as_str())?;

@@ -1,47 +1,52 @@
--- An input that is drawn as it comes.
-use Rattle.std.proofs.Common.{◌≡◌, ℕ, ◌+◌, ◌<◌, ◌≤◌, ◌⊎◌, inl, inr, ◌&&◌, min, Bool, true, false, List, [], ◌++◌, length, Option, Some, None, refl, sym, ap, ◌∙◌, subst, append_assoc, append-nil, string_bytes, arith}
+-- An input that is written as it comes.
+use Rattle.std.proofs.Common.{◌≡◌, ℕ, ◌+◌, ◌<◌, ◌≤◌, inl, inr, ◌||◌, Bool, true, false, List, [], ◌∷◌, ◌++◌, length, drop, Option, Some, None, refl, sym, ap, ◌∙◌, subst, append_assoc, append-nil, length-drop, string_bytes, suc, zero, arith}
 use Rattle.std.proofs.lemmas.Bool.{and_parts}
 use Rattle.std.proofs.lemmas.List.{length-append}
 use Rattle.std.specs.Io.KnownBytes.{Appends, Consumes, IsAtEnd, Keeps}
-use Rattle.oxc_protocol.specs.Faults.{Rose, next_count}
+use Rattle.oxc_protocol.specs.Faults.{Rose}
 use Rattle.oxc_protocol.specs.Sink.{AppendsPrefix}
 use Rattle.oxc_protocol.proofs.Appending.{Appends-trans}
 use Rattle.documents.proofs.Consuming.{Consumes-trans}
+use Rattle.found_reports.specs.Found.{Found}
+use Rattle.found_reports.specs.Listed.{held_in}
+use Rattle.line_reports.specs.Reports.{reports_in}
+use Rattle.line_shapes.specs.Shape.{ShapeParts}
+use Rattle.tool_lines.specs.Lines.{ArePieces, PieceParts, begun, behind, below_at, head, name_behind, piece, piece_of}
 use Rattle.input_forms.specs.Begun.{begins_as}
 use Rattle.input_forms.specs.declared.begun.Begun.{Begun}
 use Rattle.input_forms.specs.declared.begun.Begun.TheVariants.{Object, OtherJson, Lines}
-use Rattle.drawn_lines.specs.Coming.{IsComing, IsDrawn}
+use Rattle.ci_formats.specs.declared.format.CiFormat.TheVariants as ci
+use Rattle.ci_texts.specs.Texts.{ci_text}
+use Rattle.drawn_lines.specs.Coming.{IsComing, IsDrawn, sources_of}
+use Rattle.drawn_lines.specs.Lines.{annotates, columns_of, ending, shapes_of, written}
+use Rattle.drawn_lines.specs.Text.{lines_of, to_come}
+use Rattle.drawn_lines.specs.declared.held.HeldLines.{HeldLines}
+use Rattle.drawn_lines.specs.declared.tally.Tally.{Tally}
 use Rattle.drawn_lines.specs.declared.coming.Come.{Come}
 use Rattle.drawn_lines.specs.declared.coming.Coming.{Coming}
 use Rattle.girzohal_asked.specs.declared.Asked.{Asked}
 use Rattle.girzohal_asked.specs.declared.InputForm.{InputForm}
 use Rattle.girzohal_asked.specs.declared.InputForm.TheVariants as form
-use Rattle.shown_reports.specs.declared.shown.ShowError.{ShowError}
-use Rattle.shown_reports.specs.declared.shown.ShowError.TheVariants as show_error
+use Rattle.girzohal_asked.specs.declared.OutputForm.{OutputForm}
+use Rattle.girzohal_asked.specs.declared.OutputForm.TheVariants.{Drawing, Json, Document, Sarif, Problems, Github, Gitlab, Checkstyle, Junit, Stylish}
 use Rattle.girzohal.specs.Told.{Told}
-use Rattle.girzohal.specs.Lines.{MakesLines, MakesLinesBy, is_drawing}
+use Rattle.girzohal.specs.Texts.{IsTextIn}
+use Rattle.girzohal.specs.Lines.{ListsLines, MakesLines, MakesLinesBy, is_drawing, is_live}
 use Rattle.girzohal.specs.Made.{IsMade, MakesAs, MakesBegun}
-use Rattle.girzohal.specs.Run.{Device, Drew, DrewPart, HasRisen, NeverComes, IsTold, Means, Sent, SentPart, Texts, TookTooMuch, TookWhole, begins_lines, comes, limit, reads_lines}
+use Rattle.girzohal.specs.Run.{Device, Drew, DrewPart, NeverComes, IsTold, Sent, SentPart, Stays, Stopped, TookTooMuch, TookWhole, begins_lines, comes, limit, reads_lines}
 use Rattle.girzohal.specs.Opens.{is_auto, may_begin}
-use Rattle.girzohal.specs.Live.{Came, Goes, Stops, Went, taken_on}
+use Rattle.girzohal.specs.Live.{Came, Goes, Hears, device_on}
 use Rattle.girzohal.specs.declared.live.Live.{Live}
-use Rattle.girzohal.specs.declared.live.Stop.{Stop}
-use Rattle.girzohal.specs.declared.live.Stop.TheVariants as stop
-use Rattle.girzohal.specs.declared.status.Status.{Status}
-use Rattle.girzohal.specs.declared.status.Status.TheVariants.{Clean, Reached, SinkFault}
 
 -- ---- devices
 
-abbrev pub sink_device : Option (List ℕ) → Option (List ℕ) → ℕ → ℕ → Device
-sink_device before now faults_before faults_now = record { before = before; now = now; faults_before = faults_before; faults_now = faults_now }
+-- a device that isn't called
+abbrev pub still_device : Option (List ℕ) → ℕ → Device
+still_device bytes count = record { before = bytes; now = bytes; faults_before = count; faults_now = count }
 
--- nothing is told to a device that isn't called
 pub nothing_appended : (received : Option (List ℕ)) → Appends received received []
 nothing_appended None = tt
 nothing_appended (Some bytes) = sym (append-nil bytes)
-
-pub nothing_told : (received : Option (List ℕ)) (count : ℕ) → IsTold (sink_device received received count count) []
-nothing_told received count = inl (nothing_appended received)
 
 pub nothing_kept : (received : Option (List ℕ)) → Keeps received received
 nothing_kept None = tt
@@ -68,121 +73,232 @@ part_behind (Some s) (Some r) None xs ys first second = absurd second
 part_behind (Some s) (Some r) (Some n) xs ys first second =
     (xs ++ second.0, second.1, ap (λ t. xs ++ t) second.2 ∙ sym (append_assoc xs second.0 second.1), second.3 ∙ (ap (λ t. t ++ second.0) first ∙ append_assoc s xs second.0))
 
--- ---- on by bytes that came
+-- a first part of bytes is one of more bytes
+part_of_more : (start now : Option (List ℕ)) (xs ys : List ℕ) → AppendsPrefix start now xs → AppendsPrefix start now (xs ++ ys)
+part_of_more None now xs ys part = tt
+part_of_more (Some s) None xs ys part = absurd part
+part_of_more (Some s) (Some n) xs ys part = (part.0, part.1 ++ ys, ap (λ t. t ++ ys) part.2 ∙ append_assoc part.0 part.1 ys, part.3)
 
-abbrev pub DrawsOn : Told → Asked → List ℕ → List ℕ → Coming → Coming → Type 0
-DrawsOn told asked bytes text coming next =
-    (taken drawn : List ℕ) → IsComing told asked taken drawn coming.held coming.tally
-    → IsComing told asked (taken ++ bytes) (drawn ++ text) next.held next.tally
+-- ---- the error output
 
-pub goes_came : (told : Told) (asked : Asked) (input out : Device) (next : Option (List ℕ)) (count : ℕ) (bytes : List ℕ) (live : Live) (come : Come) (quiet : ℕ)
-    → Goes told asked input out live → Consumes input.now next bytes → DrawsOn told asked bytes (string_bytes come.text) live.coming come.coming
-    → quiet ≤ live.quiet + length bytes → Came told asked (taken_on input next count) out come quiet
-goes_came told asked input out next count bytes live come quiet goes taken draws few =
-    record {
-      taken = goes.taken ++ bytes;
-      consumed = Consumes-trans input.before input.now next goes.taken bytes goes.consumed taken;
-      lines = λ more. subst (λ t. comes asked t ≡ true) (sym (append_assoc goes.taken bytes more)) (goes.lines (bytes ++ more));
-      text = goes.text;
-      coming = draws goes.taken goes.text goes.coming;
-      written = goes.written;
-      later = goes.later;
-      few = omega (arith, goes.quiet, few, length-append goes.taken bytes);
+pub nothing_heard : (received : Option (List ℕ)) (count : ℕ) → Hears false (still_device received count) []
+nothing_heard received count = (nothing_appended received, omega arith)
+
+pub heard_told : (deaf : Bool) (err : Device) (bytes : List ℕ) → Hears deaf err bytes → IsTold err bytes
+heard_told false err bytes heard = inl heard.0
+heard_told true err bytes heard = inr heard
+
+-- one that failed is told nothing
+pub hears_no_more : (deaf : Bool) (err : Device) (bytes more : List ℕ) → deaf ≡ true → Hears deaf err bytes → Hears true err (bytes ++ more)
+hears_no_more false err bytes more is heard = cc
+hears_no_more true err bytes more is heard = (part_of_more err.before err.now bytes more heard.0, heard.1)
+
+-- one that didn't is told more, or fails
+pub hears_on : (deaf : Bool) (err : Device) (now : Option (List ℕ)) (count : ℕ) (bytes more : List ℕ) → deaf ≡ false → Hears deaf err bytes → Appends err.now now more
+    → err.faults_now ≤ count → Hears false (device_on err now count) (bytes ++ more)
+hears_on false err now count bytes more is heard told later =
+    (Appends-trans err.before err.now now bytes more heard.0 told, omega (arith, heard.1, later))
+hears_on true err now count bytes more is heard told later = cc
+
+pub hears_part : (deaf : Bool) (err : Device) (now : Option (List ℕ)) (count : ℕ) (bytes more : List ℕ) → deaf ≡ false → Hears deaf err bytes → AppendsPrefix err.now now more
+    → Rose err.faults_now count → Hears true (device_on err now count) (bytes ++ more)
+hears_part false err now count bytes more is heard told rose =
+    (part_behind err.before err.now now bytes more heard.0 told, rose_since err.faults_before err.faults_now count heard.1 rose)
+hears_part true err now count bytes more is heard told rose = cc
+
+-- ---- of drawings nothing stands aside
+
+-- all lines have pieces
+are_pieces : (n : ℕ) (shapes : List ShapeParts) (name : Option (List ℕ)) (lines : List (List ℕ)) → length lines ≤ n
+    → (ps : List PieceParts) × ArePieces shapes name lines ps
+are_pieces n shapes name [] within = ([], refl)
+are_pieces zero shapes name (line ∷ lines) within = absurd (omega (arith, within))
+are_pieces (suc n) shapes name (line ∷ lines) within =
+    let here = begun shapes line (head lines) in
+    let p = piece shapes name (line ∷ lines) in
+    let some : 1 ≤ p.lines =
+    elim (below_at name line) as (λ found. 1 ≤ (piece_of found here (behind shapes here.sort lines)).lines) [ None ↦ omega arith | Some finding ↦ omega arith ] in
+    let rest = are_pieces n shapes (name_behind p.begun.sort name (line ∷ lines)) (drop p.lines (line ∷ lines))
+    (omega (arith, within, some, length-drop p.lines (line ∷ lines))) in
+    (p ∷ rest.0, (record { some = omega arith; same = refl }, rest.1))
+
+nothing_aside : (told : Told) (asked : Asked) (bytes text aside : List ℕ) (held : HeldLines) (tally : Tally) → IsComing told asked bytes text aside held tally
+    → annotates asked.to ≡ false → aside ≡ []
+nothing_aside told asked bytes text aside held tally coming is =
+    let left = to_come held [] in
+    let some = are_pieces (length left) (shapes_of asked) None left (omega arith) in
+    let goes = coming.goes_on (held_in (sources_of tally)) (λ name there. refl) [] some.0 some.1 in
+    sym (append-nil aside) ∙ sym (rw is at goes.stands)
+
+-- ---- what was written stays
+
+-- behind what stands aside a line was told
+pub stays_stopped : (told : Told) (asked : Asked) (input out err : Device) (P : List ℕ → Type 0) (line : List ℕ) → ((aside : List ℕ) → P aside → IsTold err (aside ++ line))
+    → Stays told asked input out P → Stopped told asked input out err line
+stays_stopped told asked input out err P line tells (inl kept) = inl (kept.0, tells [] kept.1)
+stays_stopped told asked input out err P line tells (inr drew) =
+    inr record {
+      bytes = drew.bytes;
+      behind = drew.behind;
+      taken = drew.taken;
+      lines = drew.lines;
+      text = drew.text;
+      aside = drew.aside;
+      drawn = drew.drawn;
+      bare = drew.bare;
+      written = drew.written;
+      is = tells drew.aside drew.is;
     }
 
-pub first_came : (told : Told) (asked : Asked) (input : Device) (received : Option (List ℕ)) (count : ℕ) (bytes : List ℕ) (come : Come) (quiet : ℕ)
-    → Consumes input.before input.now bytes → ((more : List ℕ) → comes asked (bytes ++ more) ≡ true)
-    → IsComing told asked bytes (string_bytes come.text) come.coming.held come.coming.tally → quiet ≤ length bytes
-    → Came told asked input (sink_device received received count count) come quiet
-first_came told asked input received count bytes come quiet taken lines coming few =
-    record { taken = bytes; consumed = taken; lines = lines; text = []; coming = coming; written = nothing_appended received; later = omega arith; few = few }
-
--- pieces were let go
-pub goes_afresh : (told : Told) (asked : Asked) (input out : Device) (live : Live) → Goes told asked input out live
-    → Goes told asked input out (record { coming = live.coming; quiet = 0 })
-goes_afresh told asked input out live goes =
-    record {
-      taken = goes.taken;
-      consumed = goes.consumed;
-      lines = goes.lines;
-      text = goes.text;
-      coming = goes.coming;
-      written = goes.written;
-      later = goes.later;
-      quiet = omega arith;
-    }
-
-pub came_goes : (told : Told) (asked : Asked) (input : Device) (start received now : Option (List ℕ)) (count before after quiet : ℕ) (come : Come)
-    → Came told asked input (sink_device start received count before) come quiet → Appends received now (string_bytes come.text) → before ≤ after
-    → Goes told asked input (sink_device start now count after) (record { coming = come.coming; quiet = quiet })
-came_goes told asked input start received now count before after quiet come came written later =
-    record {
-      taken = came.taken;
-      consumed = came.consumed;
-      lines = came.lines;
-      text = came.text ++ string_bytes come.text;
-      coming = came.coming;
-      written = Appends-trans start received now came.text (string_bytes come.text) came.written written;
-      later = omega (arith, came.later, later);
-      quiet = came.few;
-    }
-
-pub came_part : (told : Told) (asked : Asked) (input : Device) (start received now : Option (List ℕ)) (count before after quiet : ℕ) (come : Come)
-    → Came told asked input (sink_device start received count before) come quiet → AppendsPrefix received now (string_bytes come.text) → Rose before after
-    → DrewPart told asked input (sink_device start now count after)
-came_part told asked input start received now count before after quiet come came written rose =
-    record {
-      bytes = came.taken;
-      taken = came.consumed;
-      lines = came.lines;
-      text = came.text ++ string_bytes come.text;
-      drawn = (come.coming.held, come.coming.tally, came.coming);
-      written = part_behind start received now came.text (string_bytes come.text) came.written written;
-      fault = rose_since count before after came.later rose;
-    }
-
--- an input of which nothing more was taken
-pub goes_still : (told : Told) (asked : Asked) (input out : Device) (next : Option (List ℕ)) (count : ℕ) (live : Live) → Goes told asked input out live
-    → Consumes input.now next [] → Goes told asked (taken_on input next count) out live
-goes_still told asked input out next count live goes taken =
-    record {
-      taken = goes.taken;
-      consumed = subst (Consumes input.before next) (append-nil goes.taken) (Consumes-trans input.before input.now next goes.taken [] goes.consumed taken);
-      lines = goes.lines;
-      text = goes.text;
-      coming = goes.coming;
-      written = goes.written;
-      later = goes.later;
-      quiet = goes.quiet;
-    }
-
-pub went_drew : (told : Told) (asked : Asked) (input out : Device) (next : Option (List ℕ)) (count : ℕ) (bytes : List ℕ) (live : Live) → Goes told asked input out live
-    → Consumes input.now next bytes → Drew told asked (taken_on input next count) out
-went_drew told asked input out next count bytes live goes taken =
+pub went_drew : (told : Told) (asked : Asked) (input out err : Device) (next : Option (List ℕ)) (count : ℕ) (bytes : List ℕ) (live : Live) → Goes told asked input out err live
+    → Consumes input.now next bytes → Drew told asked (device_on input next count) out (Hears live.deaf err)
+went_drew told asked input out err next count bytes live goes taken =
     record {
       bytes = goes.taken;
       behind = bytes;
       taken = Consumes-trans input.before input.now next goes.taken bytes goes.consumed taken;
       lines = goes.lines;
       text = goes.text;
+      aside = goes.aside;
       drawn = (live.coming.held, live.coming.tally, goes.coming);
+      bare = nothing_aside told asked goes.taken goes.text goes.aside live.coming.held live.coming.tally goes.coming;
       written = goes.written;
+      is = goes.heard;
     }
 
-pub goes_drew : (told : Told) (asked : Asked) (input out : Device) (live : Live) → Goes told asked input out live → Drew told asked input out
-goes_drew told asked input out live goes =
+pub goes_drew : (told : Told) (asked : Asked) (input out err : Device) (live : Live) → Goes told asked input out err live
+    → Drew told asked input out (Hears live.deaf err)
+goes_drew told asked input out err live goes =
     record {
       bytes = goes.taken;
       behind = [];
       taken = subst (Consumes input.before input.now) (sym (append-nil goes.taken)) goes.consumed;
       lines = goes.lines;
       text = goes.text;
+      aside = goes.aside;
       drawn = (live.coming.held, live.coming.tally, goes.coming);
+      bare = nothing_aside told asked goes.taken goes.text goes.aside live.coming.held live.coming.tally goes.coming;
       written = goes.written;
+      is = goes.heard;
     }
 
-pub went_too_far : (told : Told) (asked : Asked) (input out : Device) (live : Live) → Goes told asked input out live → limit < live.quiet → TookTooMuch input
-went_too_far told asked input out live goes past = record { bytes = goes.taken; taken = goes.consumed; past = omega (arith, goes.quiet, past) }
+pub went_too_far : (told : Told) (asked : Asked) (input out err : Device) (live : Live) → Goes told asked input out err live → limit < live.quiet → TookTooMuch input
+went_too_far told asked input out err live goes past = record { bytes = goes.taken; taken = goes.consumed; past = omega (arith, goes.quiet, past) }
+
+-- ---- on by bytes that came
+
+abbrev pub DrawsOn : Told → Asked → List ℕ → List ℕ → List ℕ → Coming → Coming → Type 0
+DrawsOn told asked bytes text aside coming next =
+    (taken drawn beside : List ℕ) → IsComing told asked taken drawn beside coming.held coming.tally
+    → IsComing told asked (taken ++ bytes) (drawn ++ text) (beside ++ aside) next.held next.tally
+
+pub goes_came : (told : Told) (asked : Asked) (input out err : Device) (next : Option (List ℕ)) (count : ℕ) (bytes : List ℕ) (live : Live) (come : Come) (quiet : ℕ)
+    → Goes told asked input out err live → Consumes input.now next bytes
+    → DrawsOn told asked bytes (string_bytes come.text) (string_bytes come.aside) live.coming come.coming
+    → quiet ≤ live.quiet + length bytes → Came told asked (device_on input next count) out err come live.deaf quiet
+goes_came told asked input out err next count bytes live come quiet goes taken draws few =
+    record {
+      taken = goes.taken ++ bytes;
+      consumed = Consumes-trans input.before input.now next goes.taken bytes goes.consumed taken;
+      lines = λ more. subst (λ t. comes asked t ≡ true) (sym (append_assoc goes.taken bytes more)) (goes.lines (bytes ++ more));
+      text = goes.text;
+      aside = goes.aside;
+      coming = draws goes.taken goes.text goes.aside goes.coming;
+      written = goes.written;
+      later = goes.later;
+      heard = goes.heard;
+      few = omega (arith, goes.quiet, few, length-append goes.taken bytes);
+    }
+
+pub first_came : (told : Told) (asked : Asked) (input : Device) (received heard : Option (List ℕ)) (count failed : ℕ) (bytes : List ℕ) (come : Come) (quiet : ℕ)
+    → Consumes input.before input.now bytes → ((more : List ℕ) → comes asked (bytes ++ more) ≡ true)
+    → IsComing told asked bytes (string_bytes come.text) (string_bytes come.aside) come.coming.held come.coming.tally → quiet ≤ length bytes
+    → Came told asked input (still_device received count) (still_device heard failed) come false quiet
+first_came told asked input received heard count failed bytes come quiet taken lines coming few =
+    record {
+      taken = bytes;
+      consumed = taken;
+      lines = lines;
+      text = [];
+      aside = [];
+      coming = coming;
+      written = nothing_appended received;
+      later = omega arith;
+      heard = nothing_heard heard failed;
+      few = few;
+    }
+
+-- pieces were let go
+pub goes_afresh : (told : Told) (asked : Asked) (input out err : Device) (live : Live) → Goes told asked input out err live
+    → Goes told asked input out err (record { coming = live.coming; quiet = 0; deaf = live.deaf })
+goes_afresh told asked input out err live goes =
+    record {
+      taken = goes.taken;
+      consumed = goes.consumed;
+      lines = goes.lines;
+      text = goes.text;
+      aside = goes.aside;
+      coming = goes.coming;
+      written = goes.written;
+      later = goes.later;
+      heard = goes.heard;
+      quiet = omega arith;
+    }
+
+-- what came was written, behind what stands aside
+pub came_goes : (told : Told) (asked : Asked) (input out err said : Device) (now : Option (List ℕ)) (after quiet : ℕ) (come : Come) (deaf deafer : Bool)
+    → Came told asked input out err come deaf quiet → Appends out.now now (string_bytes come.text) → out.faults_now ≤ after
+    → ((before : List ℕ) → Hears deaf err before → Hears deafer said (before ++ string_bytes come.aside))
+    → Goes told asked input (device_on out now after) said (record { coming = come.coming; quiet = quiet; deaf = deafer })
+came_goes told asked input out err said now after quiet come deaf deafer came written later hears =
+    record {
+      taken = came.taken;
+      consumed = came.consumed;
+      lines = came.lines;
+      text = came.text ++ string_bytes come.text;
+      aside = came.aside ++ string_bytes come.aside;
+      coming = came.coming;
+      written = Appends-trans out.before out.now now came.text (string_bytes come.text) came.written written;
+      later = omega (arith, came.later, later);
+      heard = hears came.aside came.heard;
+      quiet = came.few;
+    }
+
+-- or a first part of it
+pub came_part : (told : Told) (asked : Asked) (input out err said : Device) (now : Option (List ℕ)) (after quiet : ℕ) (come : Come) (deaf deafer : Bool)
+    → Came told asked input out err come deaf quiet → AppendsPrefix out.now now (string_bytes come.text) → Rose out.faults_now after
+    → ((before : List ℕ) → Hears deaf err before → Hears deafer said (before ++ string_bytes come.aside))
+    → DrewPart told asked input (device_on out now after) said
+came_part told asked input out err said now after quiet come deaf deafer came written rose hears =
+    record {
+      bytes = came.taken;
+      taken = came.consumed;
+      lines = came.lines;
+      text = came.text ++ string_bytes come.text;
+      aside = came.aside ++ string_bytes come.aside;
+      drawn = (come.coming.held, come.coming.tally, came.coming);
+      bare = nothing_aside told asked came.taken (came.text ++ string_bytes come.text) (came.aside ++ string_bytes come.aside) come.coming.held come.coming.tally came.coming;
+      written = part_behind out.before out.now now came.text (string_bytes come.text) came.written written;
+      fault = rose_since out.faults_before out.faults_now after came.later rose;
+      heard = heard_told deafer said (came.aside ++ string_bytes come.aside) (hears came.aside came.heard);
+    }
+
+-- an input of which nothing more was taken
+pub goes_still : (told : Told) (asked : Asked) (input out err : Device) (next : Option (List ℕ)) (count : ℕ) (live : Live) → Goes told asked input out err live
+    → Consumes input.now next [] → Goes told asked (device_on input next count) out err live
+goes_still told asked input out err next count live goes taken =
+    record {
+      taken = goes.taken;
+      consumed = subst (Consumes input.before next) (append-nil goes.taken) (Consumes-trans input.before input.now next goes.taken [] goes.consumed taken);
+      lines = goes.lines;
+      text = goes.text;
+      aside = goes.aside;
+      coming = goes.coming;
+      written = goes.written;
+      later = goes.later;
+      heard = goes.heard;
+      quiet = goes.quiet;
+    }
 
 -- ---- the first bytes
 
@@ -192,8 +308,8 @@ auto_lines form.Document bytes is begins = cc
 auto_lines form.Sarif bytes is begins = cc
 auto_lines form.Lines bytes is begins = cc
 
-comes_by : (asked : Asked) (bytes : List ℕ) → is_drawing asked.to ≡ true → reads_lines asked.from bytes ≡ true → comes asked bytes ≡ true
-comes_by asked bytes drawn lines = rw drawn lines
+comes_by : (asked : Asked) (bytes : List ℕ) → is_live asked.to ≡ true → reads_lines asked.from bytes ≡ true → comes asked bytes ≡ true
+comes_by asked bytes live lines = rw live lines
 
 absurd_true : (b : Bool) → b ≡ true → b ≡ false → ⊥
 absurd_true true e f = cc
@@ -203,12 +319,12 @@ absurd_true false e f = cc
 pub surely_comes : (asked : Asked) (bytes : List ℕ) → may_begin asked ≡ true → ((more : List ℕ) → begins_as (bytes ++ more) ≡ Lines)
     → (more : List ℕ) → comes asked (bytes ++ more) ≡ true
 surely_comes asked bytes may begins more =
-    let parts = and_parts (is_drawing asked.to) (is_auto asked.from) may in
+    let parts = and_parts (is_live asked.to) (is_auto asked.from) may in
     comes_by asked (bytes ++ more) parts.0 (auto_lines asked.from (bytes ++ more) parts.1 (begins more))
 
 -- and one that is read as lines, whatever it is
-pub always_comes : (asked : Asked) (bytes : List ℕ) → is_drawing asked.to ≡ true → asked.from ≡ form.Lines → comes asked bytes ≡ true
-always_comes asked bytes drawn is = comes_by asked bytes drawn (ap (λ from. reads_lines from bytes) is)
+pub always_comes : (asked : Asked) (bytes : List ℕ) → is_live asked.to ≡ true → asked.from ≡ form.Lines → comes asked bytes ≡ true
+always_comes asked bytes live is = comes_by asked bytes live (ap (λ from. reads_lines from bytes) is)
 
 -- one that never comes doesn't begin so
 pub comes_never : {P : Type 0} (asked : Asked) (before now : Option (List ℕ)) (bytes : List ℕ) → Consumes before now bytes
@@ -220,73 +336,112 @@ comes_never asked (Some left) (Some rest) bytes taken lines never =
 
 -- ---- the end
 
-lines_made : (drawing : Bool) (told : Told) (asked : Asked) (bytes text : List ℕ) (reached : Bool) → drawing ≡ true → IsDrawn told asked bytes text reached
-    → MakesLinesBy drawing told asked bytes text [] reached
-lines_made true told asked bytes text reached is drawn = (drawn, refl)
-lines_made false told asked bytes text reached is drawn = cc
+-- annotations that are written as lines come are those of the whole
+annotated : (to : OutputForm) (asked : Asked) (found : List Found) (text : List ℕ) → annotates to ≡ true → text ≡ ci_text ci.Github asked.raw found → IsTextIn to asked found text
+annotated Drawing asked found text is made = cc
+annotated Json asked found text is made = cc
+annotated Document asked found text is made = cc
+annotated Sarif asked found text is made = cc
+annotated Problems asked found text is made = cc
+annotated Github asked found text is made = made
+annotated Gitlab asked found text is made = cc
+annotated Checkstyle asked found text is made = cc
+annotated Junit asked found text is made = cc
+annotated Stylish asked found text is made = cc
 
-begun_made : (begun : Begun) (told : Told) (asked : Asked) (bytes text : List ℕ) (reached : Bool) → begins_lines begun ≡ true → MakesLines told asked bytes text [] reached
-    → MakesBegun begun told asked bytes text [] reached
-begun_made Object told asked bytes text reached is made = cc
-begun_made OtherJson told asked bytes text reached is made = cc
-begun_made Lines told asked bytes text reached is made = made
+lists_of : (told : Told) (asked : Asked) (bytes text aside : List ℕ) (reached : Bool) → annotates asked.to ≡ true → IsDrawn told asked bytes text aside reached
+    → ListsLines told asked bytes text aside reached
+unfolding written ending
+lists_of told asked bytes text aside reached is drawn =
+    let made : text ≡ ci_text ci.Github asked.raw (reports_in (columns_of asked) drawn.given (lines_of bytes) drawn.pieces) = (rw is at drawn.drawn) ∙ append-nil _ in
+    record {
+      pieces = drawn.pieces;
+      are = drawn.are;
+      given = drawn.given;
+      told_so = drawn.told_so;
+      writes = record {
+        found = drawn.found;
+        reports = drawn.reports;
+        written = annotated asked.to asked drawn.found text is (made ∙ ap (ci_text ci.Github asked.raw) (sym drawn.reports));
+        kept = rw is at drawn.aside_is;
+        level = drawn.level;
+      };
+    }
 
-as_made : (from : InputForm) (told : Told) (asked : Asked) (bytes text : List ℕ) (reached : Bool) → reads_lines from bytes ≡ true → MakesLines told asked bytes text [] reached
-    → MakesAs from told asked bytes text [] reached
-as_made form.Auto told asked bytes text reached is made = begun_made (begins_as bytes) told asked bytes text reached is made
-as_made form.Document told asked bytes text reached is made = cc
-as_made form.Sarif told asked bytes text reached is made = cc
-as_made form.Lines told asked bytes text reached is made = made
+lines_made : (drawing annotating : Bool) (told : Told) (asked : Asked) (bytes text aside : List ℕ) (reached : Bool) → annotates asked.to ≡ annotating
+    → drawing || annotating ≡ true → IsDrawn told asked bytes text aside reached → MakesLinesBy drawing told asked bytes text aside reached
+lines_made true annotating told asked bytes text aside reached is some drawn = drawn
+lines_made false true told asked bytes text aside reached is some drawn = lists_of told asked bytes text aside reached is drawn
+lines_made false false told asked bytes text aside reached is some drawn = cc
 
-pub drawn_made : (told : Told) (asked : Asked) (bytes text : List ℕ) (reached : Bool) → comes asked bytes ≡ true → IsDrawn told asked bytes text reached
-    → IsMade told asked bytes text [] reached
-drawn_made told asked bytes text reached is drawn =
-    let parts = and_parts (is_drawing asked.to) (reads_lines asked.from bytes) is in
-    as_made asked.from told asked bytes text reached parts.1 (lines_made (is_drawing asked.to) told asked bytes text reached parts.0 drawn)
+begun_made : (begun : Begun) (told : Told) (asked : Asked) (bytes text aside : List ℕ) (reached : Bool) → begins_lines begun ≡ true
+    → MakesLines told asked bytes text aside reached → MakesBegun begun told asked bytes text aside reached
+begun_made Object told asked bytes text aside reached is made = cc
+begun_made OtherJson told asked bytes text aside reached is made = cc
+begun_made Lines told asked bytes text aside reached is made = made
+
+as_made : (from : InputForm) (told : Told) (asked : Asked) (bytes text aside : List ℕ) (reached : Bool) → reads_lines from bytes ≡ true
+    → MakesLines told asked bytes text aside reached → MakesAs from told asked bytes text aside reached
+as_made form.Auto told asked bytes text aside reached is made = begun_made (begins_as bytes) told asked bytes text aside reached is made
+as_made form.Document told asked bytes text aside reached is made = cc
+as_made form.Sarif told asked bytes text aside reached is made = cc
+as_made form.Lines told asked bytes text aside reached is made = made
+
+pub drawn_made : (told : Told) (asked : Asked) (bytes text aside : List ℕ) (reached : Bool) → comes asked bytes ≡ true → IsDrawn told asked bytes text aside reached
+    → IsMade told asked bytes text aside reached
+drawn_made told asked bytes text aside reached is drawn =
+    let parts = and_parts (is_live asked.to) (reads_lines asked.from bytes) is in
+    as_made asked.from told asked bytes text aside reached parts.1
+    (lines_made (is_drawing asked.to) (annotates asked.to) told asked bytes text aside reached refl parts.0 drawn)
 
 -- lines that come have no limit
 none_within : (asked : Asked) (bytes : List ℕ) → comes asked bytes ≡ true → comes asked bytes ≡ false → length bytes ≤ limit
 none_within asked bytes is never = absurd (absurd_true (comes asked bytes) is never)
 
-all_lines : (told : Told) (asked : Asked) (input out : Device) (live : Live) (goes : Goes told asked input out live) → comes asked goes.taken ≡ true
-all_lines told asked input out live goes = subst (λ t. comes asked t ≡ true) (append-nil goes.taken) (goes.lines [])
+all_lines : (told : Told) (asked : Asked) (input out err : Device) (live : Live) (goes : Goes told asked input out err live) → comes asked goes.taken ≡ true
+all_lines told asked input out err live goes = subst (λ t. comes asked t ≡ true) (append-nil goes.taken) (goes.lines [])
 
-pub ended_sent : (told : Told) (asked : Asked) (input err : Device) (start received now : Option (List ℕ)) (faults before after : ℕ) (live : Live) (text : List ℕ) (reached level : Bool)
-    → Goes told asked input (sink_device start received faults before) live → IsAtEnd input.now
-    → ((taken drawn : List ℕ) → IsComing told asked taken drawn live.coming.held live.coming.tally → IsDrawn told asked taken (drawn ++ text) reached)
-    → reached ≡ level → Appends received now text → IsTold err [] → TookWhole asked input (λ bytes. Sent told asked level bytes (sink_device start now faults after) err)
-ended_sent told asked input err start received now faults before after live text reached level goes ended draws is written heard =
-    let lines : comes asked goes.taken ≡ true = all_lines told asked input (sink_device start received faults before) live goes in
+-- what is left makes the whole
+abbrev pub DrawsAll : Told → Asked → List ℕ → List ℕ → Coming → Bool → Type 0
+DrawsAll told asked text aside coming reached =
+    (taken drawn beside : List ℕ) → IsComing told asked taken drawn beside coming.held coming.tally → IsDrawn told asked taken (drawn ++ text) (beside ++ aside) reached
+
+pub ended_sent : (told : Told) (asked : Asked) (input out err said : Device) (now : Option (List ℕ)) (after : ℕ) (live : Live) (text aside : List ℕ) (reached level deafer : Bool)
+    → Goes told asked input out err live → IsAtEnd input.now → DrawsAll told asked text aside live.coming reached → reached ≡ level → Appends out.now now text
+    → ((before : List ℕ) → Hears live.deaf err before → Hears deafer said (before ++ aside))
+    → TookWhole asked input (λ bytes. Sent told asked level bytes (device_on out now after) said)
+ended_sent told asked input out err said now after live text aside reached level deafer goes ended draws is written hears =
+    let lines : comes asked goes.taken ≡ true = all_lines told asked input out err live goes in
     record {
       bytes = goes.taken;
       taken = goes.consumed;
       ended = ended;
       within = none_within asked goes.taken lines;
       is = record {
-        texts = record { out = goes.text ++ text; aside = []; reached = reached };
-        made = drawn_made told asked goes.taken (goes.text ++ text) reached lines (draws goes.taken goes.text goes.coming);
+        texts = record { out = goes.text ++ text; aside = goes.aside ++ aside; reached = reached };
+        made = drawn_made told asked goes.taken (goes.text ++ text) (goes.aside ++ aside) reached lines (draws goes.taken goes.text goes.aside goes.coming);
         level = is;
-        written = Appends-trans start received now goes.text text goes.written written;
-        heard = heard;
+        written = Appends-trans out.before out.now now goes.text text goes.written written;
+        heard = heard_told deafer said (goes.aside ++ aside) (hears goes.aside goes.heard);
       };
     }
 
-pub ended_part : (told : Told) (asked : Asked) (input err : Device) (start received now : Option (List ℕ)) (faults before after : ℕ) (live : Live) (text : List ℕ) (reached : Bool)
-    → Goes told asked input (sink_device start received faults before) live → IsAtEnd input.now
-    → ((taken drawn : List ℕ) → IsComing told asked taken drawn live.coming.held live.coming.tally → IsDrawn told asked taken (drawn ++ text) reached)
-    → AppendsPrefix received now text → Rose before after → IsTold err [] → TookWhole asked input (λ bytes. SentPart told asked bytes (sink_device start now faults after) err)
-ended_part told asked input err start received now faults before after live text reached goes ended draws written rose heard =
-    let lines : comes asked goes.taken ≡ true = all_lines told asked input (sink_device start received faults before) live goes in
+pub ended_part : (told : Told) (asked : Asked) (input out err said : Device) (now : Option (List ℕ)) (after : ℕ) (live : Live) (text aside : List ℕ) (reached deafer : Bool)
+    → Goes told asked input out err live → IsAtEnd input.now → DrawsAll told asked text aside live.coming reached → AppendsPrefix out.now now text → Rose out.faults_now after
+    → ((before : List ℕ) → Hears live.deaf err before → Hears deafer said (before ++ aside))
+    → TookWhole asked input (λ bytes. SentPart told asked bytes (device_on out now after) said)
+ended_part told asked input out err said now after live text aside reached deafer goes ended draws written rose hears =
+    let lines : comes asked goes.taken ≡ true = all_lines told asked input out err live goes in
     record {
       bytes = goes.taken;
       taken = goes.consumed;
       ended = ended;
       within = none_within asked goes.taken lines;
       is = record {
-        texts = record { out = goes.text ++ text; aside = []; reached = reached };
-        made = drawn_made told asked goes.taken (goes.text ++ text) reached lines (draws goes.taken goes.text goes.coming);
-        written = part_behind start received now goes.text text goes.written written;
-        fault = rose_since faults before after goes.later rose;
-        heard = heard;
+        texts = record { out = goes.text ++ text; aside = goes.aside ++ aside; reached = reached };
+        made = drawn_made told asked goes.taken (goes.text ++ text) (goes.aside ++ aside) reached lines (draws goes.taken goes.text goes.aside goes.coming);
+        written = part_behind out.before out.now now goes.text text goes.written written;
+        fault = rose_since out.faults_before out.faults_now after goes.later rose;
+        heard = heard_told deafer said (goes.aside ++ aside) (hears goes.aside goes.heard);
       };
     }

@@ -1,5 +1,5 @@
 -- What was shown of the whole input.
-use Rattle.std.proofs.Common.{◌≡◌, ◌≤◌, ◌⊎◌, inl, inr, List, ℕ, length, refl}
+use Rattle.std.proofs.Common.{◌≤◌, inl, List, ℕ, length, refl}
 use Rattle.std.specs.Io.KnownBytes.{Consumes, IsAtEnd}
 use Rattle.girzohal_asked.specs.declared.Asked.{Asked}
 use Rattle.girzohal.specs.Told.{Told}
@@ -19,9 +19,9 @@ shown_means Usage asked told input out err bytes taken ended within shows = absu
 shown_means NoForm asked told input out err bytes taken ended within shows = (whole_of asked input bytes taken ended within shows.0, shows.1)
 shown_means ReadFault asked told input out err bytes taken ended within shows = absurd shows
 shown_means SinkFault asked told input out err bytes taken ended within shows = inl (whole_of asked input bytes taken ended within shows)
-shown_means OutOfMemory asked told input out err bytes taken ended within shows = (inl shows.0, shows.1)
+shown_means OutOfMemory asked told input out err bytes taken ended within shows = inl shows
 shown_means InputTooLong asked told input out err bytes taken ended within shows = absurd shows
-shown_means TooManyFiles asked told input out err bytes taken ended within shows = (inl shows.0, shows.1)
+shown_means TooManyFiles asked told input out err bytes taken ended within shows = inl shows
 
 -- what was sent of what is made
 pub sent_shows : (result : Status) (asked : Asked) (told : Told) (texts : Texts) (out err : Device) (bytes : List ℕ) → IsMadeOf told asked texts bytes

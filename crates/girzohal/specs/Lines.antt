@@ -1,5 +1,5 @@
 -- What is made of lines that a tool prints for people.
-use Rattle.std.specs.Prelude.{◌≡◌, ℕ, List, [], Option, None, Bool, true, false}
+use Rattle.std.specs.Prelude.{◌≡◌, ◌||◌, ℕ, List, None, Bool, true, false}
 use Rattle.found_reports.specs.Held.{Held}
 use Rattle.found_reports.specs.Found.{Found}
 use Rattle.source_store.specs.Given.{IsGiven}
@@ -12,7 +12,7 @@ use Rattle.girzohal_asked.specs.declared.Asked.{Asked}
 use Rattle.girzohal_asked.specs.declared.OutputForm.{OutputForm}
 use Rattle.girzohal_asked.specs.declared.OutputForm.TheVariants.{Drawing, Json, Document, Sarif, Problems, Github, Gitlab, Checkstyle, Junit, Stylish}
 use Rattle.drawn_lines.specs.Text.{lines_of}
-use Rattle.drawn_lines.specs.Lines.{columns_of, kept_text, shapes_of}
+use Rattle.drawn_lines.specs.Lines.{annotates, columns_of, kept_text, shapes_of}
 use Rattle.drawn_lines.specs.Coming.{IsDrawn}
 use Rattle.girzohal.specs.Texts.{IsText}
 use Rattle.girzohal.specs.Told.{Told}
@@ -28,6 +28,10 @@ is_drawing Gitlab = false
 is_drawing Checkstyle = false
 is_drawing Junit = false
 is_drawing Stylish = false
+
+-- drawings and annotations of lines are written as the lines come
+abbrev pub is_live : OutputForm → Bool
+is_live form = is_drawing form || annotates form
 
 -- the text and the level of the reports that these pieces of lines mean with what was given, and the lines that stand aside
 pub record WritesPieces (asked : Asked) (given : List ℕ → Held) (lines : List (List ℕ)) (pieces : List PieceParts) (text aside : List ℕ) (reached : Bool) : Type 0 where
@@ -47,7 +51,7 @@ pub record ListsLines (told : Told) (asked : Asked) (bytes text aside : List ℕ
 
 -- drawn, kept lines stand in their place; in other forms they stand aside
 abbrev pub MakesLinesBy : Bool → Told → Asked → List ℕ → List ℕ → List ℕ → Bool → Type 0
-MakesLinesBy true told asked bytes text aside reached = IsDrawn told asked bytes text reached × (aside ≡ [])
+MakesLinesBy true told asked bytes text aside reached = IsDrawn told asked bytes text aside reached
 MakesLinesBy false told asked bytes text aside reached = ListsLines told asked bytes text aside reached
 
 abbrev pub MakesLines : Told → Asked → List ℕ → List ℕ → List ℕ → Bool → Type 0

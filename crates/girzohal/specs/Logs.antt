@@ -12,6 +12,8 @@ use Rattle.sarif.specs.Asked.{names_in}
 use Rattle.sarif.specs.Meaning.{reports_in}
 use Rattle.line_shapes.specs.declared.tables.Unit.{Unit as ColumnUnit}
 use Rattle.line_shapes.specs.declared.tables.Unit.TheVariants.{Bytes, Characters, Utf16, Cells}
+use Rattle.harmless.specs.declared.Kind.TheVariants.{Name}
+use Rattle.harmless.specs.Harmless.{harmless}
 use Rattle.girzohal.specs.Told.{Told}
 
 -- columns of a log count what was asked for, where logs can count it
@@ -30,9 +32,16 @@ pub record ReadsLog (told : Told) (columns : Option ColumnKind) (part : List ℕ
   pub told_so : IsGiven told Uri (names_in log) given
   pub reports : found ≡ reports_in given columns log
 
+-- a path holds the log's own keys, which can't drive a terminal
+abbrev pub harmless_path : List ℕ → List ℕ
+harmless_path path = harmless Name path
+
+abbrev pub fault_line : List ℕ → List ℕ → List ℕ
+fault_line path wanted = codes "girzohal: " ++ path ++ codes ": wanted " ++ wanted ++ codes "\n"
+
 -- the line that says what was wanted of a log, and where
 abbrev pub no_log_line : List ℕ → List ℕ → List ℕ
-no_log_line path wanted = codes "girzohal: " ++ path ++ codes ": wanted " ++ wanted ++ codes "\n"
+no_log_line path wanted = fault_line (harmless_path path) wanted
 
 -- a text is answered with a fault in place of a log; the line says what was wanted, and is free of what is no JSON
 abbrev pub IsFault : Answer → List ℕ → Type 0

@@ -5,7 +5,7 @@ use Rattle.oxc_protocol.specs.Faults.{Rose}
 use Rattle.girzohal_asked.specs.declared.Asked.{Asked}
 use Rattle.girzohal_asked.specs.declared.InputForm.{InputForm}
 use Rattle.girzohal_asked.specs.declared.InputForm.TheVariants as form
-use Rattle.girzohal.specs.Lines.{is_drawing}
+use Rattle.girzohal.specs.Lines.{is_live}
 use Rattle.girzohal.specs.Run.{comes, limit}
 use Rattle.girzohal.specs.declared.opening.Opening.{Opening}
 use Rattle.girzohal.specs.declared.opening.Opening.TheVariants as opening
@@ -16,11 +16,11 @@ is_auto form.Document = false
 is_auto form.Sarif = false
 is_auto form.Lines = false
 
--- the first bytes of the input tell its form, and lines are drawn
+-- the first bytes of the input tell its form, and lines are written as they come
 abbrev pub may_begin : Asked → Bool
-may_begin asked = is_drawing asked.to && is_auto asked.from
+may_begin asked = is_live asked.to && is_auto asked.from
 
--- these bytes were taken, and are lines that are drawn as they come, or no more than a run reads at once
+-- these bytes were taken, and are lines that are written as they come, or no more than a run reads at once
 abbrev pub Opens : Asked → Option (List ℕ) → Option (List ℕ) → Opening → Type 0
 Opens asked before now (opening.Lines bytes) = Consumes before now bytes.items × (length bytes.items ≤ limit) × ((more : List ℕ) → comes asked (bytes.items ++ more) ≡ true)
 Opens asked before now (opening.Whole bytes) = Consumes before now bytes.items × (length bytes.items ≤ limit)

@@ -9,6 +9,7 @@ use Rattle.shown_reports.specs.Given.{found_document}
 use Rattle.line_shapes.specs.declared.tables.Unit.{Unit as ColumnUnit}
 use Rattle.line_shapes.specs.declared.tables.Unit.TheVariants.{Bytes, Characters, Utf16, Cells}
 use Rattle.sarif_log.specs.declared.log.ColumnKind.{ColumnKind}
+use Rattle.input_forms.specs.Begun.{behind_mark}
 use Rattle.input_forms.specs.Object.{has_files}
 use Rattle.girzohal.specs.declared.object.ObjectForm.{ObjectForm}
 use Rattle.girzohal.specs.declared.object.ObjectForm.TheVariants.{Keyed, AsDocument, AsLog}
@@ -72,6 +73,6 @@ IsNonePart AsLog columns part line = IsNoLog part line
 abbrev pub part_of : List ℕ → Range ℕ → List ℕ
 part_of bytes range = slice_range bytes range.start range.end
 
--- what stands around it
+-- what stands around it; a byte order mark is nothing
 abbrev pub around : List ℕ → Range ℕ → List ℕ
-around bytes range = take range.start bytes ++ drop range.end bytes
+around bytes range = behind_mark (take range.start bytes) ++ drop range.end bytes

@@ -10,8 +10,9 @@ use Rattle.input_forms.specs.Begun.{begins_as}
 use Rattle.input_forms.specs.declared.begun.Begun.{Begun}
 use Rattle.input_forms.specs.declared.begun.Begun.TheVariants.{Object, OtherJson, Lines}
 use Rattle.drawn_lines.specs.Coming.{IsBegun}
+use Rattle.drawn_lines.specs.Lines.{annotates}
 use Rattle.girzohal.specs.Told.{Told}
-use Rattle.girzohal.specs.Lines.{is_drawing}
+use Rattle.girzohal.specs.Lines.{is_live}
 use Rattle.girzohal.specs.Made.{IsMade, IsOfNoForm}
 use Rattle.girzohal.specs.declared.making.Made.{Made}
 use Rattle.girzohal.specs.declared.status.Status.{Status}
@@ -30,9 +31,14 @@ pub record Device : Type 0 where
 abbrev pub device : {D : Type 0} → (D → Option (List ℕ)) → (D → ℕ) → D → D → Device
 device told faults old new = record { before = told old; now = told new; faults_before = faults old; faults_now = faults new }
 
--- the same, of what it told and counted at another time
-abbrev pub device_from : {D : Type 0} → (D → Option (List ℕ)) → (D → ℕ) → Option (List ℕ) → ℕ → D → Device
-device_from told faults before count new = record { before = before; now = told new; faults_before = count; faults_now = faults new }
+-- what a device told and counted at another time
+pub record Since : Type 0 where
+  pub bytes : Option (List ℕ)
+  pub faults : ℕ
+
+-- the same since then
+abbrev pub device_since : {D : Type 0} → (D → Option (List ℕ)) → (D → ℕ) → Since → D → Device
+device_since told faults since new = record { before = since.bytes; now = told new; faults_before = since.faults; faults_now = faults new }
 
 abbrev pub HasRisen : Device → Type 0
 HasRisen it = Rose it.faults_before it.faults_now
@@ -57,16 +63,16 @@ reads_lines form.Document bytes = false
 reads_lines form.Sarif bytes = false
 reads_lines form.Lines bytes = true
 
--- the input is lines that are drawn, and so they are as they come
+-- the input is lines, of which a drawing or annotations are written as they come
 abbrev pub comes : Asked → List ℕ → Bool
-comes asked bytes = is_drawing asked.to && reads_lines asked.from bytes
+comes asked bytes = is_live asked.to && reads_lines asked.from bytes
 
--- what an input holds isn't lines that are drawn as they come; of one that doesn't tell what it holds, whatever it may be
+-- what an input holds isn't lines that are written as they come; of one that doesn't tell what it holds, whatever it may be
 abbrev pub NeverComes : Asked → Option (List ℕ) → Type 0
 NeverComes asked None = (bytes : List ℕ) → comes asked bytes ≡ false
 NeverComes asked (Some bytes) = comes asked bytes ≡ false
 
--- the whole input was taken, to its end and within the limit, which lines have none that are drawn as they come; and these bytes are P
+-- the whole input was taken, to its end and within the limit, which lines have none that are written as they come; and these bytes are P
 pub record TookWhole (asked : Asked) (input : Device) (P : List ℕ → Type 0) : Type 0 where
   pub bytes : List ℕ
   pub taken : Consumes input.before input.now bytes
@@ -74,29 +80,40 @@ pub record TookWhole (asked : Asked) (input : Device) (P : List ℕ → Type 0) 
   pub within : comes asked bytes ≡ false → length bytes ≤ limit
   pub is : P bytes
 
--- the first bytes are lines that are drawn as they come, and of them this was drawn, whatever comes behind them; and all of it was written
-pub record Drew (told : Told) (asked : Asked) (input out : Device) : Type 0 where
+-- the first bytes are lines that are written as they come; whatever comes behind them, this text is made of them, and this stands aside, which is
+-- nothing unless annotations are written; the output received the text, and what stands aside is P
+pub record Drew (told : Told) (asked : Asked) (input out : Device) (P : List ℕ → Type 0) : Type 0 where
   pub bytes : List ℕ
   pub behind : List ℕ
   pub taken : Consumes input.before input.now (bytes ++ behind)
   pub lines : (more : List ℕ) → comes asked (bytes ++ more) ≡ true
   pub text : List ℕ
-  pub drawn : IsBegun told asked bytes text
+  pub aside : List ℕ
+  pub drawn : IsBegun told asked bytes text aside
+  pub bare : annotates asked.to ≡ false → aside ≡ []
   pub written : Appends out.before out.now text
+  pub is : P aside
 
--- the same, but the output failed, and received a first part of it
-pub record DrewPart (told : Told) (asked : Asked) (input out : Device) : Type 0 where
+-- the same, but the output failed, and received a first part of it; the error output was told what stands aside
+pub record DrewPart (told : Told) (asked : Asked) (input out err : Device) : Type 0 where
   pub bytes : List ℕ
   pub taken : Consumes input.before input.now bytes
   pub lines : (more : List ℕ) → comes asked (bytes ++ more) ≡ true
   pub text : List ℕ
-  pub drawn : IsBegun told asked bytes text
+  pub aside : List ℕ
+  pub drawn : IsBegun told asked bytes text aside
+  pub bare : annotates asked.to ≡ false → aside ≡ []
   pub written : AppendsPrefix out.before out.now text
   pub fault : HasRisen out
+  pub heard : IsTold err aside
 
--- the output is as it was; or lines were drawn as they came, as far as they did
-abbrev pub Stopped : Told → Asked → Device → Device → Type 0
-Stopped told asked input out = IsKept out ⊎ Drew told asked input out
+-- the output is as it was, and nothing stands aside; or lines were written as they came, as far as they were; and what stands aside is P
+abbrev pub Stays : Told → Asked → Device → Device → (List ℕ → Type 0) → Type 0
+Stays told asked input out P = (IsKept out × P []) ⊎ Drew told asked input out P
+
+-- the same, and the error output was told what stands aside, and then this line
+abbrev pub Stopped : Told → Asked → Device → Device → Device → List ℕ → Type 0
+Stopped told asked input out err line = Stays told asked input out (λ aside. IsTold err (aside ++ line))
 
 -- more bytes than the limit were taken
 pub record TookTooMuch (input : Device) : Type 0 where
@@ -154,15 +171,15 @@ Means Usage asked input told out err = ⊥
 -- the whole input isn't of its form, and a line of this says why
 Means NoForm asked input told out err = TookWhole asked input (λ bytes. Refuses asked bytes err) × IsKept out
 -- the input failed
-Means ReadFault asked input told out err = HasRisen input × Stopped told asked input out × IsTold err (codes "girzohal: input failed\n")
--- the output failed, and received a first part of what is made, or of what was drawn of the lines that came
-Means SinkFault asked input told out err = TookWhole asked input (λ bytes. SentPart told asked bytes out err) ⊎ (DrewPart told asked input out × IsTold err [])
+Means ReadFault asked input told out err = HasRisen input × Stopped told asked input out err (codes "girzohal: input failed\n")
+-- the output failed, and received a first part of what is made, or of what was made of the lines that came
+Means SinkFault asked input told out err = TookWhole asked input (λ bytes. SentPart told asked bytes out err) ⊎ DrewPart told asked input out err
 -- want of memory is free
-Means OutOfMemory asked input told out err = Stopped told asked input out × IsTold err (codes "girzohal: out of memory\n")
--- the input is longer than a run reads, or a piece of lines is that are drawn as they come
-Means InputTooLong asked input told out err = TookTooMuch input × Stopped told asked input out × IsTold err (codes "girzohal: input too long\n")
+Means OutOfMemory asked input told out err = Stopped told asked input out err (codes "girzohal: out of memory\n")
+-- the input is longer than a run reads, or a piece of lines is that are written as they come
+Means InputTooLong asked input told out err = TookTooMuch input × Stopped told asked input out err (codes "girzohal: input too long\n")
 -- the input names more files than can be numbered
-Means TooManyFiles asked input told out err = Stopped told asked input out × IsTold err (codes "girzohal: too many files\n")
+Means TooManyFiles asked input told out err = Stopped told asked input out err (codes "girzohal: too many files\n")
 
 -- with every status but those of what is written the output is as it was
 abbrev pub IsUntouched : {O : Type 0} → Status → O → O → Type 0

@@ -1,9 +1,9 @@
 -- What is written of reports.
 use Rattle.std.specs.Prelude.{◌≡◌, ℕ, List}
 use Rattle.found_reports.specs.Found.{Found}
-use Rattle.report_texts.specs.Texts.{IsDocumentText, IsSarifText, drawing_text, json_text}
+use Rattle.report_texts.specs.Texts.{IsDocumentText, IsSarifText, drawing_text, json_text, named_tool}
 use Rattle.ci_formats.specs.declared.format.CiFormat.TheVariants as ci
-use Rattle.ci_texts.specs.Texts.{ci_text}
+use Rattle.ci_texts.specs.Texts.{ci_text, gitlab_text}
 use Rattle.girzohal_asked.specs.declared.Asked.{Asked}
 use Rattle.girzohal_asked.specs.declared.OutputForm.{OutputForm}
 use Rattle.girzohal_asked.specs.declared.OutputForm.TheVariants.{Drawing, Json, Document, Sarif, Problems, Github, Gitlab, Checkstyle, Junit, Stylish}
@@ -16,7 +16,7 @@ IsTextIn Document asked found text = IsDocumentText asked.raw found text
 IsTextIn Sarif asked found text = IsSarifText asked found text
 IsTextIn Problems asked found text = text ≡ ci_text ci.Problems asked.raw found
 IsTextIn Github asked found text = text ≡ ci_text ci.Github asked.raw found
-IsTextIn Gitlab asked found text = text ≡ ci_text ci.Gitlab asked.raw found
+IsTextIn Gitlab asked found text = text ≡ gitlab_text (named_tool asked.tool) asked.raw found
 IsTextIn Checkstyle asked found text = text ≡ ci_text ci.Checkstyle asked.raw found
 IsTextIn Junit asked found text = text ≡ ci_text ci.Junit asked.raw found
 IsTextIn Stylish asked found text = text ≡ ci_text ci.Stylish asked.raw found

@@ -5,15 +5,16 @@ ghost use Rattle.tool_lines.specs.Lines.{piece_parts};
 ghost use Rattle.drawn_lines.specs.Coming.{IsDrawn};
 ghost use Rattle.drawn_lines.specs.Text.{lines_in_text, without_lf as lf_less};
 ghost use Rattle.girzohal.specs.Lines.{ListsLines, MakesLines, WritesPieces};
-ghost use Rattle.girzohal.specs.Lines.{is_drawing as is_drawn};
+ghost use Rattle.girzohal.specs.Lines.{is_drawing as is_drawn, is_live as is_live_form};
 ghost use Rattle.girzohal.specs.Made.{IsFree};
 
 use crate::fault::{Fault, fault_of};
 use crate::making::{Made, Written};
 use crate::texts::text_or_fault;
-use drawn_lines::{Come, Coming, Ended, columns_of, kept_text, shapes_of};
+use drawn_lines::{Come, Coming, Ended, annotates, columns_of, kept_text, shapes_of};
 use found_reports::ListedSources;
 use girzohal_asked::{Asked, OutputForm};
+use input_forms::without_mark;
 use line_reports::{names_of, reports_of};
 use line_shapes::bytes::before_last;
 use report_counts::one_reaches;
@@ -35,16 +36,14 @@ pub(crate) fn make_lines<S: Store>(
     ensures cause { IfErr result IsFree }
 {
     if is_drawing(asked.to) {
-        let written = drawn_or_fault(alloc, asked, bytes, store)?;
-        let aside = Vec::new(alloc);
-        Ok(Made { written, aside })
+        drawn_or_fault(alloc, asked, bytes, store)
     } else {
         list_lines(alloc, asked, bytes, store)
     }
 }
 
 /// Whether reports are drawn.
-pub(crate) fn is_drawing(form: OutputForm) -> bool
+fn is_drawing(form: OutputForm) -> bool
     ensures { result ≡ is_drawn form }
 {
     match form {
@@ -61,15 +60,17 @@ pub(crate) fn is_drawing(form: OutputForm) -> bool
     }
 }
 
+/// Whether drawings or annotations are written: of lines they are as the lines come.
+pub(crate) fn is_live(form: OutputForm) -> bool
+    ensures { result ≡ is_live_form form }
+{
+    is_drawing(form) || annotates(form)
+}
+
 /// Lines as they are drawn.
-fn drawn<S: Store>(
-    alloc: Global,
-    asked: &Asked,
-    bytes: &[u8],
-    store: &S,
-) -> Result<Written, ShowError>
+fn drawn<S: Store>(alloc: Global, asked: &Asked, bytes: &[u8], store: &S) -> Result<Made, ShowError>
     ensures { IfOk result (λ it. IsDrawn (S.told store.now) asked.now bytes.now
-        (string_bytes it.text) it.reached) }
+        (string_bytes it.written.text) it.aside.items it.written.reached) }
 {
     let shapes = shapes_of(alloc, asked)?;
     let coming = Coming::new(alloc);
@@ -77,15 +78,20 @@ fn drawn<S: Store>(
     let Come {
         coming,
         mut text,
+        mut aside,
         known: _,
     } = come;
     let end = coming.ended(alloc, asked, &shapes, store)?;
     let Ended {
         text: rest,
+        aside: more,
         reached,
     } = end;
     text.push_str(rest.as_str())?;
-    Ok(Written { text, reached })
+    aside.push_str(more.as_str())?;
+    let written = Written { text, reached };
+    let aside = aside.into_bytes();
+    Ok(Made { written, aside })
 }
 
 /// The same, or why nothing is made.
@@ -94,13 +100,13 @@ fn drawn_or_fault<S: Store>(
     asked: &Asked,
     bytes: &[u8],
     store: &S,
-) -> Result<Written, Fault>
+) -> Result<Made, Fault>
     ensures drawn { IfOk result (λ it. IsDrawn (S.told store.now) asked.now bytes.now
-        (string_bytes it.text) it.reached) }
+        (string_bytes it.written.text) it.aside.items it.written.reached) }
     ensures cause { IfErr result IsFree }
 {
     match drawn(alloc, asked, bytes, store) {
-        Ok(written) => Ok(written),
+        Ok(made) => Ok(made),
         Err(why) => Err(fault_of(why)),
     }
 }
@@ -116,7 +122,7 @@ fn list_lines<S: Store>(
         (string_bytes it.written.text) it.aside.items it.written.reached) }
     ensures cause { IfErr result IsFree }
 {
-    let text = without_paint(alloc, bytes)?;
+    let text = without_paint(alloc, without_mark(bytes))?;
     let lines = text_lines(alloc, &text)?;
     let shapes = shapes_of(alloc, asked)?;
     let pieces = pieces_of(alloc, &lines, &shapes)?;

@@ -1,12 +1,13 @@
-// Lines that are drawn as they come.
+// Lines that are written as they come.
 ghost use Rattle.std.specs.Prelude.{◌≡◌, ◌≤◌, ◌++◌, ℕ, List, Option, map, true};
 ghost use Rattle.std.specs.Io.KnownBytes.{Consumes, IsAtEnd};
 ghost use Rattle.line_shapes.specs.Shape.{shape_parts};
 ghost use Rattle.drawn_lines.specs.Lines.{shapes_of as shapes_meant};
 ghost use Rattle.girzohal_asked.specs.declared.Asked.{Asked as AskedFor};
 ghost use Rattle.girzohal.specs.Told.{Told};
-ghost use Rattle.girzohal.specs.Run.{Device, Means, Stopped, comes, device, device_from};
-ghost use Rattle.girzohal.specs.Live.{Came, Goes, Stops, Went, taken_on};
+ghost use Rattle.girzohal.specs.Run.{Device, IsTold, Means, Since, Stays, comes, device};
+ghost use Rattle.girzohal.specs.Run.{device_since};
+ghost use Rattle.girzohal.specs.Live.{Came, Goes, Hears, Went, device_on};
 
 use crate::opening::{CHUNK, LIMIT};
 use crate::program::fail;
@@ -20,29 +21,19 @@ use shown_reports::ShowError;
 use source_store::Store;
 use std::alloc::Global;
 
-/// How far an input is drawn.
+/// How far an input is written.
 #[derive(Drop)]
 pub(crate) struct Live {
     /// What is to come.
     coming: Coming,
     /// How many bytes came since pieces were let go.
     quiet: usize,
+    /// Whether the error output failed. It is told nothing any more, so that what it received is a
+    /// first part of what stands aside.
+    deaf: bool,
 }
 
-/// Why an input isn't drawn on.
-#[derive(Clone, Copy)]
-pub(crate) enum Stop {
-    /// The output failed.
-    Sink,
-    /// More came than a run holds, and no piece ended.
-    TooLong,
-    /// There are more files or reports than can be numbered.
-    TooManyFiles,
-    /// There was no memory left.
-    OutOfMemory,
-}
-
-/// Draws an input as it comes, of which these bytes came already.
+/// Writes an input as it comes, of which these bytes came already.
 pub(crate) fn run_lines<I: Source, S: Store, O: Sink, E: Sink>(
     alloc: Global,
     asked: &Asked,
@@ -53,9 +44,9 @@ pub(crate) fn run_lines<I: Source, S: Store, O: Sink, E: Sink>(
     err: &mut E,
 ) -> Status
     requires { (more : List ℕ) → comes asked.now (bytes.now ++ more) ≡ true }
-    ensures { (before : Option (List ℕ)) (faults : ℕ)
-        → Consumes before (I.left input.old) bytes.now → faults ≤ I.faults input.old
-        → Means result asked.now (device_from I.left I.faults before faults input.new)
+    ensures { (since : Since)
+        → Consumes since.bytes (I.left input.old) bytes.now → since.faults ≤ I.faults input.old
+        → Means result asked.now (device_since I.left I.faults since input.new)
         (S.told store.now) (device O.received O.faults out.old out.new)
         (device E.received E.faults err.old err.new) }
 {
@@ -63,34 +54,36 @@ pub(crate) fn run_lines<I: Source, S: Store, O: Sink, E: Sink>(
         Ok(shapes) => shapes,
         Err(_) => return fail(err, "girzohal: out of memory\n", Status::OutOfMemory),
     };
-    match begin(alloc, asked, &shapes, store, bytes, out) {
+    match begin(alloc, asked, &shapes, store, bytes, out, err) {
         Ok(live) => draw_all(alloc, asked, &shapes, store, live, input, out, err),
-        Err(stop) => stopped(stop, err),
+        Err(status) => status,
     }
 }
 
-/// Draws the first bytes.
-fn begin<S: Store, O: Sink>(
+/// Writes what is known of the first bytes.
+fn begin<S: Store, O: Sink, E: Sink>(
     alloc: Global,
     asked: &Asked,
     shapes: &[Shape<'_>],
     store: &S,
     bytes: &[u8],
     out: &mut O,
-) -> Result<Live, Stop>
+    err: &mut E,
+) -> Result<Live, Status>
     requires shapes { map shape_parts shapes.now ≡ shapes_meant asked.now }
     requires lines { (more : List ℕ) → comes asked.now (bytes.now ++ more) ≡ true }
     ensures { (input : Device) → Consumes input.before input.now bytes.now
         → Went result (S.told store.now) asked.now input
-        (device O.received O.faults out.old out.new) }
+        (device O.received O.faults out.old out.new)
+        (device E.received E.faults err.old err.new) }
 {
     match Coming::new(alloc).with_bytes(alloc, asked, shapes, store, bytes) {
-        Ok(come) => write(come, bytes.len(), out),
-        Err(why) => Err(stop_of(why)),
+        Ok(come) => write(come, false, bytes.len(), out, err),
+        Err(why) => Err(stopped(why, false, err)),
     }
 }
 
-/// Draws the rest of an input as it comes.
+/// Writes the rest of an input as it comes.
 fn draw_all<I: Source, S: Store, O: Sink, E: Sink>(
     alloc: Global,
     asked: &Asked,
@@ -102,31 +95,38 @@ fn draw_all<I: Source, S: Store, O: Sink, E: Sink>(
     err: &mut E,
 ) -> Status
     requires { map shape_parts shapes.now ≡ shapes_meant asked.now }
-    ensures { (before start : Option (List ℕ)) (faults count : ℕ)
-        → Goes (S.told store.now) asked.now
-        (device_from I.left I.faults before faults input.old)
-        (device_from O.received O.faults start count out.old) live → faults ≤ I.faults input.old
-        → Means result asked.now (device_from I.left I.faults before faults input.new)
-        (S.told store.now) (device_from O.received O.faults start count out.new)
-        (device E.received E.faults err.old err.new) }
+    ensures { (taken wrote heard : Since)
+        → Goes (S.told store.now) asked.now (device_since I.left I.faults taken input.old)
+        (device_since O.received O.faults wrote out.old)
+        (device_since E.received E.faults heard err.old) live → taken.faults ≤ I.faults input.old
+        → Means result asked.now (device_since I.left I.faults taken input.new)
+        (S.told store.now) (device_since O.received O.faults wrote out.new)
+        (device_since E.received E.faults heard err.new) }
 {
     let mut live = live;
     let mut chunk = [0u8; CHUNK];
     for _ in 0..u64::MAX {
         match input.read(&mut chunk) {
-            Err(Failed) => return fail(err, "girzohal: input failed\n", Status::ReadFault),
+            Err(Failed) => {
+                return say(
+                    live.deaf,
+                    err,
+                    "girzohal: input failed\n",
+                    Status::ReadFault,
+                );
+            }
             Ok(0) => return end(alloc, asked, shapes, store, live, out, err),
-            Ok(count) => match go_on(alloc, asked, shapes, store, live, &chunk[..count], out) {
+            Ok(count) => match go_on(alloc, asked, shapes, store, live, &chunk[..count], out, err) {
                 Ok(next) => live = next,
-                Err(stop) => return stopped(stop, err),
+                Err(status) => return status,
             },
         }
     }
-    stopped(Stop::OutOfMemory, err)
+    stopped(ShowError::OutOfMemory, live.deaf, err)
 }
 
 /// Goes on by the bytes that came, and writes what is known now.
-fn go_on<S: Store, O: Sink>(
+fn go_on<S: Store, O: Sink, E: Sink>(
     alloc: Global,
     asked: &Asked,
     shapes: &[Shape<'_>],
@@ -134,68 +134,96 @@ fn go_on<S: Store, O: Sink>(
     live: Live,
     bytes: &[u8],
     out: &mut O,
-) -> Result<Live, Stop>
+    err: &mut E,
+) -> Result<Live, Status>
     requires { map shape_parts shapes.now ≡ shapes_meant asked.now }
-    ensures { (input : Device) (next start : Option (List ℕ)) (faults count : ℕ)
+    ensures { (input : Device) (next : Option (List ℕ)) (faults : ℕ) (wrote heard : Since)
         → Goes (S.told store.now) asked.now input
-        (device_from O.received O.faults start count out.old) live
+        (device_since O.received O.faults wrote out.old)
+        (device_since E.received E.faults heard err.old) live
         → Consumes input.now next bytes.now
-        → Went result (S.told store.now) asked.now (taken_on input next faults)
-        (device_from O.received O.faults start count out.new) }
+        → Went result (S.told store.now) asked.now (device_on input next faults)
+        (device_since O.received O.faults wrote out.new)
+        (device_since E.received E.faults heard err.new) }
 {
-    let Live { coming, quiet } = live;
+    let Live {
+        coming,
+        quiet,
+        deaf,
+    } = live;
     match coming.with_bytes(alloc, asked, shapes, store, bytes) {
-        Ok(come) => write(come, quiet.saturating_add(bytes.len()), out),
-        Err(why) => Err(stop_of(why)),
+        Ok(come) => write(come, deaf, quiet.saturating_add(bytes.len()), out, err),
+        Err(why) => Err(stopped(why, deaf, err)),
     }
 }
 
-/// Writes what is drawn, where so many bytes came since pieces were let go.
-fn write<O: Sink>(come: Come, quiet: usize, out: &mut O) -> Result<Live, Stop>
-    ensures { (told : Told) (asked : AskedFor) (input : Device) (start : Option (List ℕ))
-        (count : ℕ) → Came told asked input
-        (device_from O.received O.faults start count out.old) come quiet
-        → Went result told asked input
-        (device_from O.received O.faults start count out.new) }
+/// Writes what is known now, where so many bytes came since pieces were let go: first what stands
+/// aside.
+fn write<O: Sink, E: Sink>(
+    come: Come,
+    deaf: bool,
+    quiet: usize,
+    out: &mut O,
+    err: &mut E,
+) -> Result<Live, Status>
+    ensures { (told : Told) (asked : AskedFor) (input : Device) (wrote heard : Since)
+        → Came told asked input (device_since O.received O.faults wrote out.old)
+        (device_since E.received E.faults heard err.old) come deaf quiet
+        → Went result told asked input (device_since O.received O.faults wrote out.new)
+        (device_since E.received E.faults heard err.new) }
 {
     let Come {
         coming,
         text,
+        aside,
         known,
     } = come;
+    let deaf = hear(deaf, err, aside.as_str());
+    let live = Live {
+        coming,
+        quiet,
+        deaf,
+    };
     match write_all(out, text.as_bytes()) {
-        Ok(()) => limited(Live { coming, quiet }, known),
-        Err(Failed) => Err(Stop::Sink),
+        Ok(()) => limited(live, known, err),
+        Err(Failed) => Err(Status::SinkFault),
     }
 }
 
 /// Goes on, unless more came than a run holds and no piece ended.
-fn limited(live: Live, known: bool) -> Result<Live, Stop>
-    ensures { (told : Told) (asked : AskedFor) (input out : Device)
-        → Goes told asked input out live → Went result told asked input out }
+fn limited<E: Sink>(live: Live, known: bool, err: &mut E) -> Result<Live, Status>
+    ensures { (told : Told) (asked : AskedFor) (input out : Device) (heard : Since)
+        → Goes told asked input out (device_since E.received E.faults heard err.old) live
+        → Went result told asked input out (device_since E.received E.faults heard err.new) }
 {
-    let Live { coming, quiet } = live;
+    let Live {
+        coming,
+        quiet,
+        deaf,
+    } = live;
     if known {
-        Ok(Live { coming, quiet: 0 })
+        Ok(Live {
+            coming,
+            quiet: 0,
+            deaf,
+        })
     } else if quiet > LIMIT {
-        Err(Stop::TooLong)
+        Err(say(
+            deaf,
+            err,
+            "girzohal: input too long\n",
+            Status::InputTooLong,
+        ))
     } else {
-        Ok(Live { coming, quiet })
+        Ok(Live {
+            coming,
+            quiet,
+            deaf,
+        })
     }
 }
 
-/// Why nothing more is drawn.
-fn stop_of(error: ShowError) -> Stop
-    ensures { (told : Told) (asked : AskedFor) (input out : Device)
-        → Stopped told asked input out → Stops result told asked input out }
-{
-    match error {
-        ShowError::TooManyFiles => Stop::TooManyFiles,
-        ShowError::OutOfMemory => Stop::OutOfMemory,
-    }
-}
-
-/// Draws what is left.
+/// Writes what is left.
 fn end<S: Store, O: Sink, E: Sink>(
     alloc: Global,
     asked: &Asked,
@@ -206,17 +234,27 @@ fn end<S: Store, O: Sink, E: Sink>(
     err: &mut E,
 ) -> Status
     requires { map shape_parts shapes.now ≡ shapes_meant asked.now }
-    ensures { (input : Device) (start : Option (List ℕ)) (faults : ℕ)
-        → Goes (S.told store.now) asked.now input
-        (device_from O.received O.faults start faults out.old) live → IsAtEnd input.now
+    ensures { (input : Device) (wrote heard : Since) → Goes (S.told store.now) asked.now input
+        (device_since O.received O.faults wrote out.old)
+        (device_since E.received E.faults heard err.old) live → IsAtEnd input.now
         → Means result asked.now input (S.told store.now)
-        (device_from O.received O.faults start faults out.new)
-        (device E.received E.faults err.old err.new) }
+        (device_since O.received O.faults wrote out.new)
+        (device_since E.received E.faults heard err.new) }
 {
-    let Ended { text, reached } = match live.coming.ended(alloc, asked, shapes, store) {
+    let Live {
+        coming,
+        quiet: _,
+        deaf,
+    } = live;
+    let Ended {
+        text,
+        aside,
+        reached,
+    } = match coming.ended(alloc, asked, shapes, store) {
         Ok(ended) => ended,
-        Err(why) => return stopped(stop_of(why), err),
+        Err(why) => return stopped(why, deaf, err),
     };
+    let _deaf = hear(deaf, err, aside.as_str());
     match write_all(out, text.as_bytes()) {
         Ok(()) if reached => Status::Reached,
         Ok(()) => Status::Clean,
@@ -224,16 +262,51 @@ fn end<S: Store, O: Sink, E: Sink>(
     }
 }
 
-/// Says why nothing more is drawn.
-fn stopped<E: Sink>(stop: Stop, err: &mut E) -> Status
-    ensures { (told : Told) (asked : AskedFor) (input out : Device)
-        → Stops stop told asked input out
-        → Means result asked input told out (device E.received E.faults err.old err.new) }
+/// Tells the error output a text, unless it failed before; and gives whether it has.
+fn hear<E: Sink>(deaf: bool, err: &mut E, text: &str) -> bool
+    ensures { (heard : Since) (before : List ℕ)
+        → Hears deaf (device_since E.received E.faults heard err.old) before
+        → Hears result (device_since E.received E.faults heard err.new) (before ++ text.now) }
 {
-    match stop {
-        Stop::Sink => Status::SinkFault,
-        Stop::TooLong => fail(err, "girzohal: input too long\n", Status::InputTooLong),
-        Stop::TooManyFiles => fail(err, "girzohal: too many files\n", Status::TooManyFiles),
-        Stop::OutOfMemory => fail(err, "girzohal: out of memory\n", Status::OutOfMemory),
+    if deaf {
+        return true;
+    }
+    match write_all(err, text.as_bytes()) {
+        Ok(()) => false,
+        Err(Failed) => true,
+    }
+}
+
+/// Says why nothing more is written, unless the error output failed before, and gives the status
+/// that stands for it.
+fn say<E: Sink>(deaf: bool, err: &mut E, line: &str, status: Status) -> Status
+    ensures told { (heard : Since) (before : List ℕ)
+        → Hears deaf (device_since E.received E.faults heard err.old) before
+        → IsTold (device_since E.received E.faults heard err.new) (before ++ line.now) }
+    ensures status { result ≡ status }
+{
+    let _deaf = hear(deaf, err, line);
+    status
+}
+
+/// Says why reports aren't shown.
+fn stopped<E: Sink>(why: ShowError, deaf: bool, err: &mut E) -> Status
+    ensures { (told : Told) (asked : AskedFor) (input out : Device) (heard : Since)
+        → Stays told asked input out
+        (Hears deaf (device_since E.received E.faults heard err.old))
+        → Means result asked input told out (device_since E.received E.faults heard err.new) }
+{
+    match why {
+        ShowError::TooManyFiles => {
+            say(
+                deaf,
+                err,
+                "girzohal: too many files\n",
+                Status::TooManyFiles,
+            )
+        }
+        ShowError::OutOfMemory => {
+            say(deaf, err, "girzohal: out of memory\n", Status::OutOfMemory)
+        }
     }
 }

@@ -11,7 +11,7 @@
 //! - `making`: what is made of an input, in its form
 //! - `object`, `logs`: of a JSON object, which is a document or a log
 //! - `lines`: of lines that a tool prints for people
-//! - `opening`, `live`: of an input whose lines are drawn as they come
+//! - `opening`, `live`: of an input whose lines are written as they come
 //! - `texts`: what is written of reports
 //! - `fault`: why nothing is made
 //! - `status`: how a run ended
@@ -81,10 +81,10 @@ fn obey(rt: &HostRuntime, alloc: Global, mut asked: Asked) -> ExitCode {
     let around = Surroundings::of(rt, rt.stdout().is_terminal());
     asked.theme = around.theme(asked.theme);
     asked.width = Some(around.width(asked.width));
-    let Ok(root) = rt.canonicalize(alloc, asked.root.as_str()) else {
+    let Some(root) = folder_at(rt, alloc, asked.root.as_str()) else {
         return refuse(rt, alloc, WordFault::Value("--root", asked.root.as_str()));
     };
-    let store = DiskStore::new(rt, root.into_string(), asked.anywhere);
+    let store = DiskStore::new(rt, root, asked.anywhere);
     let Some(file) = file_in(&asked) else {
         if rt.stdin().is_terminal() {
             let _waits = eprintln!(rt; "girzohal: reading from the terminal");
@@ -97,6 +97,15 @@ fn obey(rt: &HostRuntime, alloc: Global, mut asked: Asked) -> ExitCode {
             let _told = eprintln!(rt; "girzohal: {file} can't be read");
             ExitCode::from(Status::ReadFault.code())
         }
+    }
+}
+
+/// The absolute path, without links, of what is a folder.
+fn folder_at(rt: &HostRuntime, alloc: Global, path: &str) -> Option<String> {
+    let real = rt.canonicalize(alloc, path).ok()?;
+    match rt.metadata(real.as_path().as_str()) {
+        Ok(about) if about.is_dir() => Some(real.into_string()),
+        _ => None,
     }
 }
 

@@ -16,7 +16,7 @@ use crate::texts::text_or_fault;
 use documents::read_document;
 use found_reports::FoundReports;
 use girzohal_asked::Asked;
-use input_forms::{has_files, json_part};
+use input_forms::{has_files, json_part, without_mark};
 use line_shapes::tables::Unit;
 use render_files::ReportError;
 use report_counts::one_reaches;
@@ -49,29 +49,31 @@ pub(crate) fn make_object<S: Store>(
     ensures cause { IfErr result (HasCause (IsNoObject form asked.now.columns) bytes.now) }
 {
     let range = json_part(bytes);
+    let before = &bytes[..range.start];
     let part = &bytes[range.start..range.end];
-    let written = write_part(alloc, form, asked, part, store)?;
+    let written = write_part(alloc, form, asked, before, part, store)?;
     let aside = around(alloc, bytes, range)?;
     Ok(Made { written, aside })
 }
 
-/// What stands around a range.
+/// What stands around a range; a byte order mark is nothing.
 fn around(alloc: Global, bytes: &[u8], range: Range<usize>) -> Result<Vec<u8>, AllocError>
     requires start { range.start ≤ length bytes.now }
     requires end { range.end ≤ length bytes.now }
     ensures { IfOk result (λ aside. aside.items ≡ around_range bytes.now range) }
 {
     let mut aside = Vec::new(alloc);
-    aside.extend_from_slice(&bytes[..range.start])?;
+    aside.extend_from_slice(without_mark(&bytes[..range.start]))?;
     aside.extend_from_slice(&bytes[range.end..])?;
     Ok(aside)
 }
 
-/// What is written of a JSON object in a form.
+/// What is written of a JSON object in a form, before which this stands.
 fn write_part<S: Store>(
     alloc: Global,
     form: ObjectForm,
     asked: &Asked,
+    before: &[u8],
     part: &[u8],
     store: &S,
 ) -> Result<Written, Fault>
@@ -81,9 +83,9 @@ fn write_part<S: Store>(
     ensures cause { IfErr result (HasCause (IsNonePart form asked.now.columns) part.now) }
 {
     match form {
-        ObjectForm::Keyed => write_keyed(alloc, asked, part, store),
+        ObjectForm::Keyed => write_keyed(alloc, asked, before, part, store),
         ObjectForm::AsDocument => write_document(alloc, asked, part),
-        ObjectForm::AsLog => write_log(alloc, asked, part, store),
+        ObjectForm::AsLog => write_log(alloc, asked, before, part, store),
     }
 }
 
@@ -91,6 +93,7 @@ fn write_part<S: Store>(
 fn write_keyed<S: Store>(
     alloc: Global,
     asked: &Asked,
+    before: &[u8],
     part: &[u8],
     store: &S,
 ) -> Result<Written, Fault>
@@ -103,7 +106,7 @@ fn write_keyed<S: Store>(
     if has_files(alloc, part)? {
         write_document(alloc, asked, part)
     } else {
-        write_log(alloc, asked, part, store)
+        write_log(alloc, asked, before, part, store)
     }
 }
 

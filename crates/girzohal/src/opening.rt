@@ -3,7 +3,7 @@ ghost use Rattle.std.specs.Prelude.{◌≡◌, true};
 ghost use Rattle.girzohal.specs.Opens.{HasOpeningCause, Opens};
 ghost use Rattle.girzohal.specs.Opens.{may_begin};
 
-use crate::lines::is_drawing;
+use crate::lines::is_live;
 use documents::Source;
 use girzohal_asked::{Asked, InputForm};
 use input_forms::{FirstBytes, first_bytes};
@@ -19,7 +19,7 @@ pub(crate) const CHUNK: usize = 65_536;
 /// What the first bytes of an input came to.
 #[derive(Drop)]
 pub(crate) enum Opening {
-    /// It is lines that are drawn as they come; these came.
+    /// It is lines that are written as they come; these came.
     Lines(Vec<u8>),
     /// It is read whole; these came.
     Whole(Vec<u8>),
@@ -36,7 +36,7 @@ pub(crate) fn open<I: Source>(alloc: Global, asked: &Asked, input: &mut I) -> Op
     ensures opens { Opens asked.now (I.left input.old) (I.left input.new) result }
     ensures cause { HasOpeningCause (I.faults input.old) (I.faults input.new) result }
 {
-    if !is_drawing(asked.to) {
+    if !is_live(asked.to) {
         return Opening::Whole(Vec::new(alloc));
     }
     match asked.from {

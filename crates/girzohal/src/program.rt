@@ -1,8 +1,8 @@
 // The whole program, over any source, store and sinks.
-ghost use Rattle.std.specs.Prelude.{◌≡◌, ◌≤◌, ◌++◌, ℕ, List, Option, IfOk, length};
+ghost use Rattle.std.specs.Prelude.{◌≡◌, ◌≤◌, ◌++◌, IfOk, length};
 ghost use Rattle.std.specs.Io.KnownBytes.{Consumes};
 ghost use Rattle.girzohal.specs.Run.{IsTold, IsUntouched, Means, Sends, Shows, device, limit};
-ghost use Rattle.girzohal.specs.Run.{NeverComes, device_from, texts_of};
+ghost use Rattle.girzohal.specs.Run.{NeverComes, Since, device_since, texts_of};
 
 use crate::fault::Fault;
 use crate::live::run_lines;
@@ -17,7 +17,7 @@ use std::alloc::{AllocError, Global};
 
 /// Reads an input to its end and writes what was asked for of the reports that it means, with the
 /// sources that a store has, to `out`; what is none of them goes to `err`, and a line that says why
-/// nothing is written. Lines that are drawn are drawn as they come.
+/// nothing is written. Of lines drawings and annotations are written as the lines come.
 pub fn run<I: Source, S: Store, O: Sink, E: Sink>(
     alloc: Global,
     asked: &Asked,
@@ -33,7 +33,7 @@ pub fn run<I: Source, S: Store, O: Sink, E: Sink>(
         (S.told store.now) (device O.received O.faults out.old out.new)
         (device E.received E.faults err.old err.new) }
 
-    // Of an input that isn't lines that are drawn as they come: with every status but `Clean`,
+    // Of an input that isn't lines that are written as they come: with every status but `Clean`,
     // `Reached` and `SinkFault` the output is as it was, whether it tells what it received or not.
     ensures untouched { NeverComes asked.now (I.left input.old)
         → IsUntouched result out.old out.new }
@@ -58,9 +58,9 @@ fn run_whole<I: Source, S: Store, O: Sink, E: Sink>(
     err: &mut E,
 ) -> Status
     requires { length bytes.items ≤ limit }
-    ensures means { (before : Option (List ℕ)) (faults : ℕ)
-        → Consumes before (I.left input.old) bytes.items → faults ≤ I.faults input.old
-        → Means result asked.now (device_from I.left I.faults before faults input.new)
+    ensures means { (since : Since)
+        → Consumes since.bytes (I.left input.old) bytes.items → since.faults ≤ I.faults input.old
+        → Means result asked.now (device_since I.left I.faults since input.new)
         (S.told store.now) (device O.received O.faults out.old out.new)
         (device E.received E.faults err.old err.new) }
     ensures untouched { IsUntouched result out.old out.new }

@@ -16,7 +16,7 @@ pub(crate) struct Surroundings {
     refused: bool,
     /// Whether `TERM` is `dumb`.
     dumb: bool,
-    /// The number that `COLUMNS` is.
+    /// The number that `COLUMNS` is, if it is one and not 0.
     columns: Option<usize>,
 }
 
@@ -24,7 +24,7 @@ impl Surroundings {
     /// What the environment of the program says.
     pub(crate) fn of(rt: &HostRuntime, terminal: bool) -> Surroundings {
         let columns = match env::var(rt, "COLUMNS") {
-            Ok(text) => text.as_str().parse::<usize>().ok(),
+            Ok(text) => width_in(text.as_str()),
             Err(_) => None,
         };
         Surroundings {
@@ -56,6 +56,14 @@ impl Surroundings {
             Some(width) => width,
             None => self.columns.unwrap_or(WIDTH),
         }
+    }
+}
+
+/// The width that a text says.
+fn width_in(text: &str) -> Option<usize> {
+    match text.parse::<usize>() {
+        Ok(width) if width > 0 => Some(width),
+        _ => None,
     }
 }
 

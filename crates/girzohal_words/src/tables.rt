@@ -9,7 +9,7 @@ pub(crate) const SETTINGS: [(&str, &str); 12] = [
     ),
     (
         "--tool",
-        "clang, gcc, rustc, cargo, flake8, shellcheck, pylint, mypy, eslint, tsc, sarif or another tool that is known",
+        "a tool that --help lists, as clang, gcc, rustc, mypy or sarif",
     ),
     ("--shape", "a shape as '{name}:{line}: {message}'"),
     ("--columns", "bytes, characters, utf16 or cells"),

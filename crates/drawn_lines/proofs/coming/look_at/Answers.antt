@@ -1,5 +1,5 @@
 -- The pieces that are known were drawn.
-use Rattle.std.proofs.Common.{◌≡◌, Bor, Vec, Global, ℕ, List, map, take, string_bytes, ap, sym, ◌∙◌}
+use Rattle.std.proofs.Common.{Bor, Vec, Global, ℕ, List, map, take, string_bytes, ap, sym, ◌∙◌}
 use Rattle.std.proofs.lemmas.List.{take-map}
 use Rattle.line_shapes.specs.Shape.{shape_parts}
 use Rattle.tool_lines.specs.Lines.{piece_parts}
@@ -14,7 +14,8 @@ returns-in-Some g c =
     let part = rw (c.deref-2.ensures.value, c.deref-3.ensures.value) at c.in-Some.ensures in
     let draws = rw c.deref-in-Some-2.ensures.value at c.in_ok-drawn-in-Some.ensures in
     looks_from (g.S.Store.told c.args.store.now) c.args.asked.now c.args.tally drawn.tally (map shape_parts c.args.shapes.now)
-    (map (λ (line : Bor (List ℕ)). line.now) c.in_ok-lines.lines.items) (map (λ (line : Vec ℕ Global). line.items) c.args.lines.now) (map piece_parts pieces)
-    (map piece_parts c.split_at.result.0.now) c.in-Some.part (string_bytes drawn.text) c.requires c.in_ok-lines.ensures are (part are)
+    (map (λ (line : Bor (List ℕ)). line.now) c.in_ok-lines.lines.items) (map (λ (line : Vec ℕ Global). line.items) c.args.lines.now)
+    (map (λ (line : Vec ℕ Global). line.items) c.args.came.now) (map piece_parts pieces)
+    (map piece_parts c.split_at.result.0.now) c.in-Some.part (string_bytes drawn.text) (string_bytes drawn.aside) c.requires c.in_ok-lines.ensures are (part are)
     (ap (map piece_parts) (c.split_at.ensures.front ∙ ap (take c.in-Some.part.pieces) c.deref-in-Some.ensures.value)
     ∙ sym (take-map piece_parts c.in-Some.part.pieces pieces)) draws

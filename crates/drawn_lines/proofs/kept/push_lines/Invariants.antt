@@ -6,5 +6,5 @@ use Rattle.drawn_lines.proofs.kept.push_lines.Given as goal
 
 abbrev pub invariant-loop-line : goal.invariant-loop-line
 invariant-loop-line l =
-    string_bytes l.text ++ flat_map (kept_line l.raw) (map (λ line. line.now) (drop l.line-index l.run))
-    ≡ string_bytes l.initial.text ++ flat_map (kept_line l.raw) (map (λ line. line.now) l.run)
+    string_bytes l.text ++ flat_map (kept_line l.painted l.raw) (map (λ line. line.now) (drop l.line-index l.run))
+    ≡ string_bytes l.initial.text ++ flat_map (kept_line l.painted l.raw) (map (λ line. line.now) l.run)

@@ -1,5 +1,5 @@
 -- One piece more.
-use Rattle.std.proofs.Common.{◌≡◌, ◌+◌, None, map, refl, ap}
+use Rattle.std.proofs.Common.{◌+◌, None, map, refl, ap}
 use Rattle.tool_lines.specs.declared.lines.Sort.TheVariants.{Kept}
 use Rattle.tool_lines.specs.Lines.{piece_parts}
 use Rattle.drawn_lines.proofs.SoughtLemmas.{sought_next, sought_none}

@@ -1,5 +1,5 @@
 -- None of the three is a note.
-use Rattle.std.proofs.Common.{◌≡◌, map, ap, sym, ◌∙◌}
+use Rattle.std.proofs.Common.{map, ap, sym, ◌∙◌}
 use Rattle.std.proofs.lemmas.Bool.{not-true}
 use Rattle.line_shapes.specs.Shape.{shape_parts}
 use Rattle.tool_lines.specs.Lines.{BegunParts}

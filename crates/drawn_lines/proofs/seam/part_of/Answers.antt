@@ -1,5 +1,5 @@
 -- The last line's place, or the last with two lines behind it.
-use Rattle.std.proofs.Common.{◌≡◌, ◌-◌, Bor, ℕ, List, map, length, ap₂, ◌∙◌, sym, ap, subst}
+use Rattle.std.proofs.Common.{◌-◌, Bor, ℕ, List, map, ap₂, ◌∙◌, sym, ap, subst}
 use Rattle.std.specs.Prelude.{IfSome}
 use Rattle.std.proofs.lemmas.List.{length-map}
 use Rattle.line_shapes.specs.Shape.{shape_parts}

@@ -1,4 +1,4 @@
-use Rattle.std.proofs.Common.{◌≡◌, ◌++◌, map, string_bytes, ap, ap₂, ◌∙◌}
+use Rattle.std.proofs.Common.{◌++◌, map, string_bytes, ap, ap₂, ◌∙◌}
 use Rattle.found_reports.specs.Listed.{held_in}
 use Rattle.tool_lines.specs.Lines.{piece_parts}
 use Rattle.line_reports.specs.Reports.{reports_in}
@@ -13,4 +13,4 @@ returns c =
     let drawn_is = c.in_ok-push_str.ensures.bytes
     ∙ ap (λ t. string_bytes c.args.walk.text ++ t) (c.as_str.ensures.value ∙ c.in_ok-first_drawings.ensures.text) in
     finish_is c.args.asked.now given c.args.walk.most (string_bytes c.args.walk.text) (string_bytes c.push_str.new.self) c.args.walk.before.items
-    c.args.walk.from.now c.args.walk.left.now c.in_ok-found.found.found found_is drawn_is
+    c.args.walk.from.now c.args.walk.left.now c.args.walk.shown.now c.in_ok-found.found.found found_is drawn_is

@@ -9,7 +9,8 @@ use Rattle.drawn_lines.proofs.walk.in_place.Given as goal
 abbrev pub invariant-loop-rest : goal.invariant-loop-rest
 invariant-loop-rest l =
     walked l.asked (held_in l.sources.entries.items) l.walk (map piece_parts l.rest)
-    ≡ in_place l.asked (held_in l.sources.entries.items) l.initial.walk.most [] (map (λ line. line.now) l.lines) (map (λ line. line.now) l.lines) (map piece_parts l.initial.rest)
+    ≡ in_place l.asked (held_in l.sources.entries.items) l.initial.walk.most [] (map (λ line. line.now) l.lines) (map (λ line. line.now) l.lines) (map (λ line. line.now) l.shown)
+    (map piece_parts l.initial.rest)
 
 abbrev pub decreases-loop-rest : goal.decreases-loop-rest
 decreases-loop-rest l = length l.rest

@@ -1,16 +1,15 @@
--- What was taken was drawn as far as it is known, and the error output was told nothing.
-use Rattle.std.proofs.Common.{◌≡◌, ◌≤◌, ℕ, List, Option}
-use Rattle.girzohal.specs.Run.{device_from}
+-- What was taken was written as far as it is known.
+use Rattle.std.proofs.Common.{◌≤◌}
+use Rattle.girzohal.specs.Run.{Since, device_since}
 use Rattle.girzohal.specs.Live.{Goes}
 use Rattle.girzohal.proofs.live.draw_all.Given as goal
 
 abbrev pub invariant-loop : goal.invariant-loop
-invariant-loop g l = record {
-  same : l.err ≡ l.initial.err;
-  goes : (before start : Option (List ℕ)) (faults count : ℕ)
-      → Goes (g.S.Store.told l.store) l.asked (device_from g.I.Source.left g.I.Source.faults before faults l.initial.input)
-      (device_from g.O.Sink.received g.O.Sink.faults start count l.initial.out) l.initial.live
-      → faults ≤ g.I.Source.faults l.initial.input
-      → Goes (g.S.Store.told l.store) l.asked (device_from g.I.Source.left g.I.Source.faults before faults l.input)
-      (device_from g.O.Sink.received g.O.Sink.faults start count l.out) l.live × (faults ≤ g.I.Source.faults l.input);
-}
+invariant-loop g l =
+    (taken wrote heard : Since)
+    → Goes (g.S.Store.told l.store) l.asked (device_since g.I.Source.left g.I.Source.faults taken l.initial.input)
+    (device_since g.O.Sink.received g.O.Sink.faults wrote l.initial.out) (device_since g.E.Sink.received g.E.Sink.faults heard l.initial.err) l.initial.live
+    → taken.faults ≤ g.I.Source.faults l.initial.input
+    → Goes (g.S.Store.told l.store) l.asked (device_since g.I.Source.left g.I.Source.faults taken l.input)
+    (device_since g.O.Sink.received g.O.Sink.faults wrote l.out) (device_since g.E.Sink.received g.E.Sink.faults heard l.err) l.live
+    × (taken.faults ≤ g.I.Source.faults l.input)

@@ -1,11 +1,20 @@
--- What was drawn stays, and a line says why no more is.
-use Rattle.std.proofs.Common.{subst, sym}
-use Rattle.girzohal.specs.Run.{Means, device}
-use Rattle.girzohal.specs.Live.{Stops}
+-- What was written stays, and a line says why no more is.
+use Rattle.std.proofs.Common.{subst, sym, codes}
+use Rattle.girzohal.proofs.LiveLemmas.{stays_stopped}
+use Rattle.girzohal.specs.Live.{Hears}
+use Rattle.girzohal.specs.Run.{Means, device_since}
 use Rattle.girzohal.proofs.live.stopped.Goals as goal
 
 pub returns-in-TooManyFiles : goal.returns-in-TooManyFiles
-returns-in-TooManyFiles g c = λ told asked input out stops.
-    subst (λ status. Means status asked input told out (device g.E.Sink.received g.E.Sink.faults c.args.err.now c.fail-in-TooManyFiles.new.err))
-    (sym c.fail-in-TooManyFiles.ensures.status)
-    (subst (λ stop. Stops stop told asked input out) c.in-TooManyFiles.is stops, c.fail-in-TooManyFiles.ensures.told)
+returns-in-TooManyFiles g c = λ told asked input out heard stays.
+    let err = device_since g.E.Sink.received g.E.Sink.faults heard c.args.err.now in
+    let said = device_since g.E.Sink.received g.E.Sink.faults heard c.say.new.err in
+    subst (λ status. Means status asked input told out said) (sym c.say.ensures.status)
+    (stays_stopped told asked input out said (Hears c.args.deaf err) (codes "girzohal: too many files\n") (c.say.ensures.told heard) stays)
+
+pub returns-in-OutOfMemory : goal.returns-in-OutOfMemory
+returns-in-OutOfMemory g c = λ told asked input out heard stays.
+    let err = device_since g.E.Sink.received g.E.Sink.faults heard c.args.err.now in
+    let said = device_since g.E.Sink.received g.E.Sink.faults heard c.say-in-OutOfMemory.new.err in
+    subst (λ status. Means status asked input told out said) (sym c.say-in-OutOfMemory.ensures.status)
+    (stays_stopped told asked input out said (Hears c.args.deaf err) (codes "girzohal: out of memory\n") (c.say-in-OutOfMemory.ensures.told heard) stays)

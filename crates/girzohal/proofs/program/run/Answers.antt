@@ -1,8 +1,18 @@
--- An input that never comes doesn't begin as lines that do.
+-- What begins as lines that come goes on so; an input that never comes doesn't begin so.
 use Rattle.girzohal.proofs.LiveLemmas.{comes_never}
 use Rattle.girzohal.proofs.program.run.Goals as goal
+
+pub returns-in-Lines-clause-means : goal.returns-in-Lines-clause-means
+returns-in-Lines-clause-means g c =
+    (rw c.deref.ensures.value at c.run_lines.ensures) (record { bytes = g.I.Source.left c.args.input.now; faults = g.I.Source.faults c.args.input.now })
+    c.in-Lines.ensures.opens.0 c.in-Lines.ensures.cause
 
 pub returns-in-Lines-clause-untouched : goal.returns-in-Lines-clause-untouched
 returns-in-Lines-clause-untouched g c = λ never.
     comes_never c.args.asked.now (g.I.Source.left c.args.input.now) (g.I.Source.left c.open.new.input) c.in-Lines.bytes.items c.in-Lines.ensures.opens.0
     c.in-Lines.ensures.opens.2 never
+
+pub returns-in-Whole-clause-means : goal.returns-in-Whole-clause-means
+returns-in-Whole-clause-means g c =
+    c.run_whole.ensures.means (record { bytes = g.I.Source.left c.args.input.now; faults = g.I.Source.faults c.args.input.now })
+    c.in-Whole.ensures.opens.0 c.in-Whole.ensures.cause

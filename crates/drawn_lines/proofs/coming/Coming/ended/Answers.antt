@@ -1,24 +1,25 @@
--- What is left was drawn, and behind it stands how many there were.
-use Rattle.std.proofs.Common.{◌≡◌, ◌++◌, Bor, Vec, Global, ℕ, List, None, map, string_bytes, subst, refl, sym, ap, ◌∙◌}
-use Rattle.line_shapes.specs.Shape.{shape_parts}
+-- What is left was written, and behind it stands how many there were.
+use Rattle.std.proofs.Common.{◌++◌, Bor, Vec, Global, ℕ, List, None, map, string_bytes, subst, refl, sym, ap, ◌∙◌}
 use Rattle.tool_lines.specs.Lines.{ArePieces, piece_parts}
 use Rattle.drawn_lines.specs.Coming.{IsDrawn, ending_by}
 use Rattle.drawn_lines.proofs.ComingLemmas.{all_drawn}
 use Rattle.drawn_lines.proofs.coming.Coming.ended.Goals as goal
 
 pub returns : goal.returns
-returns g c = λ taken text coming.
+returns g c = λ taken text aside coming.
     let told = g.S.Store.told c.args.store.now in
     let asked = c.args.asked.now in
-    let drawn = c.in_ok-text.field-0 in
+    let drawn = c.in_ok-drawn.drawn in
+    let all = c.in_ok-held.held in
     let end = ending_by asked drawn.tally.count in
-    let lines = map (λ (line : Bor (List ℕ)). line.now) c.in_ok-lines-2.lines.items in
+    let lines = map (λ (line : Bor (List ℕ)). line.now) c.in_ok-lines.lines.items in
     let pieces = map piece_parts c.in_ok-pieces.pieces.items in
     let cut = rw c.deref-2.ensures.value at c.in_ok-pieces.ensures in
     let are = subst (λ shapes. ArePieces shapes None lines pieces) c.requires cut in
-    let draws = rw (c.deref-3.ensures.value, c.deref-4.ensures.value) at c.in_ok-text.ensures in
-    let lines_are = c.in_ok-lines-2.ensures ∙ (ap (map (λ (line : Vec ℕ Global). line.items)) c.deref.ensures.value ∙ c.in_ok-lines.ensures) in
+    let draws = rw (c.deref-3.ensures.value, c.deref-4.ensures.value, c.deref-5.ensures.value) at c.in_ok-drawn.ensures in
+    let lines_are = c.in_ok-lines.ensures ∙ ap (map (λ (line : Vec ℕ Global). line.items)) c.deref.ensures.value in
     let said = c.as_str.ensures.value ∙ c.in_ok-ending.ensures in
     let pushed = c.in_ok-push_str.ensures.bytes ∙ ap (λ t. string_bytes drawn.text ++ t) said in
-    subst (λ b. IsDrawn told asked taken (text ++ b) drawn.tally.count.reached) (sym pushed)
-    (all_drawn told asked taken text (string_bytes drawn.text) end c.args.self.held c.args.self.tally drawn.tally lines pieces lines_are are draws refl coming)
+    subst (λ b. IsDrawn told asked taken (text ++ b) (aside ++ string_bytes drawn.aside) drawn.tally.count.reached) (sym pushed)
+    (all_drawn told asked taken text aside (string_bytes drawn.text) (string_bytes drawn.aside) end c.args.self.held all c.args.self.tally drawn.tally lines pieces lines_are
+    c.in_ok-held.ensures.came c.in_ok-held.ensures.read are draws refl coming)
