@@ -2,10 +2,16 @@
 _girzohal() {
     local word=${COMP_WORDS[COMP_CWORD]} before=${COMP_WORDS[COMP_CWORD - 1]} values=
     COMPREPLY=()
+    # `--to=g` is three words, for COMP_WORDBREAKS has `=`
+    [[ $before == = ]] && before=${COMP_WORDS[COMP_CWORD - 2]}
+    [[ $word == = ]] && word=
     case $before in
     --from) values="auto document sarif lines" ;;
     --to) values="drawing json document sarif problems github gitlab checkstyle junit stylish" ;;
-    --tool) values="clang gcc rustc cargo flake8 shellcheck pylint mypy eslint tsc sarif" ;;
+    --tool)
+        values="clang gcc rustc cargo flake8 shellcheck pylint mypy eslint tsc dotenv-linter fasterer grep hadolint
+            haml-lint kotlin markdownlint phpstan problem-lines psalm slim-lint sarif"
+        ;;
     --columns) values="bytes characters utf16 cells" ;;
     --first-column) values="0 1" ;;
     --theme) values="auto none unicode unicode_nocolor" ;;

@@ -1,11 +1,12 @@
 #!/bin/sh
-# What the documents say of the sources, checked by the scripts beside this one. usage: sh tools/checks.sh
-# The last line is `N passed, M failed`; the status is 0 where M is 0. Without Python it says so and passes nothing.
+# What the documents say of the sources, checked by the scripts beside this one, and the man page by mandoc.
+# usage: sh tools/checks.sh
+# The last line is `N passed, M failed`; the status is 0 where M is 0. What isn't there to check with is said, and passes nothing.
 cd "$(dirname "$0")/.." || exit 1
 passed=0
 failed=0
 if command -v python3 >/dev/null 2>&1; then
-    for script in check_docs.py "calls.py --check" "word_index.py --check" check_documents.py; do
+    for script in check_docs.py "calls.py --check" "clause_words.py --check" "word_index.py --check" check_documents.py; do
         # the words of an entry are the script's
         # shellcheck disable=SC2086
         if python3 tools/$script; then
@@ -15,7 +16,18 @@ if command -v python3 >/dev/null 2>&1; then
         fi
     done
 else
-    echo "skipped: check_docs.py, calls.py, word_index.py, check_documents.py: there is no python3"
+    echo "skipped: check_docs.py, calls.py, clause_words.py, word_index.py, check_documents.py: there is no python3"
+fi
+if command -v mandoc >/dev/null 2>&1; then
+    # (what it says of its own list of manuals isn't about the page)
+    if mandoc -T lint -W warning docs/girzohal.1; then
+        echo "the man page is as mandoc wants it"
+        passed=$((passed + 1))
+    else
+        failed=$((failed + 1))
+    fi
+else
+    echo "skipped: docs/girzohal.1: there is no mandoc"
 fi
 echo "$passed passed, $failed failed"
 [ "$failed" -eq 0 ]

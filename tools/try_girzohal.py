@@ -12,7 +12,10 @@ import subprocess
 import sys
 import tempfile
 import threading
-import xml.etree.ElementTree as xml
+
+sys.dont_write_bytecode = True
+import format_places
+from tries_around import Around
 
 TOP = os.path.dirname(os.path.dirname(os.path.abspath(__file__)))
 EXAMPLES = os.path.join(TOP, "examples")
@@ -40,9 +43,41 @@ LOG = {
 DOCUMENT = {"files": [{"name": "a.c", "source": SOURCE.decode()}],
             "reports": [{"file": 0, "message": "look here", "labels": [{"start": [2, 5], "end": [2, 9]}]}]}
 FORMS = ("drawing", "json", "document", "sarif", "problems", "github", "gitlab", "checkstyle", "junit", "stylish")
+# What would drive a terminal, or turn the direction of writing.
+HOSTILE = "\x1b]0;title\x07\x1b[2J\x9b31m\r\u202e\u2066"
+# Of a row `é𝕏`, a tab and `totl`, the number of `totl`'s column by each unit.
+COUNTED = {"bytes": 8, "characters": 4, "utf16": 5, "cells": 9}
+# What real tools print where they are asked for JSON of their own, shortened.
+OWN_JSON = {
+    "gcc": '[{"kind": "warning", "locations": [{"caret": {"byte-column": 11, "display-column": 18, "line": 16, "file": "cart.c", "column": 18}}], '
+           '"column-origin": 1, "option": "-Wformat=", "children": [], "message": "format"}]\n',
+    "pylint": '[\n    {\n        "type": "warning",\n        "module": "cart",\n        "obj": "",\n        "line": 13,\n        "column": 0,\n'
+              '        "path": "cart.py",\n        "symbol": "bad-indentation",\n        "message": "Bad indentation",\n        "message-id": "W0311"\n    }\n]\n',
+    "rustc": '{"$message_type":"diagnostic","message":"mismatched types","code":{"code":"E0308","explanation":null},"level":"error","spans":[],'
+             '"children":[],"rendered":null}\n{"$message_type":"diagnostic","message":"aborting due to 1 previous error","code":null,"level":"error",'
+             '"spans":[],"children":[],"rendered":null}\n',
+    "shellcheck": '{"comments":[{"file":"cart.sh","line":2,"endLine":2,"column":10,"endColumn":21,"level":"error","code":2045,'
+                  '"message":"Iterating over ls output is fragile. Use globs.","fix":null}]}\n',
+}
 
 
-class Tries:
+def log_with(**changed):
+    """The log, with other fields of its result, or another name of its file."""
+    made = json.loads(json.dumps(LOG))
+    result = made["runs"][0]["results"][0]
+    uri = changed.pop("uri", None)
+    if uri is not None:
+        result["locations"][0]["physicalLocation"]["artifactLocation"]["uri"] = uri
+    result.update(changed)
+    return json.dumps(made).encode()
+
+
+def drives(text):
+    """Something of a text drives a terminal, or turns the direction of writing."""
+    return re.search("[\x00-\x08\x0b-\x1f\x7f\x80-\x9f\u202a-\u202e\u2066-\u2069]", text.replace("\r\n", "\n")) is not None
+
+
+class Tries(Around):
     def __init__(self, program):
         self.program, self.passed, self.failed = program, 0, 0
 
@@ -52,12 +87,12 @@ class Tries:
             return
         self.failed += 1
         print(f"FAILED: {what}")
-        for line in (said.stdout + said.stderr).decode(errors="replace").splitlines()[:8] if said else []:
-            print("    " + line)
+        for line in (said.stdout + said.stderr).decode(errors="replace").split("\n")[:8] if said else []:
+            print("    " + "".join(char if char.isprintable() else ascii(char)[1:-1] for char in line))
 
-    def run(self, *words, given=LINE, env=None, cwd=None):
+    def run(self, *words, given=LINE, env=None, cwd=None, timeout=60):
         return subprocess.run([self.program, *words], input=given, capture_output=True, cwd=cwd or self.room,
-                              env={**PLAIN, **(env or {})}, timeout=60)
+                              env={**PLAIN, **(env or {})}, timeout=timeout)
 
     def ends(self, what, status, *words, out=None, err=None, **how):
         """A run ends with the status, and what it writes has these texts."""
@@ -76,6 +111,8 @@ class Tries:
         for form, text in (("lines", LINE), ("sarif", log), ("document", document)):
             self.ends("a form that is named", 0 if form == "sarif" else 1, "--from", form, given=text)
         self.ends("a byte order mark", 1, given=b"\xef\xbb\xbf" + document, out=b"look here")
+        said = self.ends("a byte order mark before lines", 1, given=b"\xef\xbb\xbf" + LINE, out=b"[a.c:2:5]")
+        self.check("a byte order mark isn't written", b"\xef\xbb\xbf" not in said.stdout, said)
         self.ends("a file", 1, "in.txt", given=b"", out=b"no such name")
         self.ends("standard input by name", 1, "-", out=b"no such name")
         self.ends("a value behind =", 1, "--theme=none", out=b"no such name")
@@ -116,6 +153,75 @@ class Tries:
         self.ends("a root", 1, "--root", "sub", given=b"b.c:1:1: error: here\n", out=b"below")
         self.ends("raw texts", 1, "--raw", given=b"a.c:2:5: error: no \x1b[31mname\n")
 
+    def labelled(self, *words, given, cwd=None):
+        """The row, the column in bytes and the bytes of the first label of each report."""
+        found = []
+        for line in self.run("--to", "json", *words, given=given, cwd=cwd).stdout.splitlines():
+            report = json.loads(line)
+            with open(os.path.join(cwd or self.room, report["filename"]), "rb") as file:
+                source = file.read()
+            for span in [label["span"] for label in report["labels"][:1]]:
+                found.append((span["line"], span["column"], source[span["offset"]:span["offset"] + span["length"]].decode()))
+        return found
+
+    def try_columns(self):
+        """A column is counted in the unit, and from the number, that is asked for."""
+        with open(f"{self.room}/e.c", "wb") as file:
+            file.write("é𝕏\ttotl;\n".encode())
+        for unit, column in COUNTED.items():
+            for first in ("0", "1"):
+                line = f"e.c:1:{column - 1 + int(first)}: error: no such name\n".encode()
+                found = self.labelled("--columns", unit, "--first-column", first, given=line)
+                self.check(f"column {column} in {unit}, from {first}: {found}", found == [(1, 8, "totl")])
+                others = [self.labelled("--columns", other, "--first-column", first, given=line) for other in COUNTED if other != unit]
+                self.check(f"another unit than {unit} finds another place: {others}", (1, 8, "totl") not in [places[0] for places in others])
+        left_out = self.labelled(given=b"e.c:1:4: error: no such name\n")
+        self.check(f"columns are characters from 1 where nothing says it: {left_out}", left_out == [(1, 8, "totl")])
+        for unit in ("characters", "utf16"):
+            place = {"artifactLocation": {"uri": "e.c"}, "region": {"startLine": 1, "startColumn": COUNTED[unit], "endColumn": COUNTED[unit] + 4}}
+            found = self.labelled("--from", "sarif", "--columns", unit, given=log_with(locations=[{"physicalLocation": place}]))
+            self.check(f"a log's columns in {unit}: {found}", found == [(1, 8, "totl")])
+            found = self.labelled("--from", "sarif", "--tool", "mypy", "--columns", unit, given=log_with(locations=[{"physicalLocation": place}]))
+            self.check(f"a log's columns in {unit}, whatever the tool's: {found}", found == [(1, 8, "totl")])
+            named = {self.run("--from", "sarif", "--to", "json", "--tool", tool, given=log_with(locations=[{"physicalLocation": place}])).stdout
+                     for tool in ("tsc", "mypy", "rustc")}
+            self.check("a tool's own unit counts no columns of a log", len(named) == 1)
+
+    def try_effects(self):
+        """Each of these words changes what is written, or the status."""
+        line = b"e.c:1:4: error: no such name\n"
+        drawn = [self.run("--theme", "none", "--tabs", tabs, given=line).stdout for tabs in ("1", "4", "16")]
+        self.check("--tabs 1, 4 and 16 differ", len(set(drawn)) == 3)
+        self.check("--tabs 4 is meant", drawn[1] == self.run("--theme", "none", given=line).stdout)
+        for level, least in (("error", 0), ("warning", 1), ("note", 2)):
+            for at, word in enumerate(("error", "warning", "advice", "never")):
+                self.ends(f"of {level}", 1 if least <= at < 3 else 0, "--fail-on", word, given=f"a.c:2:5: {level}: here\n".encode(), out=b"here")
+        said = self.ends("the last of two forms", 1, "--to", "json", "--to", "github", out=b"::error file=a.c,line=2,")
+        self.check("the last of two forms alone", said.stdout.count(b"\n") == 1, said)
+        said = self.ends("the last of two forms", 1, "--to=github", "--to=json")
+        self.check("the last of two forms is read", json.loads(said.stdout)["message"] == "no such name", said)
+        text = b"x:2|odd\na.c:2:5: error: here\n"
+        said = self.run("--shape", "{word}|{message}", "--shape", "{name}:{line}|{message}", "--to", "problems", given=text)
+        self.check("shapes that are one's own change what is found", said.stdout.count(b"\n") == 2, said)
+        for words, told in ((("--to", "sarif", "--tool", "clang"), "clang"), (("--to", "sarif"), "girzohal")):
+            self.check(f"the log's tool: {words}", json.loads(self.run(*words).stdout)["runs"][0]["tool"]["driver"]["name"] == told)
+        made = self.run("--to", "sarif", given=json.dumps(LOG).encode())
+        self.check("a log that is made of a log names the program", json.loads(made.stdout)["runs"][0]["tool"]["driver"]["name"] == "girzohal")
+        made = self.run("--to", "sarif", "--tool", "sarif", given=json.dumps(LOG).encode())
+        self.check("`sarif` is the name of no tool", json.loads(made.stdout)["runs"][0]["tool"]["driver"]["name"] == "girzohal")
+
+    def try_tools(self):
+        """What a named tool's columns count: on what real tools printed."""
+        marked = {"gcc": (16, 11, "s"), "mypy-columns": (9, 28, "self.items"), "pylint": (9, 9, "summe"), "clang": (16, 17, "total"),
+                  "rustc": (11, 20, "xs"), "flake8": (9, 9, "summe"), "shellcheck": (2, 15, "*")}
+        for name, wanted in marked.items():
+            with open(os.path.join(EXAMPLES, "outputs", f"{name}.txt"), "rb") as file:
+                text, tool = file.read(), name.split("-")[0]
+            found = self.labelled("--tool", tool, given=text, cwd=os.path.join(EXAMPLES, "outputs", "src"))
+            self.check(f"--tool {tool} on {name}.txt: {found}", wanted in found)
+            without = self.labelled(given=text, cwd=os.path.join(EXAMPLES, "outputs", "src"))
+            self.check(f"{name}.txt without the tool: {without}", (wanted in without) == (tool not in ("gcc", "mypy", "pylint")))
+
     def try_looks(self):
         self.check("a theme: colors", b"\x1b[" in self.run("--theme", "unicode").stdout)
         self.check("FORCE_COLOR: colors", b"\x1b[" in self.run(env={"FORCE_COLOR": "1"}).stdout)
@@ -126,13 +232,12 @@ class Tries:
         narrow = self.run("--theme", "none", given=long, env={"COLUMNS": "40"}).stdout
         self.check("COLUMNS: the width", narrow == self.run("--theme", "none", "--width", "40", given=long).stdout)
         self.check("--width: another width", narrow != self.run("--theme", "none", "--width", "100", given=long).stdout)
+        for columns in ("0", "", "wide", "-1"):
+            wide = self.run("--theme", "none", given=long, env={"COLUMNS": columns}).stdout
+            self.check(f"COLUMNS={columns} is no width", wide == self.run("--theme", "none", "--width", "80", given=long).stdout)
 
     def try_asking(self):
-        said = self.ends("help", 0, "--help", out=b"usage: girzohal")
-        with open(os.path.join(TOP, "completions", "girzohal.bash"), encoding="utf-8") as file:
-            words = sorted(set(re.findall(r"--[a-z][a-z-]+", file.read())))
-        for word in words:
-            self.check(f"help names {word}", word.encode() in said.stdout)
+        self.ends("help", 0, "--help", out=b"usage: girzohal")
         with open(os.path.join(TOP, "VERSION"), encoding="utf-8") as file:
             self.ends("the version", 0, "--version", out=b"girzohal " + file.read().strip().encode())
         bad = [("--theme", "pink"), ("--width", "x"), ("--tabs", "17"), ("--tabs", "0"), ("--first-column", "2"), ("--from", "xml"),
@@ -151,6 +256,7 @@ class Tries:
             (("--what", "--theme", "pink"), "--what: there is no such option"),
             (("-x",), "-x: there is no such option"),
             (("--what=3",), "--what=3: there is no such option"),
+            (("--tool", "nobody"), "--tool: wanted a tool that --help lists, as clang, gcc, rustc, mypy or sarif, not 'nobody'"),
             (("--tabs", "17"), "--tabs: wanted a number from 1 to 16, not '17'"),
             (("in.txt", "--most"), "--most: wanted a number from 0 behind it"),
             (("--quiet=yes",), "--quiet: stands alone, not with 'yes'"),
@@ -167,6 +273,8 @@ class Tries:
         for words, line in faults:
             said = self.ends("a fault is named", 2, *words, given=b"", err=line.encode())
             self.check(f"it begins so: {' '.join(words)}", said.stderr.startswith(b"girzohal: "), said)
+        said = self.ends("a file that can't be read, whose name drives a terminal", 4, "\x1b[31mred", given=b"", err=b"red can't be read")
+        self.check("a name that is told drives no terminal", not drives(said.stderr.decode()), said)
         self.ends("help among wrong words", 0, "--theme", "pink", "--help", out=b"usage: girzohal")
         self.ends("help as a value", 2, "--theme", "--help", err=b"not '--help'")
 
@@ -177,13 +285,34 @@ class Tries:
         for cut in (1, len(log) // 2, len(log) - 1):
             self.ends("a log that is cut", 3, given=log[:cut])
         self.ends("JSON of no known form", 3, given=b'[{"a": 1}]', err=b"girzohal: ")
+        for tool, text in OWN_JSON.items():
+            said = self.ends(f"{tool}'s own JSON", 3, given=text.encode(), err=b"girzohal: ")
+            self.check(f"{tool}'s own JSON: nothing is written", said.stdout == b"" and said.stderr.count(b"\n") == 1, said)
+        self.try_around(json.dumps(LOG, indent=1).encode())
         wrong = json.loads(json.dumps(LOG))
         wrong["runs"][0]["results"][0]["level"] = "grave"
         self.ends("a log with a fault", 3, given=json.dumps(wrong).encode(), err=b"runs[0].results[0].level")
+        wrong = json.loads(json.dumps(LOG))
+        wrong["runs"][0]["originalUriBaseIds"] = {"key" + HOSTILE: {"uri": 1}}
+        said = self.ends("a fault below a key that drives a terminal", 3, given=json.dumps(wrong).encode(), err=b"runs[0].originalUriBaseIds")
+        self.check("a fault drives no terminal", not drives(said.stderr.decode()), said)
         self.ends("no such file", 4, "nowhere.log")
         self.ends("nothing", 0, given=b"")
         self.ends("bytes that are no UTF-8", 1, given=b"\xff\xfe\n" + LINE, out=b"no such name")
         self.ends("width 0", 2, "--width", "0")
+
+    def try_around(self, log):
+        """What stands round a log goes to the error output, whole and in order; a fault's row is one of the input."""
+        for before, behind in ((b"", b"2 warnings generated.\n"), (b"make all\n", b"\nmake: done\n"), (b"one\ntwo\n", b"")):
+            for form in FORMS:
+                said = self.ends("a log among lines", 0, "--from", "sarif", "--to", form, given=before + log + behind, out=b"look here")
+                self.check(f"what stands round it: {said.stderr}", said.stderr == before + behind, said)
+        cut = log.replace(b'"runs":', b'"runs"')
+        said = self.ends("a log that is no JSON", 3, given=cut, err=b"input is no JSON")
+        row, rest = re.match(rb"girzohal: line (\d+)(, .*\n)", said.stderr).groups()
+        self.check("a log that is no JSON: the row", int(row) == 1 + cut[:cut.index(b'"runs"')].count(b"\n"), said)
+        self.ends("a log that is no JSON, behind two lines: the row of the input", 3, "--from", "sarif", given=b"make all\nmake more\n" + cut,
+                  err=b"girzohal: line %d" % (int(row) + 2) + rest)
 
     def try_sources(self):
         """What isn't read is said, and never shown."""
@@ -192,32 +321,55 @@ class Tries:
             file.write(b"caf\xe9 secret\n")
         os.symlink("/etc/passwd", f"{self.room}/link.c")
         os.mkfifo(f"{self.room}/pipe")
-        for name in ("vanished.c", "folder", "latin.c", "link.c", "pipe", "../../../../../../etc/passwd", "/etc/passwd"):
-            said = self.ends("a source that isn't read", 1, given=name.encode() + b":1:1: error: here\n", out=b"here")
-            self.check(f"{name}: nothing of it is shown", b"root:" not in said.stdout and b"secret" not in said.stdout, said)
-        for uri in ("file:///etc/passwd", "%2e%2e/%2e%2e/etc/passwd", "a\u0000b", "a\nb"):
-            named = json.loads(json.dumps(LOG))
-            named["runs"][0]["results"][0]["locations"][0]["physicalLocation"]["artifactLocation"]["uri"] = uri
-            said = self.ends("a name that leads out", 0, given=json.dumps(named).encode(), out=b"look here")
-            self.check(f"{uri!r}: nothing of it is shown", b"root:" not in said.stdout, said)
         with open(f"{self.room}/large.c", "wb") as file:
-            file.truncate(65 << 20)
-        self.ends("a source of 65 MiB", 1, given=b"large.c:1:1: error: here\n", out=b"here")
+            file.truncate((64 << 20) + 1)
+        reasons = {"vanished.c": "", "folder": " (not read: no plain file)", "pipe": " (not read: no plain file)", "latin.c": " (not read: no UTF-8)",
+                   "link.c": " (not read: outside of the root)", "/etc/passwd": " (not read: outside of the root)",
+                   "../../../../../../etc/passwd": " (not read: outside of the root)", "large.c": " (not read: longer than 64 MiB)"}
+        for name, why in reasons.items():
+            line = name.encode() + b":1:1: error: here\n"
+            said = self.ends("a source that isn't read", 1, "--width", "200", given=line, out=f"\n  note: at {name}:1:1{why}\n".encode())
+            self.check(f"{name}: nothing of it is shown", b"root:" not in said.stdout and b"secret" not in said.stdout, said)
+        os.truncate(f"{self.room}/large.c", 64 << 20)
+        said = self.run("--to", "json", given=b"large.c:1:1: error: here\n", timeout=600)
+        self.check("a source of 64 MiB is read", len(json.loads(said.stdout)["labels"]) == 1, said)
+        os.remove(f"{self.room}/large.c")
+        for uri in ("file:///etc/passwd", "%2e%2e/%2e%2e/etc/passwd", "a\u0000b", "a\nb"):
+            said = self.ends("a name that leads out", 0, given=log_with(uri=uri), out=b"look here")
+            self.check(f"{uri!r}: nothing of it is shown", b"root:" not in said.stdout, said)
         self.ends("anywhere", 1, "--anywhere", given=b"/etc/passwd:1:1: error: here\n", out=b"root:")
 
     def try_terminals(self):
-        """Nothing of an input drives a terminal."""
-        hostile = "\x1b]0;title\x07\x1b[2J\x9b31m\r\u202e\u2066"
-        named = json.loads(json.dumps(LOG))
-        result = named["runs"][0]["results"][0]
-        result["message"]["text"] = hostile + "look here"
+        """Nothing of an input drives a terminal, wherever it stands; raw texts are as they are."""
+        there = {"physicalLocation": {"artifactLocation": {"uri": "a.c"}, "region": {"startLine": 1, "startColumn": 5}}}
+        logs = {"a message": log_with(message={"text": HOSTILE + "look here"}), "a rule": log_with(ruleId="r" + HOSTILE),
+                "a name": log_with(uri=f"gone{HOSTILE}.c"), "an escaped name": log_with(uri="a%1b%5b2J%07.c"),
+                "a related place": log_with(relatedLocations=[{**there, "message": {"text": "there" + HOSTILE}}])}
+        for what, log in logs.items():
+            for form in FORMS:
+                said = self.run("--to", form, "--width", "300", given=log)
+                self.check(f"{what}, as {form}, drives no terminal", said.stdout and not drives(said.stdout.decode() + said.stderr.decode()), said)
+            if "escaped" not in what:
+                self.ends(f"{what}, raw", 0, "--raw", "--width", "300", given=log, out=HOSTILE.encode())
+        self.try_hostile_lines()
         with open(f"{self.room}/a.c", "wb") as file:
-            file.write(("int x;\n" + "int " + hostile + ";\n").encode())
-        for words in ((), ("--to", "github"), ("--to", "stylish"), ("--to", "problems")):
-            said = self.run(*words, given=json.dumps(named).encode())
-            self.check(f"harmless: {' '.join(words)}", not re.search("[\x1b\x07\x9b\u202e\u2066]|\r(?!\n)", said.stdout.decode()), said)
+            file.write(("int x;\n" + "int " + HOSTILE + ";\n").encode())
+        for words in ((), ("--theme", "unicode_nocolor"), *(("--to", form) for form in FORMS if form not in ("document", "sarif"))):
+            said = self.run(*words)
+            self.check(f"a source drives no terminal: {' '.join(words)}", said.stdout and not drives(said.stdout.decode()), said)
         with open(f"{self.room}/a.c", "wb") as file:
             file.write(SOURCE)
+
+    def try_hostile_lines(self):
+        """The same of lines: of findings, and of lines that are none, wherever these go."""
+        kept, found = f"make {HOSTILE} all\n".encode(), f"a.c:2:5: error: here{HOSTILE} [x{HOSTILE}]\n".encode()
+        for form in FORMS:
+            said = self.run("--to", form, "--width", "300", given=kept + found + kept)
+            self.check(f"lines as {form} drive no terminal", said.stdout and not drives(said.stdout.decode() + said.stderr.decode()), said)
+            self.check(f"the lines that are no findings, as {form}", (said.stdout if form == "drawing" else said.stderr).count(b"make ") == 2, said)
+        colored = self.run("--theme", "unicode", given=kept + found + kept).stdout.decode()
+        self.check("with colors nothing but colors drives a terminal", not drives(re.sub(r"\x1b\[[0-9;]*m|\x1b\[K", "", colored)))
+        self.ends("a line that is no finding, raw", 0, "--raw", given=b"make \x07\x1b7 all\n", out=b"make \x07\x1b7 all\n")
 
     def try_pipes(self):
         with tempfile.TemporaryFile() as many:
@@ -231,76 +383,118 @@ class Tries:
             ran.stderr.close()
         full = subprocess.run([self.program], input=LINE, stdout=open("/dev/full", "wb"), stderr=subprocess.PIPE, cwd=self.room, env=PLAIN)
         self.check("a full output is 5", full.returncode == 5)
+        deaf = subprocess.run([self.program, "--to", "github"], input=b"make all\n" + LINE + b"make: stop\n", stdout=subprocess.PIPE,
+                              stderr=open("/dev/full", "wb"), cwd=self.room, env=PLAIN)
+        self.check("a full error output takes no annotation away", deaf.returncode == 1 and deaf.stdout == self.run("--to", "github").stdout)
 
-    def try_slowly(self):
-        """Of a slow writer each finding is drawn once the finding behind it came, and the whole is as of one text."""
-        lines = [b"make all\n"] + [b"a.c:2:5: error: number %d\n" % n for n in range(8)] + [b"make: stop\n"]
-        ran = subprocess.Popen([self.program], stdin=subprocess.PIPE, stdout=subprocess.PIPE, cwd=self.room, env=PLAIN)
-        shown, grew = bytearray(), threading.Condition()
+    def slowly(self, steps, *words, status):
+        """Hands lines on one by one. Behind each stands what has to be on standard output and on standard error before the next one comes."""
+        ran = subprocess.Popen([self.program, *words], stdin=subprocess.PIPE, stdout=subprocess.PIPE, stderr=subprocess.PIPE, cwd=self.room, env=PLAIN)
+        shown, grew = (bytearray(), bytearray()), threading.Condition()
 
-        def take():
-            for part in iter(lambda: os.read(ran.stdout.fileno(), 65536), b""):
+        def take(stream, text):
+            for part in iter(lambda: os.read(stream.fileno(), 65536), b""):
                 with grew:
-                    shown.extend(part)
+                    text.extend(part)
                     grew.notify()
 
-        reader = threading.Thread(target=take)
-        reader.start()
+        readers = [threading.Thread(target=take, args=both) for both in zip((ran.stdout, ran.stderr), shown)]
+        for reader in readers:
+            reader.start()
         missing = None
-        for at, line in enumerate(lines):
+        for line, *wanted in steps:
             ran.stdin.write(line)
             ran.stdin.flush()
             with grew:
-                # (the last line is no finding, and a line behind it might mark it)
-                if 1 < at < len(lines) - 1 and not grew.wait_for(lambda: b"number %d" % (at - 2) in shown, 120):
-                    missing = at - 2
+                if not grew.wait_for(lambda: all(part in text for part, text in zip(wanted, shown)), 120):
+                    missing = line
                     break
         ran.stdin.close()
-        reader.join(120)
-        self.check(f"a slow writer: finding {missing} isn't drawn once the one behind it came", missing is None)
-        self.check("a slow writer's lines are drawn as one text", bytes(shown) == self.run(given=b"".join(lines)).stdout and ran.wait(120) == 1)
+        for reader in readers:
+            reader.join(120)
+        self.check(f"a slow writer, {words}: what is known by {missing} isn't written before the next line", missing is None)
+        whole = self.run(*words, given=b"".join(step[0] for step in steps))
+        self.check(f"a slow writer, {words}: all is written as of one text",
+                   (bytes(shown[0]), bytes(shown[1])) == (whole.stdout, whole.stderr) and ran.wait(120) == status, whole)
         ran.stdout.close()
+        ran.stderr.close()
+
+    def try_slowly(self):
+        """Of a slow writer each finding is written, and each kept line, once the finding behind it came; and the whole is as of one text."""
+        findings = [b"a.c:2:5: error: number %d\n" % n for n in range(8)]
+        kept = [b"step %d\n" % n for n in range(8)]
+        last = [(b"make: stop\n", b"", b"")]  # a line behind it might mark it
+        before = [b""] + [b"number %d" % n for n in range(7)]
+        self.slowly([(line, known, b"") for line, known in zip(findings, before)] + last, status=1)
+        self.slowly([(line, known, b"") for line, known in zip(findings, before)] + last, "--to", "github", status=1)
+        for words in ((), ("--to", "github")):
+            steps = []
+            for line, finding, known in zip(kept, findings, before):
+                steps += [(line, b"", b""), (finding, known, line) if words else (finding, line, b"")]
+            self.slowly(steps + last, *words, status=1)
+
+    def try_paint(self):
+        """Kept lines keep their paint where the theme has colors; nothing else of them drives a terminal."""
+        red, end, blank = b"\x1b[31m", b"\x1b[0m", b"\x1b[K"
+        painted = red + b"make" + end + b" all"
+        linked = b"\x1b]8;;http://x\x1b\\" + red + b"here" + end + b"\x1b]8;;\x1b\\"
+        colors = {"FORCE_COLOR": "1"}
+        rows = [
+            ("paint, without colors", painted, (), {}, b"make all\n"),
+            ("paint, with colors", painted, (), colors, painted + end + b"\n"),
+            ("paint, with colors by its word", painted, ("--theme", "unicode"), {}, painted + end + b"\n"),
+            ("paint and a CR, with colors", painted + b"\r", (), colors, painted + end + b"\n"),
+            ("what compilers write behind a color", red + blank + b"make" + end + blank, (), colors, red + blank + b"make" + end + blank + end + b"\n"),
+            ("no paint, with colors", b"make all", (), colors, b"make all\n"),
+            ("a link, without colors", linked, (), {}, b"here\n"),
+            ("a link, with colors", linked, (), colors, b"here\n"),
+            ("raw, without colors", painted, ("--raw",), {}, b"make all\n"),
+            ("raw, with colors", painted, ("--raw",), colors, painted + b"\n"),
+            ("a raw link, with colors", linked, ("--raw",), colors, linked + b"\n"),
+        ]
+        for what, line, words, env, wanted in rows:
+            said = self.run(*words, given=line + b"\n", env=env)
+            self.check(f"a kept line, {what}", said.stdout == wanted and said.stderr == b"" and said.returncode == 0, said)
+            aside = self.run("--to", "github", *words, given=line + b"\n", env=env)
+            bare = b"here\n" if line == linked else b"make all\n" if b"all" in line else b"make\n"
+            self.check(f"a kept line aside, {what}", aside.stdout == b"" and aside.stderr == bare, aside)
+        for hostile in (b"\x1b[2J", b"\x1b]0;title\x07", b"\x1b[1A", b"\x9b31m", b"\x07"):
+            said = self.run(given=hostile + painted + b"\n", env=colors)
+            self.check(f"a kept line that drives a terminal, with colors: {hostile!r}", hostile not in said.stdout, said)
 
     # ---- formats
 
-    def places(self, form, text):
-        """The findings of a format, as Python's readers find them: how many there are, and where, as far as the format says."""
-        if form == "json":
-            return [json.loads(line) for line in text.splitlines()]
-        if form == "document":
-            return json.loads(text)["reports"]
-        if form == "sarif":
-            return json.loads(text)["runs"][0]["results"]
-        if form == "gitlab":
-            return json.loads(text)
-        if form == "checkstyle":
-            return xml.fromstring(text).findall("file/error")
-        if form == "junit":
-            return [it for it in xml.fromstring(text).iter("testcase") if it.find("failure") is not None]
-        if form == "github":
-            return re.findall(rb"(?m)^::(?:error|warning|notice)", text)
-        return None
-
     def try_formats(self):
-        inputs = [os.path.join(EXAMPLES, "outputs", it) for it in sorted(os.listdir(os.path.join(EXAMPLES, "outputs"))) if it.endswith(".txt")]
-        inputs += [os.path.join(EXAMPLES, "logs", it) for it in ("clang_16.sarif", "clang_16_analyzer.sarif", "kinds.sarif", "rules.sarif")]
-        for path in inputs:
-            counts = {}
-            for form in FORMS:
-                said = self.run("--to", form, path, given=b"", cwd=os.path.dirname(path))
-                self.check(f"{os.path.basename(path)} as {form}", said.returncode in (0, 1), said)
-                try:
-                    found = self.places(form, said.stdout)
-                except Exception as why:
-                    self.check(f"{os.path.basename(path)} as {form} is read back: {why}", False, said)
-                    continue
-                if found is not None:
-                    counts[form] = len(found)
-            self.check(f"{os.path.basename(path)}: all formats have as many findings: {counts}", len(set(counts.values())) == 1)
+        """All forms agree how many findings there are, and where: with the sources beside them, and with none."""
+        for folder in (os.path.join(EXAMPLES, "outputs"), os.path.join(EXAMPLES, "logs")):
+            for name in sorted(it for it in os.listdir(folder) if it.endswith((".txt", ".sarif"))):
+                for room in (folder, os.path.join(folder, "src")):
+                    path = os.path.join(folder, name)
+                    said = self.run("--to", "problems", path, given=b"", cwd=room)
+                    if said.returncode in (0, 1):
+                        self.try_places(path, room, format_places.problems(said.stdout.decode()))
+                    else:
+                        self.check(f"{name} is refused, as its name says", said.returncode == 3 and re.match("fault|null", name), said)
         self.try_logs()
         said = self.run("--to", "gitlab", given=LINE * 3)
         prints = [it["fingerprint"] for it in json.loads(said.stdout or b"[]")]
         self.check("equal findings have fingerprints of their own", len(prints) == 3 and len(set(prints)) == 3, said)
+
+    def try_places(self, path, room, found):
+        name = os.path.basename(path)
+        for form in FORMS:
+            said = self.run("--to", form, path, given=b"", cwd=room)
+            self.check(f"{name} as {form}", said.returncode in (0, 1), said)
+            if form == "drawing":
+                continue
+            try:
+                text = said.stdout.decode()
+                self.check(f"{name} as {form}: as many findings as problems", format_places.count(form, text) == len(found), said)
+                if form in format_places.PLACED:
+                    places, wanted = format_places.places(form, text), format_places.shown_as(form, found)
+                    self.check(f"{name} as {form}: the places are {places}, not {wanted}", places == wanted)
+            except Exception as why:
+                self.check(f"{name} as {form} is read back: {why!r}", False, said)
 
     def try_logs(self):
         """A log that is written says what was read, and is read again as the same."""
@@ -342,11 +536,13 @@ class Tries:
             for name, text in (("a.c", SOURCE), ("in.txt", LINE), ("sub/b.c", b"below\n")):
                 with open(f"{self.room}/{name}", "wb") as file:
                     file.write(text)
-            for each in (self.try_words, self.try_looks, self.try_asking, self.try_inputs, self.try_sources, self.try_terminals,
-                         self.try_pipes, self.try_slowly, self.try_formats, self.try_lost):
+            for each in (self.try_words, self.try_columns, self.try_effects, self.try_tools, self.try_looks, self.try_asking, self.try_inputs,
+                         self.try_sources, self.try_terminals, self.try_pipes, self.try_slowly, self.try_paint, self.try_formats, self.try_lost,
+                         self.try_colors, self.try_keyboard, self.try_limits, self.try_memory, self.try_help, self.try_manual,
+                         self.try_completions, self.try_install):
                 try:
                     each()
-                except (OSError, ValueError, subprocess.SubprocessError) as why:
+                except Exception as why:
                     self.check(f"{each.__name__}: {why!r}", False)
         print(f"{self.passed} passed, {self.failed} failed")
         return self.failed != 0
