@@ -1,14 +1,21 @@
 #!/usr/bin/env python3
 """The public calls of all crates, read off the sources: usage: python3 tools/calls.py [--check]
 
-With no word it writes docs/CALLS.md anew; with --check it says whether that file has every public call, each with its
-conditions and its answers as the sources state them, and ends with 1 where it hasn't."""
+With no word it writes docs/CALLS.md anew; with --check it says whether that file has every public call, each with
+its conditions and its answers as the sources state them, and ends with 1 where it hasn't."""
+import collections
 import os
 import re
 import sys
 
 TOP = os.path.dirname(os.path.dirname(os.path.abspath(__file__)))
-TAKES = re.compile(r"AllocError|AllocFailed|AddError|ReportError|RenderError|EditError|ProblemError|LogError|ReportFault|ShapeError|OutOfMemory|Reading\b|Status\b")
+TAKES = re.compile(
+    r"AllocError|AllocFailed|AddError|ReportError|RenderError|EditError|ProblemError|LogError|ReportFault"
+    r"|ShapeError|ShowError|SendError|Refusal\b|Fetched\b|Taken\b|OutOfMemory|Reading\b|Status\b|io::Result"
+)
+BEGINS = re.compile(r'( *)(pub )?(?:const |final |unsafe |extern "C" )*fn (\w+)')
+NEVER_FAILS = re.compile(r"ensures(?: \w+)? \{ result ≡ Ok ")
+Item = collections.namedtuple("Item", "place name head clauses line")
 
 
 def crates():
@@ -22,7 +29,7 @@ def sources(crate):
     root = os.path.join(TOP, "crates", crate, "src")
     for base, _, names in sorted(os.walk(root)):
         for name in sorted(names):
-            if name.endswith(".rt") and "test" not in name and "plain" not in name:
+            if name.endswith(".rt") and "test" not in name:
                 yield os.path.join(base, name)
 
 
@@ -46,7 +53,7 @@ def owner(line):
 
 
 def public_items(text):
-    """Each public function: the type or trait it stands in, its name, its head and its clauses."""
+    """Each public function: the type or trait it stands in, its name, its head, its clauses and its line."""
     lines = text.split("\n")
     place, traits, at = None, False, 0
     while at < len(lines):
@@ -58,18 +65,26 @@ def public_items(text):
                 in_trait = line.startswith("pub trait")
             elif line.startswith("}"):
                 place, traits = None, False
-        begin = re.match(r'( *)(pub )?(?:const |final |unsafe |extern "C" )*fn (\w+)', line)
+        begin = BEGINS.match(line)
         if begin and (begin.group(2) or (place and begin.group(1) and not traits and in_trait)):
-            head, clauses, end = [], [], at
-            while end < len(lines):
-                part = lines[end].strip()
-                clauses.append(part) if clauses or re.match(r"(requires|ensures)\b", part) else head.append(part)
-                if part == "{" or part == "{}" or part.endswith("{") and not clauses or part.endswith("};") or part == ";" or (part.endswith(";") and not clauses):
-                    break
-                end += 1
-            yield place, begin.group(3), " ".join(head), [c for c in clauses if c not in ("{", "{}")]
+            head, clauses, end = signature(lines, at)
+            yield Item(place, begin.group(3), " ".join(head), clauses, at + 1)
             at = end
         at += 1
+
+
+def signature(lines, at):
+    """The head of the function that begins at a line, its clauses, and the line at which they end."""
+    head, clauses, end = [], [], at
+    while end < len(lines):
+        part = lines[end].strip()
+        if not part.startswith("//"):
+            clauses.append(part) if clauses or re.match(r"(requires|ensures)\b", part) else head.append(part)
+        opens = part in ("{", "{}") or part.endswith("{") and not clauses
+        if opens or part == ";" or part.endswith("};") or part.endswith(";") and not clauses:
+            break
+        end += 1
+    return head, [c for c in clauses if c not in ("{", "{}")], end
 
 
 def conditions(clauses):
@@ -98,29 +113,46 @@ def escape(text):
     return text.replace("|", "\\|")
 
 
+HEAD = """# Every public call
+
+Read off the sources by `python3 tools/calls.py`, run at the top; `sh tools/checks.sh` compares, so none is missing. A
+call's clauses stand in its *File*, behind its head. The words in them are in [CLAUSE_WORDS](CLAUSE_WORDS.md), under
+the crate's name, each with a link to its definition: from a call to a definition it is two steps.
+
+A condition stands here as the contract has it; each can be tested, or follows from how the value was made. Where a call
+may answer otherwise than it is asked to, the clauses beside it say when. A call that may take memory can answer want of
+memory, whenever it is.
+"""
+COLUMNS = ("Call", "Conditions", "Other answers", "Named clauses", "Takes memory", "File")
+
+
+def row(item, path, root):
+    call = f"{item.place}::{item.name}" if item.place else item.name
+    asked = "; ".join(f"`{escape(c)}`" for c in conditions(item.clauses))
+    result = result_of(item.head)
+    stated = ", ".join(f"`{n}`" for n in clause_names(item.clauses))
+    exported_alloc = "extern" in item.head and "alloc: Global" in item.head
+    never = NEVER_FAILS.search(" ".join(item.clauses))
+    memory = "yes" if (TAKES.search(result) or exported_alloc) and not never else ""
+    other = "" if never else refusals(result)
+    file = f"[{os.path.relpath(path, root)}](../{os.path.relpath(path, TOP)})"
+    return f"| `{call}` | {asked} | {other} | {stated} | {memory} | {file} |"
+
+
 def table():
-    out = ["# Every public call", "",
-           "Read off the sources by `tools/calls.py`, which also checks that none is missing. A condition stands here as the contract has it; each can be",
-           "tested, or follows from how the value was made. Where a call may answer otherwise than it is asked to, the clauses beside it say when. A call",
-           "that may take memory can answer want of memory, whenever it is.", ""]
+    out = [HEAD]
     for crate in crates():
         rows = []
         root, names, modules = exported(crate)
         for path in sources(crate):
             text = open(path, encoding="utf-8").read()
             whole = path == root or os.path.basename(path)[:-3] in modules
-            for place, name, head, clauses in public_items(text):
-                if not whole and (place or name) not in names:
-                    continue
-                call = f"{place}::{name}" if place else name
-                asked = "; ".join(f"`{escape(c)}`" for c in conditions(clauses))
-                result = result_of(head)
-                stated = ", ".join(f"`{n}`" for n in clause_names(clauses))
-                exported_alloc = "extern" in head and "alloc: Global" in head
-                memory = "yes" if TAKES.search(result) or exported_alloc else ""
-                rows.append(f"| `{call}` | {asked} | {refusals(result)} | {stated} | {memory} |")
+            for item in public_items(text):
+                if whole or (item.place or item.name) in names:
+                    rows.append(row(item, path, os.path.dirname(root)))
         if rows:
-            out += [f"## `{crate}`", "", "| Call | Conditions | Other answers | Named clauses | Takes memory |", "|---|---|---|---|---|", *rows, ""]
+            out += [f"## `{crate}`", "", f"[The words of its clauses](CLAUSE_WORDS.md#{crate})", ""]
+            out += ["| " + " | ".join(COLUMNS) + " |", "|---" * len(COLUMNS) + "|", *rows, ""]
     return "\n".join(out)
 
 
@@ -129,10 +161,11 @@ def main():
     text = table()
     if "--check" in sys.argv:
         same = os.path.isfile(path) and open(path, encoding="utf-8").read() == text
-        print("docs/CALLS.md has every public call" if same else "docs/CALLS.md is not what the sources say")
+        print("docs/CALLS.md has every public call" if same else "docs/CALLS.md isn't what the sources say: run tools/calls.py")
         sys.exit(0 if same else 1)
     with open(path, "w", encoding="utf-8") as file:
         file.write(text)
 
 
-main()
+if __name__ == "__main__":
+    main()

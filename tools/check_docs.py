@@ -2,14 +2,19 @@
 """Checks what the documents say of the repository's files, and needs Python alone. usage: check_docs.py
 
 - Each link of a .md file leads to a file that is there, and to a heading of it where it names one.
+- docs/MAP.md has a row for each crate of crates.txt, and no row stands on one below it.
+- Each row of docs/DEFINITIONS.md names files, and its words are defined in them, not only handed on.
 - Each row of docs/PROMISES.md names a file, a call in it, clauses of that call, and definitions that stand in specs/.
-- Each function under "A caller" on a page of a crate stands in that crate's sources, but for layout, and so is proved.
-  (An example under another heading only shows how a call looks.)
+- Each function under "A caller" or "How it is called" on a page of a crate stands in that crate's sources, but for layout,
+  and so is proved. (An example under another heading, as "How a call looks", shows just that.)
 It prints what isn't so, and a last line; the status is 1 where something isn't."""
 import glob
 import os
 import re
 import sys
+
+sys.dont_write_bytecode = True  # nothing is left beside the sources
+import clause_words
 
 TOP = os.path.dirname(os.path.dirname(os.path.abspath(__file__)))
 LINK = re.compile(r"\[[^\]]*\]\(([^)\s]+)\)")
@@ -58,17 +63,20 @@ def plain(text):
 
 
 def functions(text):
-    """The functions of a text by name: from `fn` to the brace that closes the body, without layout."""
+    """The functions of a text by name: from `fn` to the brace that closes the body, without layout.
+
+    (That brace stands alone on its line and as far in as the function, so that no clause's brace is taken for it.)"""
     found = {}
     for start in FUNCTION.finditer(text):
-        depth, at, bodies = 0, start.start(), 0
+        depth, at = 0, start.start()
+        indent = re.match(r"\s*", start.group(0)).group(0).rpartition("\n")[2]
         while at < len(text):
             if text[at] == "{":
                 depth += 1
             elif text[at] == "}":
                 depth -= 1
                 line = text[text.rfind("\n", 0, at) + 1 : at]
-                if depth == 0 and line.strip() == "":
+                if depth == 0 and line == indent:
                     break
             at += 1
         found.setdefault(start.group(1), set()).add(plain(text[start.start() : at + 1]).removeprefix("pub"))
@@ -81,8 +89,8 @@ def wrong_examples(page):
     for path in glob.glob(os.path.join(crate, "src", "**", "*.rt"), recursive=True):
         for name, bodies in functions(read(path)).items():
             known.setdefault(name, set()).update(bodies)
-    caller = re.search(r"^## A caller$(.*?)(?=^## |\Z)", read(page), re.S | re.M)
-    for block in re.findall(r"^```rust\n(.*?)^```", caller.group(1) if caller else "", re.S | re.M):
+    callers = re.findall(r"^## (?:A caller|How it is called)$(.*?)(?=^## |\Z)", read(page), re.S | re.M)
+    for block in re.findall(r"^```rust\n(.*?)^```", "".join(callers), re.S | re.M):
         for name, bodies in functions(block).items():
             if ".." in re.sub(r"\.\.=?\w|\w\.\.|\[\.\.", "", "".join(bodies)):
                 continue
@@ -98,7 +106,7 @@ def clauses_of(text, call):
         if head:
             inside = head.group(1) == call
             found = set() if inside and found is None else found
-        clause = re.match(r"\s*ensures (?:(\w+) )?\{", line)
+        clause = re.match(r"\s*ensures\*? (?:(\w+) )?\{", line)
         if inside and clause:
             found.add(clause.group(1) or "")
     return found
@@ -135,6 +143,42 @@ def wrong_promises():
                 yield f"{crate}: no definition `{word}` in specs/"
 
 
+def is_defined(word, file):
+    """Whether a word is defined in a file of specs/ or src/, or handed on by it under another name than its own."""
+    if file.endswith(".rt"):
+        return re.search(rf"^\s*(?:pub )?(?:enum|struct|trait|type|const|fn|ghost) {word}\b", read(file), re.M)
+    further = clause_words.handed_on(file, word)
+    return word in clause_words.definitions_in(file) or further and further[1] != word
+
+
+def wrong_definitions():
+    tables = read(os.path.join(TOP, "docs", "DEFINITIONS.md")).partition("## Index by word")[0]
+    for number, line in enumerate(tables.split("\n"), 1):
+        cells = re.split(r"(?<!\\)\|", line)
+        names = re.findall(r"`([\w./]+\.(?:antt|rt))`", cells[-2]) if len(cells) > 4 else []
+        files = [os.path.join(TOP, "crates", name) for name in names]
+        yield from (f"line {number}: {name}: no such file" for name, file in zip(names, files) if not os.path.isfile(file))
+        there = [file for file in files if os.path.isfile(file)]
+        for word in re.findall(r"`(\w+)[^`]*`", cells[1]) if there else ():
+            if not any(is_defined(word, file) for file in there):
+                yield f"line {number}: `{word}` isn't defined in {' or '.join(names)}"
+
+
+def wrong_layers():
+    rows = re.findall(r"^\| `(\w+)` \|[^|]*\|([^|]*)\|[^|]*\|$", read(os.path.join(TOP, "docs", "MAP.md")), re.M)
+    place = {crate: at for at, (crate, _) in enumerate(rows)}
+    below = {}
+    for crate, names in re.findall(r"^(\w+)[^:#\n]*:(.*)$", read(os.path.join(TOP, "crates.txt")), re.M):
+        below[crate] = names.split()
+    yield from (f"`{crate}` has no row" for crate in below if crate not in place)
+    for crate, named in rows:
+        for other in set(re.findall(r"`(\w+)`", named)) & set(below) - set(below.get(crate, ())):
+            yield f"`{crate}` doesn't stand on `{other}`, by crates.txt"
+        for other in below.get(crate, ()):
+            if place.get(other, -1) > place[crate]:
+                yield f"`{crate}` stands on `{other}`, which has a row below it"
+
+
 def main():
     wrong = []
     for page in sorted(pages()):
@@ -143,6 +187,8 @@ def main():
         if re.fullmatch(r"crates/\w+/README\.md", name):
             wrong += [f"{name}: {said}" for said in wrong_examples(page)]
     wrong += [f"docs/PROMISES.md: {said}" for said in wrong_promises()]
+    wrong += [f"docs/DEFINITIONS.md: {said}" for said in wrong_definitions()]
+    wrong += [f"docs/MAP.md: {said}" for said in wrong_layers()]
     for said in wrong:
         print(said)
     print("the documents say what is there" if not wrong else f"{len(wrong)} things that the documents say aren't so")
