@@ -273,8 +273,6 @@ class Tries(Around):
         for words, line in faults:
             said = self.ends("a fault is named", 2, *words, given=b"", err=line.encode())
             self.check(f"it begins so: {' '.join(words)}", said.stderr.startswith(b"girzohal: "), said)
-        said = self.ends("a file that can't be read, whose name drives a terminal", 4, "\x1b[31mred", given=b"", err=b"red can't be read")
-        self.check("a name that is told drives no terminal", not drives(said.stderr.decode()), said)
         self.ends("help among wrong words", 0, "--theme", "pink", "--help", out=b"usage: girzohal")
         self.ends("help as a value", 2, "--theme", "--help", err=b"not '--help'")
 
