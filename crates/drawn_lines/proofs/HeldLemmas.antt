@@ -1,5 +1,5 @@
 -- Lines out of bytes that come.
-use Rattle.std.proofs.Common.{◌≡◌, ℕ, ◌+◌, ◌-◌, ◌<◌, ◌≤◌, ◌==◌, get_or, if◌then◌else◌, Bool, true, false, List, [], ◌∷◌, ◌++◌, length, map, All, take, drop, min, Option, Err, Ok, Result, Some, None, Vec, Global, refl, sym, ap, ap₂, ◌∙◌, subst, append_assoc, append-nil, arith}
+use Rattle.std.proofs.Common.{◌≡◌, ℕ, ◌+◌, ◌-◌, ◌<◌, ◌≤◌, ◌==◌, get_or, if◌then◌else◌, true, false, List, [], ◌∷◌, ◌++◌, length, map, take, drop, min, Err, Ok, Result, Some, None, Vec, Global, refl, sym, ap, ap₂, ◌∙◌, subst, append_assoc, append-nil, arith}
 use Rattle.std.specs.Prelude.{IfOk, nat_eq}
 use Rattle.std.specs.List.{onto_first, starts_with}
 use Rattle.std.specs.Vec.{vec_len}

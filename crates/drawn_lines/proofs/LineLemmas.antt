@@ -1,9 +1,9 @@
 -- So many of a list, at most all.
-use Rattle.std.proofs.Common.{◌≡◌, ℕ, ◌<◌, ◌≤◌, ◌⊎◌, inl, inr, if◌then◌else◌, true, false, List, [], ◌∷◌, ◌++◌, length, map, take, drop, min, Bor, refl, sym, ap, ap₂, ◌∙◌, append_assoc, length-drop, arith}
+use Rattle.std.proofs.Common.{◌≡◌, ℕ, ◌-◌, ◌<◌, ◌≤◌, ◌==◌, ◌⊎◌, inl, inr, if◌then◌else◌, Bool, true, false, List, [], ◌∷◌, ◌++◌, length, map, take, drop, min, Some, None, Bor, refl, sym, ap, ap₂, ◌∙◌, append_assoc, length-drop, length-take, slice_index, unwrap_or, arith}
 use Rattle.std.specs.List.{drop-map}
 use Rattle.std.proofs.lemmas.Bool.{cases_lt}
 use Rattle.std.proofs.lemmas.List.{drop-append-le, drop-drop, drop_all, take-append-le, take-map, take_all}
-use Rattle.tool_lines.specs.Lines.{PieceParts}
+use Rattle.tool_lines.specs.Lines.{PieceParts, without_cr}
 use Rattle.girzohal_asked.specs.declared.Asked.{Asked}
 use Rattle.drawn_lines.specs.Lines.{annotates, aside_text, kept_if, kept_text}
 use Rattle.drawn_lines.specs.Seam.{span}
@@ -28,6 +28,15 @@ drop_within count xs = go (within count (length xs))
     go : (min count (length xs) ≡ count) ⊎ ((min count (length xs) ≡ length xs) × (length xs ≤ count)) → drop (min count (length xs)) xs ≡ drop count xs
     go (inl is) = ap (λ n. drop n xs) is
     go (inr is) = ap (λ n. drop n xs) is.0 ∙ drop_all (length xs) xs (omega arith) ∙ sym (drop_all count xs is.1)
+
+-- a line without a CR at its end is a front of it
+cut_by : (line : List ℕ) (b : Bool) → take (length (unwrap_or (if b then Some (take (length line - 1) line) else None) line)) line
+    ≡ unwrap_or (if b then Some (take (length line - 1) line) else None) line
+cut_by line true = ap (λ n. take n line) (omega (arith, length-take (length line - 1) line))
+cut_by line false = take_all (length line) line (omega arith)
+
+pub cut_cr : (line : List ℕ) → take (length (without_cr line)) line ≡ without_cr line
+cut_cr line = cut_by line (slice_index line (length line - 1) == 0x0D)
 
 -- the lines of a piece, and then those of the others
 pub kept_more : (asked : Asked) (text now : List ℕ) (piece : PieceParts) (front left behind : List (Bor (List ℕ))) (pieces : List PieceParts)

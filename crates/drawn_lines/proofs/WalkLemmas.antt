@@ -1,5 +1,5 @@
 -- One step of a walk over pieces.
-use Rattle.std.proofs.Common.{◌≡◌, ℕ, true, false, List, [], ◌∷◌, ◌++◌, length, map, take, drop, Option, Bor, refl, sym, ap, ap₂, ◌∙◌, append_assoc}
+use Rattle.std.proofs.Common.{◌≡◌, ℕ, true, false, List, [], ◌∷◌, ◌++◌, length, map, take, drop, take_all, min, Option, Some, None, Bor, arith, refl, sym, ap, ap₂, ◌∙◌, append_assoc}
 use Rattle.std.specs.List.{drop-map}
 use Rattle.std.proofs.lemmas.List.{map-append, take-map}
 use Rattle.found_reports.specs.Held.{Held}
@@ -7,9 +7,9 @@ use Rattle.found_reports.specs.Found.{Found}
 use Rattle.tool_lines.specs.declared.lines.Piece.{Piece}
 use Rattle.tool_lines.specs.Lines.{PieceParts, piece_parts, is_kept}
 use Rattle.line_reports.specs.Reports.{reports_in}
-use Rattle.report_texts.specs.Texts.{first_drawings}
+use Rattle.report_texts.specs.Texts.{drawings, first_drawings, handler_of}
 use Rattle.girzohal_asked.specs.declared.Asked.{Asked}
-use Rattle.drawn_lines.specs.Lines.{columns_of, has_colors, in_place, kept_if, still}
+use Rattle.drawn_lines.specs.Lines.{columns_of, has_colors, in_place, kept_if, reports_before, still}
 
 in_place_kept : (asked : Asked) (given : List ℕ → Held) (most : Option ℕ) (before : List PieceParts) (from lines shown : List (List ℕ)) (piece : PieceParts) (pieces : List PieceParts)
     → is_kept piece.begun.sort ≡ true
@@ -88,6 +88,20 @@ keep_is asked given most next text drawn now before piece from left shown front 
     (drop piece.lines (texts_of left)) (drop piece.lines (texts_of left)) l pieces) (behind_is shown later piece.lines shown_is)
     ∙ kept_next asked given most (map piece_parts before) (texts_of from) (texts_of left) (texts_of shown) (piece_parts piece) pieces text drawn now is
     (drawn_is ∙ ap (λ fs. text ++ first_drawings asked most fs) found_is) (now_is ∙ ap (λ l. drawn ++ kept_if asked (has_colors asked.theme) (piece_parts piece) l) first)
+
+-- no pieces have no reports
+pub none_before : (asked : Asked) (given : List ℕ → Held) (from : List (List ℕ)) (before : List PieceParts) → length before ≡ 0 → reports_before asked given from before ≡ []
+unfolding reports_in
+none_before asked given from [] none = refl
+none_before asked given from (piece ∷ pieces) none = absurd (omega (arith, none))
+
+take_none : {X : Type 0} (n : ℕ) → take {A = X} n [] ≡ []
+take_none n = take_all n [] (omega arith)
+
+pub nothing_drawn : (asked : Asked) (most : Option ℕ) (found : List Found) → found ≡ [] → first_drawings asked most found ≡ []
+unfolding first_drawings
+nothing_drawn asked None found none = rw none refl
+nothing_drawn asked (Some most) found none = rw none (ap (drawings (handler_of asked) asked.raw) (take_none (min most 0)))
 
 pub finish_is : (asked : Asked) (given : List ℕ → Held) (most : Option ℕ) (text drawn : List ℕ) (before : List Piece) (from left shown : List (Bor (List ℕ))) (found : List Found)
     → found ≡ reports_in (columns_of asked) given (map (λ line. line.now) from) (map piece_parts before) → drawn ≡ text ++ first_drawings asked most found

@@ -123,16 +123,23 @@ aside_text asked lines pieces = if annotates asked.to then kept_text asked lines
 abbrev pub still : Option ℕ → ℕ → Option ℕ
 still most count = option_map (λ m. m - count) most
 
+-- the reports of pieces with the lines that they begin with, and their drawings
+abbrev pub reports_before : Asked → (List ℕ → Held) → List (List ℕ) → List PieceParts → List Found
+reports_before asked given from before = reports_in (columns_of asked) given from before
+
+abbrev pub drawings_before : Asked → (List ℕ → Held) → Option ℕ → List (List ℕ) → List PieceParts → List ℕ
+drawings_before asked given most from before = first_drawings asked most (reports_before asked given from before)
+
 -- pieces with the lines that they begin with are drawn as soon as a line is kept, behind them; kept lines are those of `shown`
 unfoldable pub in_place : Asked → (List ℕ → Held) → Option ℕ → List PieceParts → List (List ℕ) → List (List ℕ) → List (List ℕ) → List PieceParts → List ℕ
-in_place asked given most before from lines shown [] = first_drawings asked most (reports_in (columns_of asked) given from before)
+in_place asked given most before from lines shown [] = drawings_before asked given most from before
 in_place asked given most before from lines shown (piece ∷ pieces) =
     let behind = drop piece.lines lines in
     let later = drop piece.lines shown in
-    let found = reports_in (columns_of asked) given from before in
+    let count = length (reports_before asked given from before) in
     if is_kept piece.begun.sort
-    then first_drawings asked most found ++ kept_if asked (has_colors asked.theme) piece (take piece.lines shown)
-    ++ in_place asked given (still most (length found)) [] behind behind later pieces
+    then drawings_before asked given most from before ++ kept_if asked (has_colors asked.theme) piece (take piece.lines shown)
+    ++ in_place asked given (still most count) [] behind behind later pieces
     else in_place asked given most (before ++ piece ∷ []) from behind later pieces
 
 -- lines are shown as they came where the theme has colors, else as they were read

@@ -217,7 +217,7 @@ impl HeldLines {
                 begun,
             });
         }
-        lines.push(without_its_cr(alloc, &plain)?)?;
+        lines.push(without_its_cr(plain))?;
         came.push(tail)?;
         Ok(HeldLines {
             lines,
@@ -256,17 +256,18 @@ fn cut_line<'a>(text: &'a [u8]) -> Option<(&'a [u8], &'a [u8])>
 pub(crate) fn read_line(alloc: Global, line: &[u8]) -> Result<Vec<u8>, AllocError>
     ensures { IfOk result (λ text. text.items ≡ line_read line.now) }
 {
-    let plain = without_paint(alloc, line)?;
-    without_its_cr(alloc, &plain)
+    Ok(without_its_cr(without_paint(alloc, line)?))
 }
 
 /// A line without a CR at its end.
-fn without_its_cr(alloc: Global, line: &[u8]) -> Result<Vec<u8>, AllocError>
-    ensures { IfOk result (λ text. text.items ≡ without_a_cr line.now) }
+#[tactic(auto, using(crate::proofs::LineLemmas::cut_cr))]
+fn without_its_cr(line: Vec<u8>) -> Vec<u8>
+    ensures { result.items ≡ without_a_cr line.items }
 {
-    let mut text = Vec::new(alloc);
-    text.extend_from_slice(without_cr(line))?;
-    Ok(text)
+    let mut text = line;
+    let len = without_cr(&text).len();
+    text.truncate(len);
+    text
 }
 
 /// Lines, lent.

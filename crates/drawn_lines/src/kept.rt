@@ -4,7 +4,7 @@ ghost use Rattle.std.specs.Prelude.{take};
 ghost use Rattle.std.specs.List.{flat_map};
 ghost use Rattle.std.specs.Str.Lossy.{utf8_lossy};
 ghost use Rattle.harmless.specs.declared.Kind.TheVariants.{Prose};
-ghost use Rattle.shown_reports.specs.Shown.{shown_text};
+ghost use Rattle.shown_reports.specs.Shown.{shown_text as shown_text_of};
 ghost use Rattle.tool_lines.specs.Lines.{PieceParts, piece_parts, is_kept as is_kept_sort};
 ghost use Rattle.drawn_lines.specs.Lines.{aside_text as aside_of, begins_link as begins_a_link};
 ghost use Rattle.drawn_lines.specs.Lines.{holds_link as holds_a_link, kept_if, kept_line};
@@ -14,7 +14,8 @@ ghost use Rattle.drawn_lines.specs.Lines.{painted_text as painted_text_of};
 use crate::form::annotates;
 use crate::held::read_line;
 use girzohal_asked::Asked;
-use harmless::{Kind, harmless, harmless_line};
+use harmless::{Kind, harmless_line};
+use shown_reports::shown_text;
 use std::alloc::{AllocError, Global};
 use tool_lines::lines::{Piece, Sort, without_cr};
 
@@ -204,13 +205,14 @@ fn painted_text(alloc: Global, raw: bool, line: &[u8]) -> Result<String, AllocEr
 /// A line that can't drive a terminal, unless it is to stay as it is.
 fn plain_text(alloc: Global, raw: bool, line: &[u8]) -> Result<String, AllocError>
     ensures { IfOk result (λ text. string_bytes text
-        ≡ shown_text raw Prose (utf8_lossy line.now)) }
+        ≡ shown_text_of raw Prose (utf8_lossy line.now)) }
 {
-    let line = String::from_utf8_lossy(alloc, line)?;
-    if raw {
-        Ok(line)
-    } else {
-        harmless(alloc, Kind::Prose, line.as_str())
+    match str::from_utf8(line) {
+        Ok(line) => shown_text(alloc, raw, Kind::Prose, line),
+        Err(_) => {
+            let line = String::from_utf8_lossy(alloc, line)?;
+            shown_text(alloc, raw, Kind::Prose, line.as_str())
+        }
     }
 }
 

@@ -13,8 +13,6 @@ mod kept;
 mod reading;
 mod seam;
 mod tally;
-#[cfg(test)]
-mod tests;
 mod walk;
 
 pub use coming::{Come, Coming, Ended};

@@ -1,11 +1,13 @@
 // Lines as they are drawn: their reports, and between them the lines that are kept.
-ghost use Rattle.std.specs.Prelude.{◌≡◌, ◌∷◌, [], ℕ, List, IfOk, true, false, length, map};
+ghost use Rattle.std.specs.Prelude.{◌≡◌, ◌∷◌, ◌++◌, [], ℕ, List, IfOk, OnOk, true, false};
+ghost use Rattle.std.specs.Prelude.{length, map};
 ghost use Rattle.std.specs.Prelude.{string_bytes};
 ghost use Rattle.found_reports.specs.Held.{Held};
 ghost use Rattle.found_reports.specs.Listed.{held_in};
 ghost use Rattle.tool_lines.specs.Lines.{PieceParts, piece_parts, is_kept as is_kept_sort};
 ghost use Rattle.girzohal_asked.specs.declared.Asked.{Asked};
-ghost use Rattle.drawn_lines.specs.Lines.{in_place as placed, shown_of, still as still_of};
+ghost use Rattle.drawn_lines.specs.Lines.{drawings_before, in_place as placed, reports_before};
+ghost use Rattle.drawn_lines.specs.Lines.{shown_of, still as still_of};
 ghost use Rattle.drawn_lines.specs.Walk.{walked};
 
 use crate::form::has_colors;
@@ -135,15 +137,14 @@ fn keep<'l, 'a, 'p>(
         left,
         shown,
     } = walk;
-    let found = reports_of(alloc, from, &before, sources, columns_of(asked))?;
-    text.push_str(first_drawings(alloc, asked, most, &found)?.as_str())?;
+    let count = push_reports(alloc, &mut text, asked, most, sources, from, &before)?;
     let run = front(shown, piece.lines);
     push_kept(alloc, &mut text, asked, has_colors(asked.theme), piece, run)?;
     let left = behind(left, piece.lines);
     let shown = behind(shown, piece.lines);
     Ok(Walk {
         text,
-        most: still(most, count_of(&found)),
+        most: still(most, count),
         before: Vec::new(alloc),
         from: left,
         left,
@@ -217,7 +218,31 @@ fn finish(
         left: _,
         shown: _,
     } = walk;
-    let found = reports_of(alloc, from, &before, sources, columns_of(asked))?;
-    text.push_str(first_drawings(alloc, asked, most, &found)?.as_str())?;
+    push_reports(alloc, &mut text, asked, most, sources, from, &before)?;
     Ok(text)
+}
+
+/// Appends the drawings of the reports that pieces mean, and gives how many reports there are.
+fn push_reports(
+    alloc: Global,
+    text: &mut String,
+    asked: &Asked,
+    most: Option<usize>,
+    sources: &ListedSources,
+    from: &[&[u8]],
+    before: &[Piece<'_>],
+) -> Result<usize, ShowError>
+    ensures text { OnOk result (string_bytes text.new ≡ string_bytes text.old
+        ++ drawings_before asked.now (held_in sources.now.entries.items) most
+        (map (λ line. line.now) from.now) (map piece_parts before.now)) }
+    ensures count { IfOk result (λ count. count ≡ length
+        (reports_before asked.now (held_in sources.now.entries.items)
+        (map (λ line. line.now) from.now) (map piece_parts before.now))) }
+{
+    if before.is_empty() {
+        return Ok(0);
+    }
+    let found = reports_of(alloc, from, before, sources, columns_of(asked))?;
+    text.push_str(first_drawings(alloc, asked, most, &found)?.as_str())?;
+    Ok(count_of(&found))
 }

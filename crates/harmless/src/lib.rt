@@ -13,10 +13,10 @@ use std::alloc::{AllocError, Global};
 use std::iter::once;
 
 mod paint;
-#[cfg(test)]
-mod tests;
+mod plain;
 
 pub use paint::harmless_line;
+use plain::is_plain;
 
 /// What a text is for.
 #[derive(Clone, Copy, Debug, PartialEq, Eq)]
@@ -99,9 +99,20 @@ pub fn harmless(alloc: Global, kind: Kind, text: &str) -> Result<String, AllocEr
     replaced(alloc, kind, text)
 }
 
-/// The same, known by its text alone.
-#[tactic(auto, unfolding(crate::specs::Harmless::harmless))]
+/// The same, known by its text alone; plain ASCII is copied.
 fn replaced(alloc: Global, kind: Kind, text: &str) -> Result<String, AllocError>
+    ensures { IfOk result (λ out. string_bytes out ≡ harmless_text kind text.now) }
+{
+    if is_plain(kind, text) {
+        String::from_str(alloc, text)
+    } else {
+        replaced_chars(alloc, kind, text)
+    }
+}
+
+/// The same, character by character.
+#[tactic(auto, unfolding(crate::specs::Harmless::harmless))]
+fn replaced_chars(alloc: Global, kind: Kind, text: &str) -> Result<String, AllocError>
     ensures { IfOk result (λ out. string_bytes out ≡ harmless_text kind text.now) }
 {
     text.chars().map(|c| harmless_char(kind, c)).collect(alloc)
@@ -122,9 +133,20 @@ pub fn harmless_source(alloc: Global, text: &str) -> Result<String, AllocError>
     settled(alloc, text)
 }
 
-/// The same, known by its text alone.
-#[tactic(auto, unfolding(crate::specs::Harmless::harmless_source))]
+/// The same, known by its text alone; plain ASCII is copied.
 fn settled(alloc: Global, text: &str) -> Result<String, AllocError>
+    ensures { IfOk result (λ out. string_bytes out ≡ source_text text.now) }
+{
+    if is_plain(Kind::Prose, text) {
+        String::from_str(alloc, text)
+    } else {
+        settled_chars(alloc, text)
+    }
+}
+
+/// The same, character by character.
+#[tactic(auto, unfolding(crate::specs::Harmless::harmless_source))]
+fn settled_chars(alloc: Global, text: &str) -> Result<String, AllocError>
     ensures { IfOk result (λ out. string_bytes out ≡ source_text text.now) }
 {
     let next = text.chars().skip(1).chain(once('\0'));

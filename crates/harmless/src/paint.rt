@@ -8,6 +8,7 @@ ghost use Rattle.harmless.specs.Paint.{is_escape, kept_at, paint_ahead as paint_
 ghost use Rattle.harmless.specs.Paint.{paint_end as ends_at};
 ghost use Rattle.harmless.specs.Paint.{paint_len as paint_length, painted_from, with_end};
 
+use crate::plain::is_plain;
 use crate::{Kind, harmless, harmless_char};
 use std::alloc::{AllocError, Global};
 
@@ -18,8 +19,20 @@ use std::alloc::{AllocError, Global};
 /// # Errors
 ///
 /// Want of memory.
-#[tactic(auto, using(crate::proofs::PaintLemmas::plain_line))]
+#[tactic(auto, using(crate::proofs::PlainLemmas::plain_line_stays))]
 pub fn harmless_line(alloc: Global, line: &str) -> Result<String, AllocError>
+    ensures { IfOk result (λ out. string_bytes out ≡ line_text line.now) }
+{
+    if is_plain(Kind::Prose, line) {
+        String::from_str(alloc, line)
+    } else {
+        marked_line(alloc, line)
+    }
+}
+
+/// The same of a line that isn't plain ASCII.
+#[tactic(auto, using(crate::proofs::PaintLemmas::plain_line))]
+fn marked_line(alloc: Global, line: &str) -> Result<String, AllocError>
     ensures { IfOk result (λ out. string_bytes out ≡ line_text line.now) }
 {
     if has_escape(line) {

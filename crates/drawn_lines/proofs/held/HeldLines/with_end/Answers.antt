@@ -14,8 +14,8 @@ returns-clause-came c =
 
 pub returns-clause-read : goal.returns-clause-read
 returns-clause-read c = λ before.
-    let line = c.in_ok-without_its_cr.field-0 in
+    let line = c.without_its_cr.result in
     one_more (record { lines = c.push.new.self; came = c.push-2.new.self; tail = c.new.result; begun = c.args.self.begun }) c.args.self c.args.self.tail.items line.items
     (ap (map (λ l. l.items)) c.in_ok-push.ensures.items ∙ map-append (λ l. l.items) c.args.self.lines.items (line ∷ []))
     (ap (map (λ l. l.items)) c.in_ok-push-2.ensures.items ∙ map-append (λ l. l.items) c.args.self.came.items (c.args.self.tail ∷ []))
-    (c.in_ok-without_its_cr.ensures ∙ (ap without_cr (c.deref-2.ensures.value ∙ (c.in_ok-plain.ensures.text ∙ ap unpainted c.deref.ensures.value)) ∙ read_is c.args.self.tail.items)) before
+    (c.without_its_cr.ensures ∙ (ap without_cr (c.in_ok-plain.ensures.text ∙ ap unpainted c.deref.ensures.value) ∙ read_is c.args.self.tail.items)) before

@@ -1,0 +1,24 @@
+-- Nothing is appended for no pieces; else the drawings of their reports are.
+use Rattle.std.proofs.Common.{◌++◌, length, map, string_bytes, ap, sym, append-nil, ◌∙◌}
+use Rattle.std.proofs.lemmas.Bool.Decides.{Decides-eqb}
+use Rattle.std.proofs.lemmas.List.{length-map}
+use Rattle.found_reports.specs.Listed.{held_in}
+use Rattle.tool_lines.specs.Lines.{piece_parts}
+use Rattle.drawn_lines.specs.Lines.{reports_before}
+use Rattle.drawn_lines.proofs.WalkLemmas.{none_before, nothing_drawn}
+use Rattle.drawn_lines.proofs.walk.push_reports.Goals as goal
+
+pub returns-then-is_empty-clause-text : goal.returns-then-is_empty-clause-text
+returns-then-is_empty-clause-text c =
+    let given = held_in c.args.sources.now.entries.items in
+    let from = map (λ line. line.now) c.args.from.now in
+    let before = map piece_parts c.args.before.now in
+    let none = none_before c.args.asked.now given from before (length-map c.args.before.now piece_parts ∙ (Decides-eqb (length c.args.before.now) 0).0 (sym c.is_empty.ensures ∙ c.if-is_empty.true)) in
+    sym (append-nil (string_bytes c.args.text.now))
+    ∙ ap (λ t. string_bytes c.args.text.now ++ t) (sym (nothing_drawn c.args.asked.now c.args.most (reports_before c.args.asked.now given from before) none))
+
+pub returns-then-is_empty-clause-count : goal.returns-then-is_empty-clause-count
+returns-then-is_empty-clause-count c =
+    let given = held_in c.args.sources.now.entries.items in
+    let from = map (λ line. line.now) c.args.from.now in
+    sym (ap length (none_before c.args.asked.now given from (map piece_parts c.args.before.now) (length-map c.args.before.now piece_parts ∙ (Decides-eqb (length c.args.before.now) 0).0 (sym c.is_empty.ensures ∙ c.if-is_empty.true))))
