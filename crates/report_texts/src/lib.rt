@@ -8,8 +8,6 @@
 #![tactic(auto)]
 
 mod drawing;
-#[cfg(test)]
-mod tests;
 mod texts;
 
 pub use drawing::{drawing_text, ending_text, first_drawings};
