@@ -7,7 +7,7 @@ use Rattle.oxc_protocol.specs.Faults.{Rose}
 use Rattle.oxc_protocol.specs.Sink.{AppendsPrefix}
 use Rattle.oxc_protocol.proofs.Appending.{Appends-trans}
 use Rattle.documents.proofs.Consuming.{Consumes-trans}
-use Rattle.found_reports.specs.Found.{Found}
+use Rattle.found_reports.specs.Kept.{FoundParts}
 use Rattle.found_reports.specs.Listed.{held_in}
 use Rattle.line_reports.specs.Reports.{reports_in}
 use Rattle.line_shapes.specs.Shape.{ShapeParts}
@@ -17,7 +17,7 @@ use Rattle.input_forms.specs.declared.begun.Begun.{Begun}
 use Rattle.input_forms.specs.declared.begun.Begun.TheVariants.{Object, OtherJson, Lines}
 use Rattle.ci_formats.specs.declared.format.CiFormat.TheVariants as ci
 use Rattle.ci_texts.specs.Texts.{ci_text}
-use Rattle.drawn_lines.specs.Coming.{IsComing, IsDrawn, sources_of}
+use Rattle.drawn_lines.specs.Coming.{IsBegun, IsComing, IsDrawn, sources_of}
 use Rattle.drawn_lines.specs.Lines.{annotates, columns_of, ending, shapes_of, written}
 use Rattle.drawn_lines.specs.Text.{lines_of, to_come}
 use Rattle.drawn_lines.specs.declared.held.HeldLines.{HeldLines}
@@ -33,9 +33,9 @@ use Rattle.girzohal.specs.Told.{Told}
 use Rattle.girzohal.specs.Texts.{IsTextIn}
 use Rattle.girzohal.specs.Lines.{ListsLines, MakesLines, MakesLinesBy, is_drawing, is_live}
 use Rattle.girzohal.specs.Made.{IsMade, MakesAs, MakesBegun}
-use Rattle.girzohal.specs.Run.{Device, Drew, DrewPart, NeverComes, IsTold, Sent, SentPart, Stays, Stopped, TookTooMuch, TookWhole, begins_lines, comes, limit, reads_lines}
+use Rattle.girzohal.specs.Run.{Device, Drew, DrewPart, NeverComes, IsTold, Outgrew, Sent, SentPart, Stays, Stopped, TookWhole, begins_lines, comes, limit, reads_lines}
 use Rattle.girzohal.specs.Opens.{is_auto, may_begin}
-use Rattle.girzohal.specs.Live.{Came, Goes, Hears, device_on}
+use Rattle.girzohal.specs.Live.{Came, CountsQuiet, Goes, Hears, device_on}
 use Rattle.girzohal.specs.declared.live.Live.{Live}
 
 -- ---- devices
@@ -182,8 +182,23 @@ goes_drew told asked input out err live goes =
       is = goes.heard;
     }
 
-pub went_too_far : (told : Told) (asked : Asked) (input out err : Device) (live : Live) → Goes told asked input out err live → limit < live.quiet → TookTooMuch input
-went_too_far told asked input out err live goes past = record { bytes = goes.taken; taken = goes.consumed; past = omega (arith, goes.quiet, past) }
+-- more than the limit came since something was known
+pub outgrew : (told : Told) (asked : Asked) (input out err said : Device) (line : List ℕ) (live : Live) → Goes told asked input out err live → limit < live.quiet
+    → ((aside : List ℕ) → Hears live.deaf err aside → IsTold said (aside ++ line)) → Outgrew told asked input out (λ aside. IsTold said (aside ++ line))
+outgrew told asked input out err said line live goes past tells =
+    record {
+      bytes = goes.front;
+      behind = goes.behind;
+      taken = subst (Consumes input.before input.now) goes.parts goes.consumed;
+      past = omega (arith, goes.quiet, past);
+      lines = subst (λ t. (more : List ℕ) → comes asked (t ++ more) ≡ true) goes.parts goes.lines;
+      text = goes.text;
+      aside = goes.aside;
+      drawn = goes.known;
+      bare = nothing_aside told asked goes.taken goes.text goes.aside live.coming.held live.coming.tally goes.coming;
+      written = goes.written;
+      is = tells goes.aside goes.heard;
+    }
 
 -- ---- on by bytes that came
 
@@ -199,28 +214,36 @@ pub goes_came : (told : Told) (asked : Asked) (input out err : Device) (next : O
 goes_came told asked input out err next count bytes live come quiet goes taken draws few =
     record {
       taken = goes.taken ++ bytes;
+      front = goes.front;
+      behind = goes.behind ++ bytes;
+      parts = ap (λ t. t ++ bytes) goes.parts ∙ append_assoc goes.front goes.behind bytes;
       consumed = Consumes-trans input.before input.now next goes.taken bytes goes.consumed taken;
       lines = λ more. subst (λ t. comes asked t ≡ true) (sym (append_assoc goes.taken bytes more)) (goes.lines (bytes ++ more));
       text = goes.text;
       aside = goes.aside;
+      known = goes.known;
       coming = draws goes.taken goes.text goes.aside goes.coming;
       written = goes.written;
       later = goes.later;
       heard = goes.heard;
-      few = omega (arith, goes.quiet, few, length-append goes.taken bytes);
+      few = omega (arith, goes.quiet, few, length-append goes.behind bytes);
     }
 
 pub first_came : (told : Told) (asked : Asked) (input : Device) (received heard : Option (List ℕ)) (count failed : ℕ) (bytes : List ℕ) (come : Come) (quiet : ℕ)
     → Consumes input.before input.now bytes → ((more : List ℕ) → comes asked (bytes ++ more) ≡ true)
-    → IsComing told asked bytes (string_bytes come.text) (string_bytes come.aside) come.coming.held come.coming.tally → quiet ≤ length bytes
+    → IsBegun told asked [] [] [] → IsComing told asked bytes (string_bytes come.text) (string_bytes come.aside) come.coming.held come.coming.tally → quiet ≤ length bytes
     → Came told asked input (still_device received count) (still_device heard failed) come false quiet
-first_came told asked input received heard count failed bytes come quiet taken lines coming few =
+first_came told asked input received heard count failed bytes come quiet taken lines start coming few =
     record {
       taken = bytes;
+      front = [];
+      behind = bytes;
+      parts = refl;
       consumed = taken;
       lines = lines;
       text = [];
       aside = [];
+      known = start;
       coming = coming;
       written = nothing_appended received;
       later = omega arith;
@@ -228,40 +251,51 @@ first_came told asked input received heard count failed bytes come quiet taken l
       few = few;
     }
 
--- pieces were let go
-pub goes_afresh : (told : Told) (asked : Asked) (input out err : Device) (live : Live) → Goes told asked input out err live
-    → Goes told asked input out err (record { coming = live.coming; quiet = 0; deaf = live.deaf })
-goes_afresh told asked input out err live goes =
-    record {
-      taken = goes.taken;
-      consumed = goes.consumed;
-      lines = goes.lines;
-      text = goes.text;
-      aside = goes.aside;
-      coming = goes.coming;
-      written = goes.written;
-      later = goes.later;
-      heard = goes.heard;
-      quiet = omega arith;
-    }
+begun_still : (told : Told) (asked : Asked) (bytes text aside more beside : List ℕ) → IsBegun told asked bytes text aside → more ≡ [] → beside ≡ []
+    → IsBegun told asked bytes (text ++ more) (aside ++ beside)
+begun_still told asked bytes text aside more beside begun none bare =
+    subst (λ t. IsBegun told asked bytes t (aside ++ beside)) (sym (ap (λ t. text ++ t) none ∙ append-nil text))
+    (subst (IsBegun told asked bytes text) (sym (ap (λ t. aside ++ t) bare ∙ append-nil aside)) begun)
+
+-- the bytes behind which so many came: all of them, where something was written, else those before
+abbrev Front : (told : Told) (asked : Asked) (taken text aside : List ℕ) (quiet : ℕ) → Type 0
+Front told asked taken text aside quiet =
+    (front behind : List ℕ) × (taken ≡ front ++ behind) × IsBegun told asked front text aside × (quiet ≤ length behind)
+
+front_now : (told : Told) (asked : Asked) (input out err : Device) (quiet left : ℕ) (come : Come) (deaf : Bool) (came : Came told asked input out err come deaf quiet)
+    → CountsQuiet come quiet left → Front told asked came.taken (came.text ++ string_bytes come.text) (came.aside ++ string_bytes come.aside) left
+front_now told asked input out err quiet left come deaf came (inl none) =
+    (came.taken, [], sym (append-nil came.taken), (come.coming.held, come.coming.tally, came.coming), omega (arith, none))
+front_now told asked input out err quiet left come deaf came (inr still) = (
+  came.front,
+  came.behind,
+  came.parts,
+  begun_still told asked came.front came.text came.aside (string_bytes come.text) (string_bytes come.aside) came.known still.1.text still.1.aside,
+  omega (arith, came.few, still.0),
+)
 
 -- what came was written, behind what stands aside
-pub came_goes : (told : Told) (asked : Asked) (input out err said : Device) (now : Option (List ℕ)) (after quiet : ℕ) (come : Come) (deaf deafer : Bool)
-    → Came told asked input out err come deaf quiet → Appends out.now now (string_bytes come.text) → out.faults_now ≤ after
+pub came_goes : (told : Told) (asked : Asked) (input out err said : Device) (now : Option (List ℕ)) (after quiet left : ℕ) (come : Come) (deaf deafer : Bool)
+    → Came told asked input out err come deaf quiet → CountsQuiet come quiet left → Appends out.now now (string_bytes come.text) → out.faults_now ≤ after
     → ((before : List ℕ) → Hears deaf err before → Hears deafer said (before ++ string_bytes come.aside))
-    → Goes told asked input (device_on out now after) said (record { coming = come.coming; quiet = quiet; deaf = deafer })
-came_goes told asked input out err said now after quiet come deaf deafer came written later hears =
+    → Goes told asked input (device_on out now after) said (record { coming = come.coming; quiet = left; deaf = deafer })
+came_goes told asked input out err said now after quiet left come deaf deafer came counts written later hears =
+    let here = front_now told asked input out err quiet left come deaf came counts in
     record {
       taken = came.taken;
+      front = here.0;
+      behind = here.1;
+      parts = here.2;
       consumed = came.consumed;
       lines = came.lines;
       text = came.text ++ string_bytes come.text;
       aside = came.aside ++ string_bytes come.aside;
+      known = here.3;
       coming = came.coming;
       written = Appends-trans out.before out.now now came.text (string_bytes come.text) came.written written;
       later = omega (arith, came.later, later);
       heard = hears came.aside came.heard;
-      quiet = came.few;
+      quiet = here.4;
     }
 
 -- or a first part of it
@@ -289,10 +323,14 @@ pub goes_still : (told : Told) (asked : Asked) (input out err : Device) (next : 
 goes_still told asked input out err next count live goes taken =
     record {
       taken = goes.taken;
+      front = goes.front;
+      behind = goes.behind;
+      parts = goes.parts;
       consumed = subst (Consumes input.before next) (append-nil goes.taken) (Consumes-trans input.before input.now next goes.taken [] goes.consumed taken);
       lines = goes.lines;
       text = goes.text;
       aside = goes.aside;
+      known = goes.known;
       coming = goes.coming;
       written = goes.written;
       later = goes.later;
@@ -337,32 +375,33 @@ comes_never asked (Some left) (Some rest) bytes taken lines never =
 -- ---- the end
 
 -- annotations that are written as lines come are those of the whole
-annotated : (to : OutputForm) (asked : Asked) (found : List Found) (text : List ℕ) → annotates to ≡ true → text ≡ ci_text ci.Github asked.raw found → IsTextIn to asked found text
-annotated Drawing asked found text is made = cc
-annotated Json asked found text is made = cc
-annotated Document asked found text is made = cc
-annotated Sarif asked found text is made = cc
-annotated Problems asked found text is made = cc
-annotated Github asked found text is made = made
-annotated Gitlab asked found text is made = cc
-annotated Checkstyle asked found text is made = cc
-annotated Junit asked found text is made = cc
-annotated Stylish asked found text is made = cc
+annotated : (to : OutputForm) (asked : Asked) (parts : FoundParts) (text : List ℕ) → annotates to ≡ true → text ≡ ci_text ci.Github asked.raw parts.found → IsTextIn to asked parts text
+annotated Drawing asked parts text is made = cc
+annotated Json asked parts text is made = cc
+annotated Document asked parts text is made = cc
+annotated Sarif asked parts text is made = cc
+annotated Problems asked parts text is made = cc
+annotated Github asked parts text is made = made
+annotated Gitlab asked parts text is made = cc
+annotated Checkstyle asked parts text is made = cc
+annotated Junit asked parts text is made = cc
+annotated Stylish asked parts text is made = cc
 
 lists_of : (told : Told) (asked : Asked) (bytes text aside : List ℕ) (reached : Bool) → annotates asked.to ≡ true → IsDrawn told asked bytes text aside reached
     → ListsLines told asked bytes text aside reached
 unfolding written ending
 lists_of told asked bytes text aside reached is drawn =
     let made : text ≡ ci_text ci.Github asked.raw (reports_in (columns_of asked) drawn.given (lines_of bytes) drawn.pieces) = (rw is at drawn.drawn) ∙ append-nil _ in
+    let parts : FoundParts = record { files = []; found = drawn.found } in
     record {
       pieces = drawn.pieces;
       are = drawn.are;
       given = drawn.given;
       told_so = drawn.told_so;
       writes = record {
-        found = drawn.found;
+        parts = parts;
         reports = drawn.reports;
-        written = annotated asked.to asked drawn.found text is (made ∙ ap (ci_text ci.Github asked.raw) (sym drawn.reports));
+        written = annotated asked.to asked parts text is (made ∙ ap (ci_text ci.Github asked.raw) (sym drawn.reports));
         kept = rw is at drawn.aside_is;
         level = drawn.level;
       };

@@ -5,7 +5,7 @@ use Rattle.girzohal_asked.specs.declared.Asked.{Asked}
 use Rattle.girzohal.specs.Told.{Told}
 use Rattle.girzohal.specs.Run.{Device, IsUntouched, Means, Sends, Shows, Texts, IsMadeOf, TookWhole, limit}
 use Rattle.girzohal.specs.declared.status.Status.{Status}
-use Rattle.girzohal.specs.declared.status.Status.TheVariants.{Clean, Reached, Usage, NoForm, ReadFault, SinkFault, OutOfMemory, InputTooLong, TooManyFiles}
+use Rattle.girzohal.specs.declared.status.Status.TheVariants.{Clean, Reached, Usage, NoForm, ReadFault, SinkFault, OutOfMemory, InputTooLong}
 
 whole_of : {P : List ℕ → Type 0} (asked : Asked) (input : Device) (bytes : List ℕ) → Consumes input.before input.now bytes → IsAtEnd input.now → length bytes ≤ limit → P bytes
     → TookWhole asked input P
@@ -21,7 +21,6 @@ shown_means ReadFault asked told input out err bytes taken ended within shows = 
 shown_means SinkFault asked told input out err bytes taken ended within shows = inl (whole_of asked input bytes taken ended within shows)
 shown_means OutOfMemory asked told input out err bytes taken ended within shows = inl shows
 shown_means InputTooLong asked told input out err bytes taken ended within shows = absurd shows
-shown_means TooManyFiles asked told input out err bytes taken ended within shows = inl shows
 
 -- what was sent of what is made
 pub sent_shows : (result : Status) (asked : Asked) (told : Told) (texts : Texts) (out err : Device) (bytes : List ℕ) → IsMadeOf told asked texts bytes
@@ -34,7 +33,6 @@ sent_shows ReadFault asked told texts out err bytes made sends = absurd sends
 sent_shows SinkFault asked told texts out err bytes made sends = record { texts = texts; made = made; written = sends.0; fault = sends.1; heard = sends.2 }
 sent_shows OutOfMemory asked told texts out err bytes made sends = absurd sends
 sent_shows InputTooLong asked told texts out err bytes made sends = absurd sends
-sent_shows TooManyFiles asked told texts out err bytes made sends = absurd sends
 
 -- with what is sent the output changes
 pub sent_touches : {O : Type 0} (result : Status) (texts : Texts) (out err : Device) (old new : O) → Sends result texts out err → IsUntouched result old new
@@ -46,4 +44,3 @@ sent_touches NoForm texts out err old new sends = absurd sends
 sent_touches ReadFault texts out err old new sends = absurd sends
 sent_touches OutOfMemory texts out err old new sends = absurd sends
 sent_touches InputTooLong texts out err old new sends = absurd sends
-sent_touches TooManyFiles texts out err old new sends = absurd sends

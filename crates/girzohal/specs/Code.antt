@@ -1,7 +1,7 @@
 -- The exit status of each end of a run.
 use Rattle.std.specs.Prelude.{ℕ}
 use Rattle.girzohal.specs.declared.status.Status.{Status}
-use Rattle.girzohal.specs.declared.status.Status.TheVariants.{Clean, Reached, Usage, NoForm, ReadFault, SinkFault, OutOfMemory, InputTooLong, TooManyFiles}
+use Rattle.girzohal.specs.declared.status.Status.TheVariants.{Clean, Reached, Usage, NoForm, ReadFault, SinkFault, OutOfMemory, InputTooLong}
 
 abbrev pub code_of : Status → ℕ
 code_of Clean = 0
@@ -12,4 +12,3 @@ code_of ReadFault = 4
 code_of SinkFault = 5
 code_of OutOfMemory = 6
 code_of InputTooLong = 7
-code_of TooManyFiles = 7

@@ -1,7 +1,7 @@
 -- What is made of lines that a tool prints for people.
 use Rattle.std.specs.Prelude.{◌≡◌, ◌||◌, ℕ, List, None, Bool, true, false}
 use Rattle.found_reports.specs.Held.{Held}
-use Rattle.found_reports.specs.Found.{Found}
+use Rattle.found_reports.specs.Kept.{FoundParts}
 use Rattle.source_store.specs.Given.{IsGiven}
 use Rattle.source_store.specs.declared.named.Spelling.TheVariants.{Path}
 use Rattle.tool_lines.specs.Lines.{ArePieces, PieceParts}
@@ -33,13 +33,14 @@ is_drawing Stylish = false
 abbrev pub is_live : OutputForm → Bool
 is_live form = is_drawing form || annotates form
 
--- the text and the level of the reports that these pieces of lines mean with what was given, and the lines that stand aside
+-- the text and the level of the reports that these pieces of lines mean with what was given, and the lines that stand aside; which files the reports
+-- stand among is free
 pub record WritesPieces (asked : Asked) (given : List ℕ → Held) (lines : List (List ℕ)) (pieces : List PieceParts) (text aside : List ℕ) (reached : Bool) : Type 0 where
-  pub found : List Found
-  pub reports : found ≡ reports_in (columns_of asked) given lines pieces
-  pub written : IsText asked found text
+  pub parts : FoundParts
+  pub reports : parts.found ≡ reports_in (columns_of asked) given lines pieces
+  pub written : IsText asked parts text
   pub kept : aside ≡ kept_text asked lines pieces
-  pub level : reached ≡ one_reaches asked.fail_on found
+  pub level : reached ≡ one_reaches asked.fail_on parts.found
 
 -- those of the pieces of a text's lines, with what was given of the names in them
 pub record ListsLines (told : Told) (asked : Asked) (bytes text aside : List ℕ) (reached : Bool) : Type 0 where

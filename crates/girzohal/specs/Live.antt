@@ -1,8 +1,8 @@
 -- How far an input is written as it comes.
-use Rattle.std.specs.Prelude.{◌≡◌, ℕ, ◌≤◌, ◌++◌, List, length, Bool, true, false, Option, Result, Ok, Err, string_bytes}
+use Rattle.std.specs.Prelude.{◌≡◌, ◌⊎◌, ℕ, ◌≤◌, ◌++◌, List, [], length, Bool, true, false, Option, Result, Ok, Err, string_bytes}
 use Rattle.std.specs.Io.KnownBytes.{Appends, Consumes}
 use Rattle.oxc_protocol.specs.Sink.{AppendsPrefix}
-use Rattle.drawn_lines.specs.Coming.{IsComing}
+use Rattle.drawn_lines.specs.Coming.{IsBegun, IsComing}
 use Rattle.drawn_lines.specs.declared.coming.Come.{Come}
 use Rattle.girzohal_asked.specs.declared.Asked.{Asked}
 use Rattle.girzohal.specs.Told.{Told}
@@ -16,31 +16,48 @@ Hears false err bytes = Appends err.before err.now bytes × (err.faults_before �
 Hears true err bytes = AppendsPrefix err.before err.now bytes × HasRisen err
 
 -- the bytes that were taken are lines that are written as they come, whatever comes behind them; of them a text is made and a text stands aside,
--- which the outputs have received
+-- which the outputs have received; of the front of them it was so already, and at least so many came behind it as are counted
 pub record Goes (told : Told) (asked : Asked) (input out err : Device) (live : Live) : Type 0 where
   pub taken : List ℕ
+  pub front : List ℕ
+  pub behind : List ℕ
+  pub parts : taken ≡ front ++ behind
   pub consumed : Consumes input.before input.now taken
   pub lines : (more : List ℕ) → comes asked (taken ++ more) ≡ true
   pub text : List ℕ
   pub aside : List ℕ
+  pub known : IsBegun told asked front text aside
   pub coming : IsComing told asked taken text aside live.coming.held live.coming.tally
   pub written : Appends out.before out.now text
   pub later : out.faults_before ≤ out.faults_now
   pub heard : Hears live.deaf err aside
-  pub quiet : live.quiet ≤ length taken
+  pub quiet : live.quiet ≤ length behind
 
--- the same of what is written next, where at most so many bytes came since pieces were let go
+-- the same of what is written next, where at least so many bytes came behind the front
 pub record Came (told : Told) (asked : Asked) (input out err : Device) (come : Come) (deaf : Bool) (quiet : ℕ) : Type 0 where
   pub taken : List ℕ
+  pub front : List ℕ
+  pub behind : List ℕ
+  pub parts : taken ≡ front ++ behind
   pub consumed : Consumes input.before input.now taken
   pub lines : (more : List ℕ) → comes asked (taken ++ more) ≡ true
   pub text : List ℕ
   pub aside : List ℕ
+  pub known : IsBegun told asked front text aside
   pub coming : IsComing told asked taken (text ++ string_bytes come.text) (aside ++ string_bytes come.aside) come.coming.held come.coming.tally
   pub written : Appends out.before out.now text
   pub later : out.faults_before ≤ out.faults_now
   pub heard : Hears deaf err aside
-  pub few : quiet ≤ length taken
+  pub few : quiet ≤ length behind
+
+-- nothing more is written
+pub record SaysNothing (come : Come) : Type 0 where
+  pub text : string_bytes come.text ≡ []
+  pub aside : string_bytes come.aside ≡ []
+
+-- so many bytes came since something was known; they begin anew where something is written
+abbrev pub CountsQuiet : Come → ℕ → ℕ → Type 0
+CountsQuiet come before now = (now ≡ 0) ⊎ ((now ≡ before) × SaysNothing come)
 
 -- the same device, of what it tells and counts now
 abbrev pub device_on : Device → Option (List ℕ) → ℕ → Device

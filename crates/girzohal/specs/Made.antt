@@ -1,7 +1,7 @@
 -- What is made of an input.
-use Rattle.std.specs.Prelude.{◌≡◌, ⊤, ℕ, List, Bool, true, false, Option, Some, None, string_bytes, codes}
+use Rattle.std.specs.Prelude.{◌≡◌, ⊤, ℕ, ◌++◌, List, Bool, Option, Some, None, codes}
 use Rattle.std.specs.declared.ops.Range.{Range}
-use Rattle.found_reports.specs.Found.{Found}
+use Rattle.found_reports.specs.Kept.{FoundParts}
 use Rattle.report_counts.specs.Counted.{one_reaches}
 use Rattle.input_forms.specs.Begun.{begins_as}
 use Rattle.input_forms.specs.Object.{IsJsonPart}
@@ -16,20 +16,20 @@ use Rattle.girzohal.specs.Told.{Told}
 use Rattle.girzohal.specs.Texts.{IsText}
 use Rattle.girzohal.specs.Lines.{MakesLines}
 use Rattle.girzohal.specs.Logs.{log_columns}
-use Rattle.girzohal.specs.Reads.{ReadsPart, IsNonePart, around, part_of}
+use Rattle.girzohal.specs.Reads.{ReadsPart, IsNonePart, around, before, part_of}
 use Rattle.girzohal.specs.declared.object.ObjectForm.{ObjectForm}
 use Rattle.girzohal.specs.declared.object.ObjectForm.TheVariants.{Keyed, AsDocument, AsLog}
 use Rattle.girzohal.specs.declared.fault.Fault.{Fault}
-use Rattle.girzohal.specs.declared.fault.Fault.TheVariants.{NoForm, TooManyFiles, OutOfMemory}
+use Rattle.girzohal.specs.declared.fault.Fault.TheVariants.{NoForm, OutOfMemory}
 
--- what is written of reports, and whether one is at or above the level
-pub record IsWritten (asked : Asked) (found : List Found) (text : List ℕ) (reached : Bool) : Type 0 where
-  pub text_is : IsText asked found text
-  pub level : reached ≡ one_reaches asked.fail_on found
+-- what is written of reports and their files, and whether one is at or above the level
+pub record IsWritten (asked : Asked) (parts : FoundParts) (text : List ℕ) (reached : Bool) : Type 0 where
+  pub text_is : IsText asked parts text
+  pub level : reached ≡ one_reaches asked.fail_on parts.found
 
--- the text and the level of the reports that are P
-abbrev pub Writes : (List Found → Type 0) → Asked → List ℕ → Bool → Type 0
-Writes P asked text reached = (found : List Found) × P found × IsWritten asked found text reached
+-- the text and the level of the reports, with their files, that are P
+abbrev pub Writes : (FoundParts → Type 0) → Asked → List ℕ → Bool → Type 0
+Writes P asked text reached = (parts : FoundParts) × P parts × IsWritten asked parts text reached
 
 -- ---- a JSON object among other lines
 
@@ -40,10 +40,13 @@ pub record MakesObject (how : ObjectForm) (told : Told) (asked : Asked) (bytes t
   pub written : Writes (ReadsPart how told (log_columns asked.columns) (part_of bytes range)) asked text reached
   pub aside_is : aside ≡ around bytes range
 
-pub record IsNoObject (how : ObjectForm) (columns : Option ColumnUnit) (bytes line : List ℕ) : Type 0 where
+-- the object means nothing; what is said of it is what stands before it, and then the line that says why
+pub record IsNoObject (how : ObjectForm) (columns : Option ColumnUnit) (bytes said : List ℕ) : Type 0 where
   pub range : Range ℕ
   pub there : IsJsonPart bytes range
+  pub line : List ℕ
   pub none : IsNonePart how columns (part_of bytes range) line
+  pub said_is : said ≡ before bytes range ++ line
 
 -- ---- all forms
 
@@ -77,32 +80,35 @@ abbrev pub other_json_line : List ℕ
 other_json_line = codes "girzohal: JSON of no known form; lines and SARIF are read, and documents\n"
 
 abbrev pub IsNoneBegun : Begun → Option ColumnUnit → List ℕ → List ℕ → Type 0
-IsNoneBegun Object columns bytes line = IsNoObject (object_form columns) columns bytes line
-IsNoneBegun OtherJson columns bytes line = line ≡ other_json_line
-IsNoneBegun Lines columns bytes line = ⊥
+IsNoneBegun Object columns bytes said = IsNoObject (object_form columns) columns bytes said
+IsNoneBegun OtherJson columns bytes said = said ≡ other_json_line
+IsNoneBegun Lines columns bytes said = ⊥
 
 abbrev pub IsNoneAs : InputForm → Option ColumnUnit → List ℕ → List ℕ → Type 0
-IsNoneAs form.Auto columns bytes line = IsNoneBegun (begins_as bytes) columns bytes line
-IsNoneAs form.Document columns bytes line = IsNoObject AsDocument columns bytes line
-IsNoneAs form.Sarif columns bytes line = IsNoObject AsLog columns bytes line
-IsNoneAs form.Lines columns bytes line = ⊥
+IsNoneAs form.Auto columns bytes said = IsNoneBegun (begins_as bytes) columns bytes said
+IsNoneAs form.Document columns bytes said = IsNoObject AsDocument columns bytes said
+IsNoneAs form.Sarif columns bytes said = IsNoObject AsLog columns bytes said
+IsNoneAs form.Lines columns bytes said = ⊥
 
--- bytes aren't of the form in which they are read, and the line says why
+-- bytes aren't of the form in which they are read, and this is said of it
 abbrev pub IsOfNoForm : Asked → List ℕ → List ℕ → Type 0
-IsOfNoForm asked bytes line = IsNoneAs asked.from asked.columns bytes line
+IsOfNoForm asked bytes said = IsNoneAs asked.from asked.columns bytes said
 
 -- no word of the input's form
 abbrev pub IsFree : Fault → Type 0
 IsFree (NoForm why) = ⊥
-IsFree TooManyFiles = ⊤
 IsFree OutOfMemory = ⊤
 
--- a fault's line is P; the others are free
+-- what is said of a fault is P; want of memory is free
 abbrev pub Says : (List ℕ → Type 0) → Fault → Type 0
-Says P (NoForm why) = P (string_bytes why)
-Says P TooManyFiles = ⊤
+Says P (NoForm said) = P said.items
 Says P OutOfMemory = ⊤
 
--- why nothing is made of bytes: they aren't of their form, as the line says; the others are free
+-- a fault becomes another, of which a text is said first, and then what was said of it
+abbrev pub IsToldBehind : List ℕ → Fault → Fault → Type 0
+IsToldBehind text (NoForm line) told = Says (λ said. said ≡ text ++ line.items) told
+IsToldBehind text OutOfMemory told = IsFree told
+
+-- why nothing is made of bytes: they aren't of their form, and this is said of it; want of memory is free
 abbrev pub HasCause : (List ℕ → List ℕ → Type 0) → List ℕ → Fault → Type 0
 HasCause P bytes fault = Says (P bytes) fault

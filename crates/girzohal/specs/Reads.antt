@@ -4,7 +4,7 @@ use Rattle.std.specs.declared.ops.Range.{Range}
 use Rattle.render_files.specs.declared.places.ReportError.{ReportError}
 use Rattle.render_files.specs.Refusal.{refusal_of}
 use Rattle.documents.specs.Document.{Document, document_of}
-use Rattle.found_reports.specs.Found.{Found}
+use Rattle.found_reports.specs.Kept.{FoundParts}
 use Rattle.shown_reports.specs.Given.{found_document}
 use Rattle.line_shapes.specs.declared.tables.Unit.{Unit as ColumnUnit}
 use Rattle.line_shapes.specs.declared.tables.Unit.TheVariants.{Bytes, Characters, Utf16, Cells}
@@ -18,12 +18,12 @@ use Rattle.girzohal.specs.Logs.{IsNoLog, ReadsLog}
 
 -- ---- JSON
 
--- the document that a text is, with the reports of it, of which none is refused
-pub record ReadsDocument (part : List ℕ) (found : List Found) : Type 0 where
+-- the document that a text is, with its files and the reports on them, of which none is refused
+pub record ReadsDocument (part : List ℕ) (parts : FoundParts) : Type 0 where
   pub document : Document
   pub is : document_of part ≡ Some document
   pub accepted : refusal_of document.files document.reports ≡ None
-  pub reports : found ≡ (found_document document).found
+  pub parts_are : parts ≡ found_document document
 
 -- a document of which a report is refused
 pub record IsRefused (part : List ℕ) : Type 0 where
@@ -48,19 +48,19 @@ abbrev pub IsNoDocument : Option ColumnUnit → List ℕ → List ℕ → Type 0
 IsNoDocument columns part line = ((document_of part ≡ None) × (line ≡ no_document_line columns)) ⊎ IsRefused part
 
 -- a document where there is the key `files`, else a log
-abbrev pub ReadsKeyed : Bool → Told → Option ColumnKind → List ℕ → List Found → Type 0
-ReadsKeyed true told columns part found = ReadsDocument part found
-ReadsKeyed false told columns part found = ReadsLog told columns part found
+abbrev pub ReadsKeyed : Bool → Told → Option ColumnKind → List ℕ → FoundParts → Type 0
+ReadsKeyed true told columns part parts = ReadsDocument part parts
+ReadsKeyed false told columns part parts = ReadsLog told columns part parts
 
 abbrev pub IsNoneKeyed : Bool → Option ColumnUnit → List ℕ → List ℕ → Type 0
 IsNoneKeyed true columns part line = IsNoDocument columns part line
 IsNoneKeyed false columns part line = IsNoLog part line
 
 -- what a JSON object in a form means
-abbrev pub ReadsPart : ObjectForm → Told → Option ColumnKind → List ℕ → List Found → Type 0
-ReadsPart Keyed told columns part found = ReadsKeyed (has_files part) told columns part found
-ReadsPart AsDocument told columns part found = ReadsDocument part found
-ReadsPart AsLog told columns part found = ReadsLog told columns part found
+abbrev pub ReadsPart : ObjectForm → Told → Option ColumnKind → List ℕ → FoundParts → Type 0
+ReadsPart Keyed told columns part parts = ReadsKeyed (has_files part) told columns part parts
+ReadsPart AsDocument told columns part parts = ReadsDocument part parts
+ReadsPart AsLog told columns part parts = ReadsLog told columns part parts
 
 -- it means nothing, and the line says why
 abbrev pub IsNonePart : ObjectForm → Option ColumnUnit → List ℕ → List ℕ → Type 0
@@ -73,6 +73,10 @@ IsNonePart AsLog columns part line = IsNoLog part line
 abbrev pub part_of : List ℕ → Range ℕ → List ℕ
 part_of bytes range = slice_range bytes range.start range.end
 
--- what stands around it; a byte order mark is nothing
+-- what stands before it; a byte order mark is nothing
+abbrev pub before : List ℕ → Range ℕ → List ℕ
+before bytes range = behind_mark (take range.start bytes)
+
+-- what stands around it
 abbrev pub around : List ℕ → Range ℕ → List ℕ
-around bytes range = behind_mark (take range.start bytes) ++ drop range.end bytes
+around bytes range = before bytes range ++ drop range.end bytes

@@ -16,7 +16,7 @@ use Rattle.girzohal.specs.Lines.{is_live}
 use Rattle.girzohal.specs.Made.{IsMade, IsOfNoForm}
 use Rattle.girzohal.specs.declared.making.Made.{Made}
 use Rattle.girzohal.specs.declared.status.Status.{Status}
-use Rattle.girzohal.specs.declared.status.Status.TheVariants.{Clean, Reached, Usage, NoForm, ReadFault, SinkFault, OutOfMemory, InputTooLong, TooManyFiles}
+use Rattle.girzohal.specs.declared.status.Status.TheVariants.{Clean, Reached, Usage, NoForm, ReadFault, SinkFault, OutOfMemory, InputTooLong}
 
 abbrev pub limit : ℕ
 limit = 67108864
@@ -121,6 +121,25 @@ pub record TookTooMuch (input : Device) : Type 0 where
   pub taken : Consumes input.before input.now bytes
   pub past : limit < length bytes
 
+-- lines are written as they come; of the first bytes this text is made, and this stands aside; behind them more than the limit came, and the output
+-- received no more than that text; what stands aside is P
+pub record Outgrew (told : Told) (asked : Asked) (input out : Device) (P : List ℕ → Type 0) : Type 0 where
+  pub bytes : List ℕ
+  pub behind : List ℕ
+  pub taken : Consumes input.before input.now (bytes ++ behind)
+  pub past : limit < length behind
+  pub lines : (more : List ℕ) → comes asked ((bytes ++ behind) ++ more) ≡ true
+  pub text : List ℕ
+  pub aside : List ℕ
+  pub drawn : IsBegun told asked bytes text aside
+  pub bare : annotates asked.to ≡ false → aside ≡ []
+  pub written : Appends out.before out.now text
+  pub is : P aside
+
+-- the line that says that the input, or a piece of its lines, is longer than the limit
+abbrev pub too_long_line : List ℕ
+too_long_line = codes "girzohal: input too long\n"
+
 -- ---- what was written
 
 -- the texts that are made of an input: what goes to the output, what goes to the error output, and whether a report is
@@ -152,11 +171,11 @@ pub record SentPart (told : Told) (asked : Asked) (bytes : List ℕ) (out err : 
   pub fault : HasRisen out
   pub heard : IsTold err texts.aside
 
--- bytes aren't of their form, and the error output was told why
+-- bytes aren't of their form, and the error output was told what stands before the object that they aren't, and why
 pub record Refuses (asked : Asked) (bytes : List ℕ) (err : Device) : Type 0 where
-  pub line : List ℕ
-  pub why : IsOfNoForm asked bytes line
-  pub heard : IsTold err line
+  pub said : List ℕ
+  pub why : IsOfNoForm asked bytes said
+  pub heard : IsTold err said
 
 -- ---- the end of a run
 
@@ -168,7 +187,7 @@ Means Clean asked input told out err = TookWhole asked input (λ bytes. Sent tol
 Means Reached asked input told out err = TookWhole asked input (λ bytes. Sent told asked true bytes out err)
 -- no run ends so
 Means Usage asked input told out err = ⊥
--- the whole input isn't of its form, and a line of this says why
+-- the whole input isn't of its form, as the error output was told
 Means NoForm asked input told out err = TookWhole asked input (λ bytes. Refuses asked bytes err) × IsKept out
 -- the input failed
 Means ReadFault asked input told out err = HasRisen input × Stopped told asked input out err (codes "girzohal: input failed\n")
@@ -177,9 +196,8 @@ Means SinkFault asked input told out err = TookWhole asked input (λ bytes. Sent
 -- want of memory is free
 Means OutOfMemory asked input told out err = Stopped told asked input out err (codes "girzohal: out of memory\n")
 -- the input is longer than a run reads, or a piece of lines is that are written as they come
-Means InputTooLong asked input told out err = TookTooMuch input × Stopped told asked input out err (codes "girzohal: input too long\n")
--- the input names more files than can be numbered
-Means TooManyFiles asked input told out err = Stopped told asked input out err (codes "girzohal: too many files\n")
+Means InputTooLong asked input told out err =
+    (TookTooMuch input × IsKept out × IsTold err too_long_line) ⊎ Outgrew told asked input out (λ aside. IsTold err (aside ++ too_long_line))
 
 -- with every status but those of what is written the output is as it was
 abbrev pub IsUntouched : {O : Type 0} → Status → O → O → Type 0
@@ -197,7 +215,6 @@ Shows ReadFault asked bytes told out err = ⊥
 Shows SinkFault asked bytes told out err = SentPart told asked bytes out err
 Shows OutOfMemory asked bytes told out err = IsKept out × IsTold err (codes "girzohal: out of memory\n")
 Shows InputTooLong asked bytes told out err = ⊥
-Shows TooManyFiles asked bytes told out err = IsKept out × IsTold err (codes "girzohal: too many files\n")
 
 -- the end of writing texts
 abbrev pub Sends : Status → Texts → Device → Device → Type 0

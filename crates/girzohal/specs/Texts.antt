@@ -1,6 +1,6 @@
 -- What is written of reports.
 use Rattle.std.specs.Prelude.{◌≡◌, ℕ, List}
-use Rattle.found_reports.specs.Found.{Found}
+use Rattle.found_reports.specs.Kept.{FoundParts}
 use Rattle.report_texts.specs.Texts.{IsDocumentText, IsSarifText, drawing_text, json_text, named_tool}
 use Rattle.ci_formats.specs.declared.format.CiFormat.TheVariants as ci
 use Rattle.ci_texts.specs.Texts.{ci_text, gitlab_text}
@@ -8,19 +8,19 @@ use Rattle.girzohal_asked.specs.declared.Asked.{Asked}
 use Rattle.girzohal_asked.specs.declared.OutputForm.{OutputForm}
 use Rattle.girzohal_asked.specs.declared.OutputForm.TheVariants.{Drawing, Json, Document, Sarif, Problems, Github, Gitlab, Checkstyle, Junit, Stylish}
 
--- what is written of reports in a form
-abbrev pub IsTextIn : OutputForm → Asked → List Found → List ℕ → Type 0
-IsTextIn Drawing asked found text = text ≡ drawing_text asked found
-IsTextIn Json asked found text = text ≡ json_text asked.raw found
-IsTextIn Document asked found text = IsDocumentText asked.raw found text
-IsTextIn Sarif asked found text = IsSarifText asked found text
-IsTextIn Problems asked found text = text ≡ ci_text ci.Problems asked.raw found
-IsTextIn Github asked found text = text ≡ ci_text ci.Github asked.raw found
-IsTextIn Gitlab asked found text = text ≡ gitlab_text (named_tool asked.tool) asked.raw found
-IsTextIn Checkstyle asked found text = text ≡ ci_text ci.Checkstyle asked.raw found
-IsTextIn Junit asked found text = text ≡ ci_text ci.Junit asked.raw found
-IsTextIn Stylish asked found text = text ≡ ci_text ci.Stylish asked.raw found
+-- what is written of reports and their files in a form
+abbrev pub IsTextIn : OutputForm → Asked → FoundParts → List ℕ → Type 0
+IsTextIn Drawing asked parts text = text ≡ drawing_text asked parts.found
+IsTextIn Json asked parts text = text ≡ json_text asked.raw parts.found
+IsTextIn Document asked parts text = IsDocumentText asked.raw parts text
+IsTextIn Sarif asked parts text = IsSarifText asked parts text
+IsTextIn Problems asked parts text = text ≡ ci_text ci.Problems asked.raw parts.found
+IsTextIn Github asked parts text = text ≡ ci_text ci.Github asked.raw parts.found
+IsTextIn Gitlab asked parts text = text ≡ gitlab_text (named_tool asked.tool) asked.raw parts.found
+IsTextIn Checkstyle asked parts text = text ≡ ci_text ci.Checkstyle asked.raw parts.found
+IsTextIn Junit asked parts text = text ≡ ci_text ci.Junit asked.raw parts.found
+IsTextIn Stylish asked parts text = text ≡ ci_text ci.Stylish asked.raw parts.found
 
 -- what is written of reports, as it was asked for
-abbrev pub IsText : Asked → List Found → List ℕ → Type 0
-IsText asked found text = IsTextIn asked.to asked found text
+abbrev pub IsText : Asked → FoundParts → List ℕ → Type 0
+IsText asked parts text = IsTextIn asked.to asked parts text

@@ -8,10 +8,9 @@ use std::alloc::{AllocError, Global};
 /// Why nothing is made of an input.
 #[derive(Drop)]
 pub(crate) enum Fault {
-    /// The input isn't of its form: the line that says why.
-    NoForm(String),
-    /// There are `u32::MAX` files or more.
-    TooManyFiles,
+    /// The input isn't of its form: what the error output is told, which ends in the line that says
+    /// why.
+    NoForm(Vec<u8>),
     /// There was no memory left.
     OutOfMemory,
 }
@@ -27,13 +26,12 @@ impl From<AllocError> for Fault {
     }
 }
 
-/// Why reports aren't shown.
+/// Why reports aren't shown. More files than have numbers would take more memory than there is.
 pub(crate) fn fault_of(error: ShowError) -> Fault
     ensures { IsFree result }
 {
     match error {
-        ShowError::TooManyFiles => Fault::TooManyFiles,
-        ShowError::OutOfMemory => Fault::OutOfMemory,
+        ShowError::TooManyFiles | ShowError::OutOfMemory => Fault::OutOfMemory,
     }
 }
 
@@ -42,7 +40,7 @@ pub(crate) fn no_form(alloc: Global, text: &str) -> Fault
     ensures { Says (λ line. line ≡ codes "girzohal: " ++ text.now ++ codes "\n") result }
 {
     match format!(in alloc; "girzohal: {text}\n") {
-        Ok(line) => Fault::NoForm(line),
+        Ok(line) => Fault::NoForm(line.into_bytes()),
         Err(_) => Fault::OutOfMemory,
     }
 }

@@ -62,7 +62,7 @@ What is written
 Lines are drawn, and made annotations of GitHub, as they come; anything else is
 read whole before it is written. Lines that are no findings stay in their place
 in a drawing. With any other form they go to the error output; there goes also
-what stands round a log.
+what stands round a log, or before one that isn't of its form.
 
 Environment
   FORCE_COLOR          colors, where it is set, not empty and not 0

@@ -7,7 +7,7 @@ ghost use Rattle.girzohal_asked.specs.declared.Asked.{Asked as AskedFor};
 ghost use Rattle.girzohal.specs.Told.{Told};
 ghost use Rattle.girzohal.specs.Run.{Device, IsTold, Means, Since, Stays, comes, device};
 ghost use Rattle.girzohal.specs.Run.{device_since};
-ghost use Rattle.girzohal.specs.Live.{Came, Goes, Hears, Went, device_on};
+ghost use Rattle.girzohal.specs.Live.{Came, CountsQuiet, Goes, Hears, Went, device_on};
 
 use crate::opening::{CHUNK, LIMIT};
 use crate::program::fail;
@@ -17,7 +17,6 @@ use drawn_lines::{Come, Coming, Ended, shapes_of};
 use girzohal_asked::Asked;
 use line_shapes::shape::Shape;
 use oxc_protocol::{Failed, Sink, write_all};
-use shown_reports::ShowError;
 use source_store::Store;
 use std::alloc::Global;
 
@@ -26,7 +25,7 @@ use std::alloc::Global;
 pub(crate) struct Live {
     /// What is to come.
     coming: Coming,
-    /// How many bytes came since pieces were let go.
+    /// How many bytes came since something was known.
     quiet: usize,
     /// Whether the error output failed. It is told nothing any more, so that what it received is a
     /// first part of what stands aside.
@@ -79,7 +78,7 @@ fn begin<S: Store, O: Sink, E: Sink>(
 {
     match Coming::new(alloc).with_bytes(alloc, asked, shapes, store, bytes) {
         Ok(come) => write(come, false, bytes.len(), out, err),
-        Err(why) => Err(stopped(why, false, err)),
+        Err(_) => Err(out_of_memory(false, err)),
     }
 }
 
@@ -122,7 +121,7 @@ fn draw_all<I: Source, S: Store, O: Sink, E: Sink>(
             },
         }
     }
-    stopped(ShowError::OutOfMemory, live.deaf, err)
+    out_of_memory(live.deaf, err)
 }
 
 /// Goes on by the bytes that came, and writes what is known now.
@@ -153,12 +152,11 @@ fn go_on<S: Store, O: Sink, E: Sink>(
     } = live;
     match coming.with_bytes(alloc, asked, shapes, store, bytes) {
         Ok(come) => write(come, deaf, quiet.saturating_add(bytes.len()), out, err),
-        Err(why) => Err(stopped(why, deaf, err)),
+        Err(_) => Err(out_of_memory(deaf, err)),
     }
 }
 
-/// Writes what is known now, where so many bytes came since pieces were let go: first what stands
-/// aside.
+/// Writes what is known now, where so many bytes came since something was: first what stands aside.
 fn write<O: Sink, E: Sink>(
     come: Come,
     deaf: bool,
@@ -172,11 +170,12 @@ fn write<O: Sink, E: Sink>(
         → Went result told asked input (device_since O.received O.faults wrote out.new)
         (device_since E.received E.faults heard err.new) }
 {
+    let quiet = quiet_behind(&come, quiet);
     let Come {
         coming,
         text,
         aside,
-        known,
+        known: _,
     } = come;
     let deaf = hear(deaf, err, aside.as_str());
     let live = Live {
@@ -185,42 +184,37 @@ fn write<O: Sink, E: Sink>(
         deaf,
     };
     match write_all(out, text.as_bytes()) {
-        Ok(()) => limited(live, known, err),
+        Ok(()) => limited(live, err),
         Err(Failed) => Err(Status::SinkFault),
     }
 }
 
-/// Goes on, unless more came than a run holds and no piece ended.
-fn limited<E: Sink>(live: Live, known: bool, err: &mut E) -> Result<Live, Status>
+/// How many bytes came since something was known, where so many came since something was before.
+fn quiet_behind(come: &Come, quiet: usize) -> usize
+    ensures { CountsQuiet come.now quiet result }
+{
+    if come.known || !come.text.is_empty() || !come.aside.is_empty() {
+        0
+    } else {
+        quiet
+    }
+}
+
+/// Goes on, unless more came than a run holds since something was known.
+fn limited<E: Sink>(live: Live, err: &mut E) -> Result<Live, Status>
     ensures { (told : Told) (asked : AskedFor) (input out : Device) (heard : Since)
         → Goes told asked input out (device_since E.received E.faults heard err.old) live
         → Went result told asked input out (device_since E.received E.faults heard err.new) }
 {
-    let Live {
-        coming,
-        quiet,
-        deaf,
-    } = live;
-    if known {
-        Ok(Live {
-            coming,
-            quiet: 0,
-            deaf,
-        })
-    } else if quiet > LIMIT {
-        Err(say(
-            deaf,
+    if live.quiet > LIMIT {
+        return Err(say(
+            live.deaf,
             err,
             "girzohal: input too long\n",
             Status::InputTooLong,
-        ))
-    } else {
-        Ok(Live {
-            coming,
-            quiet,
-            deaf,
-        })
+        ));
     }
+    Ok(live)
 }
 
 /// Writes what is left.
@@ -252,7 +246,7 @@ fn end<S: Store, O: Sink, E: Sink>(
         reached,
     } = match coming.ended(alloc, asked, shapes, store) {
         Ok(ended) => ended,
-        Err(why) => return stopped(why, deaf, err),
+        Err(_) => return out_of_memory(deaf, err),
     };
     let _deaf = hear(deaf, err, aside.as_str());
     match write_all(out, text.as_bytes()) {
@@ -289,24 +283,12 @@ fn say<E: Sink>(deaf: bool, err: &mut E, line: &str, status: Status) -> Status
     status
 }
 
-/// Says why reports aren't shown.
-fn stopped<E: Sink>(why: ShowError, deaf: bool, err: &mut E) -> Status
+/// Says that there is no memory left.
+fn out_of_memory<E: Sink>(deaf: bool, err: &mut E) -> Status
     ensures { (told : Told) (asked : AskedFor) (input out : Device) (heard : Since)
         → Stays told asked input out
         (Hears deaf (device_since E.received E.faults heard err.old))
         → Means result asked input told out (device_since E.received E.faults heard err.new) }
 {
-    match why {
-        ShowError::TooManyFiles => {
-            say(
-                deaf,
-                err,
-                "girzohal: too many files\n",
-                Status::TooManyFiles,
-            )
-        }
-        ShowError::OutOfMemory => {
-            say(deaf, err, "girzohal: out of memory\n", Status::OutOfMemory)
-        }
-    }
+    say(deaf, err, "girzohal: out of memory\n", Status::OutOfMemory)
 }

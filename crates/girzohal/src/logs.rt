@@ -62,7 +62,7 @@ fn no_json(alloc: Global, line: usize, column: usize) -> Fault
     ensures { Says (λ _. ⊤) result }
 {
     match format!(in alloc; "girzohal: line {line}, column {column}: input is no JSON\n") {
-        Ok(line) => Fault::NoForm(line),
+        Ok(line) => Fault::NoForm(line.into_bytes()),
         Err(_) => Fault::OutOfMemory,
     }
 }
@@ -89,7 +89,7 @@ fn fault_at(alloc: Global, path: &str, wanted: &str) -> Fault
     ensures { Says (λ said. said ≡ fault_line path.now wanted.now) result }
 {
     match format!(in alloc; "girzohal: {path}: wanted {wanted}\n") {
-        Ok(line) => Fault::NoForm(line),
+        Ok(line) => Fault::NoForm(line.into_bytes()),
         Err(_) => Fault::OutOfMemory,
     }
 }

@@ -36,6 +36,7 @@ mod words;
 use documents::{ReaderSource, Source, StderrSink, StdinSource, StdoutSink};
 use girzohal_asked::Asked;
 use girzohal_words::{Refusal, Request, WordFault, read_words};
+use harmless::{Kind, harmless};
 use help::{HELP, MORE, VERSION};
 pub use program::run;
 use source_store::DiskStore;
@@ -93,10 +94,7 @@ fn obey(rt: &HostRuntime, alloc: Global, mut asked: Asked) -> ExitCode {
     };
     match fs::open(rt, file) {
         Ok(opened) => start(rt, alloc, &asked, &mut ReaderSource::new(opened), &store),
-        Err(_) => {
-            let _told = eprintln!(rt; "girzohal: {file} can't be read");
-            ExitCode::from(Status::ReadFault.code())
-        }
+        Err(_) => refuse_file(rt, alloc, file),
     }
 }
 
@@ -115,6 +113,15 @@ fn file_in(asked: &Asked) -> Option<&str> {
         Some("-") | None => None,
         Some(file) => Some(file),
     }
+}
+
+/// Says that a file can't be read, whose name can't drive a terminal.
+fn refuse_file(rt: &HostRuntime, alloc: Global, file: &str) -> ExitCode {
+    let Ok(name) = harmless(alloc, Kind::Name, file) else {
+        return ExitCode::from(Status::OutOfMemory.code());
+    };
+    let _told = eprintln!(rt; "girzohal: {name} can't be read");
+    ExitCode::from(Status::ReadFault.code())
 }
 
 /// Runs over an input.

@@ -1,10 +1,10 @@
 // What is made of a JSON object: of a document, or of a log.
-ghost use Rattle.std.specs.Prelude.{◌≡◌, ⊤, ◌≤◌, IfErr, IfOk, length};
+ghost use Rattle.std.specs.Prelude.{◌≡◌, ⊤, ◌≤◌, ◌++◌, IfErr, IfOk, length};
 ghost use Rattle.std.specs.Prelude.{string_bytes};
 ghost use Rattle.input_forms.specs.Object.{has_files as key_files};
 ghost use Rattle.girzohal.specs.Logs.{log_columns as columns_of};
-ghost use Rattle.girzohal.specs.Made.{HasCause, IsFree, IsNoObject, IsWritten, MakesObject};
-ghost use Rattle.girzohal.specs.Made.{Says, Writes};
+ghost use Rattle.girzohal.specs.Made.{HasCause, IsFree, IsNoObject, IsToldBehind};
+ghost use Rattle.girzohal.specs.Made.{IsWritten, MakesObject, Says, Writes};
 ghost use Rattle.girzohal.specs.Reads.{IsNoDocument, IsNoneKeyed, IsNonePart};
 ghost use Rattle.girzohal.specs.Reads.{no_document as said_of_none};
 ghost use Rattle.girzohal.specs.Reads.{ReadsDocument, ReadsKeyed, ReadsPart, around as around_range};
@@ -37,6 +37,7 @@ pub(crate) enum ObjectForm {
 }
 
 /// What is made of the JSON object of an input.
+#[tactic(auto, using(crate::proofs::ObjectLemmas::none_told))]
 pub(crate) fn make_object<S: Store>(
     alloc: Global,
     form: ObjectForm,
@@ -51,9 +52,36 @@ pub(crate) fn make_object<S: Store>(
     let range = json_part(bytes);
     let before = &bytes[..range.start];
     let part = &bytes[range.start..range.end];
-    let written = write_part(alloc, form, asked, before, part, store)?;
-    let aside = around(alloc, bytes, range)?;
-    Ok(Made { written, aside })
+    match write_part(alloc, form, asked, before, part, store) {
+        Ok(written) => {
+            let aside = around(alloc, bytes, range)?;
+            Ok(Made { written, aside })
+        }
+        Err(fault) => Err(told_behind(alloc, without_mark(before), fault)),
+    }
+}
+
+/// A fault whose line is told behind a text.
+fn told_behind(alloc: Global, text: &[u8], fault: Fault) -> Fault
+    ensures { IsToldBehind text.now fault result }
+{
+    let Fault::NoForm(line) = fault else {
+        return Fault::OutOfMemory;
+    };
+    match joined(alloc, text, &line) {
+        Ok(said) => Fault::NoForm(said),
+        Err(_) => Fault::OutOfMemory,
+    }
+}
+
+/// Two texts as one.
+fn joined(alloc: Global, first: &[u8], second: &[u8]) -> Result<Vec<u8>, AllocError>
+    ensures { IfOk result (λ all. all.items ≡ first.now ++ second.now) }
+{
+    let mut all = Vec::new(alloc);
+    all.extend_from_slice(first)?;
+    all.extend_from_slice(second)?;
+    Ok(all)
 }
 
 /// What stands around a range; a byte order mark is nothing.
@@ -62,10 +90,11 @@ fn around(alloc: Global, bytes: &[u8], range: Range<usize>) -> Result<Vec<u8>, A
     requires end { range.end ≤ length bytes.now }
     ensures { IfOk result (λ aside. aside.items ≡ around_range bytes.now range) }
 {
-    let mut aside = Vec::new(alloc);
-    aside.extend_from_slice(without_mark(&bytes[..range.start]))?;
-    aside.extend_from_slice(&bytes[range.end..])?;
-    Ok(aside)
+    joined(
+        alloc,
+        without_mark(&bytes[..range.start]),
+        &bytes[range.end..],
+    )
 }
 
 /// What is written of a JSON object in a form, before which this stands.
@@ -132,7 +161,7 @@ pub(crate) fn write(
     asked: &Asked,
     found: &FoundReports<'_>,
 ) -> Result<Written, Fault>
-    ensures written { IfOk result (λ it. IsWritten asked.now found.now.found
+    ensures written { IfOk result (λ it. IsWritten asked.now found.now
         (string_bytes it.text) it.reached) }
     ensures cause { IfErr result IsFree }
 {
@@ -158,7 +187,7 @@ fn refused(alloc: Global, error: ReportError) -> Fault
     ensures { Says (λ _. ⊤) result }
 {
     match format!(in alloc; "girzohal: {error}\n") {
-        Ok(line) => Fault::NoForm(line),
+        Ok(line) => Fault::NoForm(line.into_bytes()),
         Err(_) => Fault::OutOfMemory,
     }
 }

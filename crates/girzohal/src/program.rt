@@ -104,9 +104,9 @@ fn show<S: Store, O: Sink, E: Sink>(
 {
     match make(alloc, asked, bytes, store) {
         Ok(made) => send(&made, out, err),
-        Err(Fault::NoForm(line)) => fail(err, line.as_str(), Status::NoForm),
-        Err(Fault::TooManyFiles) => {
-            fail(err, "girzohal: too many files\n", Status::TooManyFiles)
+        Err(Fault::NoForm(said)) => {
+            tell(err, &said);
+            Status::NoForm
         }
         Err(Fault::OutOfMemory) => fail(err, "girzohal: out of memory\n", Status::OutOfMemory),
     }

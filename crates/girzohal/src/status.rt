@@ -17,10 +17,8 @@ pub enum Status {
     SinkFault,
     /// There was no memory left.
     OutOfMemory,
-    /// The input is longer than a run reads.
+    /// The input is longer than a run reads, or a piece of lines is that are written as they come.
     InputTooLong,
-    /// The input names more files than can be numbered.
-    TooManyFiles,
 }
 
 impl Status {
@@ -39,7 +37,7 @@ impl Status {
             Status::ReadFault => 4,
             Status::SinkFault => 5,
             Status::OutOfMemory => 6,
-            Status::InputTooLong | Status::TooManyFiles => 7,
+            Status::InputTooLong => 7,
         }
     }
 }

@@ -15,7 +15,7 @@ use std::alloc::Global;
 
 /// What is written of reports, as it was asked for.
 fn text_of(alloc: Global, asked: &Asked, found: &FoundReports<'_>) -> Result<String, ShowError>
-    ensures { IfOk result (λ text. IsText asked.now found.now.found (string_bytes text)) }
+    ensures { IfOk result (λ text. IsText asked.now found.now (string_bytes text)) }
 {
     match asked.to {
         OutputForm::Drawing => drawing_text(alloc, asked, found),
@@ -57,7 +57,7 @@ pub(crate) fn text_or_fault(
     asked: &Asked,
     found: &FoundReports<'_>,
 ) -> Result<String, Fault>
-    ensures text { IfOk result (λ text. IsText asked.now found.now.found (string_bytes text)) }
+    ensures text { IfOk result (λ text. IsText asked.now found.now (string_bytes text)) }
     ensures cause { IfErr result IsFree }
 {
     match text_of(alloc, asked, found) {

@@ -61,4 +61,4 @@ returns g c = λ since wrote heard goes later.
     let input = device_since g.I.Source.left g.I.Source.faults since c.loop.input in
     let out = device_since g.O.Sink.received g.O.Sink.faults wrote c.loop.out in
     let err = device_since g.E.Sink.received g.E.Sink.faults heard c.loop.err in
-    c.stopped.ensures told asked input out heard (inr (goes_drew told asked input out err c.loop.live (c.loop.invariant since wrote heard goes later).0))
+    c.out_of_memory.ensures told asked input out heard (inr (goes_drew told asked input out err c.loop.live (c.loop.invariant since wrote heard goes later).0))

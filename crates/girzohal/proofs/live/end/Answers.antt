@@ -9,7 +9,7 @@ returns-in-Err g c = λ input wrote heard goes ended.
     let told = g.S.Store.told c.args.store.now in
     let out = device_since g.O.Sink.received g.O.Sink.faults wrote c.args.out.now in
     let err = device_since g.E.Sink.received g.E.Sink.faults heard c.args.err.now in
-    c.stopped.ensures told c.args.asked.now input out heard (inr (goes_drew told c.args.asked.now input out err c.args.live goes))
+    c.out_of_memory.ensures told c.args.asked.now input out heard (inr (goes_drew told c.args.asked.now input out err c.args.live goes))
 
 pub returns-in-Ok-write_all : goal.returns-in-Ok-write_all
 returns-in-Ok-write_all g c = λ input wrote heard goes ended.

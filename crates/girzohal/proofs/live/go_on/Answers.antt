@@ -19,5 +19,5 @@ returns-in-Err g c = λ input next faults wrote heard goes taken.
     let told = g.S.Store.told c.args.store.now in
     let out = device_since g.O.Sink.received g.O.Sink.faults wrote c.args.out.now in
     let err = device_since g.E.Sink.received g.E.Sink.faults heard c.args.err.now in
-    c.stopped.ensures told c.args.asked.now (device_on input next faults) out heard
+    c.out_of_memory.ensures told c.args.asked.now (device_on input next faults) out heard
     (inr (went_drew told c.args.asked.now input out err next faults c.args.bytes.now c.args.live goes taken))

@@ -26,11 +26,12 @@ returns-in-TooLong-clause-means g c = λ since taken later.
     let input = device_since g.I.Source.left g.I.Source.faults since c.read_all.new.input in
     let out = device g.O.Sink.received g.O.Sink.faults c.args.out.now c.args.out.now in
     subst (λ status. Means status c.args.asked.now input (g.S.Store.told c.args.store.now) out
-    (device g.E.Sink.received g.E.Sink.faults c.args.err.now c.fail-in-TooLong.new.err)) (sym c.fail-in-TooLong.ensures.status) (
+    (device g.E.Sink.received g.E.Sink.faults c.args.err.now c.fail-in-TooLong.new.err)) (sym c.fail-in-TooLong.ensures.status) (inl (
       record {
         bytes = first ++ more.0;
         taken = Consumes-trans since.bytes (g.I.Source.left c.args.input.now) (g.I.Source.left c.read_all.new.input) first more.0 taken more.2;
         past = omega (arith, more.1, length-append first more.0, c.requires, c.len.ensures);
       },
-      inl (nothing_kept (g.O.Sink.received c.args.out.now), c.fail-in-TooLong.ensures.told),
-    )
+      nothing_kept (g.O.Sink.received c.args.out.now),
+      c.fail-in-TooLong.ensures.told,
+    ))
