@@ -15,6 +15,8 @@ mod found;
 mod log;
 mod matching;
 mod serve;
+#[cfg(test)]
+mod tests;
 mod words;
 
 pub use found::found_in;

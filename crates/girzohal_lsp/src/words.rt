@@ -28,7 +28,7 @@ pub struct Asked<'a> {
 }
 
 /// What the words ask for: settings, each a name and a value, and one path. None where they are no
-/// such words.
+/// such words, or where they say that a SARIF log counts in bytes or in cells.
 pub fn read_words(words: &[String]) -> Option<Asked<'_>> {
     let mut asked = Asked {
         from: Form::Auto,
@@ -56,10 +56,15 @@ pub fn read_words(words: &[String]) -> Option<Asked<'_>> {
             }
         }
     }
-    if name.is_some() || asked.log.is_empty() {
+    if name.is_some() || asked.log.is_empty() || !can_count(asked) {
         return None;
     }
     Some(asked)
+}
+
+/// Whether columns can count so: those of a SARIF log count no bytes and no cells.
+fn can_count(asked: Asked<'_>) -> bool {
+    asked.from != Form::Sarif || !matches!(asked.columns, Some(Unit::Bytes | Unit::Cells))
 }
 
 fn with_setting<'a>(asked: Asked<'a>, key: &str, value: &'a str) -> Option<Asked<'a>> {

@@ -1,8 +1,9 @@
 -- Findings that move with the text.
-use Rattle.std.specs.Prelude.{◌-◌, ◌^◌, ◌<◌, ◌≤◌, Bool, false, List, [], ◌∷◌, Option, Some, None, option_map, is_none, All, if◌then◌else◌}
+use Rattle.std.specs.Prelude.{◌-◌, ◌^◌, ◌<◌, ◌≤◌, Bool, false, List, Option, Some, None, option_map, is_none, All, if◌then◌else◌}
 use Rattle.std.specs.List.{filter_map}
 use Rattle.oxc_span.specs.Label.{Label, label_end}
 use Rattle.oxc_protocol.specs.Parts.{OxcParts}
+use Rattle.lsp_diagnostics.specs.Seen.{head_label}
 use Rattle.lsp_marks.specs.declared.Change.{Change}
 use Rattle.lsp_marks.specs.declared.Mark.{Mark}
 use Rattle.lsp_marks.specs.Moved.{moved_mark, moved_offset}
@@ -18,12 +19,16 @@ placed label mark = record { text = label.text; offset = mark.start; len = mark.
 unfoldable pub moved_label : Change → Label → Option Label
 moved_label change label = option_map (placed label) (moved_mark change (mark_of label))
 
--- the first label becomes empty
-abbrev pub head_goes : Change → List Label → Bool
-head_goes change [] = false
-head_goes change (head ∷ rest) = is_none (moved_label change head)
+-- a label, where there is one, becomes empty
+abbrev pub goes : Change → Option Label → Bool
+goes change None = false
+goes change (Some label) = is_none (moved_label change label)
 
--- a finding after a change: its labels move, without those that became empty; it goes with its first label
+-- the head label becomes empty
+abbrev pub head_goes : Change → List Label → Bool
+head_goes change labels = goes change (head_label labels)
+
+-- a finding after a change: its labels move, without those that became empty; it goes with its head label
 unfoldable pub moved_diagnostic : Change → OxcParts → Option OxcParts
 moved_diagnostic change it =
     if head_goes change it.labels then None

@@ -14,8 +14,6 @@ mod moved;
 mod parse;
 mod published;
 mod server;
-#[cfg(test)]
-mod tests;
 
 pub use answers::answer_text;
 pub use documents::OpenText;

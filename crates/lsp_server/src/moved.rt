@@ -8,6 +8,7 @@ ghost use Rattle.lsp_server.specs.Moved.{CanMove, CanMoveAll, head_goes as head_
 ghost use Rattle.lsp_server.specs.Moved.{mark_of as mark_in, moved_diagnostic as moved_in};
 ghost use Rattle.lsp_server.specs.Moved.{moved_label as moved_to};
 
+use lsp_diagnostics::head_label;
 use lsp_marks::{Change, Mark, move_mark};
 use oxc_protocol::{Diagnostic, OxcDiagnostic};
 use oxc_span::LabeledSpan;
@@ -101,19 +102,19 @@ fn push_label(
     }
 }
 
-/// Whether the first label becomes empty.
+/// Whether the head label becomes empty.
 #[tactic(auto, unfolding(crate::specs::Moved::moved_label))]
 fn head_goes(change: Change, labels: &[LabeledSpan]) -> bool
     requires { All (CanMove change) labels.now }
     ensures { result ≡ head_goes_in change labels.now }
 {
-    match labels {
-        [] => false,
-        [head, ..] => moved_mark_of(change, head).is_none(),
+    match head_label(labels) {
+        None => false,
+        Some(head) => moved_mark_of(change, head).is_none(),
     }
 }
 
-/// A finding after a change: its labels move. It goes with its first label.
+/// A finding after a change: its labels move. It goes with its head label.
 ///
 /// # Errors
 ///
