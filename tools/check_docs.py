@@ -86,7 +86,10 @@ def functions(text):
 def wrong_examples(page):
     crate = os.path.dirname(page)
     known = {}
-    for path in glob.glob(os.path.join(crate, "src", "**", "*.rt"), recursive=True):
+    # (a crate's tests stand in a crate of tests above it)
+    tests = os.path.join(os.path.dirname(crate), "*_tests")
+    paths = [path for top in (crate, tests) for path in glob.glob(os.path.join(top, "src", "**", "*.rt"), recursive=True)]
+    for path in paths:
         for name, bodies in functions(read(path)).items():
             known.setdefault(name, set()).update(bodies)
     callers = re.findall(r"^## (?:A caller|How it is called)$(.*?)(?=^## |\Z)", read(page), re.S | re.M)

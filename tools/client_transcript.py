@@ -1,5 +1,5 @@
 #!/usr/bin/env python3
-"""Prints crates/client_text/src/tests/transcript.rt: forty notifications of a client that counts in UTF-16, and the text behind each, by
+"""Prints crates/text_tests/src/of_client_text/transcript.rt: forty notifications of a client that counts in UTF-16, and the text behind each, by
 a plain replay on a string of characters. usage: client_transcript.py > FILE"""
 import random
 import re
@@ -75,7 +75,7 @@ def notifications():
 
 def main():
     print("// What a client with UTF-16 sends, one notification after another, and the text behind each. It was\n"
-          "// printed by tools/client_transcript.py, whose replay is plain.\nuse crate::Fault;\nuse crate::tests::Notification;\n")
+          "// printed by tools/client_transcript.py, whose replay is plain.\nuse crate::of_client_text::Notification;\nuse client_text::Fault;\n")
     print(f"/// The text that is opened.\npub(super) const START: &str =\n    {literal(START)};\n")
     print("/// The notifications.\npub(super) const TRANSCRIPT: [Notification<'static>; 40] = [")
     for number, (sent, text) in enumerate(notifications()):

@@ -95,9 +95,9 @@ each "two ordinary reports" examples/two-reports.json
 each "as JSON" crates/report/stdin --json
 each "a generated document" /dev/null --make 20
 
-(cd crates/oxc_windows && rt test > "$work/built" 2>&1) || { cat "$work/built"; exit 1; }
-program=$PWD/crates/oxc_windows/out/oxc_windows_tests
-name=tests::a_scanner_reads_on_after_want_of_memory
+(cd crates/text_tests && rt test > "$work/built" 2>&1) || { cat "$work/built"; exit 1; }
+program=$PWD/crates/text_tests/out/text_tests_tests
+name=of_oxc_windows::a_scanner_reads_on_after_want_of_memory
 input=/dev/null
 once REFUSE_COUNT="$work/count" "$program" "$name" || { echo "$name: fails by itself"; exit 1; }
 count=$(cat "$work/count")

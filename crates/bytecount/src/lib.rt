@@ -41,6 +41,3 @@ pub fn num_chars(utf8_chars: &[u8]) -> usize
     }
     naive_num_chars(utf8_chars)
 }
-
-#[cfg(test)]
-mod tests;

@@ -7,8 +7,6 @@
 
 mod finding;
 mod located;
-#[cfg(test)]
-mod tests;
 
 pub use finding::{Finding, Location};
 pub use located::findings_of;

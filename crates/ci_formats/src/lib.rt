@@ -16,8 +16,6 @@ mod gitlab;
 mod junit;
 mod problems;
 mod stylish;
-#[cfg(test)]
-mod tests;
 mod xml;
 
 pub use checkstyle::checkstyle_text;

@@ -6,8 +6,6 @@
 #![tactic(auto)]
 
 mod shown;
-#[cfg(test)]
-mod tests;
 
 pub use ci_formats::CiFormat;
 pub use shown::{ci_text, gitlab_text};

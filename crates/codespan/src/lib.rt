@@ -5,8 +5,6 @@ mod file;
 mod index;
 mod location;
 mod span;
-#[cfg(test)]
-mod tests;
 
 pub use file::{AddError, FileId, Files, SourceText};
 pub use index::{

@@ -8,8 +8,6 @@
 #![tactic(auto)]
 
 mod draw;
-#[cfg(test)]
-mod tests;
 
 pub use crate::draw::draw_on;
 pub use oxc_handlers::{

@@ -25,6 +25,3 @@ pub use memory::MemorySource;
 pub use source::{Reading, Source, read_all};
 pub use streams::{ReaderSource, StderrSink, StdinSource, StdoutSink, WriterSink};
 pub use written::write_document;
-
-#[cfg(test)]
-mod document_tests;

@@ -25,6 +25,20 @@ impl<R: Read> ReaderSource<R> {
     {
         ReaderSource { reader, faults: 0 }
     }
+
+    /// The reader.
+    pub fn get_ref(&self) -> &R
+        ensures { result.now ≡ self.now.reader }
+    {
+        &self.reader
+    }
+
+    /// How many of its reads failed, those that were made again among them.
+    pub fn failures(&self) -> u64
+        ensures { result ≡ self.now.faults }
+    {
+        self.faults
+    }
 }
 
 impl<R: Read> Source for ReaderSource<R> {
@@ -70,6 +84,20 @@ impl<W: Write> WriterSink<W> {
     {
         WriterSink { writer, faults: 0 }
     }
+
+    /// The writer.
+    pub fn get_ref(&self) -> &W
+        ensures { result.now ≡ self.now.writer }
+    {
+        &self.writer
+    }
+
+    /// How many of its writes failed, those that were made again among them.
+    pub fn failures(&self) -> u64
+        ensures { result ≡ self.now.faults }
+    {
+        self.faults
+    }
 }
 
 impl<W: Write> Sink for WriterSink<W> {
@@ -98,6 +126,3 @@ impl<W: Write> Sink for WriterSink<W> {
         Err(Failed)
     }
 }
-
-#[cfg(test)]
-mod tests;

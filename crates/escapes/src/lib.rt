@@ -8,8 +8,6 @@
 
 mod cuts;
 mod spelled;
-#[cfg(test)]
-mod tests;
 
 pub use cuts::{behind, cut, number, without_last};
 pub use spelled::{Spelling, push_escaped};

@@ -7,8 +7,6 @@
 
 mod ends;
 mod lines;
-#[cfg(test)]
-mod tests;
 pub mod whole;
 
 pub use ends::ends_at;

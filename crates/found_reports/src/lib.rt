@@ -11,8 +11,6 @@
 mod places;
 mod reports;
 mod sources;
-#[cfg(test)]
-mod tests;
 
 pub use places::{GivenPlace, note_of};
 pub use reports::{FoundFile, FoundReport, FoundReports, stand_in};

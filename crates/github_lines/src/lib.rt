@@ -9,8 +9,6 @@
 mod annotation;
 mod percent;
 mod read;
-#[cfg(test)]
-mod tests;
 
 pub use annotation::{
     Annotation, Level, annotation_of, github_line, github_text, write_annotation,

@@ -10,8 +10,6 @@
 mod begun;
 mod object;
 mod sure;
-#[cfg(test)]
-mod tests;
 
 pub use begun::{Begun, begins_as, without_mark};
 pub use object::{has_files, json_part};

@@ -12,8 +12,6 @@ mod names;
 mod rows;
 mod runs;
 mod spans;
-#[cfg(test)]
-mod tests;
 mod told;
 
 pub use gathered::reports_of;

@@ -10,6 +10,4 @@ pub mod place;
 pub mod said;
 pub mod shape;
 pub mod tables;
-#[cfg(test)]
-mod tests;
 pub mod tools;

@@ -9,8 +9,6 @@ mod heads;
 mod laws;
 mod messages;
 mod ranges;
-#[cfg(test)]
-mod tests;
 mod told;
 
 pub use heads::head_label;

@@ -7,8 +7,6 @@
 
 mod frames;
 mod head;
-#[cfg(test)]
-mod tests;
 mod written;
 
 pub use frames::{End, Frames, State, Taken};

@@ -9,9 +9,6 @@ ghost use Rattle.lsp_marks.specs.Moved.{StaysInside, moved_mark, moved_offset};
 
 use std::alloc::{AllocError, Global};
 
-#[cfg(test)]
-mod tests;
-
 /// A change: a range of bytes, from 0, gives way to so many bytes.
 #[derive(Clone, Copy, Debug)]
 pub struct Change {

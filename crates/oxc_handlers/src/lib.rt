@@ -69,10 +69,3 @@ pub use crate::plain::{render, render_with_source_code};
 pub use crate::reports::Keep;
 pub use crate::theme::GraphicalTheme;
 pub use crate::view::{DiagnosticView, RenderError};
-
-#[cfg(test)]
-mod json_report_tests;
-#[cfg(test)]
-mod report_tests;
-#[cfg(test)]
-mod tests;

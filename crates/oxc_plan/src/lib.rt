@@ -48,10 +48,3 @@ pub use crate::order::{label_order, one_label_order};
 pub use crate::rows::{Row, rows_of};
 pub use crate::snippets::{RowPlan, SnippetPlan, plan_snippets, plan_snippets_in_order};
 pub use crate::tabs::TabWidth;
-
-#[cfg(test)]
-mod mark_tests;
-#[cfg(test)]
-mod plan_tests;
-#[cfg(test)]
-mod tests;

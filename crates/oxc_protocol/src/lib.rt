@@ -41,10 +41,3 @@ pub type Result<T> = std::result::Result<T, OxcDiagnostic>;
 
 /// The labels of an [`OxcDiagnostic`]. One or two are kept inline and need no allocation.
 pub type Labels = SmallVec<LabeledSpan, 2, Global>;
-
-#[cfg(test)]
-mod record_tests;
-#[cfg(test)]
-mod reporter_tests;
-#[cfg(test)]
-mod tests;

@@ -9,6 +9,3 @@ mod span;
 
 pub use crate::labeled_span::LabeledSpan;
 pub use crate::span::Span;
-
-#[cfg(test)]
-mod tests;

@@ -48,8 +48,3 @@ pub use crate::slice::SliceSource;
 pub use crate::source::BreakSource;
 pub use crate::steps::{OwnLedger, Page, StepLedger, Steps};
 pub use crate::window::Window;
-
-#[cfg(test)]
-mod plain;
-#[cfg(test)]
-mod tests;

@@ -14,8 +14,6 @@ mod escape;
 mod parse;
 mod read;
 mod reporter;
-#[cfg(test)]
-mod tests;
 mod write;
 
 pub use read::{ProblemError, read_problem, read_problems};

@@ -24,9 +24,6 @@ use line_shapes::name::{NameKind, is_name};
 use line_shapes::said::code_behind;
 use oxc_protocol::{Info, InfoPosition};
 
-#[cfg(test)]
-mod tests;
-
 /// The line of a plain problem is read as the problem, whatever line follows, but one with a place
 /// for what stands before it.
 pub fn problem_is_read_back(_info: &Info)

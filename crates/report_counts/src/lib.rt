@@ -6,7 +6,5 @@
 #![tactic(auto)]
 
 mod counted;
-#[cfg(test)]
-mod tests;
 
 pub use counted::{Counts, Level, counts_of, more_line, one_reaches, summary_line};

@@ -20,6 +20,3 @@ pub use crate::laws::{drawings_read_back, marks_by_cells};
 pub use crate::reader::read_report;
 pub use crate::seen::{Seen, SeenHead, SeenMark, SeenRow, SeenSnippet};
 pub use crate::shows::show_report;
-
-#[cfg(test)]
-mod tests;

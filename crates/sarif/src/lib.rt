@@ -15,8 +15,6 @@ mod labels;
 mod reading;
 mod reports;
 mod resolving;
-#[cfg(test)]
-mod tests;
 mod texts;
 
 pub use asked::names_of;

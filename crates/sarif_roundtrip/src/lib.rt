@@ -17,8 +17,6 @@ ghost use Rattle.sarif_roundtrip.specs.Meant.{IsSource, log_meant};
 ghost use Rattle.sarif_roundtrip.specs.Reports.{ComeBack};
 
 mod laws;
-#[cfg(test)]
-mod tests;
 
 use codespan::{FileId, Files};
 pub use laws::region_is_read_back;

@@ -13,8 +13,6 @@ mod given;
 mod places;
 mod results;
 mod rules;
-#[cfg(test)]
-mod tests;
 mod written;
 
 pub use written::{write_log, write_log_with};

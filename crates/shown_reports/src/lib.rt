@@ -8,8 +8,6 @@
 
 mod given;
 mod shown;
-#[cfg(test)]
-mod tests;
 mod texts;
 
 pub use given::document_reports;

@@ -2,4 +2,4 @@ mod StartsLemmas
 mod StepsLemmas
 mod FoundLemmas
 mod AllLemmas
-mod LabelsLemmas
+pub mod LabelsLemmas

@@ -18,6 +18,3 @@ pub use edit_text::EditText;
 pub use edited_file::edit_file;
 pub use labels::move_label;
 pub use laws::label_stays_in_range;
-
-#[cfg(test)]
-mod tests;

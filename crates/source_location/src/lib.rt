@@ -17,8 +17,6 @@ mod laws;
 mod line_index;
 mod newlines;
 mod scan;
-#[cfg(test)]
-mod tests;
 
 pub use laws::{boundary_is_found_again, breaks_keep_apart, columns_count_characters};
 pub use line_index::{LineIndex, OneIndexed, fits};

@@ -13,8 +13,6 @@ mod gathered;
 mod map;
 mod named;
 mod place;
-#[cfg(test)]
-mod tests;
 
 pub use disk::DiskStore;
 pub use fetched::{Fetched, Store};

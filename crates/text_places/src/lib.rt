@@ -14,8 +14,6 @@ mod place;
 mod places;
 mod plain;
 mod seek;
-#[cfg(test)]
-mod tests;
 
 pub use encoding::Encoding;
 pub use laws::{encodings_commute, nearest_keeps_places, places_ascend, places_lead_back};

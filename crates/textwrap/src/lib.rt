@@ -14,6 +14,3 @@ mod words;
 pub use filling::{fill, fill_onto, fits_on_line};
 pub use laws::{one_cut, one_filling, one_line};
 pub use options::Options;
-
-#[cfg(test)]
-mod tests;

@@ -7,5 +7,3 @@ pub mod lines;
 pub mod marks;
 pub mod paint;
 mod speaks;
-#[cfg(test)]
-mod tests;

@@ -9,8 +9,6 @@ mod build;
 mod index;
 mod laws;
 mod place;
-#[cfg(test)]
-mod tests;
 mod wide;
 
 pub use index::Utf16Index;

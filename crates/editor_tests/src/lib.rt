@@ -1,0 +1,13 @@
+//! Tests of what an editor is told: small tables, and callers that are proved from contracts
+//! alone, of `lsp_frames`, `lsp_marks`, `lsp_diagnostics` and `lsp_server`.
+#![tactic(auto)]
+
+pub mod callers;
+#[cfg(test)]
+mod of_lsp_diagnostics;
+#[cfg(test)]
+mod of_lsp_frames;
+#[cfg(test)]
+mod of_lsp_marks;
+#[cfg(test)]
+mod of_lsp_server;

@@ -1,0 +1,18 @@
+//! Tests of lines that tools print: small tables, and callers that are proved from contracts
+//! alone, of `line_shapes`, `tool_lines`, `fed_lines`, `line_reports`, `problem_lines` and
+//! `problem_roundtrip`.
+#![tactic(auto)]
+
+pub mod callers;
+#[cfg(test)]
+mod of_fed_lines;
+#[cfg(test)]
+mod of_line_reports;
+#[cfg(test)]
+mod of_line_shapes;
+#[cfg(test)]
+mod of_problem_lines;
+#[cfg(test)]
+mod of_problem_roundtrip;
+#[cfg(test)]
+mod of_tool_lines;

@@ -1,0 +1,44 @@
+ghost use Rattle.std.specs.Prelude.{◌≡◌, ◌≤◌, ℕ, List};
+ghost use Rattle.std.specs.Str.{IsCharBoundary};
+ghost use Rattle.utf16_places.specs.Places.{utf16_place, PartsNoCrlf};
+ghost use Rattle.utf16_places.specs.Index.{IsIndexOf};
+
+use source_location::fits;
+use std::test::Fail;
+use text_size::{TextRange, TextSize};
+use utf16_places::{Place16, Utf16Index};
+
+// A client's range in bytes. Both ends are boundaries, whatever the client sent.
+fn bytes_of(index: &Utf16Index, start: Place16, end: Place16) -> TextRange
+    ensures start { (text : List ℕ) → IsIndexOf index.now text → IsCharBoundary text result.0 }
+    ensures end { (text : List ℕ) → IsIndexOf index.now text → IsCharBoundary text result.1 }
+    ensures exact { (text : List ℕ) (from to : ℕ) → IsIndexOf index.now text
+        → PartsNoCrlf text from → PartsNoCrlf text to → from ≤ to → start ≡ utf16_place text from
+        → end ≡ utf16_place text to → result ≡ (from, to) }
+{
+    let from = index.nearest(start);
+    let to = index.nearest(end);
+    TextRange::new(from, to.max(from))
+}
+
+// A diagnostic's bytes as a client's range, and back.
+fn shown_and_back(index: &Utf16Index, range: TextRange) -> TextRange
+    ensures { (text : List ℕ) → IsIndexOf index.now text → PartsNoCrlf text range.0
+        → PartsNoCrlf text range.1 → result ≡ range }
+{
+    let (start, end) = index.range_of(range);
+    bytes_of(index, start, end)
+}
+
+#[test]
+fn a_range_goes_to_a_client_and_back(rt: HostRuntime) -> Result<(), Fail> {
+    let text = "\u{feff}let 💣 = 1;\r\nlet y = 💣;\r\n";
+    assert!(rt; fits(text));
+    let index = Utf16Index::new(rt.alloc(), text)?;
+    let range = TextRange::new(TextSize::new(7), TextSize::new(26));
+    let (start, end) = index.range_of(range);
+    assert!(rt; start == Place16 { line: 0, unit: 5 });
+    assert!(rt; end == Place16 { line: 1, unit: 8 });
+    assert!(rt; shown_and_back(&index, range) == range);
+    Ok(())
+}
