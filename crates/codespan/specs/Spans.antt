@@ -14,6 +14,6 @@ merged a b = record { start = min a.start b.start; end = max a.end b.end }
 abbrev pub Covers : Extent → Extent → Type 0
 Covers a b = (a.start ≤ b.start) × (b.end ≤ a.end)
 
--- one ends no later than the other starts, either way round
+-- one of the two is over where the other begins, or before that
 abbrev pub AreDisjoint : Extent → Extent → Type 0
 AreDisjoint a b = (a.end ≤ b.start) ⊎ (b.end ≤ a.start)

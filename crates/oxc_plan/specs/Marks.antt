@@ -72,6 +72,6 @@ HasEndsByColumns tab row =
     → let mark = mark_of before (cells_of tab row label span) in
     mark.end ≡ (if span.start == span.end then mark.start + 1 else max (column_at tab row span.end false) (mark.start + 1))
 
--- the law: one-row labels without overlap are marked in exactly their cells
+-- the law: where labels of one row share no cell, the marks of each fill its own cells, and stand nowhere else
 abbrev pub HasExactMarks : ℕ → RowView → List Span → Type 0
 HasExactMarks tab row spans = DoNotOverlap (row_cells tab row spans) → map marked_cells (row_marks tab row spans) ≡ row_cells tab row spans
