@@ -273,6 +273,8 @@ class Tries(Around):
         for words, line in faults:
             said = self.ends("a fault is named", 2, *words, given=b"", err=line.encode())
             self.check(f"it begins so: {' '.join(words)}", said.stderr.startswith(b"girzohal: "), said)
+        said = self.ends("a file that can't be read, whose name drives a terminal", 4, "\x1b[31mred", given=b"", err=b"red can't be read")
+        self.check("a name that is told drives no terminal", not drives(said.stderr.decode()), said)
         self.ends("help among wrong words", 0, "--theme", "pink", "--help", out=b"usage: girzohal")
         self.ends("help as a value", 2, "--theme", "--help", err=b"not '--help'")
 
@@ -309,8 +311,13 @@ class Tries(Around):
         said = self.ends("a log that is no JSON", 3, given=cut, err=b"input is no JSON")
         row, rest = re.match(rb"girzohal: line (\d+)(, .*\n)", said.stderr).groups()
         self.check("a log that is no JSON: the row", int(row) == 1 + cut[:cut.index(b'"runs"')].count(b"\n"), said)
-        self.ends("a log that is no JSON, behind two lines: the row of the input", 3, "--from", "sarif", given=b"make all\nmake more\n" + cut,
-                  err=b"girzohal: line %d" % (int(row) + 2) + rest)
+        for lines in (b"make all\nmake more\n", b"\xef\xbb\xbfmake all\n"):
+            told = lines.removeprefix(b"\xef\xbb\xbf")
+            said = self.ends("a log that is no JSON, behind lines", 3, "--from", "sarif", given=lines + cut)
+            fault = b"girzohal: line %d" % (int(row) + lines.count(b"\n")) + rest
+            self.check("a log that is no JSON, behind lines: these, and the row of the input", said.stderr == told + fault, said)
+        said = self.ends("a log with a fault, between lines", 3, "--from", "sarif", given=b"make all\n{\"version\": \"2.0\"}\nmake: done\n")
+        self.check("the line before it is told", said.stderr == b"make all\ngirzohal: version: wanted 2.1.0\n", said)
 
     def try_sources(self):
         """What isn't read is said, and never shown."""

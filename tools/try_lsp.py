@@ -3,9 +3,10 @@
 
 PROGRAM is what `rt run` left in crates/girzohal_lsp/out. A transcript of a client goes in as a whole and in random
 cuttings, and the answers are compared; each fault of a frame ends the program; a document that is changed by many ranges is
-compared with a plain replay. Where Neovim is installed, its own client opens a file and types above, in and below what a log
-found (tools/try_lsp.lua), and what it shows is checked: over a log of this script, and over what tools printed of the
-sources in examples/outputs.
+compared with a plain replay, by where each of its rows begins and ends: a server never shows a text (those of
+crates/text_tests/src/of_client_text/transcript.rt are compared as they are). Where Neovim is installed, its own client opens a
+file and types above, in and below what a log found (tools/try_lsp.lua), and what it shows is checked: over a log of this
+script, and over what tools printed of the sources in examples/outputs.
 
 The last line is `N passed, M failed`; the status is 0 where M is 0."""
 import json
@@ -118,6 +119,8 @@ def try_messages(folder):
     check("faulty changes are told", len(said) == 2 and "contentChanges[1]" in said[0] and "no open document" in said[1])
     check("the status is that of a session that ended well", whole.returncode == 0)
     check("without shutdown it is 1", run([log], frame(notice("exit"))).returncode == 1)
+    wrong = [[], ["--tool"], ["--from", "xml", log], ["--from", "sarif", "--columns", "bytes", log], ["--from", "sarif", "--columns", "cells", log]]
+    check("words that are none end it with 2", all(run(words, b"").returncode == 2 for words in wrong))
     for seed in range(40):
         chance = random.Random(seed)
         child = subprocess.Popen([PROGRAM, "--tool", "gcc", log], stdin=subprocess.PIPE, stdout=subprocess.PIPE)
@@ -141,12 +144,17 @@ def try_messages(folder):
         check(f"{bad[:24]} ends it", got.returncode == 1 and got.stdout == b"")
 
 
+def between(text, offset):
+    """The offset, or the one before it where it stands within a CRLF."""
+    return offset - 1 if text[offset - 1:offset + 1] == "\r\n" else offset
+
+
 def try_replay(folder, seed, encoding):
-    """Many notifications with several ranges each, one of them faulty, against a plain replay."""
+    """Many notifications with several ranges each, one of them faulty, against a plain replay; at the end the document is closed."""
     chance = random.Random(seed)
     log = os.path.join(folder, "empty.txt")
     open(log, "w").write("".join(f"a.c:{row}: error: row\n" for row in range(1, 200)))
-    text = "".join(chance.choice(["a", "é", "\U0001f600", "b\n", "\n", " x"]) for _ in range(120))
+    text = "".join(chance.choice(["a", "é", "\U0001f600", "b\r\n", "\n", " x"]) for _ in range(120))
     wanted = text
     data = frame(request(1, "initialize", {"capabilities": {"general": {"positionEncodings": [encoding]}}}))
     data += frame(notice("textDocument/didOpen", {"textDocument": {"uri": URI, "version": 0, "text": text}}))
@@ -154,9 +162,9 @@ def try_replay(folder, seed, encoding):
     for number in range(40):
         changes, now = [], wanted
         for _ in range(chance.randrange(1, 5)):
-            start = chance.randrange(len(now) + 1)
-            end = min(len(now), start + chance.randrange(0, 6))
-            piece = "".join(chance.choice(["z", "ß", "\U0001f4a3", "\n", "q"]) for _ in range(chance.randrange(0, 6)))
+            start = between(now, chance.randrange(len(now) + 1))
+            end = between(now, min(len(now), start + chance.randrange(0, 6)))
+            piece = "".join(chance.choice(["z", "ß", "\U0001f4a3", "\n", "\r\n", "q"]) for _ in range(chance.randrange(0, 6)))
             changes.append({"range": {"start": place_of(now, start, encoding), "end": place_of(now, end, encoding)}, "text": piece})
             now = now[:start] + piece + now[end:]
         if number == faulty:
@@ -166,19 +174,21 @@ def try_replay(folder, seed, encoding):
         data += frame(notice("textDocument/didChange", {"textDocument": {"uri": URI, "version": number + 1}, "contentChanges": changes}))
     # the log has a finding on each row: read anew, it shows where each row begins and ends, blanks aside, in the client's units
     data += frame(notice("textDocument/didSave", {"textDocument": {"uri": URI}}))
+    data += frame(notice("textDocument/didClose", {"textDocument": {"uri": URI}}))
     data += frame(request(2, "shutdown")) + frame(notice("exit"))
     out = messages_in(run(["--tool", "gcc", log], data).stdout)
     said = [m for m in out if m.get("method") == "window/logMessage"]
-    told = [m for m in out if m.get("method") == "textDocument/publishDiagnostics"]
-    rows = wanted.split("\n")
-    shown = [d["range"] for d in told[-1]["params"]["diagnostics"]][:len(rows)]
+    *told, closed = [m["params"] for m in out if m.get("method") == "textDocument/publishDiagnostics"]
+    rows = [row.rstrip("\r") for row in wanted.split("\n")]
+    shown = [d["range"] for d in told[-1]["diagnostics"]][:len(rows)]
     meant = [{"start": {"line": n, "character": len(row) - len(row.lstrip(" "))},
               "end": {"line": n, "character": place_of(row.rstrip(" "), len(row.rstrip(" ")), encoding)["character"]}}
              for n, row in enumerate(rows)]
     same = [(a, b) for a, b, row in zip(shown, meant, rows) if a != b and row.strip(" ")]
     if same:
         print(seed, encoding, same[:2])
-    return not same and len(said) == 1 and len(told) == 41 and told[-1]["params"]["version"] == (40 if faulty != 39 else 39)
+    ends = closed == {"uri": URI, "diagnostics": []} and told[-1]["version"] == (40 if faulty != 39 else 39)
+    return not same and ends and len(said) == 1 and len(told) == 41
 
 
 # the steps of tools/try_lsp.lua: before the mark is typed over, while it covers what was typed, and behind
@@ -221,6 +231,16 @@ def own_logs(folder, end):
     return ["--tool", "gcc", os.path.join(folder, "own.txt")], ["totl", "total", "rest"]
 
 
+# what stands in the sources where the tools say that they found something: a word, or one character that is no word's
+COVERED = {
+    "clang.txt": ["sum", "total"], "clang-color.txt": ["sum", "total"], "gcc.txt": ["s"], "gcc-color.txt": ["s"],
+    "mypy-columns.txt": ["self.items", '"0"', "cart.totals"], "go-vet.txt": ["sum", "fmt"], "javac.txt": ["", "sume"],
+    "cppcheck.txt": ["printf", "-", "/", "sum", "sum"], "rustc.txt": ["sum", "sum", "xs", "moved"],
+    "shellcheck.txt": ["$", "*", "$", "cd", "$", "$", "$", "="], "yamllint.txt": ["a", " ", "a", "2", " "],
+    "flake8.txt": ["import", "import", ",", "summe", "def", "-", "\t", "\t", "return"],
+}
+
+
 def real_logs(folder, examples):
     """Logs that tools left, each with its source."""
     for source in ("cart.c", "cart.py", "cart.sh", "cart.yaml", "cart.go", "Cart.java", "cart.rs"):
@@ -244,8 +264,8 @@ def try_neovim(folder, examples):
     found = {}
     for words, source in real_logs(folder, examples):
         found[os.path.basename(words[-1])] = try_looks(folder, words, source, "")
-    for tool in ("gcc", "clang"):
-        check(f"a log in color of {tool} has the findings of the plain one", found[tool + "-color.txt"] == found[tool + ".txt"])
+    for log, texts in COVERED.items():
+        check(f"{log}: the findings are at the words that it means", found[log] == texts)
 
 
 def try_looks(folder, words, source, units):
