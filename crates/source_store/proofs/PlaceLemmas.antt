@@ -7,7 +7,7 @@ use Rattle.std.proofs.lemmas.Bool.{and_parts}
 use Rattle.std.proofs.lemmas.Slice.Eq.{bytes_eq-Decides}
 use Rattle.std.proofs.lemmas.List.Elements.{All-nil, All-cons, All-head, All-tail, All-take, All-push, All-same}
 use Rattle.std.specs.declared.alloc.Global.{Global}
-use Rattle.source_store.specs.Place.{text_bytes, left, stays, goes_up, entered, walked_by, walked, parts_of, is_absolute, resolved, begins_with, path_of, located, IsPlain, IsBelow}
+use Rattle.source_store.specs.Place.{text_bytes, left, stays, goes_up, entered, walked_by, walked, parts_of, is_absolute, resolved, begins_with, path_of, is_line, located, IsPlain, IsBelow}
 
 map_take : (n : ℕ) (xs : List (Bor (List ℕ))) → map (λ x. x.now) (take n xs) ≡ take n (map (λ x. x.now) xs)
 map_take zero xs = refl
@@ -85,13 +85,14 @@ begun (p ∷ path) (f ∷ folder) is =
 
 pub located_below : (root name : List ℕ) → IfSome (located root name false) (IsBelow root)
 unfolding located
-located_below root name = go (begins_with (resolved root name) (walked [] root)) refl
+located_below root name = go (is_line name) (begins_with (resolved root name) (walked [] root)) refl refl
   where
-    go : (said : Bool) → begins_with (resolved root name) (walked [] root) ≡ said → IfSome (located root name false) (IsBelow root)
-    go false is = rw is tt
-    go true is =
+    go : (line said : Bool) → is_line name ≡ line → begins_with (resolved root name) (walked [] root) ≡ said → IfSome (located root name false) (IsBelow root)
+    go false said line is = rw line tt
+    go true false line is = rw line (rw is tt)
+    go true true line is =
         let more = begun (resolved root name) (walked [] root) is in
-        rw is (record { rest = more.0; parts = ap path_of more.1; plain = All-same IsPlain _ _ (sym more.1) (resolved_plain root name) })
+        rw line (rw is (record { rest = more.0; parts = ap path_of more.1; plain = All-same IsPlain _ _ (sym more.1) (resolved_plain root name) }))
 
 pub answer_below : {E : Type 0} (root name : List ℕ) (anywhere : Bool) (r : Result (Option (String Global)) E)
     → IfOk r (λ path. text_bytes path ≡ located root name anywhere) → anywhere ≡ false → IfOk r (λ path. IfSome (text_bytes path) (IsBelow root))

@@ -1,7 +1,7 @@
 // The files of the system as a store. What they hold isn't told: this is an edge that is trusted to
 // hand the bytes on.
 use crate::fetched::{Fetched, Store};
-use crate::place::locate;
+use crate::place::{is_line, locate};
 use found_reports::Lack;
 use std::alloc::Global;
 use std::fs;
@@ -57,7 +57,7 @@ impl<R: Files> DiskStore<'_, R> {
     /// Reads a file whose absolute path leads elsewhere by its words, but into the root by a link: a
     /// folder may be spelled in two ways.
     fn read_by_link(&self, alloc: Global, path: &str) -> Fetched {
-        if !path.starts_with('/') {
+        if !path.starts_with('/') || !is_line(path) {
             return Fetched::Lacking(Lack::Outside);
         }
         match self.rt.canonicalize(alloc, path) {

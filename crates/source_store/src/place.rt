@@ -1,9 +1,10 @@
 // Where a name leads.
 ghost use Rattle.std.specs.Prelude.{◌≡◌, ◌++◌, ◌∷◌, [], map, IfOk, IfSome, OnOk, true, false, string_bytes};
 ghost use Rattle.std.specs.Option.{option_copied};
-ghost use Rattle.std.specs.List.{slice_split};
+ghost use Rattle.std.specs.List.{list_any, slice_split};
 ghost use Rattle.source_store.specs.Place.{IsBelow, begins_with as begins_with_parts, entered};
 ghost use Rattle.source_store.specs.Place.{goes_up as goes_up_by, is_absolute as begins_at_slash};
+ghost use Rattle.source_store.specs.Place.{is_end, is_line as is_one_line};
 ghost use Rattle.source_store.specs.Place.{left, located as located_at, parts_of, path_of, resolved};
 ghost use Rattle.source_store.specs.Place.{stays as stays_by, text_bytes, walked};
 
@@ -11,7 +12,7 @@ use std::alloc::{AllocError, Global};
 
 /// The absolute path to which a path leads from the folder `root`, an absolute path, where that is
 /// below the root or may be anywhere. `.` and `..` are resolved by words, and no path that is given
-/// has one of them.
+/// has one of them. A path that holds a NUL or an LF leads nowhere, unless it may be anywhere.
 ///
 /// # Errors
 ///
@@ -42,11 +43,26 @@ fn located(
 {
     let top = walk(alloc, Vec::new(alloc), root)?;
     let parts = resolve(alloc, root, path)?;
-    if anywhere || begins_with(&parts, &top) {
+    if anywhere || is_line(path) && begins_with(&parts, &top) {
         Ok(Some(path_text(alloc, &parts)?))
     } else {
         Ok(None)
     }
+}
+
+/// Whether a path is one line, without NUL.
+#[tactic(auto, unfolding(crate::specs::Place::is_line))]
+pub(crate) fn is_line(path: &str) -> bool
+    ensures { result ≡ is_one_line path.now }
+{
+    !has_end(path.as_bytes())
+}
+
+/// Whether a NUL or an LF is there.
+fn has_end(bytes: &[u8]) -> bool
+    ensures { result ≡ list_any is_end bytes.now }
+{
+    bytes.iter().any(|byte| *byte == 0 || *byte == b'\n')
 }
 
 /// The parts of the path to which a path leads from a folder, or from the top.
