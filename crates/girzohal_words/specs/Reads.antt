@@ -21,7 +21,7 @@ use Rattle.girzohal_words.specs.declared.reading.Refusal.{Refusal}
 use Rattle.girzohal_words.specs.declared.reading.Refusal.TheVariants as refusal
 use Rattle.girzohal_words.specs.Said.{Said, file_named, is_named, said_by, value_under}
 use Rattle.girzohal_words.specs.Values.{first_named, form_named, form_of_tool, level_named, output_named, shape_named, tabs_named, theme_named, unit_named, width_named}
-use Rattle.girzohal_words.specs.Wrong.{Wrong, first_wrong, uncounted_in, wrong}
+use Rattle.girzohal_words.specs.Wrong.{Wrong, first_wrong, nothing_named, uncounted_in, wrong}
 
 -- ---- what options say
 
@@ -99,7 +99,7 @@ asks_version all = has_flag (codes "--version") all || has_flag (codes "-V") all
 
 -- the first wrong word; and where none is wrong by itself, a unit that the form can't count
 unfoldable pub wrong_word : List Said → Option Wrong
-wrong_word all = option_or (first_wrong false all) (uncounted_in (form_in all) (last_value (codes "--columns") all))
+wrong_word all = option_or (first_wrong nothing_named all) (uncounted_in (form_in all) (last_value (codes "--columns") all))
 
 -- help comes before the version, and both before all else; wrong words ask for nothing
 abbrev pub Reads : List Said → Result Request Refusal → Type 0

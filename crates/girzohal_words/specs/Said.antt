@@ -1,6 +1,7 @@
 -- What words say, each with the word behind it where that is its value.
 use Rattle.std.specs.Prelude.{ℕ, List, [], ◌∷◌, map, codes, if◌then◌else◌, ◌||◌, ◌&&◌, ◌==◌, not, Bool, true, false, Option, Some, None, is_some, slice_index}
 use Rattle.std.specs.Borrow.{Bor}
+use Rattle.std.specs.List.{list_any}
 use Rattle.std.specs.Str.{bytes_eq}
 use Rattle.escapes.specs.Cuts.{cut_at}
 use Rattle.girzohal_words.specs.declared.items.Item.{Item}
@@ -46,8 +47,14 @@ settings = map (λ row. (row.0.now, row.1.now)) SETTINGS
 abbrev pub wanted_of : List ℕ → Option (List ℕ)
 wanted_of name = wanted_among settings name
 
+-- the options that have a value
+unfoldable pub setting_names : List (List ℕ)
+setting_names =
+    codes "--from" ∷ codes "--to" ∷ codes "--tool" ∷ codes "--shape" ∷ codes "--columns" ∷ codes "--first-column" ∷ codes "--root" ∷ codes "--theme" ∷ codes "--width" ∷ codes "--tabs" ∷ codes "--most"
+    ∷ codes "--fail-on" ∷ []
+
 abbrev pub is_setting : List ℕ → Bool
-is_setting name = is_some (wanted_of name)
+is_setting name = list_any (λ known. bytes_eq known name) setting_names
 
 -- an option that stands alone
 unfoldable pub is_flag : List ℕ → Bool

@@ -1,13 +1,14 @@
 -- Which word is wrong.
-use Rattle.std.specs.Prelude.{ℕ, List, [], ◌∷◌, codes, if◌then◌else◌, ◌||◌, Bool, true, false, Option, Some, None, option_and_then, is_some}
+use Rattle.std.specs.Prelude.{ℕ, List, [], ◌∷◌, codes, if◌then◌else◌, ◌||◌, ◌&&◌, Bool, true, false, Option, Some, None, option_and_then, is_some}
 use Rattle.std.specs.List.{list_any}
 use Rattle.std.specs.Option.{option_or}
 use Rattle.std.specs.Str.{bytes_eq}
 use Rattle.girzohal_asked.specs.declared.InputForm.{InputForm}
 use Rattle.girzohal_asked.specs.declared.InputForm.TheVariants as form
+use Rattle.girzohal_words.specs.declared.faults.Named.{Named}
 use Rattle.girzohal_words.specs.declared.faults.WordFault.{WordFault}
 use Rattle.girzohal_words.specs.declared.faults.WordFault.TheVariants as fault
-use Rattle.girzohal_words.specs.Said.{Said, flag, setting, file, unknown, bare, valued, file_named}
+use Rattle.girzohal_words.specs.Said.{Said, flag, setting, file, unknown, bare, valued, file_named, value_under}
 use Rattle.girzohal_words.specs.Values.{is_value}
 
 pub data Wrong : Type 0 where
@@ -21,6 +22,8 @@ pub data Wrong : Type 0 where
   other_value : List ℕ → List ℕ → Wrong
   -- a second file
   second_file : List ℕ → Wrong
+  -- a second form to be written
+  second_form : List ℕ → Wrong
   -- a unit in which a log's columns can't be counted
   uncounted : List ℕ → Wrong
 
@@ -30,21 +33,38 @@ wrong (fault.Bare name) = no_value name.now
 wrong (fault.Valued name value) = with_value name.now value.now
 wrong (fault.Value name value) = other_value name.now value.now
 wrong (fault.SecondFile name) = second_file name.now
+wrong (fault.SecondForm value) = second_form value.now
 wrong (fault.Uncounted unit) = uncounted unit.now
 
--- what is wrong with a word, where a file was named before or wasn't
-abbrev pub wrong_in : Bool → Said → Option Wrong
-wrong_in named (flag name) = None
-wrong_in named (setting name value) = if is_value name value then None else Some (other_value name value)
-wrong_in named (file name) = if named then Some (second_file name) else None
-wrong_in named (unknown word) = Some (no_option word)
-wrong_in named (bare name) = Some (no_value name)
-wrong_in named (valued name value) = Some (with_value name value)
+-- ---- what was named before a word: a file, and a form to be written
 
--- the first word that is wrong by itself, or a second file
-abbrev pub first_wrong : Bool → List Said → Option Wrong
-first_wrong named [] = None
-first_wrong named (it ∷ rest) = option_or (wrong_in named it) (first_wrong (is_some (file_named it) || named) rest)
+abbrev pub nothing_named : Named
+nothing_named = record { file = false; form = false }
+
+-- an option says which form is written
+abbrev pub names_form : Said → Bool
+names_form it = is_some (value_under (codes "--to") it)
+
+abbrev pub and_named : Named → Said → Named
+and_named before it = record { file = is_some (file_named it) || before.file; form = names_form it || before.form }
+
+-- what is wrong with a value that the option may have: one form is written alone
+abbrev pub wrong_again : Named → List ℕ → List ℕ → Option Wrong
+wrong_again before name value = if before.form && bytes_eq name (codes "--to") then Some (second_form value) else None
+
+-- what is wrong with a word, behind what was named
+abbrev pub wrong_in : Named → Said → Option Wrong
+wrong_in before (flag name) = None
+wrong_in before (setting name value) = if is_value name value then wrong_again before name value else Some (other_value name value)
+wrong_in before (file name) = if before.file then Some (second_file name) else None
+wrong_in before (unknown word) = Some (no_option word)
+wrong_in before (bare name) = Some (no_value name)
+wrong_in before (valued name value) = Some (with_value name value)
+
+-- the first word that is wrong by itself, or behind what was named before
+abbrev pub first_wrong : Named → List Said → Option Wrong
+first_wrong before [] = None
+first_wrong before (it ∷ rest) = option_or (wrong_in before it) (first_wrong (and_named before it) rest)
 
 -- a log's columns are counted in bytes or in cells
 abbrev pub uncounted_in : InputForm → Option (List ℕ) → Option Wrong

@@ -1,9 +1,10 @@
 //! Which word is wrong.
-ghost use Rattle.std.specs.Prelude.{◌≡◌, ◌||◌, false, IfOk, is_some, map, option_map};
+ghost use Rattle.std.specs.Prelude.{◌≡◌, IfOk, map, option_map};
 ghost use Rattle.std.specs.Option.{option_copied};
-ghost use Rattle.girzohal_words.specs.Said.{file as file_said, file_named, said};
+ghost use Rattle.girzohal_words.specs.Said.{file as file_said, said};
 ghost use Rattle.girzohal_words.specs.Said.{setting as setting_said};
 ghost use Rattle.girzohal_words.specs.Wrong.{first_wrong as first_wrong_of, uncounted_in};
+ghost use Rattle.girzohal_words.specs.Wrong.{and_named as and_named_so, nothing_named};
 ghost use Rattle.girzohal_words.specs.Wrong.{wrong, wrong_in};
 
 use crate::items::Item;
@@ -24,51 +25,74 @@ pub enum WordFault<'w> {
     Value(&'w str, &'w str),
     /// It names a second file.
     SecondFile(&'w str),
+    /// It asks for a second form to be written.
+    SecondForm(&'w str),
     /// The columns of a SARIF log can't be counted in this unit.
     Uncounted(&'w str),
 }
 
-/// The first word that is wrong by itself, or a second file.
+/// What was named before a word.
+#[derive(Clone, Copy)]
+pub(crate) struct Named {
+    /// A file.
+    file: bool,
+    /// A form to be written.
+    form: bool,
+}
+
+/// The first word that is wrong by itself, or behind what was named before: one file is read, and
+/// one form is written.
 pub(crate) fn first_wrong<'w>(
     alloc: Global,
     items: &[Item<'w>],
 ) -> Result<Option<WordFault<'w>>, AllocError>
     ensures { IfOk result (λ fault. option_map wrong fault
-        ≡ first_wrong_of false (map said items.now)) }
+        ≡ first_wrong_of nothing_named (map said items.now)) }
 {
-    let mut named = false;
+    let mut named = Named {
+        file: false,
+        form: false,
+    };
     let mut rest = items;
     while let [item, more @ ..] = rest {
         if let Some(fault) = fault_of(alloc, named, *item)? {
             return Ok(Some(fault));
         }
-        named = is_named(named, *item);
+        named = and_named(named, *item);
         rest = more;
     }
     Ok(None)
 }
 
-/// Whether a file was named before, or is now.
-fn is_named(named: bool, item: Item<'_>) -> bool
-    ensures { result ≡ (is_some (file_named (said item.entry)) || named) }
+/// What was named, where a word comes behind it.
+fn and_named(before: Named, item: Item<'_>) -> Named
+    ensures { result ≡ and_named_so before (said item.entry) }
 {
     match item {
-        Item::File(_) => true,
-        _ => named,
+        Item::File(_) => Named {
+            file: true,
+            form: before.form,
+        },
+        Item::Setting("--to", _) => Named {
+            file: before.file,
+            form: true,
+        },
+        _ => before,
     }
 }
 
-/// What is wrong with a word, where a file was named before or wasn't.
+/// What is wrong with a word, behind what was named.
 fn fault_of<'w>(
     alloc: Global,
-    named: bool,
+    named: Named,
     item: Item<'w>,
 ) -> Result<Option<WordFault<'w>>, AllocError>
-    ensures { IfOk result (λ fault. option_map wrong fault ≡ wrong_in named (said item.entry)) }
+    ensures { IfOk result (λ fault. option_map wrong fault
+        ≡ wrong_in named (said item.entry)) }
 {
     match item {
         Item::Flag(_) => Ok(None),
-        Item::Setting(name, value) => value_fault(alloc, name, value),
+        Item::Setting(name, value) => value_fault(alloc, named, name, value),
         Item::File(name) => Ok(file_fault(named, name)),
         Item::Unknown(word) => Ok(Some(WordFault::Unknown(word))),
         Item::Bare(name) => Ok(Some(WordFault::Bare(name))),
@@ -79,24 +103,27 @@ fn fault_of<'w>(
 /// What is wrong with the value of an option.
 fn value_fault<'w>(
     alloc: Global,
+    named: Named,
     name: &'w str,
     value: &'w str,
 ) -> Result<Option<WordFault<'w>>, AllocError>
     ensures { IfOk result (λ fault. option_map wrong fault
-        ≡ wrong_in false (setting_said name.entry.now value.entry.now)) }
+        ≡ wrong_in named (setting_said name.entry.now value.entry.now)) }
 {
-    if is_value(alloc, name, value)? {
-        Ok(None)
-    } else {
+    if !is_value(alloc, name, value)? {
         Ok(Some(WordFault::Value(name, value)))
+    } else if named.form && name == "--to" {
+        Ok(Some(WordFault::SecondForm(value)))
+    } else {
+        Ok(None)
     }
 }
 
-/// What is wrong with a file, where one was named before or wasn't.
-fn file_fault(named: bool, name: &str) -> Option<WordFault<'_>>
+/// What is wrong with a file, behind what was named.
+fn file_fault(named: Named, name: &str) -> Option<WordFault<'_>>
     ensures { option_map wrong result ≡ wrong_in named (file_said name.entry.now) }
 {
-    if named {
+    if named.file {
         Some(WordFault::SecondFile(name))
     } else {
         None
