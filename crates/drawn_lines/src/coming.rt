@@ -82,8 +82,8 @@ impl Coming {
     /// before, the pieces that no line to come changes or adds to; and the lines of it that stand
     /// aside.
     ///
-    /// A piece that goes on for many lines isn't looked at again with each of them, but once there
-    /// are an eighth more.
+    /// A piece that goes on for more than 64 lines isn't looked at again with each of them, but once
+    /// there are an eighth more.
     ///
     /// # Errors
     ///
@@ -236,7 +236,7 @@ fn without_first(held: HeldLines, drawn: Drawn, count: usize) -> Come
         coming: Coming { held, tally, wait },
         text,
         aside,
-        known: true,
+        known: count > 0,
     }
 }
 
@@ -266,7 +266,8 @@ fn look_at<S: Store>(
     }
 }
 
-/// At how many lines so many are looked at again.
+/// At how many lines so many are looked at again: below 64 with each line that comes.
 fn next_look(lines: usize) -> usize {
-    lines.saturating_add(1).saturating_add(lines / 8)
+    let more = if lines < 64 { 0 } else { lines / 8 };
+    lines.saturating_add(1).saturating_add(more)
 }

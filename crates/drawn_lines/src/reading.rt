@@ -12,6 +12,10 @@ use line_shapes::tools::{Columns, columns_of_tool, tool_shapes};
 use std::alloc::{AllocError, Global};
 
 /// The shapes by which lines are read: the user's own, and then those of the tool.
+///
+/// # Errors
+///
+/// Want of memory.
 pub fn shapes_of(alloc: Global, asked: &Asked) -> Result<Vec<Shape<'_>>, AllocError>
     ensures { IfOk result (λ shapes. map shape_parts shapes.items ≡ shapes_meant asked.entry.now) }
 {
