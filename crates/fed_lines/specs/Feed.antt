@@ -70,6 +70,10 @@ abbrev pub known_piece : List ShapeParts → Option (List ℕ) → List (List �
 known_piece shapes name [] = None
 known_piece shapes name (line ∷ lines) = piece_or (below_at name line) (piece_behind shapes line lines)
 
+-- a line to come can change the piece that begins with the first of these lines, or there is none
+abbrev pub IsNoneKnown : List ShapeParts → Option (List ℕ) → List (List ℕ) → Type 0
+IsNoneKnown shapes name lines = known_piece shapes name lines ≡ None
+
 -- the first piece of each text that begins with these lines
 abbrev pub IsFirst : List ShapeParts → Option (List ℕ) → List (List ℕ) → PieceParts → Type 0
 IsFirst shapes name lines p = (more : List (List ℕ)) → IsPiece shapes name (lines ++ more) p

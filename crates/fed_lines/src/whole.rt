@@ -1,7 +1,8 @@
 //! All pieces of lines that come one at a time: they are those of the whole.
 ghost use Rattle.std.specs.Prelude.{◌≡◌, ◌≤◌, ◌++◌, List, ℕ, IfOk, IfSome, option_map, map, length};
 ghost use Rattle.line_shapes.specs.Shape.{shape_parts};
-ghost use Rattle.fed_lines.specs.Feed.{AreCut, IsFed, Leaves, cut_of, known_piece, last_piece};
+ghost use Rattle.fed_lines.specs.Feed.{AreCut, IsFed, IsNoneKnown, Leaves, cut_of, known_piece};
+ghost use Rattle.fed_lines.specs.Feed.{last_piece};
 ghost use Rattle.fed_lines.specs.Held.{held_lines, held_name, held_shapes};
 
 use crate::lines::Lines;
@@ -19,7 +20,8 @@ pub struct Cut {
 }
 
 /// Feeds these lines one at a time, and lets each piece go as soon as it is known. Whatever stands
-/// behind the lines, the first pieces of the whole are those that were let go.
+/// behind the lines, the first pieces of the whole are those that were let go, and of what is held no
+/// piece is known.
 ///
 /// # Errors
 ///
@@ -32,6 +34,8 @@ pub fn fed<'s>(
     ensures shapes { IfOk result (λ r. held_shapes r.0 ≡ map shape_parts shapes.now) }
     ensures first { IfOk result (λ r. IsFed (map shape_parts shapes.now)
         (map (λ line. line.now) lines.entry.now) r.1.items (held_name r.0) (held_lines r.0)) }
+    ensures all { IfOk result (λ r. IsNoneKnown (map shape_parts shapes.now)
+        (held_name r.0) (held_lines r.0)) }
 {
     let mut held = Lines::new(alloc, shapes);
     let mut cuts = Vec::new(alloc);
@@ -69,6 +73,8 @@ fn give_known(held: &mut Lines<'_>, cuts: &mut Vec<Cut>) -> Result<(), AllocErro
         (held_name held.old) (held_lines held.old ++ extra)
         → IsFed (held_shapes held.old) whole cuts.new.items
         (held_name held.new) (held_lines held.new ++ extra)) }
+    ensures all { IfOk result (λ _. IsNoneKnown (held_shapes held.old)
+        (held_name held.new) (held_lines held.new)) }
 {
     while let Some(cut) = pass_known(held) {
         cuts.push(cut)?;
