@@ -3,6 +3,7 @@
 #
 # usage: sh install.sh PREFIX      (DESTDIR is put before it; GIRZOHAL names a program that is built already)
 set -e
+case $1 in '' | -*) set -- ;; esac
 [ $# -eq 1 ] || { sed -n 's/^# usage: /usage: /p' "$0" >&2; exit 2; }
 top=$(cd "$(dirname "$0")" && pwd)
 prefix=$DESTDIR$1

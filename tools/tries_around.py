@@ -91,6 +91,8 @@ class Around:
         self.check("a line of 65 MiB", (said.returncode, said.stdout, said.stderr) == refused)
         said = self.long(b"make\na.c:2:5: error: no such name\nmake\n\n" + b"x" * (65 << 20))
         self.check("a line of 65 MiB behind a finding that is drawn", said.returncode == 7 and b"no such name" in said.stdout and said.stderr == refused[2])
+        said = self.long(b"a.c:2:5: error: no such name\n" + (b"  " + b"x" * ((64 << 10) - 3) + b"\n") * (65 << 4))
+        self.check("a finding whose lines are 65 MiB", (said.returncode, said.stdout, said.stderr) == refused, said.stderr[:80])
 
     def long(self, text, *words):
         """A run over a long text."""

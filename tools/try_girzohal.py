@@ -118,7 +118,7 @@ class Tries(Around):
         self.ends("a value behind =", 1, "--theme=none", out=b"no such name")
         self.ends("a value with = in it", 0, "--shape={name}={line}={message}", given=b"a.c=2=oops\n", out=b"oops")
         self.ends("a file behind --", 1, "--theme", "none", "--", "in.txt", given=b"", out=b"no such name")
-        self.ends("a file that looks like an option", 4, "--", "--theme", given=b"", err=b"--theme can't be read")
+        self.ends("a file that looks like an option", 4, "--", "--theme", given=b"", err=b"--theme isn't there")
         self.ends("standard input behind --", 1, "--", "-", out=b"no such name")
         self.ends("the last of two themes", 1, "--theme", "unicode", "--theme=none", out=b"no such name")
         self.ends("a file among options", 1, "--theme", "none", "in.txt", "--quiet", given=b"", out=b"no such name")
@@ -196,10 +196,10 @@ class Tries(Around):
         for level, least in (("error", 0), ("warning", 1), ("note", 2)):
             for at, word in enumerate(("error", "warning", "advice", "never")):
                 self.ends(f"of {level}", 1 if least <= at < 3 else 0, "--fail-on", word, given=f"a.c:2:5: {level}: here\n".encode(), out=b"here")
-        said = self.ends("the last of two forms", 1, "--to", "json", "--to", "github", out=b"::error file=a.c,line=2,")
-        self.check("the last of two forms alone", said.stdout.count(b"\n") == 1, said)
-        said = self.ends("the last of two forms", 1, "--to=github", "--to=json")
-        self.check("the last of two forms is read", json.loads(said.stdout)["message"] == "no such name", said)
+        for words in (("--to", "json", "--to", "github"), ("--to=json", "--to=json")):
+            self.ends("two forms", 2, *words, err=f"--to: '{words[-1].split('=')[-1]}' is a second form, and one is written\n".encode())
+        said = self.ends("the last of two tools", 1, "--tool", "mypy", "--tool", "gcc", "--to", "json")
+        self.check("the last of two tools is meant", said.stdout == self.run("--tool", "gcc", "--to", "json").stdout, said)
         text = b"x:2|odd\na.c:2:5: error: here\n"
         said = self.run("--shape", "{word}|{message}", "--shape", "{name}:{line}|{message}", "--to", "problems", given=text)
         self.check("shapes that are one's own change what is found", said.stdout.count(b"\n") == 2, said)
@@ -273,7 +273,7 @@ class Tries(Around):
         for words, line in faults:
             said = self.ends("a fault is named", 2, *words, given=b"", err=line.encode())
             self.check(f"it begins so: {' '.join(words)}", said.stderr.startswith(b"girzohal: "), said)
-        said = self.ends("a file that can't be read, whose name drives a terminal", 4, "\x1b[31mred", given=b"", err=b"red can't be read")
+        said = self.ends("a file that can't be read, whose name drives a terminal", 4, "\x1b[31mred", given=b"", err=b"red isn't there")
         self.check("a name that is told drives no terminal", not drives(said.stderr.decode()), said)
         self.ends("help among wrong words", 0, "--theme", "pink", "--help", out=b"usage: girzohal")
         self.ends("help as a value", 2, "--theme", "--help", err=b"not '--help'")
@@ -339,9 +339,15 @@ class Tries(Around):
         said = self.run("--to", "json", given=b"large.c:1:1: error: here\n", timeout=600)
         self.check("a source of 64 MiB is read", len(json.loads(said.stdout)["labels"]) == 1, said)
         os.remove(f"{self.room}/large.c")
-        for uri in ("file:///etc/passwd", "%2e%2e/%2e%2e/etc/passwd", "a\u0000b", "a\nb"):
+        for uri in ("file:///etc/passwd", "%2e%2e/%2e%2e/etc/passwd", "a\u0000b"):
             said = self.ends("a name that leads out", 0, given=log_with(uri=uri), out=b"look here")
             self.check(f"{uri!r}: nothing of it is shown", b"root:" not in said.stdout, said)
+        with open(f"{self.room}/two\nlines.c", "wb") as file:
+            file.write(b"int secret;\n")
+        for words, shown in (((), False), (("--anywhere",), True)):
+            said = self.ends("a name of two lines", 0, *words, given=log_with(uri="two%0Alines.c"), out=b"look here")
+            self.check(f"a name of two lines {words}: its source is shown: {shown}", (b"secret" in said.stdout) == shown, said)
+        os.remove(f"{self.room}/two\nlines.c")
         self.ends("anywhere", 1, "--anywhere", given=b"/etc/passwd:1:1: error: here\n", out=b"root:")
 
     def try_terminals(self):
@@ -437,6 +443,10 @@ class Tries(Around):
             for line, finding, known in zip(kept, findings, before):
                 steps += [(line, b"", b""), (finding, known, line) if words else (finding, line, b"")]
             self.slowly(steps + last, *words, status=1)
+        steps = []
+        for finding, known in zip(findings[:3], before):
+            steps += [(finding, known, b"")] + [(b"    more of it\n", b"", b"")] * 20
+        self.slowly(steps + last, status=1)
 
     def try_paint(self):
         """Kept lines keep their paint where the theme has colors; nothing else of them drives a terminal."""

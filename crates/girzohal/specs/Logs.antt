@@ -1,5 +1,5 @@
 -- The reports that a SARIF log means.
-use Rattle.std.specs.Prelude.{◌≡◌, ⊤, ℕ, ◌++◌, List, Option, Some, None, codes}
+use Rattle.std.specs.Prelude.{◌≡◌, ℕ, ◌++◌, List, Option, Some, None, codes, decimal}
 use Rattle.found_reports.specs.Kept.{FoundParts}
 use Rattle.found_reports.specs.Held.{Held}
 use Rattle.source_store.specs.Given.{IsGiven}
@@ -43,9 +43,19 @@ fault_line path wanted = codes "girzohal: " ++ path ++ codes ": wanted " ++ want
 abbrev pub no_log_line : List ℕ → List ℕ → List ℕ
 no_log_line path wanted = fault_line (harmless_path path) wanted
 
--- a text is answered with a fault in place of a log; the line says what was wanted, and is free of what is no JSON
+-- the line that says where reading as JSON stopped
+abbrev pub no_json_line : ℕ → ℕ → List ℕ
+no_json_line row column = codes "girzohal: line " ++ (decimal row ++ (codes ", column " ++ (decimal column ++ codes ": input is no JSON\n")))
+
+-- it names a row and a column, no clause says which
+pub record NamesPlace (line : List ℕ) : Type 0 where
+  pub row : ℕ
+  pub column : ℕ
+  pub is : line ≡ no_json_line row column
+
+-- a text is answered with a fault in place of a log; the line says what was wanted and where, or that it is no JSON
 abbrev pub IsFault : Answer → List ℕ → Type 0
-IsFault no_json line = ⊤
+IsFault no_json line = NamesPlace line
 IsFault (refused path wanted) line = line ≡ no_log_line path wanted
 IsFault (log_is log) line = ⊥
 

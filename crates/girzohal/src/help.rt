@@ -7,16 +7,20 @@ usage: girzohal [OPTION].. [--] [FILE]    (FILE - or none: standard input)
 
   make 2>&1 | girzohal                    what a build prints, drawn as it comes
   girzohal --to github log.sarif          a SARIF log, as annotations of GitHub
+  clang .. 2>&1 | girzohal --from sarif   a log among other lines
 
 A value is the next word, or stands behind a =. Of an option that is given again
-the last value counts, of --shape each. Behind -- there are no options.
+the last value counts, of --shape each; --to is given once. Behind -- there are
+no options.
 Options stand here as in an example, and in brackets what counts without them.
 
 What is read
   --from lines         how it is written: auto, document, sarif or lines
-                       [auto: as its first bytes say]
+                       [auto: as its first bytes say; a log behind other lines
+                       is read with sarif alone]
   --tool mypy          who wrote it: sets --from, --columns and --first-column
-                       where these aren't given, and adds shapes of lines [none]
+                       where these aren't given, and adds shapes of lines; of a
+                       log that a tool wrote give --from sarif too [none]
                          clang gcc rustc cargo flake8 shellcheck pylint mypy
                          eslint tsc dotenv-linter fasterer grep hadolint
                          haml-lint kotlin markdownlint phpstan problem-lines
@@ -72,7 +76,7 @@ Environment
 
 status: 0 nothing at that level, 1 something, 2 a word is wrong, 3 an input that
 isn't of its form, 4 a read failed, 5 a write failed, 6 no memory, 7 more than
-64 MiB of what is read whole";
+64 MiB of what is read whole, or of one finding's lines";
 
 /// What `--version` prints.
 pub(crate) const VERSION: &str = "girzohal 0.1.0";

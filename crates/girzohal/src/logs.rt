@@ -1,6 +1,6 @@
 // What is written of a SARIF log.
-ghost use Rattle.std.specs.Prelude.{◌≡◌, ⊤, IfErr, IfOk, string_bytes};
-ghost use Rattle.girzohal.specs.Logs.{IsNoLog, ReadsLog, log_columns as columns_of};
+ghost use Rattle.std.specs.Prelude.{◌≡◌, IfErr, IfOk, string_bytes};
+ghost use Rattle.girzohal.specs.Logs.{IsNoLog, NamesPlace, ReadsLog, log_columns as columns_of};
 ghost use Rattle.girzohal.specs.Logs.{fault_line, harmless_path as harmless_path_of, no_log_line};
 ghost use Rattle.girzohal.specs.Made.{HasCause, Says, Writes};
 
@@ -59,7 +59,7 @@ fn breaks_in(text: &[u8]) -> usize {
 
 /// Where reading as JSON stopped.
 fn no_json(alloc: Global, line: usize, column: usize) -> Fault
-    ensures { Says (λ _. ⊤) result }
+    ensures { Says NamesPlace result }
 {
     match format!(in alloc; "girzohal: line {line}, column {column}: input is no JSON\n") {
         Ok(line) => Fault::NoForm(line.into_bytes()),

@@ -43,7 +43,7 @@ use source_store::DiskStore;
 pub use status::Status;
 use std::alloc::Global;
 use std::fs::Files;
-use std::io::IsTerminal;
+use std::io::{ErrorKind, IsTerminal};
 use std::process::ExitCode;
 use std::{env, fs};
 use surroundings::Surroundings;
@@ -92,9 +92,34 @@ fn obey(rt: &HostRuntime, alloc: Global, mut asked: Asked) -> ExitCode {
         }
         return start(rt, alloc, &asked, &mut StdinSource::new(rt.stdin()), &store);
     };
+    read_file(rt, alloc, &asked, file, &store)
+}
+
+/// Runs over a file, or says why it isn't read.
+fn read_file(
+    rt: &HostRuntime,
+    alloc: Global,
+    asked: &Asked,
+    file: &str,
+    store: &DiskStore<'_, HostRuntime>,
+) -> ExitCode {
+    if let Ok(about) = rt.metadata(file) {
+        if about.is_dir() {
+            return refuse_file(rt, alloc, file, "is a folder");
+        }
+    }
     match fs::open(rt, file) {
-        Ok(opened) => start(rt, alloc, &asked, &mut ReaderSource::new(opened), &store),
-        Err(_) => refuse_file(rt, alloc, file),
+        Ok(opened) => start(rt, alloc, asked, &mut ReaderSource::new(opened), store),
+        Err(e) => refuse_file(rt, alloc, file, why_closed(e.kind())),
+    }
+}
+
+/// Why a file can't be opened.
+fn why_closed(kind: ErrorKind) -> &'static str {
+    match kind {
+        ErrorKind::NotFound => "isn't there",
+        ErrorKind::PermissionDenied => "may not be read",
+        _ => "can't be read",
     }
 }
 
@@ -115,12 +140,12 @@ fn file_in(asked: &Asked) -> Option<&str> {
     }
 }
 
-/// Says that a file can't be read, whose name can't drive a terminal.
-fn refuse_file(rt: &HostRuntime, alloc: Global, file: &str) -> ExitCode {
+/// Says why a file isn't read, whose name can't drive a terminal.
+fn refuse_file(rt: &HostRuntime, alloc: Global, file: &str, why: &str) -> ExitCode {
     let Ok(name) = harmless(alloc, Kind::Name, file) else {
         return ExitCode::from(Status::OutOfMemory.code());
     };
-    let _told = eprintln!(rt; "girzohal: {name} can't be read");
+    let _told = eprintln!(rt; "girzohal: {name} {why}");
     ExitCode::from(Status::ReadFault.code())
 }
 

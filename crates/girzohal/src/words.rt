@@ -35,6 +35,9 @@ fn why(alloc: Global, fault: WordFault<'_>) -> Result<String, AllocError> {
         WordFault::SecondFile(name) => {
             format!(in alloc; "{name}: is a second file, and one is read")
         }
+        WordFault::SecondForm(value) => {
+            format!(in alloc; "--to: '{value}' is a second form, and one is written")
+        }
         WordFault::Uncounted(unit) => {
             format!(in alloc; "--columns: wanted characters or utf16 of a SARIF log, not '{unit}'")
         }
