@@ -119,7 +119,8 @@ def try_messages(folder):
     check("faulty changes are told", len(said) == 2 and "contentChanges[1]" in said[0] and "no open document" in said[1])
     check("the status is that of a session that ended well", whole.returncode == 0)
     check("without shutdown it is 1", run([log], frame(notice("exit"))).returncode == 1)
-    wrong = [[], ["--tool"], ["--from", "xml", log], ["--from", "sarif", "--columns", "bytes", log], ["--from", "sarif", "--columns", "cells", log]]
+    wrong = [[], ["--tool"], ["--from", "xml", log], ["--from", "sarif", "--columns", "bytes", log], ["--from", "sarif", "--columns", "cells", log],
+             ["--tool", "nonsense", log], ["--tool", "sarif", "--columns", "bytes", log]]
     check("words that are none end it with 2", all(run(words, b"").returncode == 2 for words in wrong))
     for seed in range(40):
         chance = random.Random(seed)
@@ -142,6 +143,45 @@ def try_messages(folder):
                 b"Content-Length: 1\r\nContent-Length: 1\r\n\r\n", b"Content-Length: 1 \r\n\r\n", b"Content-Length 1\r\n\r\n"]:
         got = run([log], bad)
         check(f"{bad[:24]} ends it", got.returncode == 1 and got.stdout == b"")
+
+
+SARIF = {"version": "2.1.0", "runs": [{"tool": {"driver": {"name": "t"}}, "results": [{"level": "error", "message": {"text": "one"}, "locations": [
+    {"physicalLocation": {"artifactLocation": {"uri": "a.c"}, "region": {"startLine": 1, "startColumn": 5, "endColumn": 6}}}]}]}]}
+OPENED = frame(notice("textDocument/didOpen", {"textDocument": {"uri": URI, "version": 1, "text": "int x;\nint y;\n"}}))
+SAVED = frame(notice("textDocument/didSave", {"textDocument": {"uri": URI}}))
+BEGUN, OVER, EXITED = frame(request(1, "initialize")), frame(request(2, "shutdown")), frame(notice("exit"))
+
+
+def told_of(folder, log, words, data):
+    """What a client is told that says this: the findings that are published, and what is logged."""
+    path = os.path.join(folder, "told.log")
+    with open(path, "wb") as out:
+        out.write(log)
+    got = run(words + [path], data)
+    out = messages_in(got.stdout)
+    published = [[(d["message"], d["range"]["start"]["line"], d["range"]["start"]["character"]) for d in m["params"]["diagnostics"]]
+                 for m in out if m.get("method") == "textDocument/publishDiagnostics"]
+    return published, [m["params"]["message"] for m in out if m.get("method") == "window/logMessage"]
+
+
+def try_logs(folder):
+    """When a log is looked up, and what its bytes are read as."""
+    lines = b"a.c:1:5: error: one\n"
+    one = [("one", 0, 4)]
+    whole = BEGUN + OPENED + OVER
+    check("a file that is opened and saved is looked up twice", told_of(folder, lines, [], BEGUN + OPENED + SAVED + OVER + EXITED) == ([one, one], []))
+    check("behind shutdown nothing is published", told_of(folder, lines, [], whole + SAVED + OPENED + EXITED) == ([one], []))
+    broken = b'{"version": ]}\n'
+    check("before initialize nothing is told, of a broken log either", told_of(folder, broken, [], OPENED + SAVED + EXITED) == ([], []))
+    sarif = json.dumps(SARIF).encode()
+    mark = b"\xef\xbb\xbf"
+    for words in ([], ["--from", "sarif"], ["--tool", "sarif"]):
+        check(f"a SARIF log behind a byte order mark is read {words}", told_of(folder, mark + sarif, words, whole + EXITED) == ([one], []))
+    check("lines behind a byte order mark are read", told_of(folder, mark + lines, [], whole + EXITED) == ([one], []))
+    published, said = told_of(folder, b"warning: a\nwarning: b\n" + broken, ["--from", "sarif"], whole + EXITED)
+    check("a broken log behind two lines is told with its own line", published == [[]] and len(said) == 1 and " no JSON at 3:" in said[0])
+    published, said = told_of(folder, b"[{}]", [], whole + EXITED)
+    check("JSON that begins with a list is told", published == [[]] and len(said) == 1 and "JSON of no known form" in said[0])
 
 
 def between(text, offset):
@@ -242,7 +282,7 @@ COVERED = {
 
 
 def real_logs(folder, examples):
-    """Logs that tools left, each with its source."""
+    """Logs that tools left, each with its source, and the tool where something is known of it."""
     for source in ("cart.c", "cart.py", "cart.sh", "cart.yaml", "cart.go", "Cart.java", "cart.rs"):
         shutil.copyfile(os.path.join(examples, "outputs", "src", source), os.path.join(folder, source))
     sarif = os.path.join(folder, "clang_16.sarif")
@@ -251,9 +291,9 @@ def real_logs(folder, examples):
     outputs = os.path.join(examples, "outputs")
     tools = [("clang", "clang.txt", "cart.c"), ("clang", "clang-color.txt", "cart.c"), ("gcc", "gcc.txt", "cart.c"),
              ("gcc", "gcc-color.txt", "cart.c"), ("flake8", "flake8.txt", "cart.py"), ("mypy", "mypy-columns.txt", "cart.py"),
-             ("shellcheck", "shellcheck.txt", "cart.sh"), ("yamllint", "yamllint.txt", "cart.yaml"), ("go-vet", "go-vet.txt", "cart.go"),
-             ("javac", "javac.txt", "Cart.java"), ("cppcheck", "cppcheck.txt", "cart.c"), ("rustc", "rustc.txt", "cart.rs")]
-    return [(["--tool", tool, os.path.join(outputs, log)], source) for tool, log, source in tools] + [([sarif], "cart.c")]
+             ("shellcheck", "shellcheck.txt", "cart.sh"), (None, "yamllint.txt", "cart.yaml"), (None, "go-vet.txt", "cart.go"),
+             (None, "javac.txt", "Cart.java"), (None, "cppcheck.txt", "cart.c"), ("rustc", "rustc.txt", "cart.rs")]
+    return [((["--tool", tool] if tool else []) + [os.path.join(outputs, log)], source) for tool, log, source in tools] + [([sarif], "cart.c")]
 
 
 def try_neovim(folder, examples):
@@ -305,6 +345,7 @@ def those(look, numbers):
 
 with tempfile.TemporaryDirectory() as place:
     try_messages(place)
+    try_logs(place)
     check("30 replays", all(try_replay(place, seed, ["utf-8", "utf-16", "utf-32"][seed % 3]) for seed in range(30)))
     if shutil.which("nvim"):
         try_neovim(place, os.path.join(os.path.dirname(HERE), "examples"))

@@ -1,9 +1,12 @@
 -- What the bytes of a log are read as.
-use Rattle.std.specs.Prelude.{◌≡◌, ◌⊎◌, ⊤, ℕ, List, [], ◌∷◌, ◌==◌, ◌||◌, Bool, true, false, MatchBool, slice_range, if◌then◌else◌}
+use Rattle.std.specs.Prelude.{◌≡◌, ◌⊎◌, ⊤, ℕ, List, slice_range}
 use Rattle.std.specs.declared.ops.Range.{Range}
+use Rattle.input_forms.specs.Begun.{begins_as, behind_mark}
+use Rattle.input_forms.specs.declared.begun.Begun.{Begun}
+use Rattle.input_forms.specs.declared.begun.Begun.TheVariants as begun
 use Rattle.sarif_log.specs.Answer.{Answer, answer_to, no_json, refused, log as log_is}
 use Rattle.sarif_log.specs.Cut.{HasNoLog, IsLogIn}
-use Rattle.sarif_log.specs.Log.{Log, log_view}
+use Rattle.sarif_log.specs.Log.{log_view}
 use Rattle.girzohal_lsp.specs.declared.log.LogFile.{LogFile}
 use Rattle.girzohal_lsp.specs.declared.log.LogFile.TheVariants.{Sarif, Lines, Fault}
 use Rattle.girzohal_lsp.specs.declared.words.Form.{Form}
@@ -31,16 +34,19 @@ IsLines bytes (Sarif log) = ⊥
 IsLines bytes (Lines text) = text.items ≡ bytes
 IsLines bytes (Fault why) = ⊥
 
--- a space, a tab, a CR or an LF
-abbrev pub is_blank : ℕ → Bool
-is_blank byte = byte == 0x20 || (byte == 0x09 || (byte == 0x0D || byte == 0x0A))
+abbrev pub IsFault : LogFile → Type 0
+IsFault (Sarif log) = ⊥
+IsFault (Lines text) = ⊥
+IsFault (Fault why) = ⊤
 
--- the first byte that is no blank is a brace
-abbrev pub begins_with_brace : List ℕ → Bool
-begins_with_brace [] = false
-begins_with_brace (byte ∷ rest) = if is_blank byte then begins_with_brace rest else byte == 0x7B
+-- what begins as an object is a SARIF log, and of other JSON none is read
+abbrev pub IsBegun : Begun → List ℕ → LogFile → Type 0
+IsBegun begun.Object text file = IsSarif text file
+IsBegun begun.OtherJson text file = IsFault file
+IsBegun begun.Lines text file = IsLines text file
 
+-- in the form that was asked for, behind one byte order mark
 abbrev pub IsRead : Form → List ℕ → LogFile → Type 0
-IsRead form.Lines bytes file = IsLines bytes file
-IsRead form.Sarif bytes file = IsSarif bytes file
-IsRead form.Auto bytes file = MatchBool (begins_with_brace bytes) (IsSarif bytes file) (IsLines bytes file)
+IsRead form.Lines bytes file = IsLines (behind_mark bytes) file
+IsRead form.Sarif bytes file = IsSarif (behind_mark bytes) file
+IsRead form.Auto bytes file = IsBegun (begins_as bytes) (behind_mark bytes) file

@@ -1,9 +1,10 @@
 // A log, read.
 ghost use Rattle.std.specs.Prelude.{◌≡◌, IfOk};
-ghost use Rattle.girzohal_lsp.specs.Logs.{IsRead, IsSarif, begins_with_brace as brace_first};
-ghost use Rattle.girzohal_lsp.specs.Logs.{is_blank as blank};
+ghost use Rattle.input_forms.specs.Begun.{behind_mark};
+ghost use Rattle.girzohal_lsp.specs.Logs.{IsLines, IsRead, IsSarif};
 
 use crate::words::Form;
+use input_forms::{Begun, begins_as, without_mark};
 use sarif::{Log, LogError, log_in, read_log};
 use std::alloc::{AllocError, Global};
 
@@ -18,7 +19,8 @@ pub enum LogFile {
     Fault(String),
 }
 
-/// Reads the bytes of a log, in the form that was asked for.
+/// Reads the bytes of a log, in the form that was asked for. One byte order mark before them is
+/// skipped.
 ///
 /// # Errors
 ///
@@ -27,36 +29,28 @@ pub fn read_bytes(alloc: Global, form: Form, bytes: Vec<u8>) -> Result<LogFile, 
     ensures { IfOk result (IsRead form bytes.items) }
 {
     match form {
-        Form::Lines => Ok(LogFile::Lines(bytes)),
-        Form::Sarif => sarif_in(alloc, &bytes),
-        Form::Auto => {
-            if begins_with_brace(&bytes) {
-                sarif_in(alloc, &bytes)
-            } else {
-                Ok(LogFile::Lines(bytes))
+        Form::Lines => lines_in(alloc, bytes),
+        Form::Sarif => sarif_in(alloc, without_mark(&bytes)),
+        Form::Auto => match begins_as(&bytes) {
+            Begun::Object => sarif_in(alloc, without_mark(&bytes)),
+            Begun::OtherJson => {
+                let why = "JSON of no known form; SARIF logs and lines are read";
+                Ok(LogFile::Fault(String::from_str(alloc, why)?))
             }
-        }
+            Begun::Lines => lines_in(alloc, bytes),
+        },
     }
 }
 
-/// Whether the first byte that is no blank is a brace.
-fn begins_with_brace(mut bytes: &[u8]) -> bool
-    ensures { result ≡ brace_first bytes.entry.now }
+/// The lines in bytes, which are copied where a mark stands before them.
+fn lines_in(alloc: Global, bytes: Vec<u8>) -> Result<LogFile, AllocError>
+    ensures { IfOk result (IsLines (behind_mark bytes.items)) }
 {
-    while let [first, rest @ ..] = bytes {
-        if !is_blank(*first) {
-            return *first == b'{';
-        }
-        bytes = rest;
+    if !bytes.starts_with(&[0xEF, 0xBB, 0xBF]) {
+        return Ok(LogFile::Lines(bytes));
     }
-    false
-}
-
-/// Whether a byte is a blank of JSON: a space, a tab, a CR or an LF.
-fn is_blank(byte: u8) -> bool
-    ensures { result ≡ blank byte }
-{
-    byte == b' ' || byte == b'\t' || byte == b'\r' || byte == b'\n'
+    let rest = Vec::from_slice(alloc, without_mark(&bytes))?;
+    Ok(LogFile::Lines(rest))
 }
 
 /// The SARIF log in bytes, or why there is none.
@@ -71,6 +65,7 @@ fn sarif_in(alloc: Global, bytes: &[u8]) -> Result<LogFile, AllocError>
         Ok(log) => Ok(LogFile::Sarif(log)),
         Err(LogError::OutOfMemory) => Err(AllocError),
         Err(LogError::NoJson { line, column }) => {
+            let line = breaks_in(&bytes[..range.start]).saturating_add(line);
             let text = format!(in alloc; "no JSON at {line}:{column}")?;
             Ok(LogFile::Fault(text))
         }
@@ -80,4 +75,9 @@ fn sarif_in(alloc: Global, bytes: &[u8]) -> Result<LogFile, AllocError>
             Ok(LogFile::Fault(text))
         }
     }
+}
+
+/// How many lines end in a text.
+fn breaks_in(text: &[u8]) -> usize {
+    text.iter().filter(|byte| **byte == b'\n').count()
 }

@@ -24,6 +24,7 @@ pub use log::{LogFile, read_bytes};
 pub use matching::{is_named, means_file};
 pub use serve::{refresh, serve};
 use std::env;
+use std::io::{self, ErrorKind};
 use std::process::ExitCode;
 pub use words::{Asked, Form, read_words};
 
@@ -32,16 +33,18 @@ const USAGE: &str = "usage: girzohal_lsp [--from auto|lines|sarif] [--tool NAME]
 
 fn main(rt: HostRuntime) -> ExitCode {
     let alloc = rt.alloc();
-    let Ok(mut args) = env::args(&rt) else {
-        return ExitCode::from(2);
+    let words = match words_given(&rt) {
+        Ok(words) => words,
+        Err(fault) if fault.kind() == ErrorKind::OutOfMemory => return ExitCode::from(1),
+        Err(_) => return ExitCode::from(2),
     };
-    let _program = args.next();
-    let Ok(words) = args.collect::<Vec<String>>(alloc) else {
-        return ExitCode::from(2);
-    };
-    let Some(asked) = read_words(&words) else {
-        let _ = eprint!(rt; "{USAGE}");
-        return ExitCode::from(2);
+    let asked = match read_words(alloc, &words) {
+        Ok(Some(asked)) => asked,
+        Ok(None) => {
+            let _ = eprint!(rt; "{USAGE}");
+            return ExitCode::from(2);
+        }
+        Err(_) => return ExitCode::from(1),
     };
     let mut input = rt.stdin();
     let mut out = rt.stdout();
@@ -50,4 +53,12 @@ fn main(rt: HostRuntime) -> ExitCode {
         Ok(false) => ExitCode::from(1),
         Err(_) => ExitCode::from(1),
     }
+}
+
+/// The words behind the program's name.
+fn words_given(rt: &HostRuntime) -> io::Result<Vec<String>> {
+    let mut args = env::args(rt)?;
+    let _program = args.next();
+    let words = args.collect::<Vec<String>>(rt.alloc())?;
+    Ok(words)
 }

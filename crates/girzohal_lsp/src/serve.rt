@@ -1,5 +1,5 @@
 // Messages in, answers out.
-ghost use Rattle.std.specs.Prelude.{◌≡◌, ◌++◌, [], IfOk, OnErr, OnOk};
+ghost use Rattle.std.specs.Prelude.{◌≡◌, [], IfOk, OnErr, OnOk};
 ghost use Rattle.std.specs.List.{flat_map};
 ghost use Rattle.lsp_server.specs.Documents.{IsKept, document_of};
 ghost use Rattle.lsp_server.specs.Session.{answered, answered_by};
@@ -9,7 +9,7 @@ use crate::found::found_in;
 use crate::log::{LogFile, read_bytes};
 use crate::words::Asked;
 use lsp_frames::{End, Frames, write_frame};
-use lsp_server::{Answer, Message, Notice, Server, answer_text, message_in};
+use lsp_server::{Answer, Message, Notice, Server, add_told, answer_text, message_in};
 use std::alloc::{Alloc, AllocError, Global};
 use std::fs;
 use std::io::{self, ErrorKind, Read, Write};
@@ -24,7 +24,7 @@ struct Session<'a> {
 }
 
 /// Serves until the client says `exit` or ends its input, and tells whether it said `shutdown`
-/// before.
+/// before. A read that was interrupted is made again.
 ///
 /// # Errors
 ///
@@ -44,12 +44,15 @@ pub fn serve<F: Files + Alloc, R: Read, W: Write>(
     let mut frames = Frames::new(alloc);
     let mut buffer = [0u8; 8192];
     for _ in 0..u64::MAX {
-        let count = input.read(&mut buffer)?;
-        if count == 0 {
-            break;
-        }
-        if !take_all(rt, &mut frames, &mut session, &buffer[..count], out)? {
-            break;
+        match input.read(&mut buffer) {
+            Ok(0) => break,
+            Ok(count) => {
+                if !take_all(rt, &mut frames, &mut session, &buffer[..count], out)? {
+                    break;
+                }
+            }
+            Err(fault) if fault.kind() == ErrorKind::Interrupted => {}
+            Err(fault) => return Err(fault),
         }
     }
     Ok(session.server.is_well_ended())
@@ -95,8 +98,8 @@ fn handle<F: Files + Alloc, W: Write>(
     Ok(!session.server.is_ended())
 }
 
-/// Takes the message that a body holds, looks up the findings that it asks for, and gives what is
-/// answered and told.
+/// Takes the message that a body holds, looks up the findings that it asks for where the session
+/// runs, and gives what is answered and told.
 fn answers_to<F: Files + Alloc>(
     rt: &F,
     session: &mut Session<'_>,
@@ -111,22 +114,11 @@ fn answers_to<F: Files + Alloc>(
     let mut answers = Vec::new(alloc);
     let answer = session.server.take(alloc, message)?;
     add_told(&mut answers, answer)?;
+    if !session.server.is_running() {
+        return Ok(answers);
+    }
     look_up(rt, session, wanted, &mut answers)?;
     Ok(answers)
-}
-
-/// Appends what is told, if there is any.
-fn add_told(answers: &mut Vec<Answer>, told: Option<Answer>) -> Result<(), AllocError>
-    ensures { OnOk result (flat_map answered_by answers.new.items
-        ≡ flat_map answered_by answers.old.items ++ answered told) }
-{
-    match told {
-        None => Ok(()),
-        Some(told) => {
-            answers.push(told)?;
-            Ok(())
-        }
-    }
 }
 
 /// Which documents findings are looked up for.

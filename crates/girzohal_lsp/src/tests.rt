@@ -1,8 +1,11 @@
-// Which names mean a file, what a log has for it, and which words are none.
-use crate::{Asked, Form, LogFile, found_in, means_file, read_words};
+// Which names mean a file, what a log has for it, how its bytes are read, which words are none, and
+// when nothing is looked up.
+use crate::{Asked, Form, LogFile, found_in, means_file, read_bytes, read_words, serve};
+use lsp_frames::write_frame;
 use oxc_protocol::{Diagnostic, OxcDiagnostic};
 use source_store::Spelling;
 use std::alloc::{AllocError, Global};
+use std::io;
 use std::test::Fail;
 
 #[test]
@@ -59,13 +62,53 @@ fn findings_are_those_on_the_file(rt: HostRuntime) -> Result<(), Fail> {
     Ok(())
 }
 
-/// Whether words are read.
-fn are_read(alloc: Global, words: &[&str]) -> Result<bool, AllocError> {
+/// What a log of this text is read as: a SARIF log, these lines, or why it is none.
+fn read_as(alloc: Global, form: Form, text: &str) -> Result<String, AllocError> {
+    let bytes = Vec::from_slice(alloc, text.as_bytes())?;
+    match read_bytes(alloc, form, bytes)? {
+        LogFile::Sarif(_) => String::from_str(alloc, "a SARIF log"),
+        LogFile::Lines(lines) => String::from_utf8_lossy(alloc, lines.as_slice()),
+        LogFile::Fault(why) => Ok(why),
+    }
+}
+
+const NO_FORM: &str = "JSON of no known form; SARIF logs and lines are read";
+
+#[test]
+fn logs_are_read_behind_a_mark(rt: HostRuntime) -> Result<(), Fail> {
+    let rows = [
+        (
+            Form::Auto,
+            "\u{feff}{\"version\":\"2.1.0\",\"runs\":[]}",
+            "a SARIF log",
+        ),
+        (
+            Form::Sarif,
+            "\u{feff}{\"version\":\"2.1.0\",\"runs\":[]}",
+            "a SARIF log",
+        ),
+        (Form::Auto, "\u{feff}a.c:1: x", "a.c:1: x"),
+        (Form::Lines, "\u{feff}\u{feff}{", "\u{feff}{"),
+        (Form::Auto, "\u{feff} [{", NO_FORM),
+        (Form::Auto, "[ x", "[ x"),
+        (Form::Sarif, "one\ntwo\n{]}", "no JSON at 3:3"),
+    ];
+    for (form, text, wanted) in rows {
+        assert_eq!(rt; read_as(rt.alloc(), form, text)?.as_str(), wanted);
+    }
+    Ok(())
+}
+
+/// The form that words ask for; none where they are no such words.
+fn form_asked(alloc: Global, words: &[&str]) -> Result<Option<Form>, AllocError> {
     let mut list = Vec::new(alloc);
     for word in words {
         list.push(String::from_str(alloc, word)?)?;
     }
-    Ok(read_words(&list).is_some())
+    match read_words(alloc, &list)? {
+        Some(asked) => Ok(Some(asked.from)),
+        None => Ok(None),
+    }
 }
 
 #[test]
@@ -80,7 +123,64 @@ fn a_sarif_log_counts_no_bytes(rt: HostRuntime) -> Result<(), Fail> {
     ];
     for (form, unit, read) in rows {
         let words = ["log", "--columns", unit, "--from", form];
-        assert!(rt; are_read(rt.alloc(), &words)? == read);
+        assert!(rt; form_asked(rt.alloc(), &words)?.is_some() == read);
     }
+    Ok(())
+}
+
+#[test]
+fn a_tool_is_known_and_may_say_the_form(rt: HostRuntime) -> Result<(), Fail> {
+    let rows = [
+        ("gcc", "--first-column", "1", Some(Form::Auto)),
+        ("sarif", "--first-column", "1", Some(Form::Sarif)),
+        ("sarif", "--columns", "bytes", None),
+        ("sarif", "--from", "lines", Some(Form::Lines)),
+        ("nonsense", "--from", "lines", None),
+        ("", "--from", "sarif", None),
+    ];
+    for (tool, key, value, form) in rows {
+        let words = ["--tool", tool, key, value, "log"];
+        assert!(rt; form_asked(rt.alloc(), &words)? == form);
+    }
+    Ok(())
+}
+
+const BEGIN: &str = r#"{"id":0,"method":"initialize","params":{}}"#;
+
+const OPEN: &str = concat!(
+    r#"{"method":"textDocument/didOpen","params":{"textDocument":"#,
+    r#"{"uri":"file:///a.c","languageId":"c","version":1,"text":"int x;\n"}}}"#,
+);
+
+const SAVE: &str = concat!(
+    r#"{"method":"textDocument/didSave","params":{"textDocument":"#,
+    r#"{"uri":"file:///a.c"}}}"#,
+);
+
+const END: &str = r#"{"id":1,"method":"shutdown"}"#;
+
+const EXIT: &str = r#"{"method":"exit"}"#;
+
+/// What is written to a client that says this, of a log that can't be read.
+fn said_to(rt: &HostRuntime, bodies: &[&str]) -> io::Result<Vec<u8>> {
+    let alloc = rt.alloc();
+    let mut input = Vec::new(alloc);
+    for body in bodies {
+        let frame = write_frame(alloc, body.as_bytes())?;
+        input.extend_from_slice(frame.as_slice())?;
+    }
+    let mut out = Vec::new(alloc);
+    serve(rt, alloc, ASKED, &mut input.as_slice(), &mut out)?;
+    Ok(out)
+}
+
+#[test]
+fn nothing_is_looked_up_while_no_session_runs(rt: HostRuntime) -> Result<(), Fail> {
+    assert!(rt; said_to(&rt, &[OPEN, SAVE, EXIT])?.is_empty());
+    let opened = said_to(&rt, &[BEGIN, OPEN, END, EXIT])?;
+    let saved = said_to(&rt, &[BEGIN, OPEN, SAVE, END, EXIT])?;
+    let late = said_to(&rt, &[BEGIN, OPEN, END, SAVE, OPEN, EXIT])?;
+    assert!(rt; opened.len() < saved.len());
+    assert!(rt; late == opened);
     Ok(())
 }

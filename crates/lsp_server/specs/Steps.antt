@@ -1,6 +1,7 @@
 -- What a message does to a server, and what it is answered.
-use Rattle.std.specs.Prelude.{◌≡◌, Option, Some, None}
+use Rattle.std.specs.Prelude.{◌≡◌, List, [], ◌∷◌, ◌++◌, Option, Some, None}
 use Rattle.std.specs.Bool.{MatchBool}
+use Rattle.std.specs.Option.{option_to_list}
 use Rattle.lsp_server.specs.Session.{is_running, next_agreed, next_phase, requested}
 use Rattle.lsp_server.specs.Documents.{document_of}
 use Rattle.lsp_server.specs.Told.{AreSame, IsNoticed}
@@ -23,3 +24,10 @@ pub record IsStep (old : Server) (message : Message) (new : Server) (told : Opti
   pub phase : new.phase ≡ next_phase old.phase message
   pub agreed : new.agreed ≡ next_agreed old.phase old.agreed message
   pub tells : IsTold old message new told
+
+-- messages, one behind another, and all that is answered and told, in their order
+abbrev pub AreSteps : Server → List Message → Server → List Answer → Type 0
+AreSteps old [] new answers = (new ≡ old) × (answers ≡ [])
+AreSteps old (message ∷ rest) new answers =
+    (between : Server) × (told : Option Answer) × (later : List Answer)
+    × IsStep old message between told × AreSteps between rest new later × (answers ≡ option_to_list told ++ later)

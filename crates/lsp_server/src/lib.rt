@@ -20,4 +20,4 @@ pub use documents::OpenText;
 pub use message::{Agreed, Answer, Code, Id, Message, Method, Notice, Params, Refused, Wanted};
 pub use moved::{moved_all, moved_diagnostic, moved_label};
 pub use parse::message_in;
-pub use server::{Phase, Server};
+pub use server::{Phase, Server, add_told};

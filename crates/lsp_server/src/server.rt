@@ -2,11 +2,11 @@
 ghost use Rattle.std.specs.Prelude.{◌≡◌, ◌++◌, ◌↔◌, IsTrue, true, ℕ, List, IfOk, OnOk, OnErr};
 ghost use Rattle.std.specs.Prelude.{map, string_bytes, None, Some, []};
 ghost use Rattle.std.specs.List.{flat_map};
-ghost use Rattle.std.specs.Option.{option_copied};
+ghost use Rattle.std.specs.Option.{option_copied, option_to_list};
 ghost use Rattle.source_location.specs.Index.{Fits};
-ghost use Rattle.lsp_server.specs.Session.{answered, answered_by, asked, begun, next_agreed};
-ghost use Rattle.lsp_server.specs.Session.{next_phase, notice_phase, phase_after, request_phase};
-ghost use Rattle.lsp_server.specs.Session.{requested, IsExit};
+ghost use Rattle.lsp_server.specs.Session.{answered, answered_by, asked, begun, is_running};
+ghost use Rattle.lsp_server.specs.Session.{next_agreed, next_phase, notice_phase, phase_after};
+ghost use Rattle.lsp_server.specs.Session.{request_phase, requested, IsExit};
 ghost use Rattle.lsp_server.specs.Told.{AreSame, IsChanged, IsClosed, IsNoticed, IsOpened, OnlyAt};
 ghost use Rattle.lsp_server.specs.Told.{ShowsAs};
 
@@ -43,7 +43,7 @@ pub struct Server {
 
 impl Server {
     ghost use Rattle.lsp_server.specs.Documents.{document_of, open_uris, IsKept};
-    ghost use Rattle.lsp_server.specs.Steps.{IsStep};
+    ghost use Rattle.lsp_server.specs.Steps.{AreSteps, IsStep};
 
     /// A server before its first message.
     pub fn new(alloc: Global) -> Server
@@ -80,8 +80,7 @@ impl Server {
         }
     }
 
-    /// Takes messages, one behind another, and gives what is answered and told. Each request is
-    /// answered once, in their order.
+    /// Takes messages, one behind another, and gives what is answered and told, in their order.
     ///
     /// # Errors
     ///
@@ -91,14 +90,16 @@ impl Server {
         alloc: Global,
         messages: Vec<Message>,
     ) -> Result<Vec<Answer>, AllocError>
+        ensures steps { IfOk result (λ answers.
+            AreSteps self.old messages.items self.new answers.items) }
         ensures once { IfOk result (λ answers.
             flat_map answered_by answers.items ≡ flat_map asked messages.items) }
         ensures phase { OnOk result (self.new.phase ≡ phase_after self.old.phase messages.items) }
     {
         let mut answers = Vec::new(alloc);
         for message in messages {
-            let answer = self.take(alloc, message)?;
-            add_answer(&mut answers, answer)?;
+            let told = self.take(alloc, message)?;
+            add_told(&mut answers, told)?;
         }
         Ok(answers)
     }
@@ -149,6 +150,13 @@ impl Server {
             uris.push(String::from_str(alloc, uri.as_str())?)?;
         }
         Ok(uris)
+    }
+
+    /// Whether the session runs: the client said `initialize`, and neither `shutdown` nor `exit`.
+    pub fn is_running(&self) -> bool
+        ensures { result ≡ is_running self.now.phase }
+    {
+        matches!(self.phase, Phase::Running)
     }
 
     /// Whether the client said `exit`.
@@ -315,12 +323,15 @@ impl Server {
     }
 }
 
-/// Appends an answer, if there is one.
-fn add_answer(answers: &mut Vec<Answer>, answer: Option<Answer>) -> Result<(), AllocError>
-    ensures { OnOk result (flat_map answered_by answers.new.items
-        ≡ flat_map answered_by answers.old.items ++ answered answer) }
+/// Appends what is told, if there is any.
+///
+/// # Errors
+///
+/// Want of memory.
+pub fn add_told(answers: &mut Vec<Answer>, told: Option<Answer>) -> Result<(), AllocError>
+    ensures { OnOk result (answers.new.items ≡ answers.old.items ++ option_to_list told) }
 {
-    match answer {
+    match told {
         None => Ok(()),
         Some(answer) => {
             answers.push(answer)?;

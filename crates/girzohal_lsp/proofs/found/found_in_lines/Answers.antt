@@ -1,5 +1,5 @@
 -- The findings of the lines with what the one open file gives of their names.
-use Rattle.std.proofs.Common.{rules, ◌≡◌, ◌∙◌, ℕ, List, map, string_bytes, None, ap, subst}
+use Rattle.std.proofs.Common.{rules, ◌≡◌, ℕ, List, map, string_bytes, None, subst}
 use Rattle.found_reports.specs.Found.{Found}
 use Rattle.found_reports.specs.Listed.{held_in}
 use Rattle.source_store.specs.Given.{IsGiven}

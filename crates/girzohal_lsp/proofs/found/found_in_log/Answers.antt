@@ -1,11 +1,10 @@
 -- The log's findings with what the one open file gives of its names.
-use Rattle.std.proofs.Common.{rules, ◌≡◌, ◌∙◌, ℕ, List, map, string_bytes, ap, subst}
+use Rattle.std.proofs.Common.{rules, ◌≡◌, ℕ, List, map, string_bytes, subst}
 use Rattle.found_reports.specs.Found.{Found}
 use Rattle.found_reports.specs.Listed.{held_in}
 use Rattle.source_store.specs.Given.{IsGiven}
 use Rattle.source_store.specs.declared.named.Spelling.TheVariants.{Uri}
 use Rattle.sarif_log.specs.Log.{log_view}
-use Rattle.sarif_log.specs.declared.log.ColumnKind.{ColumnKind}
 use Rattle.sarif.specs.Asked.{names_in}
 use Rattle.sarif.specs.Meaning.{reports_in}
 use Rattle.girzohal_lsp.specs.Found.{AreShown, log_columns, told_open}

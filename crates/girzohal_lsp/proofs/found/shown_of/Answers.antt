@@ -1,5 +1,5 @@
 -- The reports by what contracts see of them.
-use Rattle.std.proofs.Common.{◌≡◌, ◌∙◌, ◌<◌, List, length, map, get_or, sym, ap, subst}
+use Rattle.std.proofs.Common.{◌∙◌, ◌<◌, List, length, map, get_or, sym, ap, subst}
 use Rattle.std.proofs.lemmas.List.{length-map}
 use Rattle.std.specs.List.{filter_map}
 use Rattle.oxc_protocol.specs.Parts.{OxcParts}

@@ -1,5 +1,5 @@
 -- The document that is looked up is open, and what is found stands in its text.
-use Rattle.std.proofs.Common.{rules, ◌≡◌, List, ℕ, All, Option, Some, sym, subst}
+use Rattle.std.proofs.Common.{rules, ◌≡◌, All, Option, Some, sym, subst}
 use Rattle.lsp_diagnostics.specs.Seen.{StandIn}
 use Rattle.source_store.specs.Named.{path_in}
 use Rattle.source_store.specs.declared.named.Spelling.TheVariants.{Uri}
