@@ -1,5 +1,5 @@
-//! Reports in plain arrays, drawn where they stand: neither sources nor texts are copied before
-//! they are drawn.
+//! Reports in plain arrays, drawn where they stand: of what they say the text of a label and a code
+//! are copied before it is drawn, and nothing else.
 //!
 //! [`arrays_text`] gives what `render_files` would draw of the files and reports that the arrays
 //! say, and refuses what it would refuse.

@@ -59,19 +59,31 @@ pub trait Files {
         ensures { result ≡ holds self.now id };
 
     /// What to call the file in a message.
+    ///
+    /// # Errors
+    ///
+    /// What the database refuses (`refuses`).
     fn name(&self, id: Self::FileId) -> Result<&str, Error>
         requires { IsTrue (holds self.now id) }
         ensures { MatchResult result (λ name. name.now ≡ name_in self.now id)
             (λ error. refuses self.now id error) };
 
     /// The text of the file.
+    ///
+    /// # Errors
+    ///
+    /// What the database refuses (`refuses`).
     fn source(&self, id: Self::FileId) -> Result<&str, Error>
         requires { IsTrue (holds self.now id) }
         ensures { MatchResult result (λ text. text.now ≡ text_in self.now id)
             (λ error. refuses self.now id error) };
 
-    /// The line of a place, both from 0; past the end the last line. The place is at most
+    /// The line of a place in bytes, both from 0; past the end the last line. The place is at most
     /// `u32::MAX`.
+    ///
+    /// # Errors
+    ///
+    /// What the database refuses (`refuses`).
     fn line_index(&self, id: Self::FileId, byte_index: usize) -> Result<usize, Error>
         requires held { IsTrue (holds self.now id) }
         requires small { byte_index ≤ u32.MAX }
@@ -80,7 +92,9 @@ pub trait Files {
 
     /// The bytes of a line, its break included. The line counts from 0 and is at most `u32::MAX`.
     ///
-    /// It refuses exactly the lines that the text doesn't have, with `LineTooLarge`.
+    /// # Errors
+    ///
+    /// `LineTooLarge`, exactly for a line that the text doesn't have.
     fn line_range(&self, id: Self::FileId, line_index: usize) -> Result<Range<usize>, Error>
         requires held { IsTrue (holds self.now id) }
         requires small { line_index ≤ u32.MAX }

@@ -19,8 +19,11 @@ pub trait Source {
     ghost faults: { Self → ℕ };
 
     /// Puts the next bytes at the front of `buf` and answers how many; 0 for a `buf` that isn't
-    /// empty means the end. `Failed` comes only where the count of faults rose, and nothing was
-    /// taken.
+    /// empty means the end.
+    ///
+    /// # Errors
+    ///
+    /// `Failed`, only where the count of faults rose; nothing was taken.
     fn read(&mut self, buf: &mut [u8]) -> Result<usize, Failed>
         ensures bound { ReadsAtMost result buf.new }
         ensures bytes { ReadConsumes (left self.old) (left self.new) result buf.new }

@@ -32,7 +32,11 @@ pub trait Sources {
     /// What is told of a name: its text, or why it has none.
     ghost told: { Self → List ℕ → Held };
 
-    /// The text of a name, which has fewer than `u32::MAX` bytes, or why there is none.
+    /// The text of a name, which has fewer than `u32::MAX` bytes.
+    ///
+    /// # Errors
+    ///
+    /// Why there is none.
     fn source(&self, name: &str) -> Result<&str, Lack>
         ensures told { held_of result ≡ told self.now name.now }
         ensures short { IfOk result (λ text. Fits text.now) };

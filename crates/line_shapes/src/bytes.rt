@@ -93,7 +93,7 @@ pub fn run(kind: Kind, text: &[u8]) -> usize
     text.iter().take_while(|byte| is_in(kind, **byte)).count()
 }
 
-/// The same where there is one at least.
+/// The same, in bytes, where there is one at least.
 pub fn run_of(kind: Kind, text: &[u8]) -> Option<usize>
     ensures value { result ≡ some_run (prefix_len (belongs kind) text.now) }
     ensures within { IfSome result (λ n. n ≤ length text.now) }
@@ -164,7 +164,7 @@ fn leads_well(digits: &[u8]) -> bool
     }
 }
 
-/// How long the capital letters and digits are that a text begins with, one to six of each.
+/// How many bytes the capital letters and digits have that a text begins with, one to six of each.
 pub fn capitals_and_digits(text: &[u8]) -> Option<usize>
     ensures value { result ≡ number_length text.now }
     ensures within { IfSome result (λ n. n ≤ length text.now) }
@@ -184,7 +184,7 @@ pub fn capitals_and_digits(text: &[u8]) -> Option<usize>
     }
 }
 
-/// How long the words are, joined by `/`, that a text begins with.
+/// How many bytes the words have, joined by `/`, that a text begins with.
 pub fn cop_len(text: &[u8]) -> Option<usize>
     ensures value { result ≡ cop_length text.now }
     ensures within { IfSome result (λ n. n ≤ length text.now) }

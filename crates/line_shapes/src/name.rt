@@ -22,7 +22,7 @@ pub enum NameKind {
     OneWord,
 }
 
-/// Whether a text begins with a name that ends here.
+/// Whether a text begins with a name that ends here, at so many bytes.
 pub fn is_name(text: &[u8], end: usize, kind: NameKind) -> bool
     requires { end ≤ length text.now }
     ensures { result ≡ is_name_there kind text.now end }
@@ -48,7 +48,7 @@ pub fn is_angle(text: &[u8]) -> bool
     }
 }
 
-/// How long the name in angles is that a text begins with, or 0: `<stdin>`.
+/// How many bytes the name in angles has that a text begins with, or 0: `<stdin>`.
 pub fn angle_len(text: &[u8]) -> usize
     ensures value { result ≡ angle_length text.now }
     ensures within { result ≤ length text.now }
@@ -122,7 +122,7 @@ fn ends_date(text: &[u8]) -> bool
     }
 }
 
-/// The first place at which a name can't go on.
+/// The first place, in bytes, at which a name can't go on.
 #[tactic(auto, unfolding(crate::specs::Name::first_fault))]
 pub fn first_fault(text: &[u8], kind: NameKind) -> usize
     ensures { result ≡ fault_first kind text.now }

@@ -22,6 +22,10 @@ pub trait Diagnostic: Drop {
         ensures { result.now ≡ (parts self.now).message };
 
     /// A code by which this kind of diagnostic can be looked up.
+    ///
+    /// # Errors
+    ///
+    /// Want of memory.
     fn code(&self, alloc: Global) -> Result<Option<String>, AllocError>
         ensures { IfOk result (λ code. text_bytes code ≡ (parts self.now).code) };
 

@@ -31,6 +31,10 @@ pub trait DiagnosticReporter {
     ghost lacks_fallback: { Self → Type 0 } = { λ _. ⊥ };
 
     /// Called where no more diagnostics come. A reporter that kept texts back gives them now.
+    ///
+    /// # Errors
+    ///
+    /// Want of memory.
     fn finish(
         &mut self,
         alloc: Global,
@@ -47,6 +51,10 @@ pub trait DiagnosticReporter {
     }
 
     /// Renders one diagnostic. None leaves it out.
+    ///
+    /// # Errors
+    ///
+    /// Want of memory.
     fn render_error(&mut self, alloc: Global, error: Error) -> Result<Option<String>, AllocError>
         ensures { IfOk result (λ text. renders self.old (parts error) (text_bytes text) self.new) };
 
@@ -75,6 +83,10 @@ pub trait DiagnosticReporter {
     }
 
     /// The same with a closure that is lent, so that a caller knows what became of it.
+    ///
+    /// # Errors
+    ///
+    /// Want of memory, after the texts of the first of them were handed on.
     final fn render_errors_into<F: FnMut(&str)>(
         &mut self,
         alloc: Global,
@@ -123,6 +135,10 @@ pub trait DiagnosticReporter {
     }
 
     /// The same with a closure that is lent, so that a caller knows what became of it.
+    ///
+    /// # Errors
+    ///
+    /// Want of memory, after what the first of them gave was offered and kept.
     final fn render_errors_until_into<F: FnMut(Option<&str>, &str) -> bool>(
         &mut self,
         alloc: Global,

@@ -18,7 +18,11 @@ pub trait Sink {
     ghost faults: { Self → ℕ };
 
     /// Takes a first part of `bytes` and answers how many bytes it took, at least one of a piece
-    /// that isn't empty. `Failed` comes only where the count of faults rose, and nothing was taken.
+    /// that isn't empty.
+    ///
+    /// # Errors
+    ///
+    /// `Failed`, only where the count of faults rose; nothing was taken.
     fn write(&mut self, bytes: &[u8]) -> Result<usize, Failed>
         ensures bound { WritesAtMost result bytes.now }
         ensures takes { IfOk result (λ n. 0 < length bytes.now → 0 < n) }

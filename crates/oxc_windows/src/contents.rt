@@ -27,7 +27,7 @@ impl<'a> Model for SpanContents<'a> {
 }
 
 impl<'a> SpanContents<'a> {
-    /// Contents of exactly these parts.
+    /// Contents of exactly these parts; `line` and `column`, in bytes, count from 0.
     pub fn new(bytes: &'a [u8], span: Span, line: usize, column: usize, line_count: usize) -> Self
         ensures { result ≡ record {
           bytes = bytes.now;

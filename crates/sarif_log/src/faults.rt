@@ -191,6 +191,10 @@ fn missing<'v>(
 }
 
 /// The first fault of a value, in reading order, if it isn't of the kind.
+///
+/// # Errors
+///
+/// Want of memory.
 #[cycle(fault)]
 #[tactic(auto, unfolding(crate::specs::Faults::fault_in))]
 pub fn find_fault<'d>(

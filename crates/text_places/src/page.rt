@@ -55,8 +55,7 @@ impl Counts {
     }
 }
 
-/// The text of a page with its answers: all its bytes count as looked at. Who counts what is looked
-/// at comes to a page's text by this alone.
+/// The text of a page with its answers: all its bytes count as looked at.
 pub(crate) fn looked_at<'a, L: Ledger>(page: &'a Page, steps: &mut Steps<L>) -> &'a PageText
     ensures text { string_bytes result.now ≡ bytes_in page.now }
     ensures ticks { steps.new ≡ steps.old + length (bytes_in page.now) }

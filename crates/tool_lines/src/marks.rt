@@ -20,7 +20,7 @@ pub fn begins_blank(line: &[u8]) -> bool
     }
 }
 
-/// How long the gutter is: blanks, digits, blanks, and a `|`.
+/// How many bytes the gutter has: blanks, digits, blanks, and a `|`.
 pub fn gutter(line: &[u8]) -> Option<usize>
     ensures value { result ≡ gutter_there line.now }
     ensures within { IfSome result (λ n. n ≤ length line.now) }
