@@ -6,7 +6,9 @@
 - Each row of docs/DEFINITIONS.md names files, and its words are defined in them, not only handed on.
 - Each row of docs/PROMISES.md names a file, a call in it, clauses of that call, and definitions that stand in specs/.
 - Each function under "A caller" or "How it is called" on a page of a crate stands in that crate's sources, but for layout,
-  and so is proved. (An example under another heading, as "How a call looks", shows just that.)
+  and so is proved. (An example under another heading, as "How a call looks", shows just that.) So does each function of
+  README.md stand in some crate's.
+- README.md's status line has the version that the file VERSION has.
 It prints what isn't so, and a last line; the status is 1 where something isn't."""
 import glob
 import os
@@ -83,22 +85,36 @@ def functions(text):
     return found
 
 
-def wrong_examples(page):
-    crate = os.path.dirname(page)
+def strangers(text, crates):
+    """The functions that a text shows in Rust and that stand in no source of these crates; those with an ellipsis aside."""
     known = {}
-    # (a crate's tests stand in a crate of tests above it)
-    tests = os.path.join(os.path.dirname(crate), "*_tests")
-    paths = [path for top in (crate, tests) for path in glob.glob(os.path.join(top, "src", "**", "*.rt"), recursive=True)]
+    paths = [path for top in crates for path in glob.glob(os.path.join(top, "src", "**", "*.rt"), recursive=True)]
     for path in paths:
         for name, bodies in functions(read(path)).items():
             known.setdefault(name, set()).update(bodies)
-    callers = re.findall(r"^## (?:A caller|How it is called)$(.*?)(?=^## |\Z)", read(page), re.S | re.M)
-    for block in re.findall(r"^```rust\n(.*?)^```", "".join(callers), re.S | re.M):
+    for block in re.findall(r"^```rust\n(.*?)^```", text, re.S | re.M):
         for name, bodies in functions(block).items():
-            if ".." in re.sub(r"\.\.=?\w|\w\.\.|\[\.\.", "", "".join(bodies)):
-                continue
-            if not bodies & known.get(name, set()):
-                yield f"the example `{name}` stands in no source of the crate as it is shown"
+            if not re.search(r"\(\.\.\)|\{\.\.\}", "".join(bodies)) and not bodies & known.get(name, set()):
+                yield name
+
+
+def wrong_examples(page):
+    crate = os.path.dirname(page)
+    # (a crate's tests stand in a crate of tests above it)
+    crates = (crate, os.path.join(os.path.dirname(crate), "*_tests"))
+    callers = re.findall(r"^## (?:A caller|How it is called)$(.*?)(?=^## |\Z)", read(page), re.S | re.M)
+    for name in strangers("".join(callers), crates):
+        yield f"the example `{name}` stands in no source of the crate as it is shown"
+
+
+def wrong_front():
+    """What README.md shows and says by hand."""
+    page = read(os.path.join(TOP, "README.md"))
+    for name in strangers(page, (os.path.join(TOP, "crates", "*"),)):
+        yield f"the example `{name}` stands in no source as it is shown"
+    version = read(os.path.join(TOP, "VERSION")).strip()
+    if f"\nVersion {version} · " not in page:
+        yield f"the status line has another version than the file VERSION, {version}"
 
 
 def clauses_of(text, call):
@@ -132,12 +148,14 @@ def wrong_promises():
             yield f"{crate}: {names[0]}: no such file"
             continue
         text = read(file)
-        for call in re.findall(r"`(\w+)`", cells[1].split(":")[0]):
+        # (a call may be written with its type, `Type::call`; its clauses stand behind a colon and a blank)
+        calls, _, clauses = cells[1].partition(": ")
+        for call in re.findall(r"`(?:\w+::)*(\w+)`", calls):
             stated = clauses_of(text, call)
             if stated is None:
                 yield f"{crate}: {names[0]} has no call `{call}`"
                 continue
-            for clause in re.findall(r"`(\w+)`", cells[1].partition(":")[2]):
+            for clause in re.findall(r"`(\w+)`", clauses):
                 if clause not in stated:
                     yield f"{crate}: `{call}` in {names[0]} has no clause `{clause}`"
         specs = "\n".join(read(spec) for spec in glob.glob(os.path.join(TOP, "crates", "*", "specs", "**", "*.antt"), recursive=True))
@@ -189,6 +207,7 @@ def main():
         wrong += [f"{name}: {said}" for said in broken_links(page)]
         if re.fullmatch(r"crates/\w+/README\.md", name):
             wrong += [f"{name}: {said}" for said in wrong_examples(page)]
+    wrong += [f"README.md: {said}" for said in wrong_front()]
     wrong += [f"docs/PROMISES.md: {said}" for said in wrong_promises()]
     wrong += [f"docs/DEFINITIONS.md: {said}" for said in wrong_definitions()]
     wrong += [f"docs/MAP.md: {said}" for said in wrong_layers()]
