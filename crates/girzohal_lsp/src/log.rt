@@ -1,9 +1,11 @@
 // A log, read.
-ghost use Rattle.std.specs.Prelude.{◌≡◌, IfOk};
+ghost use Rattle.std.specs.Prelude.{◌≡◌, IfOk, string_bytes};
 ghost use Rattle.input_forms.specs.Begun.{behind_mark};
-ghost use Rattle.girzohal_lsp.specs.Logs.{IsLines, IsRead, IsSarif};
+ghost use Rattle.girzohal_lsp.specs.Logs.{IsLines, IsRead, IsSarif, NamesPlace};
+ghost use Rattle.girzohal_lsp.specs.Logs.{fault_text as fault_meant};
 
 use crate::words::Form;
+use bytecount::count;
 use input_forms::{Begun, begins_as, without_mark};
 use sarif::{Log, LogError, log_in, read_log};
 use std::alloc::{AllocError, Global};
@@ -65,19 +67,28 @@ fn sarif_in(alloc: Global, bytes: &[u8]) -> Result<LogFile, AllocError>
         Ok(log) => Ok(LogFile::Sarif(log)),
         Err(LogError::OutOfMemory) => Err(AllocError),
         Err(LogError::NoJson { line, column }) => {
-            let line = breaks_in(&bytes[..range.start]).saturating_add(line);
-            let text = format!(in alloc; "no JSON at {line}:{column}")?;
+            let line = count(&bytes[..range.start], b'\n').saturating_add(line);
+            let text = no_json(alloc, line, column)?;
             Ok(LogFile::Fault(text))
         }
         Err(LogError::Fault { path, wanted }) => {
-            let path = path.as_str();
-            let text = format!(in alloc; "{path}: wanted {wanted}")?;
+            let text = fault_text(alloc, path.as_str(), wanted)?;
             Ok(LogFile::Fault(text))
         }
     }
 }
 
-/// How many lines end in a text.
-fn breaks_in(text: &[u8]) -> usize {
-    text.iter().filter(|byte| **byte == b'\n').count()
+/// Where reading as JSON stopped.
+fn no_json(alloc: Global, line: usize, column: usize) -> Result<String, AllocError>
+    ensures { IfOk result (λ why. NamesPlace (string_bytes why)) }
+{
+    let why = format!(in alloc; "no JSON at {line}:{column}")?;
+    Ok(why)
+}
+
+/// What was wanted, and where.
+fn fault_text(alloc: Global, path: &str, wanted: &str) -> Result<String, AllocError>
+    ensures { IfOk result (λ why. string_bytes why ≡ fault_meant path.now wanted.now) }
+{
+    format!(in alloc; "{path}: wanted {wanted}")
 }

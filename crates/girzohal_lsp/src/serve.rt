@@ -1,9 +1,12 @@
 // Messages in, answers out.
-ghost use Rattle.std.specs.Prelude.{◌≡◌, [], IfOk, OnErr, OnOk};
+ghost use Rattle.std.specs.Prelude.{◌≡◌, [], IfOk, OnErr, OnOk, map, string_bytes};
 ghost use Rattle.std.specs.List.{flat_map};
 ghost use Rattle.lsp_server.specs.Documents.{IsKept, document_of};
 ghost use Rattle.lsp_server.specs.Session.{answered, answered_by};
-ghost use Rattle.girzohal_lsp.specs.Served.{AnswersBody, IsRefreshed};
+ghost use Rattle.lsp_server.specs.declared.server.Server.{Server as ServerSeen};
+ghost use Rattle.girzohal_lsp.specs.Served.{AddsRefreshed, AnswersBody, IsLookedUp, IsReadLog};
+ghost use Rattle.girzohal_lsp.specs.Served.{IsRefreshed, LooksUp, TellsFault, uris_of};
+ghost use Rattle.girzohal_lsp.specs.Served.{wanted_uris};
 
 use crate::found::found_in;
 use crate::log::{LogFile, read_bytes};
@@ -104,9 +107,9 @@ fn answers_to<F: Files + Alloc>(
     rt: &F,
     session: &mut Session<'_>,
     body: &[u8],
-) -> io::Result<Vec<Answer>>
-    ensures { IfOk result (λ answers.
-        AnswersBody session.old.server body.now session.new.server answers.items) }
+) -> Result<Vec<Answer>, AllocError>
+    ensures { IfOk result (λ answers. AnswersBody session.old.asked
+        session.old.server body.now session.new.server answers.items) }
 {
     let alloc = session.alloc;
     let message = message_in(alloc, body)?;
@@ -130,7 +133,10 @@ enum Wanted {
 }
 
 /// The document that is opened, or all where one is saved.
-fn wanted_by(alloc: Global, message: &Message) -> Result<Wanted, AllocError> {
+fn wanted_by(alloc: Global, message: &Message) -> Result<Wanted, AllocError>
+    ensures { IfOk result (λ wanted. (server : ServerSeen)
+        → wanted_uris wanted server ≡ uris_of message.now server) }
+{
     match message {
         Message::Notification(Notice::Opened(uri, _, _)) => {
             let uri = String::from_str(alloc, uri.as_str())?;
@@ -147,7 +153,10 @@ fn look_up<F: Files + Alloc>(
     session: &mut Session<'_>,
     wanted: Wanted,
     answers: &mut Vec<Answer>,
-) -> io::Result<()>
+) -> Result<(), AllocError>
+    ensures looks { OnOk result (IsLookedUp session.old.asked
+        (wanted_uris wanted session.old.server) session.old.server session.new.server
+        answers.old.items answers.new.items) }
     ensures none { OnOk result (flat_map answered_by answers.new.items
         ≡ flat_map answered_by answers.old.items) }
     ensures phase { OnOk result (session.new.server.phase ≡ session.old.server.phase) }
@@ -172,7 +181,9 @@ fn show_all<F: Files + Alloc>(
     session: &mut Session<'_>,
     uris: &[String],
     answers: &mut Vec<Answer>,
-) -> io::Result<()>
+) -> Result<(), AllocError>
+    ensures looks { OnOk result (LooksUp session.old.asked (map string_bytes uris.now)
+        session.old.server session.new.server answers.old.items answers.new.items) }
     ensures none { OnOk result (flat_map answered_by answers.new.items
         ≡ flat_map answered_by answers.old.items) }
     ensures phase { OnOk result (session.new.server.phase ≡ session.old.server.phase) }
@@ -192,7 +203,8 @@ fn told_of_fault(
     asked: Asked<'_>,
     log: &LogFile,
 ) -> Result<Option<Answer>, AllocError>
-    ensures { IfOk result (λ told. answered told ≡ []) }
+    ensures tells { IfOk result (TellsFault asked.entry log.now) }
+    ensures none { IfOk result (λ told. answered told ≡ []) }
 {
     let LogFile::Fault(why) = log else {
         return Ok(None);
@@ -212,6 +224,8 @@ fn refresh_all(
     uris: &[String],
     answers: &mut Vec<Answer>,
 ) -> Result<(), AllocError>
+    ensures shows { OnOk result (AddsRefreshed asked.entry log.now (map string_bytes uris.now)
+        server.old server.new answers.old.items answers.new.items) }
     ensures none { OnOk result (flat_map answered_by answers.new.items
         ≡ flat_map answered_by answers.old.items) }
     ensures phase { OnOk result (server.new.phase ≡ server.old.phase) }
@@ -254,12 +268,17 @@ pub fn refresh(
 }
 
 /// Reads the log's file; a fault of it is told, and ends nothing.
-fn log_file<F: Files + Alloc>(rt: &F, alloc: Global, asked: Asked<'_>) -> io::Result<LogFile> {
+fn log_file<F: Files + Alloc>(
+    rt: &F,
+    alloc: Global,
+    asked: Asked<'_>,
+) -> Result<LogFile, AllocError>
+    ensures { IfOk result (IsReadLog asked.entry) }
+{
     match fs::read(rt, asked.log) {
         Ok(bytes) => {
             let bytes = Vec::from_slice(alloc, bytes.as_slice())?;
-            let log = read_bytes(alloc, asked.from, bytes)?;
-            Ok(log)
+            read_bytes(alloc, asked.from, bytes)
         }
         Err(_) => {
             let text = String::from_str(alloc, "it can't be read")?;
