@@ -1,2 +1,3 @@
 pub mod FoundLemmas
 pub mod ServedLemmas
+pub mod WordsLemmas

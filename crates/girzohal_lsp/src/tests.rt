@@ -129,17 +129,22 @@ fn a_sarif_log_counts_no_bytes(rt: HostRuntime) -> Result<(), Fail> {
 }
 
 #[test]
-fn a_tool_is_known_and_may_say_the_form(rt: HostRuntime) -> Result<(), Fail> {
+fn words_say_the_form_or_ask_for_nothing(rt: HostRuntime) -> Result<(), Fail> {
     let rows = [
-        ("gcc", "--first-column", "1", Some(Form::Auto)),
-        ("sarif", "--first-column", "1", Some(Form::Sarif)),
-        ("sarif", "--columns", "bytes", None),
-        ("sarif", "--from", "lines", Some(Form::Lines)),
-        ("nonsense", "--from", "lines", None),
-        ("", "--from", "sarif", None),
+        ("--tool gcc --first-column 1 log", Some(Form::Auto)),
+        ("--tool sarif --first-column 1 log", Some(Form::Sarif)),
+        ("--tool sarif --columns bytes log", None),
+        ("--tool sarif --from lines log", Some(Form::Lines)),
+        ("--tool nonsense --from lines log", None),
+        ("--tool  --from sarif log", None),
+        ("--tool sarif --tool gcc log", Some(Form::Auto)),
+        ("--from lines log --from sarif", Some(Form::Sarif)),
+        ("log --from", None),
+        (" log", None),
+        ("log ", None),
     ];
-    for (tool, key, value, form) in rows {
-        let words = ["--tool", tool, key, value, "log"];
+    for (text, form) in rows {
+        let words = text.split(' ').collect::<Vec<&str>>(rt.alloc())?;
         assert!(rt; form_asked(rt.alloc(), &words)? == form);
     }
     Ok(())
