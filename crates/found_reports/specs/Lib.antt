@@ -4,3 +4,4 @@ pub mod Listed
 pub mod Place
 pub mod Found
 pub mod Kept
+pub mod Files

@@ -1,12 +1,16 @@
 -- What is known of the files of the reports so far.
-use Rattle.std.specs.Prelude.{ℕ, ◌≡◌, ◌≤◌, ◌<◌, ◌^◌, List, Option, Some, None, IfSome, Bool, false, slice_get, map, option_map}
-use Rattle.std.specs.List.{All}
+use Rattle.std.specs.Prelude.{ℕ, ◌≡◌, ◌≤◌, ◌<◌, ◌^◌, List, Option, Some, None, IfSome, Bool, true, false, String, slice_get, map, option_map}
+use Rattle.std.specs.BTreeMap.{BTreeMap, get_by_text}
+use Rattle.std.specs.List.{All, list_any}
 use Rattle.std.specs.Str.{bytes_eq}
+use Rattle.std.specs.declared.alloc.Global.{Global}
 use Rattle.std.specs.declared.ops.Range.{Range}
 use Rattle.oxc_protocol.specs.Source.{Fits}
 use Rattle.sarif_spans.specs.Span.{IsSpanOf}
-use Rattle.found_reports.specs.Found.{NamedHeld}
+use Rattle.found_reports.specs.Files.{files_of, with_file}
+use Rattle.found_reports.specs.Found.{NamedHeld, file_at}
 use Rattle.found_reports.specs.Held.{Held, holds, lacks}
+use Rattle.found_reports.specs.Kept.{FoundParts}
 use Rattle.line_reports.specs.declared.rows.RowText.{RowText}
 use Rattle.line_reports.specs.declared.labels.Mark.{Mark}
 use Rattle.line_reports.specs.Told.{told_parts}
@@ -58,3 +62,22 @@ has_name (Some file) name = bytes_eq file.name name
 -- there is a file of this number, and it has this name
 abbrev pub is_named : List NamedHeld → ℕ → List ℕ → Bool
 is_named files number name = has_name (slice_get files number) name
+
+-- the number of the file of this name: none where no file has it
+abbrev pub IsNumber : List NamedHeld → List ℕ → Option ℕ → Type 0
+IsNumber files name None = list_any (λ file. bytes_eq file.name name) files ≡ false
+IsNumber files name (Some number) = is_named files number name ≡ true
+
+-- each name has the number of its file
+abbrev pub AreNumbers : BTreeMap (String Global) ℕ → List NamedHeld → Type 0
+AreNumbers numbers files = (name : List ℕ) → IsNumber files name (get_by_text numbers name)
+
+-- the files are those of the reports so far, under their numbers
+pub record IsListed (numbers : BTreeMap (String Global) ℕ) (parts : FoundParts) : Type 0 where
+  pub numbered : AreNumbers numbers parts.files
+  pub files : parts.files ≡ files_of parts.found
+
+-- the same with this file, on which a report is to come
+pub record IsListedWith (numbers : BTreeMap (String Global) ℕ) (parts : FoundParts) (file : ℕ) : Type 0 where
+  pub numbered : AreNumbers numbers parts.files
+  pub files : parts.files ≡ with_file (files_of parts.found) (file_at parts.files file)

@@ -1,18 +1,20 @@
 //! The reports of pieces, gathered with their files.
-ghost use Rattle.std.specs.Prelude.{◌≡◌, ◌++◌, ◌∷◌, [], ◌<◌, IfOk, IfSome, OnOk, Some, map, length};
-ghost use Rattle.std.specs.Prelude.{option_map, string_bytes};
+ghost use Rattle.std.specs.Prelude.{◌≡◌, ◌++◌, ◌∷◌, [], ◌<◌, IfOk, IfSome, OnOk, None, Some, map};
+ghost use Rattle.std.specs.Prelude.{length, option_map, string_bytes};
 ghost use Rattle.std.specs.Str.Lossy.{utf8_lossy};
+ghost use Rattle.found_reports.specs.Files.{files_of, with_file};
 ghost use Rattle.found_reports.specs.Found.{file_at};
 ghost use Rattle.found_reports.specs.Held.{held_of};
 ghost use Rattle.oxc_protocol.specs.Source.{Fits};
 ghost use Rattle.tool_lines.specs.Lines.{piece_parts};
-ghost use Rattle.line_reports.specs.Gathered.{AreTexts, AreTold, FitsLabel, MarksStand, StandsHeld};
+ghost use Rattle.line_reports.specs.Gathered.{AreNumbers, AreTexts, AreTold, FitsLabel, IsNumber};
+ghost use Rattle.line_reports.specs.Gathered.{IsListed, IsListedWith, MarksStand, StandsHeld};
 ghost use Rattle.line_reports.specs.Gathered.{is_named, mark_parts, row_text as text_of, text_in};
 ghost use Rattle.line_reports.specs.Joined.{group_parts};
 ghost use Rattle.line_reports.specs.Reports.{all_reports, group_by, group_reports, held_span};
 ghost use Rattle.line_reports.specs.Reports.{kept_place as place_kept, marks_of, named_file};
 ghost use Rattle.line_reports.specs.Reports.{note_span, other_notes, own_labels as labels_by};
-ghost use Rattle.line_reports.specs.Reports.{report_alone, reports_in};
+ghost use Rattle.line_reports.specs.Reports.{report_alone, report_in, reports_in};
 ghost use Rattle.line_reports.specs.Told.{told_parts};
 
 use crate::groups::{Group, joined};
@@ -44,8 +46,9 @@ pub fn reports_of<'s, S: Sources>(
     sources: &'s S,
     columns: Columns,
 ) -> Result<FoundReports<'s>, AllocError>
-    ensures { IfOk result (λ it. it.found ≡ reports_in columns (S.told sources.now)
+    ensures found { IfOk result (λ it. it.found ≡ reports_in columns (S.told sources.now)
         (map (λ line. line.now) lines.now) (map piece_parts pieces.now)) }
+    ensures files { IfOk result (λ it. it.files ≡ files_of it.found) }
 {
     let groups = joined(alloc, lines, pieces)?;
     let mut gathered = Gathered::new(alloc);
@@ -64,9 +67,11 @@ struct Gathered<'s> {
 }
 
 impl<'s> Gathered<'s> {
+    #[tactic(auto, using(crate::proofs::NumberLemmas::none_rules))]
     fn new(alloc: Global) -> Gathered<'s>
         ensures found { result.found ≡ record { files = []; found = [] } }
         ensures texts { result.texts.items ≡ [] }
+        ensures listed { IsListed result.numbers result.found }
     {
         Gathered {
             found: FoundReports::new(alloc),
@@ -85,7 +90,9 @@ impl<'s> Gathered<'s> {
     ) -> Result<(), AllocError>
         requires texts { AreTexts self.old.texts.items self.old.found.files }
         requires told { AreTold (S.told sources.now) self.old.found.files }
-        ensures { OnOk result (self.new.found.found
+        requires listed { IsListed self.old.numbers self.old.found }
+        ensures listed { OnOk result (IsListed self.new.numbers self.new.found) }
+        ensures found { OnOk result (self.new.found.found
             ≡ self.old.found.found
             ++ all_reports columns (S.told sources.now) (map group_parts groups.entry.now)) }
     {
@@ -107,8 +114,10 @@ impl<'s> Gathered<'s> {
     ) -> Result<(), AllocError>
         requires texts { AreTexts self.old.texts.items self.old.found.files }
         requires told { AreTold (S.told sources.now) self.old.found.files }
+        requires listed { IsListed self.old.numbers self.old.found }
         ensures texts { OnOk result (AreTexts self.new.texts.items self.new.found.files) }
         ensures told { OnOk result (AreTold (S.told sources.now) self.new.found.files) }
+        ensures listed { OnOk result (IsListed self.new.numbers self.new.found) }
         ensures found { OnOk result (self.new.found.found
             ≡ self.old.found.found
             ++ group_reports columns (S.told sources.now) (group_parts group.now)) }
@@ -117,14 +126,14 @@ impl<'s> Gathered<'s> {
         match self.span(columns, file, &group.head) {
             Some(range) => self.push_marked(alloc, sources, columns, file, group, &range),
             None => {
-                self.push_alone(alloc, sources, columns, &group.head)?;
+                self.push_in(alloc, columns, file, &group.head)?;
                 self.push_each(alloc, sources, columns, group.notes.as_slice())
             }
         }
     }
 
     /// The same of a finding that has this span in this file.
-    #[tactic(auto, using(crate::proofs::FileLemmas::label_fits, crate::proofs::LabelLemmas::marks_fit))]
+    #[tactic(auto, using(crate::proofs::NumberLemmas::marked_rules))]
     fn push_marked<S: Sources>(
         &mut self,
         alloc: Global,
@@ -138,8 +147,10 @@ impl<'s> Gathered<'s> {
         requires told { AreTold (S.told sources.now) self.old.found.files }
         requires file { file < length self.old.found.files }
         requires range { StandsHeld (file_at self.old.found.files file).held range.now }
+        requires listed { IsListedWith self.old.numbers self.old.found file }
         ensures texts { OnOk result (AreTexts self.new.texts.items self.new.found.files) }
         ensures told { OnOk result (AreTold (S.told sources.now) self.new.found.files) }
+        ensures listed { OnOk result (IsListed self.new.numbers self.new.found) }
         ensures found { OnOk result (self.new.found.found
             ≡ self.old.found.found
             ++ group_by columns (S.told sources.now) (file_at self.old.found.files file)
@@ -163,8 +174,10 @@ impl<'s> Gathered<'s> {
     ) -> Result<(), AllocError>
         requires texts { AreTexts self.old.texts.items self.old.found.files }
         requires told { AreTold (S.told sources.now) self.old.found.files }
+        requires listed { IsListed self.old.numbers self.old.found }
         ensures texts { OnOk result (AreTexts self.new.texts.items self.new.found.files) }
         ensures told { OnOk result (AreTold (S.told sources.now) self.new.found.files) }
+        ensures listed { OnOk result (IsListed self.new.numbers self.new.found) }
         ensures found { OnOk result (self.new.found.found
             ≡ self.old.found.found
             ++ map (report_alone columns (S.told sources.now))
@@ -189,8 +202,10 @@ impl<'s> Gathered<'s> {
     ) -> Result<(), AllocError>
         requires texts { AreTexts self.old.texts.items self.old.found.files }
         requires told { AreTold (S.told sources.now) self.old.found.files }
+        requires listed { IsListed self.old.numbers self.old.found }
         ensures texts { OnOk result (AreTexts self.new.texts.items self.new.found.files) }
         ensures told { OnOk result (AreTold (S.told sources.now) self.new.found.files) }
+        ensures listed { OnOk result (IsListed self.new.numbers self.new.found) }
         ensures found { OnOk result (self.new.found.found
             ≡ self.old.found.found
             ++ map (report_alone columns (S.told sources.now))
@@ -204,7 +219,6 @@ impl<'s> Gathered<'s> {
     }
 
     /// Pushes the report of a finding by itself.
-    #[tactic(auto, using(crate::proofs::FileLemmas::labels_fit))]
     fn push_alone<S: Sources>(
         &mut self,
         alloc: Global,
@@ -214,13 +228,37 @@ impl<'s> Gathered<'s> {
     ) -> Result<(), AllocError>
         requires texts { AreTexts self.old.texts.items self.old.found.files }
         requires told { AreTold (S.told sources.now) self.old.found.files }
+        requires listed { IsListed self.old.numbers self.old.found }
         ensures texts { OnOk result (AreTexts self.new.texts.items self.new.found.files) }
         ensures told { OnOk result (AreTold (S.told sources.now) self.new.found.files) }
+        ensures listed { OnOk result (IsListed self.new.numbers self.new.found) }
         ensures found { OnOk result (self.new.found.found
             ≡ self.old.found.found
             ++ report_alone columns (S.told sources.now) (told_parts told.now) ∷ []) }
     {
         let file = self.file(alloc, sources, told.finding.place.name)?;
+        self.push_in(alloc, columns, file, told)
+    }
+
+    /// Pushes the report of a finding by itself, which is in this file.
+    #[tactic(auto, using(crate::proofs::NumberLemmas::alone_rules))]
+    fn push_in(
+        &mut self,
+        alloc: Global,
+        columns: Columns,
+        file: usize,
+        told: &Told<'_>,
+    ) -> Result<(), AllocError>
+        requires texts { AreTexts self.old.texts.items self.old.found.files }
+        requires file { file < length self.old.found.files }
+        requires listed { IsListedWith self.old.numbers self.old.found file }
+        ensures texts { OnOk result (AreTexts self.new.texts.items self.new.found.files) }
+        ensures files { self.new.found.files ≡ self.old.found.files }
+        ensures listed { OnOk result (IsListed self.new.numbers self.new.found) }
+        ensures found { OnOk result (self.new.found.found
+            ≡ self.old.found.found
+            ++ report_in columns (file_at self.old.found.files file) (told_parts told.now) ∷ []) }
+    {
         let span = self.span(columns, file, told);
         let labels = own_labels(alloc, &span)?;
         let diagnostic = diagnostic(alloc, told, labels, told.details())?;
@@ -306,6 +344,7 @@ impl<'s> Gathered<'s> {
     }
 
     /// The number of the file of a name, which is added where it isn't there.
+    #[tactic(auto, using(crate::proofs::NumberLemmas::listed_there))]
     fn file<S: Sources>(
         &mut self,
         alloc: Global,
@@ -314,8 +353,10 @@ impl<'s> Gathered<'s> {
     ) -> Result<usize, AllocError>
         requires texts { AreTexts self.old.texts.items self.old.found.files }
         requires told { AreTold (S.told sources.now) self.old.found.files }
+        requires listed { IsListed self.old.numbers self.old.found }
         ensures texts { OnOk result (AreTexts self.new.texts.items self.new.found.files) }
         ensures told { OnOk result (AreTold (S.told sources.now) self.new.found.files) }
+        ensures listed { IfOk result (IsListedWith self.new.numbers self.new.found) }
         ensures file { IfOk result (λ file. file < length self.new.found.files) }
         ensures named { IfOk result (λ file. file_at self.new.found.files file
             ≡ named_file (S.told sources.now) (utf8_lossy name.now)) }
@@ -328,16 +369,17 @@ impl<'s> Gathered<'s> {
         }
     }
 
-    /// The number of the file of a name, if it was found.
-    #[tactic(auto, using(crate::proofs::FileLemmas::named_is))]
+    /// The number of the file of a name, if it is there.
     fn number(&self, name: &str) -> Option<usize>
+        requires { AreNumbers self.now.numbers self.now.found.files }
+        ensures number { IsNumber self.now.found.files name.now result }
         ensures file { IfSome result (λ file. file < length self.now.found.files) }
         ensures named { IfSome result (λ file.
             (file_at self.now.found.files file).name ≡ name.now) }
     {
         match self.numbers.get(name) {
-            Some(file) if self.is_named(*file, name) => Some(*file),
-            _ => None,
+            Some(file) => Some(*file),
+            None => None,
         }
     }
 
@@ -351,7 +393,7 @@ impl<'s> Gathered<'s> {
         }
     }
 
-    /// Adds the file of a name.
+    /// Adds the file of a name that isn't there.
     fn add<S: Sources>(
         &mut self,
         alloc: Global,
@@ -360,8 +402,11 @@ impl<'s> Gathered<'s> {
     ) -> Result<usize, AllocError>
         requires texts { AreTexts self.old.texts.items self.old.found.files }
         requires told { AreTold (S.told sources.now) self.old.found.files }
+        requires listed { IsListed self.old.numbers self.old.found }
+        requires new { IsNumber self.old.found.files (string_bytes name) None }
         ensures texts { OnOk result (AreTexts self.new.texts.items self.new.found.files) }
         ensures told { OnOk result (AreTold (S.told sources.now) self.new.found.files) }
+        ensures listed { IfOk result (IsListedWith self.new.numbers self.new.found) }
         ensures file { IfOk result (λ file. file < length self.new.found.files) }
         ensures named { IfOk result (λ file. file_at self.new.found.files file
             ≡ named_file (S.told sources.now) (string_bytes name)) }

@@ -1,5 +1,5 @@
 use Rattle.std.proofs.Common.{◌≡◌, ◌++◌, map, length}
-use Rattle.line_reports.specs.Gathered.{AreTexts, AreTold}
+use Rattle.line_reports.specs.Gathered.{AreTexts, AreTold, IsListed}
 use Rattle.line_reports.specs.Reports.{report_alone}
 use Rattle.line_reports.specs.Told.{told_parts}
 use Rattle.line_reports.proofs.gathered.Gathered.push_each.Given as goal
@@ -10,6 +10,7 @@ invariant-loop-findings g l =
     record {
       texts : AreTexts l.self.texts.items l.self.found.files;
       held : AreTold told l.self.found.files;
+      listed : IsListed l.self.numbers l.self.found;
       found : l.self.found.found ++ map (report_alone l.columns told) (map told_parts l.findings) ≡ l.initial.self.found.found ++ map (report_alone l.columns told) (map told_parts l.initial.findings);
     }
 

@@ -1,5 +1,5 @@
 use Rattle.std.proofs.Common.{◌≡◌, ◌++◌, map, length}
-use Rattle.line_reports.specs.Gathered.{AreTexts, AreTold}
+use Rattle.line_reports.specs.Gathered.{AreTexts, AreTold, IsListed}
 use Rattle.line_reports.specs.Joined.{group_parts}
 use Rattle.line_reports.specs.Reports.{all_reports}
 use Rattle.line_reports.proofs.gathered.Gathered.push_groups.Given as goal
@@ -10,6 +10,7 @@ invariant-loop-groups g l =
     record {
       texts : AreTexts l.self.texts.items l.self.found.files;
       held : AreTold told l.self.found.files;
+      listed : IsListed l.self.numbers l.self.found;
       found : l.self.found.found ++ all_reports l.columns told (map group_parts l.groups) ≡ l.initial.self.found.found ++ all_reports l.columns told (map group_parts l.initial.groups);
     }
 

@@ -1,5 +1,5 @@
 use Rattle.std.proofs.Common.{◌≡◌, ◌++◌, map, length}
-use Rattle.line_reports.specs.Gathered.{AreTexts, AreTold}
+use Rattle.line_reports.specs.Gathered.{AreTexts, AreTold, IsListed}
 use Rattle.line_reports.specs.Gathered.{mark_parts}
 use Rattle.line_reports.specs.Reports.{other_notes, report_alone}
 use Rattle.line_reports.proofs.gathered.Gathered.push_others.Given as goal
@@ -10,6 +10,7 @@ invariant-loop-marks g l =
     record {
       texts : AreTexts l.self.texts.items l.self.found.files;
       held : AreTold told l.self.found.files;
+      listed : IsListed l.self.numbers l.self.found;
       found : l.self.found.found ++ map (report_alone l.columns told) (other_notes (map mark_parts l.marks)) ≡ l.initial.self.found.found ++ map (report_alone l.columns told) (other_notes (map mark_parts l.initial.marks));
     }
 
