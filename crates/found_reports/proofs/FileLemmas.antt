@@ -27,7 +27,7 @@ why_back TooLong = refl
 why_back NoText = refl
 why_back Unreadable = refl
 
-same_why : (why other : Lack) → why_number why ≡ why_number other → why ≡ other
+pub same_why : (why other : Lack) → why_number why ≡ why_number other → why ≡ other
 same_why why other e = sym (why_back why) ∙ (ap why_of e ∙ why_back other)
 
 held_decides : (held other : Held) → Decides (same_held held other) (held ≡ other)

@@ -5,3 +5,4 @@ pub mod ReportLemmas
 pub mod AskedLemmas
 pub mod ContentsLemmas
 pub mod Opened
+pub mod OnceLemmas

@@ -6,3 +6,4 @@ pub mod Meaning
 pub mod Asked
 pub mod Contents
 pub mod Views
+pub mod Once

@@ -12,6 +12,7 @@ mod contents;
 mod diagnostics;
 mod known;
 mod labels;
+mod once;
 mod reading;
 mod reports;
 mod resolving;

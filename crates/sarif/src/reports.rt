@@ -1,6 +1,7 @@
 //! The reports that a log means.
 ghost use Rattle.std.specs.Prelude.{◌≡◌, ◌++◌, ◌∷◌, ◌≤◌, [], All, None, drop, flat_map};
 ghost use Rattle.std.specs.Prelude.{length, map, take, IfOk, OnOk};
+ghost use Rattle.found_reports.specs.Files.{files_of};
 ghost use Rattle.found_reports.specs.Found.{StandsIn, found_on};
 ghost use Rattle.found_reports.specs.Held.{held_text};
 ghost use Rattle.sarif_log.specs.Log.{log_view, run_view};
@@ -16,6 +17,7 @@ ghost use Rattle.sarif.specs.Views.{placed_view, reading_view};
 use crate::diagnostics::{diagnostic_of, given_place, message_or, severity_of};
 use crate::known::{Known, KnownFiles, Placed, file_at, push_placed};
 use crate::labels::{label_on, labels_of, span_beside, span_in_file};
+use crate::once::each_file_once;
 use crate::reading::{Reading, reading_of};
 use found_reports::{FoundReports, Lack, Sources};
 use oxc_protocol::{OxcDiagnostic, Severity};
@@ -38,14 +40,15 @@ pub fn reports_of<'s, S: Sources>(
     sources: &'s S,
     columns: Option<ColumnKind>,
 ) -> Result<FoundReports<'s>, AllocError>
-    ensures { IfOk result (λ it. it.found ≡ reports_in (S.told sources.now) columns
+    ensures found { IfOk result (λ it. it.found ≡ reports_in (S.told sources.now) columns
         (log_view log.now)) }
+    ensures files { IfOk result (λ it. it.files ≡ files_of it.found) }
 {
     let mut found = FoundReports::new(alloc);
     for run in &log.runs {
         push_run(alloc, sources, columns, run, &mut found)?;
     }
-    Ok(found)
+    each_file_once(alloc, found)
 }
 
 /// Appends the reports of a run.
