@@ -13,7 +13,6 @@ use found_reports::ListedSources;
 use girzohal_asked::Asked;
 use line_shapes::shape::Shape;
 use report_counts::Counts;
-use shown_reports::ShowError;
 use source_store::Store;
 use std::alloc::{AllocError, Global};
 use tool_lines::lines::pieces_of;
@@ -87,8 +86,7 @@ impl Coming {
     ///
     /// # Errors
     ///
-    /// `TooManyFiles` only where there are `u32::MAX` files or more, or reports past counting; and
-    /// want of memory.
+    /// Want of memory. `u32::MAX` files or more, or reports past counting, count as it.
     pub fn with_bytes<S: Store>(
         self,
         alloc: Global,
@@ -96,7 +94,7 @@ impl Coming {
         shapes: &[Shape<'_>],
         store: &S,
         bytes: &[u8],
-    ) -> Result<Come, ShowError>
+    ) -> Result<Come, AllocError>
         requires { map shape_parts shapes.now ≡ shapes_meant asked.now }
         ensures { IfOk result (λ come. (taken text aside : List ℕ)
             → IsComing (S.told store.now) asked.now taken text aside self.held self.tally
@@ -124,7 +122,7 @@ impl Coming {
         asked: &Asked,
         shapes: &[Shape<'_>],
         store: &S,
-    ) -> Result<Ended, ShowError>
+    ) -> Result<Ended, AllocError>
         requires { map shape_parts shapes.now ≡ shapes_meant asked.now }
         ensures { IfOk result (λ end. (taken text aside : List ℕ)
             → IsComing (S.told store.now) asked.now taken text aside self.held self.tally
@@ -188,7 +186,7 @@ fn cut<S: Store>(
     store: &S,
     held: HeldLines,
     tally: Tally,
-) -> Result<Come, ShowError>
+) -> Result<Come, AllocError>
     requires { map shape_parts shapes.now ≡ shapes_meant asked.now }
     ensures { IfOk result (λ come. (taken text aside : List ℕ)
         → IsComing (S.told store.now) asked.now taken text aside held tally
@@ -249,7 +247,7 @@ fn look_at<S: Store>(
     lines: &[Vec<u8>],
     came: &[Vec<u8>],
     tally: Tally,
-) -> Result<Look, ShowError>
+) -> Result<Look, AllocError>
     requires { map shape_parts shapes.now ≡ shapes_meant asked.now }
     ensures { IfOk result (IsLook (S.told store.now) asked.now tally
         (map (λ line. line.items) lines.now) (map (λ line. line.items) came.now)) }

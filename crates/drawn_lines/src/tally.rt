@@ -17,7 +17,6 @@ use found_reports::{FoundReports, ListedSources};
 use girzohal_asked::Asked;
 use line_reports::{names_of, reports_of};
 use report_counts::{Counts, counts_of, more_line, one_reaches, summary_line};
-use shown_reports::ShowError;
 use source_store::{Spelling, Store, gather_more};
 use std::alloc::{AllocError, Global};
 use tool_lines::lines::Piece;
@@ -69,7 +68,7 @@ pub(crate) fn draw<S: Store>(
     lines: &[&[u8]],
     came: &[Vec<u8>],
     pieces: &[Piece<'_>],
-) -> Result<Drawn, ShowError>
+) -> Result<Drawn, AllocError>
     ensures { IfOk result (λ it. Draws (S.told store.now) asked.now tally it.tally
         (map (λ line. line.now) lines.now) (map (λ line. line.items) came.now)
         (map piece_parts pieces.now) (string_bytes it.text) (string_bytes it.aside)) }
@@ -95,7 +94,7 @@ fn written(
     came: &[Vec<u8>],
     pieces: &[Piece<'_>],
     sources: &ListedSources,
-) -> Result<Share, ShowError>
+) -> Result<Share, AllocError>
     ensures text { IfOk result (λ it. string_bytes it.text ≡ written_of asked.now
         (held_in sources.now.entries.items) most (map (λ line. line.now) lines.now)
         (map (λ line. line.items) came.now) (map piece_parts pieces.now)) }
@@ -126,7 +125,7 @@ fn counted(asked: &Asked, found: &FoundReports<'_>) -> Count
 }
 
 /// Two counts together.
-fn added(a: Count, b: Count) -> Result<Count, ShowError>
+fn added(a: Count, b: Count) -> Result<Count, AllocError>
     ensures { IfOk result (λ count. count ≡ count_with a b) }
 {
     let counts = Counts {
@@ -141,13 +140,13 @@ fn added(a: Count, b: Count) -> Result<Count, ShowError>
     })
 }
 
-/// A sum; more than a `usize` holds count as too many.
-fn sum(a: usize, b: usize) -> Result<usize, ShowError>
+/// A sum. More reports than a `usize` counts would take more memory than there is.
+fn sum(a: usize, b: usize) -> Result<usize, AllocError>
     ensures { IfOk result (λ sum. sum ≡ a + b) }
 {
     match a.checked_add(b) {
         Some(sum) => Ok(sum),
-        None => Err(ShowError::TooManyFiles),
+        None => Err(AllocError),
     }
 }
 

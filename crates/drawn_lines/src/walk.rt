@@ -5,6 +5,7 @@ ghost use Rattle.std.specs.Prelude.{string_bytes};
 ghost use Rattle.found_reports.specs.Held.{Held};
 ghost use Rattle.found_reports.specs.Listed.{held_in};
 ghost use Rattle.tool_lines.specs.Lines.{PieceParts, piece_parts, is_kept as is_kept_sort};
+ghost use Rattle.report_texts.specs.Texts.{first_drawings as drawings_of_first};
 ghost use Rattle.girzohal_asked.specs.declared.Asked.{Asked};
 ghost use Rattle.drawn_lines.specs.Lines.{drawings_before, in_place as placed, reports_before};
 ghost use Rattle.drawn_lines.specs.Lines.{shown_of, still as still_of};
@@ -49,7 +50,7 @@ pub(crate) fn drawings(
     came: &[Vec<u8>],
     pieces: &[Piece<'_>],
     sources: &ListedSources,
-) -> Result<String, ShowError>
+) -> Result<String, AllocError>
     ensures { IfOk result (λ text. string_bytes text
         ≡ placed asked.now (held_in sources.now.entries.items) most []
         (map (λ line. line.now) lines.now) (map (λ line. line.now) lines.now)
@@ -73,7 +74,7 @@ fn in_place<'l, 'a>(
     shown: &'l [&'a [u8]],
     pieces: &[Piece<'_>],
     sources: &ListedSources,
-) -> Result<String, ShowError>
+) -> Result<String, AllocError>
     ensures { IfOk result (λ text. string_bytes text
         ≡ placed asked.now (held_in sources.now.entries.items) most []
         (map (λ line. line.now) lines.now) (map (λ line. line.now) lines.now)
@@ -102,7 +103,7 @@ fn step<'l, 'a, 'p>(
     sources: &ListedSources,
     walk: Walk<'l, 'a, 'p>,
     piece: &Piece<'p>,
-) -> Result<Walk<'l, 'a, 'p>, ShowError>
+) -> Result<Walk<'l, 'a, 'p>, AllocError>
     ensures { IfOk result (λ next. (rest : List PieceParts)
         → walked asked.now (held_in sources.now.entries.items) next rest
         ≡ walked asked.now (held_in sources.now.entries.items) walk.entry
@@ -111,7 +112,7 @@ fn step<'l, 'a, 'p>(
     if is_kept(piece.begun.sort) {
         keep(alloc, asked, sources, walk, piece)
     } else {
-        Ok(pass(walk, piece)?)
+        pass(walk, piece)
     }
 }
 
@@ -122,7 +123,7 @@ fn keep<'l, 'a, 'p>(
     sources: &ListedSources,
     walk: Walk<'l, 'a, 'p>,
     piece: &Piece<'p>,
-) -> Result<Walk<'l, 'a, 'p>, ShowError>
+) -> Result<Walk<'l, 'a, 'p>, AllocError>
     requires { is_kept_sort piece.now.begun.sort ≡ true }
     ensures { IfOk result (λ next. (rest : List PieceParts)
         → walked asked.now (held_in sources.now.entries.items) next rest
@@ -206,7 +207,7 @@ fn finish(
     asked: &Asked,
     sources: &ListedSources,
     walk: Walk<'_, '_, '_>,
-) -> Result<String, ShowError>
+) -> Result<String, AllocError>
     ensures { IfOk result (λ text. string_bytes text
         ≡ walked asked.now (held_in sources.now.entries.items) walk.entry []) }
 {
@@ -231,7 +232,7 @@ fn push_reports(
     sources: &ListedSources,
     from: &[&[u8]],
     before: &[Piece<'_>],
-) -> Result<usize, ShowError>
+) -> Result<usize, AllocError>
     ensures text { OnOk result (string_bytes text.new ≡ string_bytes text.old
         ++ drawings_before asked.now (held_in sources.now.entries.items) most
         (map (λ line. line.now) from.now) (map piece_parts before.now)) }
@@ -243,6 +244,23 @@ fn push_reports(
         return Ok(0);
     }
     let found = reports_of(alloc, from, before, sources, columns_of(asked))?;
-    text.push_str(first_drawings(alloc, asked, most, &found)?.as_str())?;
+    text.push_str(first_drawn(alloc, asked, most, &found)?.as_str())?;
     Ok(count_of(&found))
+}
+
+/// The drawings of the first reports, at most so many where there is a most.
+fn first_drawn(
+    alloc: Global,
+    asked: &Asked,
+    most: Option<usize>,
+    found: &FoundReports<'_>,
+) -> Result<String, AllocError>
+    ensures { IfOk result (λ text. string_bytes text
+        ≡ drawings_of_first asked.now most found.now.found) }
+{
+    match first_drawings(alloc, asked, most, found) {
+        Ok(text) => Ok(text),
+        // More files than have numbers would take more memory than there is.
+        Err(ShowError::TooManyFiles | ShowError::OutOfMemory) => Err(AllocError),
+    }
 }
