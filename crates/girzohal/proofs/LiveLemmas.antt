@@ -1,5 +1,5 @@
 -- An input that is written as it comes.
-use Rattle.std.proofs.Common.{◌≡◌, ℕ, ◌+◌, ◌<◌, ◌≤◌, inl, inr, ◌||◌, Bool, true, false, List, [], ◌∷◌, ◌++◌, length, drop, Option, Some, None, refl, sym, ap, ◌∙◌, subst, append_assoc, append-nil, length-drop, string_bytes, suc, zero, arith}
+use Rattle.std.proofs.Common.{◌≡◌, ◌⊎◌, ℕ, ◌+◌, ◌<◌, ◌≤◌, ◌==◌, inl, inr, ◌||◌, Bool, true, false, not, if◌then◌else◌, List, [], ◌∷◌, ◌++◌, length, drop, Option, Some, None, refl, sym, ap, ◌∙◌, subst, append_assoc, append-nil, length-drop, string_bytes, suc, zero, arith}
 use Rattle.std.proofs.lemmas.Bool.{and_parts}
 use Rattle.std.proofs.lemmas.List.{length-append}
 use Rattle.std.specs.Io.KnownBytes.{Appends, Consumes, IsAtEnd, Keeps}
@@ -35,7 +35,7 @@ use Rattle.girzohal.specs.Lines.{ListsLines, MakesLines, MakesLinesBy, is_drawin
 use Rattle.girzohal.specs.Made.{IsMade, MakesAs, MakesBegun}
 use Rattle.girzohal.specs.Run.{Device, Drew, DrewPart, NeverComes, IsTold, Outgrew, Sent, SentPart, Stays, Stopped, TookWhole, begins_lines, comes, limit, reads_lines}
 use Rattle.girzohal.specs.Opens.{is_auto, may_begin}
-use Rattle.girzohal.specs.Live.{Came, CountsQuiet, Goes, Hears, device_on}
+use Rattle.girzohal.specs.Live.{Came, Goes, Hears, device_on, quiet_of}
 use Rattle.girzohal.specs.declared.live.Live.{Live}
 
 -- ---- devices
@@ -262,25 +262,37 @@ abbrev Front : (told : Told) (asked : Asked) (taken text aside : List ℕ) (quie
 Front told asked taken text aside quiet =
     (front behind : List ℕ) × (taken ≡ front ++ behind) × IsBegun told asked front text aside × (quiet ≤ length behind)
 
+-- none are counted, or as many as before where nothing is written
+abbrev Counts : (text aside : List ℕ) (before now : ℕ) → Type 0
+Counts text aside before now = (now ≡ 0) ⊎ ((now ≡ before) × (text ≡ []) × (aside ≡ []))
+
+counts : (known : Bool) (text aside : List ℕ) (before now : ℕ) → now ≡ (if known || (not (length text == 0) || not (length aside == 0)) then 0 else before)
+    → Counts text aside before now
+counts true text aside before now is = inl is
+counts false [] [] before now is = inr (is, refl, refl)
+counts false [] (x ∷ aside) before now is = inl (grind (arith, is))
+counts false (x ∷ text) aside before now is = inl (grind (arith, is))
+
 front_now : (told : Told) (asked : Asked) (input out err : Device) (quiet left : ℕ) (come : Come) (deaf : Bool) (came : Came told asked input out err come deaf quiet)
-    → CountsQuiet come quiet left → Front told asked came.taken (came.text ++ string_bytes come.text) (came.aside ++ string_bytes come.aside) left
+    → Counts (string_bytes come.text) (string_bytes come.aside) quiet left
+    → Front told asked came.taken (came.text ++ string_bytes come.text) (came.aside ++ string_bytes come.aside) left
 front_now told asked input out err quiet left come deaf came (inl none) =
     (came.taken, [], sym (append-nil came.taken), (come.coming.held, come.coming.tally, came.coming), omega (arith, none))
 front_now told asked input out err quiet left come deaf came (inr still) = (
   came.front,
   came.behind,
   came.parts,
-  begun_still told asked came.front came.text came.aside (string_bytes come.text) (string_bytes come.aside) came.known still.1.text still.1.aside,
+  begun_still told asked came.front came.text came.aside (string_bytes come.text) (string_bytes come.aside) came.known still.1 still.2,
   omega (arith, came.few, still.0),
 )
 
 -- what came was written, behind what stands aside
 pub came_goes : (told : Told) (asked : Asked) (input out err said : Device) (now : Option (List ℕ)) (after quiet left : ℕ) (come : Come) (deaf deafer : Bool)
-    → Came told asked input out err come deaf quiet → CountsQuiet come quiet left → Appends out.now now (string_bytes come.text) → out.faults_now ≤ after
+    → Came told asked input out err come deaf quiet → left ≡ quiet_of come quiet → Appends out.now now (string_bytes come.text) → out.faults_now ≤ after
     → ((before : List ℕ) → Hears deaf err before → Hears deafer said (before ++ string_bytes come.aside))
     → Goes told asked input (device_on out now after) said (record { coming = come.coming; quiet = left; deaf = deafer })
-came_goes told asked input out err said now after quiet left come deaf deafer came counts written later hears =
-    let here = front_now told asked input out err quiet left come deaf came counts in
+came_goes told asked input out err said now after quiet left come deaf deafer came left_is written later hears =
+    let here = front_now told asked input out err quiet left come deaf came (counts come.known (string_bytes come.text) (string_bytes come.aside) quiet left left_is) in
     record {
       taken = came.taken;
       front = here.0;

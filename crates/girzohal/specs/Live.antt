@@ -1,5 +1,5 @@
 -- How far an input is written as it comes.
-use Rattle.std.specs.Prelude.{◌≡◌, ◌⊎◌, ℕ, ◌≤◌, ◌++◌, List, [], length, Bool, true, false, Option, Result, Ok, Err, string_bytes}
+use Rattle.std.specs.Prelude.{◌≡◌, ℕ, ◌≤◌, ◌==◌, ◌||◌, ◌++◌, List, length, Bool, true, false, not, Option, Result, Ok, Err, string_bytes, if◌then◌else◌}
 use Rattle.std.specs.Io.KnownBytes.{Appends, Consumes}
 use Rattle.oxc_protocol.specs.Sink.{AppendsPrefix}
 use Rattle.drawn_lines.specs.Coming.{IsBegun, IsComing}
@@ -50,14 +50,13 @@ pub record Came (told : Told) (asked : Asked) (input out err : Device) (come : C
   pub heard : Hears deaf err aside
   pub few : quiet ≤ length behind
 
--- nothing more is written
-pub record SaysNothing (come : Come) : Type 0 where
-  pub text : string_bytes come.text ≡ []
-  pub aside : string_bytes come.aside ≡ []
+-- pieces were let go, or something more is written
+abbrev pub says_something : Come → Bool
+says_something come = come.known || (not (length (string_bytes come.text) == 0) || not (length (string_bytes come.aside) == 0))
 
--- so many bytes came since something was known; they begin anew where something is written
-abbrev pub CountsQuiet : Come → ℕ → ℕ → Type 0
-CountsQuiet come before now = (now ≡ 0) ⊎ ((now ≡ before) × SaysNothing come)
+-- how many bytes came since something was known, where so many had come before
+abbrev pub quiet_of : Come → ℕ → ℕ
+quiet_of come before = if says_something come then 0 else before
 
 -- the same device, of what it tells and counts now
 abbrev pub device_on : Device → Option (List ℕ) → ℕ → Device

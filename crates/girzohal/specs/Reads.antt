@@ -1,7 +1,8 @@
 -- The reports that a JSON object means.
-use Rattle.std.specs.Prelude.{◌≡◌, ◌⊎◌, ℕ, List, ◌++◌, take, drop, slice_range, codes, Bool, true, false, Option, Some, None}
+use Rattle.std.specs.Prelude.{◌≡◌, ◌⊎◌, ℕ, List, ◌++◌, take, drop, slice_range, codes, decimal, Bool, true, false, Option, Some, None}
 use Rattle.std.specs.declared.ops.Range.{Range}
 use Rattle.render_files.specs.declared.places.ReportError.{ReportError}
+use Rattle.render_files.specs.declared.places.ReportError.TheVariants.{UnknownFile, PositionOutside, LabelReversed, SinkFault, OutOfMemory}
 use Rattle.render_files.specs.Refusal.{refusal_of}
 use Rattle.documents.specs.Document.{Document, document_of}
 use Rattle.found_reports.specs.Kept.{FoundParts}
@@ -25,12 +26,25 @@ pub record ReadsDocument (part : List ℕ) (parts : FoundParts) : Type 0 where
   pub accepted : refusal_of document.files document.reports ≡ None
   pub parts_are : parts ≡ found_document document
 
--- a document of which a report is refused
-pub record IsRefused (part : List ℕ) : Type 0 where
+-- why a report is refused, as the error says it; a report and a label are named by their place, from 0
+abbrev pub refusal_text : ReportError → List ℕ
+refusal_text (UnknownFile report) = codes "report " ++ (decimal report ++ codes ": unknown file")
+refusal_text (PositionOutside report label at_end) = codes "report " ++ (decimal report ++ (codes ": label " ++ (decimal label ++ codes ": no position")))
+refusal_text (LabelReversed report label start end) =
+    codes "report " ++ (decimal report ++ (codes ": label " ++ (decimal label ++ (codes ": end " ++ (decimal end ++ (codes " before start " ++ decimal start))))))
+refusal_text SinkFault = codes "output failed"
+refusal_text OutOfMemory = codes "out of memory"
+
+abbrev pub refusal_line : ReportError → List ℕ
+refusal_line why = codes "girzohal: " ++ refusal_text why ++ codes "\n"
+
+-- a document of which a report is refused, as the line says
+pub record IsRefused (part line : List ℕ) : Type 0 where
   pub document : Document
   pub is : document_of part ≡ Some document
   pub why : ReportError
   pub refusal : refusal_of document.files document.reports ≡ Some why
+  pub line_is : line ≡ refusal_line why
 
 -- what is said of an object that is no document: a log is none where columns are to count what a log's can't
 abbrev pub no_document : Option ColumnUnit → List ℕ
@@ -43,9 +57,9 @@ no_document (Some Cells) = codes "input is no document; a log's columns are char
 abbrev pub no_document_line : Option ColumnUnit → List ℕ
 no_document_line columns = codes "girzohal: " ++ no_document columns ++ codes "\n"
 
--- a text is no document, as the line says, or one of which a report is refused
+-- a text is no document, or one of which a report is refused, as the line says
 abbrev pub IsNoDocument : Option ColumnUnit → List ℕ → List ℕ → Type 0
-IsNoDocument columns part line = ((document_of part ≡ None) × (line ≡ no_document_line columns)) ⊎ IsRefused part
+IsNoDocument columns part line = ((document_of part ≡ None) × (line ≡ no_document_line columns)) ⊎ IsRefused part line
 
 -- a document where there is the key `files`, else a log
 abbrev pub ReadsKeyed : Bool → Told → Option ColumnKind → List ℕ → FoundParts → Type 0

@@ -1,6 +1,6 @@
 // Why nothing is made of an input.
 ghost use Rattle.std.specs.Prelude.{◌≡◌, ◌++◌, codes};
-ghost use Rattle.girzohal.specs.Made.{IsFree, Says};
+ghost use Rattle.girzohal.specs.Made.{Says};
 
 use shown_reports::ShowError;
 use std::alloc::{AllocError, Global};
@@ -26,12 +26,17 @@ impl From<AllocError> for Fault {
     }
 }
 
-/// Why reports aren't shown. More files than have numbers would take more memory than there is.
-pub(crate) fn fault_of(error: ShowError) -> Fault
-    ensures { IsFree result }
-{
-    match error {
-        ShowError::TooManyFiles | ShowError::OutOfMemory => Fault::OutOfMemory,
+impl From<ShowError> for Fault {
+    ghost use Rattle.std.specs.Prelude.{◌≡◌};
+    ghost use Rattle.girzohal.specs.declared.fault.Fault.TheVariants.{OutOfMemory};
+
+    ghost from_gives = { λ _ fault. fault ≡ OutOfMemory };
+
+    fn from(error: ShowError) -> Fault {
+        match error {
+            // More files than have numbers would take more memory than there is.
+            ShowError::TooManyFiles | ShowError::OutOfMemory => Fault::OutOfMemory,
+        }
     }
 }
 

@@ -8,9 +8,9 @@ ghost use Rattle.girzohal.specs.Lines.{ListsLines, MakesLines, WritesPieces};
 ghost use Rattle.girzohal.specs.Lines.{is_drawing as is_drawn, is_live as is_live_form};
 ghost use Rattle.girzohal.specs.Made.{IsFree};
 
-use crate::fault::{Fault, fault_of};
+use crate::fault::Fault;
 use crate::making::{Made, Written};
-use crate::texts::text_or_fault;
+use crate::texts::text_of;
 use drawn_lines::{Come, Coming, Ended, annotates, columns_of, kept_text, shapes_of};
 use found_reports::ListedSources;
 use girzohal_asked::{Asked, OutputForm};
@@ -18,7 +18,6 @@ use input_forms::without_mark;
 use line_reports::{names_of, reports_of};
 use line_shapes::bytes::before_last;
 use report_counts::one_reaches;
-use shown_reports::ShowError;
 use source_store::{Spelling, Store, gather};
 use std::alloc::{AllocError, Global};
 use tool_lines::lines::{Piece, lines_of, pieces_of};
@@ -36,7 +35,7 @@ pub(crate) fn make_lines<S: Store>(
     ensures cause { IfErr result IsFree }
 {
     if is_drawing(asked.to) {
-        drawn_or_fault(alloc, asked, bytes, store)
+        drawn(alloc, asked, bytes, store)
     } else {
         list_lines(alloc, asked, bytes, store)
     }
@@ -68,9 +67,10 @@ pub(crate) fn is_live(form: OutputForm) -> bool
 }
 
 /// Lines as they are drawn.
-fn drawn<S: Store>(alloc: Global, asked: &Asked, bytes: &[u8], store: &S) -> Result<Made, ShowError>
-    ensures { IfOk result (λ it. IsDrawn (S.told store.now) asked.now bytes.now
+fn drawn<S: Store>(alloc: Global, asked: &Asked, bytes: &[u8], store: &S) -> Result<Made, Fault>
+    ensures drawn { IfOk result (λ it. IsDrawn (S.told store.now) asked.now bytes.now
         (string_bytes it.written.text) it.aside.items it.written.reached) }
+    ensures cause { IfErr result IsFree }
 {
     let shapes = shapes_of(alloc, asked)?;
     let coming = Coming::new(alloc);
@@ -92,23 +92,6 @@ fn drawn<S: Store>(alloc: Global, asked: &Asked, bytes: &[u8], store: &S) -> Res
     let written = Written { text, reached };
     let aside = aside.into_bytes();
     Ok(Made { written, aside })
-}
-
-/// The same, or why nothing is made.
-fn drawn_or_fault<S: Store>(
-    alloc: Global,
-    asked: &Asked,
-    bytes: &[u8],
-    store: &S,
-) -> Result<Made, Fault>
-    ensures drawn { IfOk result (λ it. IsDrawn (S.told store.now) asked.now bytes.now
-        (string_bytes it.written.text) it.aside.items it.written.reached) }
-    ensures cause { IfErr result IsFree }
-{
-    match drawn(alloc, asked, bytes, store) {
-        Ok(made) => Ok(made),
-        Err(why) => Err(fault_of(why)),
-    }
 }
 
 /// What is made of lines in a form that isn't drawn.
@@ -168,7 +151,7 @@ fn write_pieces(
 {
     let found = reports_of(alloc, lines, pieces, sources, columns_of(asked))?;
     let reached = one_reaches(asked.fail_on, &found);
-    let text = text_or_fault(alloc, asked, &found)?;
+    let text = text_of(alloc, asked, &found)?;
     let aside = kept_text(alloc, asked, lines, pieces)?.into_bytes();
     let written = Written { text, reached };
     Ok(Made { written, aside })

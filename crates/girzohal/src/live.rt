@@ -7,7 +7,7 @@ ghost use Rattle.girzohal_asked.specs.declared.Asked.{Asked as AskedFor};
 ghost use Rattle.girzohal.specs.Told.{Told};
 ghost use Rattle.girzohal.specs.Run.{Device, IsTold, Means, Since, Stays, comes, device};
 ghost use Rattle.girzohal.specs.Run.{device_since};
-ghost use Rattle.girzohal.specs.Live.{Came, CountsQuiet, Goes, Hears, Went, device_on};
+ghost use Rattle.girzohal.specs.Live.{Came, Goes, Hears, Went, device_on, quiet_of};
 
 use crate::opening::{CHUNK, LIMIT};
 use crate::program::fail;
@@ -191,7 +191,7 @@ fn write<O: Sink, E: Sink>(
 
 /// How many bytes came since something was known, where so many came since something was before.
 fn quiet_behind(come: &Come, quiet: usize) -> usize
-    ensures { CountsQuiet come.now quiet result }
+    ensures { result ≡ quiet_of come.now quiet }
 {
     if come.known || !come.text.is_empty() || !come.aside.is_empty() {
         0

@@ -7,6 +7,7 @@ ghost use Rattle.girzohal.specs.Made.{HasCause, Says, Writes};
 use crate::fault::Fault;
 use crate::making::Written;
 use crate::object::write;
+use bytecount::count;
 use girzohal_asked::Asked;
 use harmless::{Kind, harmless};
 use line_shapes::tables::Unit;
@@ -31,7 +32,7 @@ pub(crate) fn write_log<S: Store>(
         Ok(log) => log,
         Err(LogError::OutOfMemory) => return Err(Fault::OutOfMemory),
         Err(LogError::NoJson { line, column }) => {
-            return Err(no_json(alloc, breaks_in(before).saturating_add(line), column));
+            return Err(no_json(alloc, count(before, b'\n').saturating_add(line), column));
         }
         Err(LogError::Fault { path, wanted }) => return Err(no_log(alloc, path.as_str(), wanted)),
     };
@@ -50,11 +51,6 @@ fn log_columns(unit: Option<Unit>) -> Option<ColumnKind>
         Some(Unit::Utf16) => Some(ColumnKind::Utf16),
         Some(Unit::Bytes | Unit::Cells) | None => None,
     }
-}
-
-/// How many lines end in a text.
-fn breaks_in(text: &[u8]) -> usize {
-    text.iter().filter(|byte| **byte == b'\n').count()
 }
 
 /// Where reading as JSON stopped.

@@ -1,18 +1,19 @@
 // What is made of a JSON object: of a document, or of a log.
-ghost use Rattle.std.specs.Prelude.{◌≡◌, ⊤, ◌≤◌, ◌++◌, IfErr, IfOk, length};
+ghost use Rattle.std.specs.Prelude.{◌≡◌, ◌≤◌, ◌++◌, IfErr, IfOk, length};
 ghost use Rattle.std.specs.Prelude.{string_bytes};
 ghost use Rattle.input_forms.specs.Object.{has_files as key_files};
 ghost use Rattle.girzohal.specs.Logs.{log_columns as columns_of};
 ghost use Rattle.girzohal.specs.Made.{HasCause, IsFree, IsNoObject, IsToldBehind};
 ghost use Rattle.girzohal.specs.Made.{IsWritten, MakesObject, Says, Writes};
 ghost use Rattle.girzohal.specs.Reads.{IsNoDocument, IsNoneKeyed, IsNonePart};
-ghost use Rattle.girzohal.specs.Reads.{no_document as said_of_none};
+ghost use Rattle.girzohal.specs.Reads.{no_document as said_of_none, refusal_line};
+ghost use Rattle.girzohal.specs.Reads.{refusal_text as refusal_text_of};
 ghost use Rattle.girzohal.specs.Reads.{ReadsDocument, ReadsKeyed, ReadsPart, around as around_range};
 
 use crate::fault::{Fault, no_form};
 use crate::logs::write_log;
 use crate::making::{Made, Written};
-use crate::texts::text_or_fault;
+use crate::texts::text_of;
 use documents::read_document;
 use found_reports::FoundReports;
 use girzohal_asked::Asked;
@@ -166,7 +167,7 @@ pub(crate) fn write(
     ensures cause { IfErr result IsFree }
 {
     let reached = one_reaches(asked.fail_on, found);
-    let text = text_or_fault(alloc, asked, found)?;
+    let text = text_of(alloc, asked, found)?;
     Ok(Written { text, reached })
 }
 
@@ -182,12 +183,36 @@ fn no_document(columns: Option<Unit>) -> &'static str
     }
 }
 
-/// Why a report of a document is refused.
+/// That a report of a document is refused, and why.
 fn refused(alloc: Global, error: ReportError) -> Fault
-    ensures { Says (λ _. ⊤) result }
+    ensures { Says (λ line. line ≡ refusal_line error) result }
 {
-    match format!(in alloc; "girzohal: {error}\n") {
-        Ok(line) => Fault::NoForm(line.into_bytes()),
-        Err(_) => Fault::OutOfMemory,
+    match refusal_text(alloc, error) {
+        Ok(why) => no_form(alloc, why.as_str()),
+        Err(AllocError) => Fault::OutOfMemory,
+    }
+}
+
+/// Why a report is refused, in the words of the error.
+fn refusal_text(alloc: Global, error: ReportError) -> Result<String, AllocError>
+    ensures { IfOk result (λ why. string_bytes why ≡ refusal_text_of error) }
+{
+    match error {
+        ReportError::UnknownFile { report } => {
+            format!(in alloc; "report {report}: unknown file")
+        }
+        ReportError::PositionOutside {
+            report,
+            label,
+            at_end: _,
+        } => format!(in alloc; "report {report}: label {label}: no position"),
+        ReportError::LabelReversed {
+            report,
+            label,
+            start,
+            end,
+        } => format!(in alloc; "report {report}: label {label}: end {end} before start {start}"),
+        ReportError::SinkFault => String::from_str(alloc, "output failed"),
+        ReportError::OutOfMemory => String::from_str(alloc, "out of memory"),
     }
 }

@@ -66,7 +66,7 @@ fn run_whole<I: Source, S: Store, O: Sink, E: Sink>(
     ensures untouched { IsUntouched result out.old out.new }
 {
     match read_all(alloc, input, LIMIT - bytes.len()) {
-        Reading::Whole(rest) => match joined(bytes, rest) {
+        Reading::Whole(rest) => match with_rest(bytes, rest) {
             Ok(bytes) => show(alloc, asked, &bytes, store, out, err),
             Err(_) => fail(err, "girzohal: out of memory\n", Status::OutOfMemory),
         },
@@ -77,7 +77,7 @@ fn run_whole<I: Source, S: Store, O: Sink, E: Sink>(
 }
 
 /// Bytes, and others behind them.
-fn joined(bytes: Vec<u8>, rest: Vec<u8>) -> Result<Vec<u8>, AllocError>
+fn with_rest(bytes: Vec<u8>, rest: Vec<u8>) -> Result<Vec<u8>, AllocError>
     ensures { IfOk result (λ all. all.items ≡ bytes.items ++ rest.items) }
 {
     if bytes.is_empty() {

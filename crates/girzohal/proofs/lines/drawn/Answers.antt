@@ -3,8 +3,8 @@ use Rattle.std.proofs.Common.{[], ◌++◌, string_bytes, subst, sym, ap, ◌∙
 use Rattle.drawn_lines.specs.Coming.{IsDrawn}
 use Rattle.girzohal.proofs.lines.drawn.Goals as goal
 
-pub returns : goal.returns
-returns g c =
+pub returns-clause-drawn : goal.returns-clause-drawn
+returns-clause-drawn g c =
     let told = g.S.Store.told c.args.store.now in
     let asked = c.args.asked.now in
     let first = string_bytes c.in_ok-come.come.text in
