@@ -7,6 +7,7 @@ use Rattle.oxc_protocol.specs.Faults.{Rose}
 use Rattle.oxc_protocol.specs.Sink.{AppendsPrefix}
 use Rattle.oxc_protocol.proofs.Appending.{Appends-trans}
 use Rattle.documents.proofs.Consuming.{Consumes-trans}
+use Rattle.found_reports.specs.Files.{files_of}
 use Rattle.found_reports.specs.Kept.{FoundParts}
 use Rattle.found_reports.specs.Listed.{held_in}
 use Rattle.line_reports.specs.Reports.{reports_in}
@@ -404,7 +405,7 @@ lists_of : (told : Told) (asked : Asked) (bytes text aside : List ℕ) (reached 
 unfolding written ending
 lists_of told asked bytes text aside reached is drawn =
     let made : text ≡ ci_text ci.Github asked.raw (reports_in (columns_of asked) drawn.given (lines_of bytes) drawn.pieces) = (rw is at drawn.drawn) ∙ append-nil _ in
-    let parts : FoundParts = record { files = []; found = drawn.found } in
+    let parts : FoundParts = record { files = files_of drawn.found; found = drawn.found } in
     record {
       pieces = drawn.pieces;
       are = drawn.are;
@@ -413,6 +414,7 @@ lists_of told asked bytes text aside reached is drawn =
       writes = record {
         parts = parts;
         reports = drawn.reports;
+        files = refl;
         written = annotated asked.to asked parts text is (made ∙ ap (ci_text ci.Github asked.raw) (sym drawn.reports));
         kept = rw is at drawn.aside_is;
         level = drawn.level;

@@ -1,5 +1,6 @@
 -- What is made of lines that a tool prints for people.
 use Rattle.std.specs.Prelude.{◌≡◌, ◌||◌, ℕ, List, None, Bool, true, false}
+use Rattle.found_reports.specs.Files.{files_of}
 use Rattle.found_reports.specs.Held.{Held}
 use Rattle.found_reports.specs.Kept.{FoundParts}
 use Rattle.source_store.specs.Given.{IsGiven}
@@ -33,11 +34,12 @@ is_drawing Stylish = false
 abbrev pub is_live : OutputForm → Bool
 is_live form = is_drawing form || annotates form
 
--- the text and the level of the reports that these pieces of lines mean with what was given, and the lines that stand aside; which files the reports
--- stand among is free
+-- the text and the level of the reports that these pieces of lines mean with what was given, among the files that they are on, and the lines that
+-- stand aside
 pub record WritesPieces (asked : Asked) (given : List ℕ → Held) (lines : List (List ℕ)) (pieces : List PieceParts) (text aside : List ℕ) (reached : Bool) : Type 0 where
   pub parts : FoundParts
   pub reports : parts.found ≡ reports_in (columns_of asked) given lines pieces
+  pub files : parts.files ≡ files_of parts.found
   pub written : IsText asked parts text
   pub kept : aside ≡ kept_text asked lines pieces
   pub level : reached ≡ one_reaches asked.fail_on parts.found

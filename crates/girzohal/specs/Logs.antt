@@ -1,5 +1,6 @@
 -- The reports that a SARIF log means.
 use Rattle.std.specs.Prelude.{◌≡◌, ℕ, ◌++◌, List, Option, Some, None, codes, decimal}
+use Rattle.found_reports.specs.Files.{files_of}
 use Rattle.found_reports.specs.Kept.{FoundParts}
 use Rattle.found_reports.specs.Held.{Held}
 use Rattle.source_store.specs.Given.{IsGiven}
@@ -24,13 +25,14 @@ log_columns (Some Characters) = Some kind.Characters
 log_columns (Some Utf16) = Some kind.Utf16
 log_columns (Some Cells) = None
 
--- the log that a text is, with the reports that it means with what was given of the names for which it asks; which files they stand among is free
+-- the log that a text is, with the reports that it means with what was given of the names for which it asks, among the files that they are on
 pub record ReadsLog (told : Told) (columns : Option ColumnKind) (part : List ℕ) (parts : FoundParts) : Type 0 where
   pub log : Log
   pub is : answer_to part ≡ log_is log
   pub given : List ℕ → Held
   pub told_so : IsGiven told Uri (names_in log) given
   pub reports : parts.found ≡ reports_in given columns log
+  pub files : parts.files ≡ files_of parts.found
 
 -- a path holds the log's own keys, which can't drive a terminal
 abbrev pub harmless_path : List ℕ → List ℕ
