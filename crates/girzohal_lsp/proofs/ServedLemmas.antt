@@ -91,7 +91,7 @@ pub all_looked_at : (asked : Asked) (log : LogFile) (uris : List (String Global)
     → AreSoFar asked log uris at old new before after → AddsRefreshed asked log (map string_bytes uris) old new before after
 all_looked_at asked log uris at old new before after past so_far =
     let none : AreRefreshed asked log new (map string_bytes (drop at uris)) new [] =
-            subst (λ l. AreRefreshed asked log new (map string_bytes l) new []) (sym (drop_all at uris past)) (refl, refl) in
+    subst (λ l. AreRefreshed asked log new (map string_bytes l) new []) (sym (drop_all at uris past)) (refl, refl) in
     record {
       told = so_far.told;
       shows = subst (AreRefreshed asked log old (map string_bytes uris) new) (append-nil so_far.told) (so_far.goes_on new [] none);

@@ -1,8 +1,8 @@
 -- The request is answered first, and nothing that is looked up is an answer.
-use Rattle.std.proofs.Common.{◌≡◌, ◌++◌, ◌∙◌, [], List, Option, ℕ, sym, ap, subst}
+use Rattle.std.proofs.Common.{◌∙◌, List, Option, ℕ, sym, subst}
 use Rattle.std.specs.Option.{option_to_list}
 use Rattle.lsp_server.specs.Session.{is_running}
-use Rattle.girzohal_lsp.specs.Served.{IsLookedUp, looked_up, uris_of}
+use Rattle.girzohal_lsp.specs.Served.{IsLookedUp, uris_of}
 use Rattle.girzohal_lsp.proofs.ServedLemmas.{answered_once, none_looked_up, those_looked_up, told_alone}
 use Rattle.girzohal_lsp.proofs.serve.answers_to.Goals as goal
 
@@ -36,7 +36,7 @@ returns g c =
     let new = c.look_up.new.session.server in
     let answers = c.look_up.new.answers.items in
     let looks = subst (λ (uris : Option (List (List ℕ))). IsLookedUp asked uris between new added answers)
-            (c.in_ok-wanted.ensures between) c.in_ok-look_up.ensures.looks in
+    (c.in_ok-wanted.ensures between) c.in_ok-look_up.ensures.looks in
     let alone = told_alone start added told c.new-answers.ensures.items c.in_ok-add_told.ensures in
     record {
       message = message;

@@ -21,10 +21,10 @@ loop-uri-preserved c =
     let told = c.in_ok-told.told in
     let same : c.as_str.result.now ≡ string_bytes uri = search rules in
     let refreshes : Refreshes asked log (string_bytes uri) mid new told = record {
-            phase = c.in_ok-told.ensures.phase;
-            agreed = c.in_ok-told.ensures.agreed;
-            shows = subst (λ u. IsRefreshed asked log mid.agreed u (document_of mid u) (document_of mid) (document_of new) told) same c.in_ok-told.ensures.shown;
-        } in
+      phase = c.in_ok-told.ensures.phase;
+      agreed = c.in_ok-told.ensures.agreed;
+      shows = subst (λ u. IsRefreshed asked log mid.agreed u (document_of mid u) (document_of mid) (document_of new) told) same c.in_ok-told.ensures.shown;
+    } in
     record {
       so_far = one_more asked log c.args.uris.now c.loop-uri.uri-index uri c.args.server.now mid new c.args.answers.now.items c.loop-uri.answers.items c.add_told.new.answers.items told
           c.loop-uri-test.true c.uri-item.is refreshes c.in_ok-add_told.ensures c.loop-uri.invariant.so_far;
