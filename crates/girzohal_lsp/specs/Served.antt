@@ -76,7 +76,7 @@ TellsFault asked (Lines text) told = told ≡ None
 TellsFault asked (Fault why) None = ⊥
 TellsFault asked (Fault why) (Some told) = IsLogged (asked.log.now ++ codes ": " ++ string_bytes why) told
 
--- the same, where what is told comes behind what was
+-- documents are shown so, and what is told of them comes behind what was told before
 pub record AddsRefreshed (asked : Asked) (log : LogFile) (uris : List (List ℕ)) (old new : Server) (before after : List Answer) : Type 0 where
   pub told : List Answer
   pub shows : AreRefreshed asked log old uris new told
