@@ -2,7 +2,7 @@
 use oxc_protocol::Severity;
 
 /// A row and a column, as far as they are known.
-#[derive(Clone, Copy, Debug, PartialEq, Eq)]
+#[derive(Clone, Copy, PartialEq, Eq)]
 pub struct Location {
     /// The row, from 1.
     pub row: Option<u32>,
@@ -12,7 +12,7 @@ pub struct Location {
 }
 
 /// What is told of a report.
-#[derive(Debug, Drop)]
+#[derive(Drop)]
 pub struct Finding {
     /// The name of its file, empty where it has none.
     pub name: String,

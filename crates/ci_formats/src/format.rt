@@ -17,7 +17,7 @@ use oxc_protocol::{Failed, Sink, write_all};
 use std::alloc::{AllocError, Global};
 
 /// A format that a CI system reads, or a person.
-#[derive(Clone, Copy, Debug, PartialEq, Eq)]
+#[derive(Clone, Copy, PartialEq, Eq)]
 pub enum CiFormat {
     /// The workflow commands of GitHub.
     Github,
@@ -34,7 +34,7 @@ pub enum CiFormat {
 }
 
 /// Why a text wasn't sent.
-#[derive(Clone, Copy, Debug, PartialEq, Eq)]
+#[derive(Clone, Copy, PartialEq, Eq)]
 pub enum SendError {
     /// The sink failed.
     Failed,

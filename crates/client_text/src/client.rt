@@ -16,7 +16,7 @@ use std::sync::ledger::{Blank, Ledger};
 use text_places::{Encoding, Pieces, TextPlaces};
 
 /// A document as a client edits it: its text, which has its places, and its version.
-#[derive(Debug, Drop)]
+#[derive(Drop)]
 pub struct ClientText {
     alloc: Global,
     encoding: Encoding,

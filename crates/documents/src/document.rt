@@ -37,7 +37,7 @@ pub struct Document {
 }
 
 /// Which form a document has.
-#[derive(Clone, Copy, Debug, PartialEq, Eq)]
+#[derive(Clone, Copy, PartialEq, Eq)]
 pub(crate) enum Version {
     /// Labels are given by rows and columns.
     One,

@@ -11,7 +11,7 @@ use std::alloc::{AllocError, Global};
 use tool_lines::lines::Sort;
 
 /// What a piece takes of the lines: so many, and what it is.
-#[derive(Clone, Copy, Debug, PartialEq, Eq)]
+#[derive(Clone, Copy, PartialEq, Eq)]
 pub struct Cut {
     /// What begins at its first line.
     pub sort: Sort,

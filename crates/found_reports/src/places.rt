@@ -11,7 +11,7 @@ use std::alloc::{AllocError, Global};
 
 /// Where a tool says that a finding stands, in numbers as it gave them, and none where it gave
 /// none. The name is that of the report's file.
-#[derive(Clone, Copy, Debug, PartialEq, Eq)]
+#[derive(Clone, Copy, PartialEq, Eq)]
 pub struct GivenPlace {
     /// The row of the start.
     pub line: Option<u32>,

@@ -14,7 +14,7 @@ use std::alloc::{AllocError, Global};
 use std::marker::Model;
 
 /// A file that reports are on.
-#[derive(Debug, Drop)]
+#[derive(Drop)]
 pub struct FoundFile<'s> {
     /// Its name, empty where it has none.
     pub name: String,
@@ -23,7 +23,7 @@ pub struct FoundFile<'s> {
 }
 
 /// A report on a file.
-#[derive(Debug, Drop)]
+#[derive(Drop)]
 pub struct FoundReport {
     /// The number of its file, from 0.
     pub file: usize,
@@ -38,7 +38,7 @@ pub struct FoundReport {
 ///
 /// Contracts see each report with its file's name and text: the numbers of files mean nothing by
 /// themselves.
-#[derive(Debug, Drop)]
+#[derive(Drop)]
 pub struct FoundReports<'s> {
     files: Vec<FoundFile<'s>>,
     reports: Vec<FoundReport>,

@@ -10,7 +10,7 @@ use std::collections::BTreeMap;
 use std::marker::Model;
 
 /// Why a name has no text.
-#[derive(Clone, Copy, Debug, PartialEq, Eq)]
+#[derive(Clone, Copy, PartialEq, Eq)]
 pub enum Lack {
     /// There is nothing of this name.
     Missing,
@@ -43,7 +43,7 @@ pub trait Sources {
 }
 
 /// What is known of one name.
-#[derive(Debug, Drop)]
+#[derive(Drop)]
 pub struct Source {
     /// The name.
     pub name: String,
@@ -69,7 +69,7 @@ impl Source {
 
 /// A list of names and their texts: the first entry of a name counts, and a name without one is
 /// missing. Names are looked up in a map. Contracts see the entries.
-#[derive(Debug, Drop)]
+#[derive(Drop)]
 pub struct ListedSources {
     entries: Vec<Source>,
     /// Where the first entry of each name stands.

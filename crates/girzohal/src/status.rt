@@ -1,7 +1,7 @@
 // What a run ended with.
 
 /// What a run ended with; its [`code`](Status::code) is the program's exit status.
-#[derive(Clone, Copy, Debug, PartialEq, Eq)]
+#[derive(Clone, Copy, PartialEq, Eq)]
 pub enum Status {
     /// All was written, and no report is at or above the level.
     Clean,

@@ -8,7 +8,7 @@ use report_counts::Level;
 use std::alloc::{AllocError, Global};
 
 /// How the input is written.
-#[derive(Clone, Copy, Debug, PartialEq, Eq)]
+#[derive(Clone, Copy, PartialEq, Eq)]
 pub enum InputForm {
     /// As its first bytes say: a document, a SARIF log, or lines.
     Auto,
@@ -21,7 +21,7 @@ pub enum InputForm {
 }
 
 /// What is written.
-#[derive(Clone, Copy, Debug, PartialEq, Eq)]
+#[derive(Clone, Copy, PartialEq, Eq)]
 pub enum OutputForm {
     /// Reports drawn with their sources.
     Drawing,
@@ -46,7 +46,7 @@ pub enum OutputForm {
 }
 
 /// Which characters a drawing is made of.
-#[derive(Clone, Copy, Debug, PartialEq, Eq)]
+#[derive(Clone, Copy, PartialEq, Eq)]
 pub enum ThemeChoice {
     /// With colors where a person looks, else as `UnicodeNocolor`.
     Auto,
@@ -59,7 +59,7 @@ pub enum ThemeChoice {
 }
 
 /// What the words ask for.
-#[derive(Debug, Drop)]
+#[derive(Drop)]
 pub struct Asked {
     /// The file that is read; standard input where there is none.
     pub file: Option<String>,

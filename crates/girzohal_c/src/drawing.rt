@@ -16,7 +16,7 @@ use report_arrays::{File, Label, Report, Wrong, read_texts};
 use std::alloc::Global;
 
 /// An argument that is wrong.
-#[derive(Clone, Copy, Debug, PartialEq, Eq)]
+#[derive(Clone, Copy, PartialEq, Eq)]
 pub(crate) enum Argument {
     /// The texts, or an element of the arrays.
     InArrays(Wrong),
@@ -25,7 +25,7 @@ pub(crate) enum Argument {
 }
 
 /// Why there is no text.
-#[derive(Clone, Copy, Debug, PartialEq, Eq)]
+#[derive(Clone, Copy, PartialEq, Eq)]
 pub(crate) enum Fault {
     /// An argument is wrong.
     IsWrong(Argument),

@@ -9,7 +9,7 @@ use oxc_handlers::{GraphicalReportHandler, GraphicalTheme};
 use oxc_plan::TabWidth;
 
 /// What reports are written as.
-#[derive(Clone, Copy, Debug, PartialEq, Eq)]
+#[derive(Clone, Copy, PartialEq, Eq)]
 pub(crate) enum Form {
     /// Each is drawn.
     Drawing,

@@ -17,7 +17,7 @@ use line_shapes::tools::{columns_of_tool, tool_shapes};
 use std::alloc::{AllocError, Global};
 
 /// How a log is written.
-#[derive(Clone, Copy, Debug, PartialEq, Eq)]
+#[derive(Clone, Copy, PartialEq, Eq)]
 pub enum Form {
     /// As its first bytes say: a SARIF log where they begin a JSON object, and else lines.
     Auto,
@@ -28,7 +28,7 @@ pub enum Form {
 }
 
 /// What the words ask for.
-#[derive(Clone, Copy, Debug)]
+#[derive(Clone, Copy)]
 pub struct Asked<'a> {
     /// How the log is written.
     pub from: Form,

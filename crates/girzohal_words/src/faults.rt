@@ -13,7 +13,7 @@ use girzohal_asked::InputForm;
 use std::alloc::{AllocError, Global};
 
 /// What is wrong with a word.
-#[derive(Clone, Copy, Debug, PartialEq, Eq)]
+#[derive(Clone, Copy, PartialEq, Eq)]
 pub enum WordFault<'w> {
     /// There is no such option.
     Unknown(&'w str),

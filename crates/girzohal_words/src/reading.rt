@@ -41,7 +41,7 @@ use report_counts::Level;
 use std::alloc::{AllocError, Global};
 
 /// What words ask for.
-#[derive(Debug, Drop)]
+#[derive(Drop)]
 pub enum Request {
     /// What the words are.
     Help,
@@ -52,7 +52,7 @@ pub enum Request {
 }
 
 /// Why words ask for nothing.
-#[derive(Clone, Copy, Debug, PartialEq, Eq)]
+#[derive(Clone, Copy, PartialEq, Eq)]
 pub enum Refusal<'w> {
     /// A word is wrong.
     Fault(WordFault<'w>),

@@ -22,7 +22,7 @@ use oxc_protocol::Severity;
 use std::alloc::{AllocError, Global};
 
 /// The kind of an annotation.
-#[derive(Clone, Copy, Debug, PartialEq, Eq)]
+#[derive(Clone, Copy, PartialEq, Eq)]
 pub enum Level {
     /// An error.
     Error,
@@ -33,7 +33,7 @@ pub enum Level {
 }
 
 /// What a workflow command says.
-#[derive(Debug, Drop)]
+#[derive(Drop)]
 pub struct Annotation {
     /// How it is shown.
     pub level: Level,

@@ -12,7 +12,7 @@ use escapes::{Spelling, push_escaped};
 use std::alloc::{AllocError, Global};
 
 /// A kind of text in a workflow command.
-#[derive(Clone, Copy, Debug, PartialEq, Eq)]
+#[derive(Clone, Copy, PartialEq, Eq)]
 pub enum Field {
     /// The message, which ends with the line.
     Message,

@@ -19,7 +19,7 @@ pub use paint::harmless_line;
 use plain::is_plain;
 
 /// What a text is for.
-#[derive(Clone, Copy, Debug, PartialEq, Eq)]
+#[derive(Clone, Copy, PartialEq, Eq)]
 pub enum Kind {
     /// A message, a label, help or a note: it may have lines and tabs.
     Prose,

@@ -5,7 +5,7 @@ ghost use Rattle.input_forms.specs.Begun.{begun_at, begun_with, first_from};
 ghost use Rattle.input_forms.specs.Begun.{is_blank as blank};
 
 /// What an input begins as.
-#[derive(Clone, Copy, Debug, PartialEq, Eq)]
+#[derive(Clone, Copy, PartialEq, Eq)]
 pub enum Begun {
     /// A JSON object.
     Object,

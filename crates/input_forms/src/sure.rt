@@ -7,7 +7,7 @@ ghost use Rattle.input_forms.specs.Sure.{told_in_bracket as bracket_so, told_wit
 use crate::begun::{first_from, without_mark};
 
 /// What the first bytes of an input tell.
-#[derive(Clone, Copy, Debug, PartialEq, Eq)]
+#[derive(Clone, Copy, PartialEq, Eq)]
 pub enum FirstBytes {
     /// It is lines, whatever comes behind them.
     SurelyLines,

@@ -15,7 +15,7 @@ ghost use Rattle.line_shapes.specs.Bytes.{some_run, small, value_from as value_w
 ghost use Rattle.line_shapes.specs.Bytes.{value_of as value_in};
 
 /// A kind of byte.
-#[derive(Clone, Copy, Debug, PartialEq, Eq)]
+#[derive(Clone, Copy, PartialEq, Eq)]
 pub enum Kind {
     /// A space or a tab.
     Blank,

@@ -11,7 +11,7 @@ use crate::bytes::{Kind, begins_with, is_in};
 use crate::tables::LEVEL_WORDS;
 
 /// How grave a finding is.
-#[derive(Clone, Copy, Debug, PartialEq, Eq)]
+#[derive(Clone, Copy, PartialEq, Eq)]
 pub enum Severity {
     Error,
     Warning,
@@ -19,7 +19,7 @@ pub enum Severity {
 }
 
 /// A level that stands in a text.
-#[derive(Clone, Copy, Debug, PartialEq, Eq)]
+#[derive(Clone, Copy, PartialEq, Eq)]
 pub struct Level {
     /// How many bytes its word has.
     pub length: usize,

@@ -13,7 +13,7 @@ ghost use Rattle.line_shapes.specs.Name.{stops as stops_name};
 use crate::bytes::{Kind, end_run, is_in, is_letter, run};
 
 /// What a name may be.
-#[derive(Clone, Copy, Debug, PartialEq, Eq)]
+#[derive(Clone, Copy, PartialEq, Eq)]
 pub enum NameKind {
     Any,
     /// No `[` at the beginning.

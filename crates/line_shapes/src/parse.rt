@@ -12,7 +12,7 @@ use crate::shape::Shape;
 use std::alloc::Global;
 
 /// Why a text is no shape.
-#[derive(Clone, Copy, Debug, PartialEq, Eq)]
+#[derive(Clone, Copy, PartialEq, Eq)]
 pub enum ShapeError {
     /// A brace is not closed.
     Unclosed,
@@ -28,7 +28,7 @@ pub enum ShapeError {
 }
 
 /// A shape that owns its parts.
-#[derive(Debug, Drop)]
+#[derive(Drop)]
 pub struct OwnShape {
     pub lead: Vec<Part>,
     pub kind: NameKind,
@@ -51,7 +51,7 @@ impl OwnShape {
 }
 
 /// What stands in a shape.
-#[derive(Clone, Copy, Debug, PartialEq, Eq)]
+#[derive(Clone, Copy, PartialEq, Eq)]
 pub enum Item {
     One(Part),
     Name(NameKind),
@@ -77,7 +77,7 @@ pub const ITEMS: [(&[u8], Item); 15] = [
 ];
 
 /// How far a text is read.
-#[derive(Debug, Drop)]
+#[derive(Drop)]
 pub struct Reader {
     lead: Vec<Part>,
     kind: Option<NameKind>,

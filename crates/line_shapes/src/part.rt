@@ -13,7 +13,7 @@ use crate::bytes::{Kind, capitals_and_digits, cop_len, is_in, is_letter, number_
 use crate::level::{Severity, letter_severity, level_at, small_severity};
 
 /// A part of a shape. Each ends in one place at most.
-#[derive(Clone, Copy, Debug, PartialEq, Eq)]
+#[derive(Clone, Copy, PartialEq, Eq)]
 pub enum Part {
     /// This byte.
     Byte(u8),
@@ -42,7 +42,7 @@ pub enum Part {
 }
 
 /// What a number counts.
-#[derive(Clone, Copy, Debug, PartialEq, Eq)]
+#[derive(Clone, Copy, PartialEq, Eq)]
 pub enum Figure {
     Line,
     Column,
@@ -51,7 +51,7 @@ pub enum Figure {
 }
 
 /// What the parts of a shape found in a text.
-#[derive(Clone, Copy, Debug, Drop)]
+#[derive(Clone, Copy, Drop)]
 pub struct Found<'a> {
     /// The text behind the parts so far.
     pub rest: &'a [u8],

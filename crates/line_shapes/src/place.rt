@@ -21,7 +21,7 @@ use crate::tables::{AFTERS, LEADS};
 use memchr::memchr3;
 
 /// A name, and what was found round it.
-#[derive(Clone, Copy, Debug, Drop)]
+#[derive(Clone, Copy, Drop)]
 pub struct Placed<'a> {
     pub name: &'a [u8],
     pub found: Found<'a>,

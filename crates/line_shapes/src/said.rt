@@ -35,7 +35,7 @@ use crate::part::{Found, Part, fit};
 use crate::tables::{Manner, RESTS};
 
 /// What a finding says.
-#[derive(Clone, Copy, Debug, Drop)]
+#[derive(Clone, Copy, Drop)]
 pub struct Statement<'a> {
     pub severity: Severity,
     /// It belongs to what was said before.
@@ -45,7 +45,7 @@ pub struct Statement<'a> {
 }
 
 /// How grave a message is known to be, and whether its code may be any in parentheses.
-#[derive(Clone, Copy, Debug, Drop)]
+#[derive(Clone, Copy, Drop)]
 struct Leveled<'a> {
     severity: Option<Severity>,
     boxed: bool,

@@ -14,7 +14,7 @@ use crate::said::whole;
 
 /// A shape of whole lines: what stands before the name, what the name is, and what stands behind
 /// it.
-#[derive(Clone, Copy, Debug, Drop)]
+#[derive(Clone, Copy, Drop)]
 pub struct Shape<'s> {
     pub lead: &'s [Part],
     pub kind: NameKind,

@@ -7,7 +7,7 @@ use crate::name::NameKind;
 use crate::part::{Figure, Part};
 
 /// What the columns of a place count.
-#[derive(Clone, Copy, Debug, PartialEq, Eq)]
+#[derive(Clone, Copy, PartialEq, Eq)]
 pub enum Unit {
     Bytes,
     Characters,
@@ -18,7 +18,7 @@ pub enum Unit {
 }
 
 /// What the way in which something is said tells besides its parts.
-#[derive(Clone, Copy, Debug, PartialEq, Eq)]
+#[derive(Clone, Copy, PartialEq, Eq)]
 pub enum Manner {
     Plain,
     /// With a rule behind the level.

@@ -12,7 +12,7 @@ use crate::tables::{TOOL_COLUMNS, TOOL_SHAPES, Unit};
 use std::alloc::{AllocError, Global};
 
 /// How a tool counts columns.
-#[derive(Clone, Copy, Debug, PartialEq, Eq)]
+#[derive(Clone, Copy, PartialEq, Eq)]
 pub struct Columns {
     pub unit: Unit,
     /// The number of the first.

@@ -6,7 +6,7 @@ use crate::head::{Head, START, Step, Why, read_byte};
 use std::alloc::Global;
 
 /// Where a reader is.
-#[derive(Clone, Copy, Debug)]
+#[derive(Clone, Copy)]
 pub enum State {
     /// In a head, of which so much is read.
     InHead(Head),

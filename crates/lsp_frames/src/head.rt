@@ -14,7 +14,7 @@ const NAME: [u8; 14] = [
 ];
 
 /// Where in a head the next byte stands.
-#[derive(Clone, Copy, Debug)]
+#[derive(Clone, Copy)]
 pub enum Place {
     /// At the beginning of a line.
     Line,
@@ -35,7 +35,7 @@ pub enum Place {
 }
 
 /// What is read of a head.
-#[derive(Clone, Copy, Debug)]
+#[derive(Clone, Copy)]
 pub struct Head {
     /// Where in it the next byte stands.
     pub place: Place,
@@ -46,7 +46,7 @@ pub struct Head {
 }
 
 /// Why a byte is refused.
-#[derive(Clone, Copy, Debug)]
+#[derive(Clone, Copy)]
 pub enum Why {
     /// No frame begins so.
     NoFrame,
@@ -57,7 +57,7 @@ pub enum Why {
 }
 
 /// What a byte of a head leads to.
-#[derive(Clone, Copy, Debug)]
+#[derive(Clone, Copy)]
 pub enum Step {
     /// The head goes on.
     On(Head),

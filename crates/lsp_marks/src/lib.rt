@@ -10,7 +10,7 @@ ghost use Rattle.lsp_marks.specs.Moved.{StaysInside, moved_mark, moved_offset};
 use std::alloc::{AllocError, Global};
 
 /// A change: a range of bytes, from 0, gives way to so many bytes.
-#[derive(Clone, Copy, Debug)]
+#[derive(Clone, Copy)]
 pub struct Change {
     /// Where the range starts.
     pub start: usize,
@@ -21,7 +21,7 @@ pub struct Change {
 }
 
 /// A range of a text, in bytes from 0.
-#[derive(Clone, Copy, Debug, PartialEq, Eq)]
+#[derive(Clone, Copy, PartialEq, Eq)]
 pub struct Mark {
     /// Where it starts.
     pub start: usize,

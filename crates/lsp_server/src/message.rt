@@ -28,7 +28,7 @@ pub enum Id {
 }
 
 /// What a client asks for when it begins.
-#[derive(Clone, Copy, Debug)]
+#[derive(Clone, Copy)]
 pub struct Wanted {
     /// The units in which it counts: the first of its list that is known, and else UTF-16 units.
     pub encoding: Encoding,
@@ -39,7 +39,7 @@ pub struct Wanted {
 }
 
 /// What server and client agreed on.
-#[derive(Clone, Copy, Debug)]
+#[derive(Clone, Copy)]
 pub struct Agreed {
     /// The units in which places count.
     pub encoding: Encoding,
@@ -48,7 +48,7 @@ pub struct Agreed {
 }
 
 /// What a request asks for.
-#[derive(Clone, Copy, Debug)]
+#[derive(Clone, Copy)]
 pub enum Method {
     /// To begin.
     Initialize(Wanted),
@@ -103,7 +103,7 @@ pub struct Params {
 }
 
 /// Why a notification was left out.
-#[derive(Clone, Copy, Debug, PartialEq, Eq)]
+#[derive(Clone, Copy, PartialEq, Eq)]
 pub enum Refused {
     /// Its document isn't open.
     NotOpen,
@@ -116,7 +116,7 @@ pub enum Refused {
 }
 
 /// An error's number.
-#[derive(Clone, Copy, Debug)]
+#[derive(Clone, Copy)]
 pub enum Code {
     /// -32700: no JSON.
     ParseError,

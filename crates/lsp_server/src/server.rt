@@ -21,7 +21,7 @@ use std::collections::BTreeMap;
 use text_places::Encoding;
 
 /// How far a session is.
-#[derive(Clone, Copy, Debug)]
+#[derive(Clone, Copy)]
 pub enum Phase {
     /// It hasn't begun.
     New,

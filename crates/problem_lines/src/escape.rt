@@ -7,7 +7,7 @@ use escapes::Spelling;
 use std::alloc::AllocError;
 
 /// A kind of text in a line.
-#[derive(Clone, Copy, Debug, PartialEq, Eq)]
+#[derive(Clone, Copy, PartialEq, Eq)]
 pub enum Field {
     /// The name of a file, which ends at a colon.
     Name,

@@ -12,7 +12,7 @@ use oxc_protocol::{DiagnosticReporter, DiagnosticResult, Error, Info};
 use std::alloc::{AllocError, Global};
 
 /// Gives each diagnostic as the line of what an editor is told of it, and the counts at the end.
-#[derive(Clone, Copy, Debug, Default)]
+#[derive(Clone, Copy, Default)]
 pub struct ProblemReporter;
 
 impl ProblemReporter {

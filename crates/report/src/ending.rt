@@ -15,7 +15,7 @@ use render_files::ReportError;
 type Line = ArrayString<256>;
 
 /// How a run ended.
-#[derive(Clone, Copy, Debug, PartialEq, Eq)]
+#[derive(Clone, Copy, PartialEq, Eq)]
 pub(crate) enum Ending {
     /// The text was written whole.
     Done,

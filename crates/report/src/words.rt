@@ -12,7 +12,7 @@ ghost use Rattle.report.specs.Settled.{begun_with, drawing_of, settled, with_set
 use oxc_plan::TabWidth;
 
 /// What a run is to do.
-#[derive(Clone, Copy, Debug, PartialEq, Eq)]
+#[derive(Clone, Copy, PartialEq, Eq)]
 pub enum Command {
     /// Read a document and show its reports.
     Draw {
@@ -33,7 +33,7 @@ pub enum Command {
 }
 
 /// The name of a theme.
-#[derive(Clone, Copy, Debug, PartialEq, Eq)]
+#[derive(Clone, Copy, PartialEq, Eq)]
 pub enum ThemeName {
     /// ASCII characters: `none`.
     Plain,

@@ -13,7 +13,7 @@ use crate::texts::{is_filled, is_optional, is_short_text, is_text};
 
 /// The first argument that is wrong. The arrays are judged in this order, each by its elements'
 /// order.
-#[derive(Clone, Copy, Debug, PartialEq, Eq)]
+#[derive(Clone, Copy, PartialEq, Eq)]
 pub enum Wrong {
     /// The texts are no UTF-8.
     InTexts,

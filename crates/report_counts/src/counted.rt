@@ -11,7 +11,7 @@ use oxc_protocol::Severity;
 use std::alloc::{AllocError, Global};
 
 /// From which severity on a report counts as something that was found.
-#[derive(Clone, Copy, Debug, PartialEq, Eq)]
+#[derive(Clone, Copy, PartialEq, Eq)]
 pub enum Level {
     /// Errors.
     Error,
@@ -24,7 +24,7 @@ pub enum Level {
 }
 
 /// How many reports there are of each severity.
-#[derive(Clone, Copy, Debug, PartialEq, Eq)]
+#[derive(Clone, Copy, PartialEq, Eq)]
 pub struct Counts {
     /// Errors.
     pub errors: usize,

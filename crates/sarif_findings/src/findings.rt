@@ -26,7 +26,7 @@ use sarif_log::{
 use std::alloc::{AllocError, Global};
 
 /// A location of a finding.
-#[derive(Debug, Drop)]
+#[derive(Drop)]
 pub struct Spot<'l> {
     /// Where it is.
     pub location: &'l Location,
@@ -35,7 +35,7 @@ pub struct Spot<'l> {
 }
 
 /// What a run found.
-#[derive(Debug, Drop)]
+#[derive(Drop)]
 pub struct Finding<'l> {
     /// How grave it is.
     pub level: Level,

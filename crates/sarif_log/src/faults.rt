@@ -25,14 +25,14 @@ use numerals::number_of;
 use std::alloc::{AllocError, Global};
 
 /// A step into a value.
-#[derive(Clone, Copy, Debug, PartialEq, Eq)]
+#[derive(Clone, Copy, PartialEq, Eq)]
 pub enum Step<'v> {
     Key(&'v str),
     Index(usize),
 }
 
 /// Where a value isn't of its kind: the steps to it, from the inside out.
-#[derive(Debug, Drop)]
+#[derive(Drop)]
 pub struct Fault<'v> {
     pub steps: Vec<Step<'v>>,
     pub wanted: Kind,

@@ -1,13 +1,13 @@
 //! What a log says.
 
 /// A log.
-#[derive(Debug, Drop)]
+#[derive(Drop)]
 pub struct Log {
     pub runs: Vec<Run>,
 }
 
 /// One run of a tool.
-#[derive(Debug, Drop)]
+#[derive(Drop)]
 pub struct Run {
     pub tool: Tool,
     pub counting: Counting,
@@ -17,42 +17,42 @@ pub struct Run {
 }
 
 /// What URIs and artifacts stand for.
-#[derive(Debug, Drop)]
+#[derive(Drop)]
 pub struct Names {
     pub bases: Vec<UriBase>,
     pub artifacts: Vec<Artifact>,
 }
 
 /// What ends a row, and what a column counts.
-#[derive(Debug, Drop)]
+#[derive(Drop)]
 pub struct Counting {
     pub newline_sequences: Option<Vec<String>>,
     pub columns: Option<ColumnKind>,
 }
 
 /// A tool.
-#[derive(Debug, Drop)]
+#[derive(Drop)]
 pub struct Tool {
     pub driver: Component,
     pub extensions: Vec<Component>,
 }
 
 /// A file that the log names.
-#[derive(Debug, Drop)]
+#[derive(Drop)]
 pub struct Artifact {
     pub location: ArtifactLocation,
     pub contents: Option<String>,
 }
 
 /// A call of the tool.
-#[derive(Debug, Drop)]
+#[derive(Drop)]
 pub struct Invocation {
     pub configuration: Vec<Notification>,
     pub execution: Vec<Notification>,
 }
 
 /// What a tool says of its own run.
-#[derive(Debug, Drop)]
+#[derive(Drop)]
 pub struct Notification {
     pub descriptor: RuleRef,
     pub level: Option<Level>,
@@ -61,7 +61,7 @@ pub struct Notification {
 }
 
 /// A result.
-#[derive(Debug, Drop)]
+#[derive(Drop)]
 pub struct LogResult {
     pub rule_id: Option<String>,
     pub rule_index: Option<usize>,
@@ -77,33 +77,33 @@ pub struct LogResult {
 }
 
 /// A way to mend what was found.
-#[derive(Debug, Drop)]
+#[derive(Drop)]
 pub struct Fix {
     pub changes: Vec<Change>,
 }
 
 /// The edits of a file.
-#[derive(Debug, Drop)]
+#[derive(Drop)]
 pub struct Change {
     pub artifact: ArtifactLocation,
     pub replacements: Vec<Replacement>,
 }
 
 /// An edit.
-#[derive(Debug, Drop)]
+#[derive(Drop)]
 pub struct Replacement {
     pub deleted: Option<Region>,
     pub inserted: Option<String>,
 }
 
 /// Why a result is not to be shown.
-#[derive(Clone, Copy, Debug, PartialEq, Eq)]
+#[derive(Clone, Copy, PartialEq, Eq)]
 pub struct Suppression {
     pub status: Option<Status>,
 }
 
 /// A tool's program, or an extension of it.
-#[derive(Debug, Drop)]
+#[derive(Drop)]
 pub struct Component {
     pub name: Option<String>,
     pub rules: Vec<Rule>,
@@ -111,7 +111,7 @@ pub struct Component {
 }
 
 /// A rule.
-#[derive(Debug, Drop)]
+#[derive(Drop)]
 pub struct Rule {
     pub id: Option<String>,
     pub help_uri: Option<String>,
@@ -120,21 +120,21 @@ pub struct Rule {
 }
 
 /// What URIs may be relative to.
-#[derive(Debug, Drop)]
+#[derive(Drop)]
 pub struct UriBase {
     pub name: String,
     pub location: ArtifactLocation,
 }
 
 /// A message string of a rule.
-#[derive(Debug, Drop)]
+#[derive(Drop)]
 pub struct NamedMessage {
     pub name: String,
     pub message: Message,
 }
 
 /// Which rule: by its id, its index, and the extension it is of.
-#[derive(Debug, Drop)]
+#[derive(Drop)]
 pub struct RuleRef {
     pub id: Option<String>,
     pub index: Option<usize>,
@@ -142,7 +142,7 @@ pub struct RuleRef {
 }
 
 /// A place in a file, with what is said there.
-#[derive(Debug, Drop)]
+#[derive(Drop)]
 pub struct Location {
     pub artifact: ArtifactLocation,
     pub region: Option<Region>,
@@ -150,7 +150,7 @@ pub struct Location {
 }
 
 /// A part of a text, by rows and columns, by characters, or by bytes.
-#[derive(Clone, Copy, Debug, PartialEq, Eq)]
+#[derive(Clone, Copy, PartialEq, Eq)]
 pub struct Region {
     pub start_line: Option<usize>,
     pub start_column: Option<usize>,
@@ -163,7 +163,7 @@ pub struct Region {
 }
 
 /// What names a file: a URI, what it is relative to, or one of the artifacts.
-#[derive(Debug, Drop)]
+#[derive(Drop)]
 pub struct ArtifactLocation {
     pub uri: Option<String>,
     pub base: Option<String>,
@@ -171,7 +171,7 @@ pub struct ArtifactLocation {
 }
 
 /// A message: its text, or one of the rule by its id, with what fills it.
-#[derive(Debug, Drop)]
+#[derive(Drop)]
 pub struct Message {
     pub text: Option<String>,
     pub id: Option<String>,
@@ -179,7 +179,7 @@ pub struct Message {
 }
 
 /// How grave a finding is.
-#[derive(Clone, Copy, Debug, PartialEq, Eq)]
+#[derive(Clone, Copy, PartialEq, Eq)]
 pub enum Level {
     None,
     Note,
@@ -188,14 +188,14 @@ pub enum Level {
 }
 
 /// What a column counts.
-#[derive(Clone, Copy, Debug, PartialEq, Eq)]
+#[derive(Clone, Copy, PartialEq, Eq)]
 pub enum ColumnKind {
     Utf16,
     Characters,
 }
 
 /// Whether a result is a finding.
-#[derive(Clone, Copy, Debug, PartialEq, Eq)]
+#[derive(Clone, Copy, PartialEq, Eq)]
 pub enum ResultKind {
     NotApplicable,
     Pass,
@@ -206,7 +206,7 @@ pub enum ResultKind {
 }
 
 /// How a result compares with an earlier run.
-#[derive(Clone, Copy, Debug, PartialEq, Eq)]
+#[derive(Clone, Copy, PartialEq, Eq)]
 pub enum BaselineState {
     New,
     Unchanged,
@@ -215,7 +215,7 @@ pub enum BaselineState {
 }
 
 /// Whether a suppression was accepted.
-#[derive(Clone, Copy, Debug, PartialEq, Eq)]
+#[derive(Clone, Copy, PartialEq, Eq)]
 pub enum Status {
     Accepted,
     UnderReview,

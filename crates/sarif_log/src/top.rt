@@ -17,7 +17,7 @@ use json::{Error, MAX_DEPTH, Reader, Scratch, Value};
 use std::alloc::{AllocError, Global};
 
 /// Why an input is no log.
-#[derive(Debug, Drop)]
+#[derive(Drop)]
 pub enum LogError {
     /// The input isn't JSON: the row and the column, from 1, where reading stopped.
     NoJson { line: usize, column: usize },

@@ -7,7 +7,7 @@ ghost use Rattle.sarif_spans.specs.Rows.{mark_len as mark_width, rows_in};
 use std::alloc::{AllocError, Global};
 
 /// A row of a text, in bytes from the text's beginning.
-#[derive(Clone, Copy, Debug, PartialEq, Eq)]
+#[derive(Clone, Copy, PartialEq, Eq)]
 pub struct Row {
     /// Where it starts: behind a byte order mark, in the first row of a text that begins with one.
     pub start: usize,

@@ -7,7 +7,7 @@ ghost use Rattle.source_edit.specs.Causes.{IsAcceptable, IsCause};
 use text_size::{TextRange, TextSize};
 
 /// The bytes of a range of a text, and what is put in their place. An empty range inserts.
-#[derive(Debug, Drop)]
+#[derive(Drop)]
 pub struct Edit {
     /// Which bytes of the text give way.
     pub range: TextRange,

@@ -23,7 +23,7 @@ use std::marker::Model;
 use text_size::{TextRange, TextSize};
 
 /// What it takes to undo an edit.
-#[derive(Debug, Drop)]
+#[derive(Drop)]
 struct Step {
     /// Where the inserted bytes lie.
     written: TextRange,
@@ -39,7 +39,7 @@ struct Step {
 /// Contracts see the text and its history: the list of texts to which [`undo`](EditText::undo) goes
 /// back, the latest last. An accepted edit puts the text of that moment at its end. No copy of a
 /// text is kept, but the bytes that each edit removed.
-#[derive(Debug, Drop)]
+#[derive(Drop)]
 pub struct EditText {
     text: String,
     line_starts: Vec<TextSize>,

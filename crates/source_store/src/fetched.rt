@@ -7,7 +7,7 @@ use found_reports::Lack;
 use std::alloc::Global;
 
 /// What a store answers.
-#[derive(Debug, Drop)]
+#[derive(Drop)]
 pub enum Fetched {
     /// The text.
     Text(String),

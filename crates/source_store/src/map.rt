@@ -5,7 +5,7 @@ use std::alloc::Global;
 
 /// A store of listed sources, which tells all that it has: the first entry of a path counts, and a
 /// path without one is missing.
-#[derive(Debug, Drop)]
+#[derive(Drop)]
 pub struct MapStore {
     /// The sources, by their paths.
     pub listed: ListedSources,

@@ -2,7 +2,7 @@
 
 /// A unit in which the columns of places are counted: those of the Language Server Protocol's
 /// position encodings.
-#[derive(Clone, Copy, Debug, PartialEq, Eq)]
+#[derive(Clone, Copy, PartialEq, Eq)]
 pub enum Encoding {
     /// `utf-8`: bytes.
     Utf8,

@@ -62,7 +62,7 @@ fn merged<L: Ledger>(
 }
 
 /// A text that takes the place of that of the pages from one to another.
-#[derive(Debug, Drop)]
+#[derive(Drop)]
 pub(crate) struct Part {
     first: usize,
     last: usize,
@@ -226,7 +226,7 @@ fn put(pages: &mut Vec<Page>, first: usize, behind: usize, new: Vec<Page>) -> Re
 }
 
 /// The pages that take the place of others.
-#[derive(Debug, Drop)]
+#[derive(Drop)]
 pub(crate) struct Plan {
     first: usize,
     behind: usize,

@@ -20,7 +20,7 @@ pub(crate) const PAGE: usize = 1024;
 pub(crate) const LEAST: usize = 256;
 
 /// What is counted in a piece of a text.
-#[derive(Clone, Copy, Debug)]
+#[derive(Clone, Copy)]
 pub(crate) struct Counts {
     /// The bytes.
     pub(crate) bytes: u32,
@@ -33,7 +33,7 @@ pub(crate) struct Counts {
 }
 
 /// A piece of a text.
-#[derive(Debug, Drop)]
+#[derive(Drop)]
 pub(crate) struct Page {
     pub(crate) text: PageText,
     /// What is counted in the text before it.
@@ -175,7 +175,7 @@ pub(crate) fn row_end(bytes: &[u8], row: usize) -> usize
 }
 
 /// A place, and how many of the units that were to begin before it do not.
-#[derive(Clone, Copy, Debug)]
+#[derive(Clone, Copy)]
 pub(crate) struct Reached {
     pub(crate) place: usize,
     pub(crate) left: u64,

@@ -18,7 +18,7 @@ use std::marker::Model;
 const SHORT: usize = 8;
 
 /// The text of a page. Contracts see the text alone.
-#[derive(Debug, Drop)]
+#[derive(Drop)]
 pub(crate) struct PageText {
     text: String,
     is_ascii: bool,

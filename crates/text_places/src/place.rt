@@ -2,7 +2,7 @@
 
 /// A place in a text: the line, and the unit in it, both from 0. Places are ordered by line, then
 /// by unit.
-#[derive(Clone, Copy, Debug, Default, PartialEq, Eq, PartialOrd, Ord, Hash)]
+#[derive(Clone, Copy, Default, PartialEq, Eq, PartialOrd, Ord, Hash)]
 pub struct Place {
     /// The line, from 0.
     pub line: u32,

@@ -26,7 +26,7 @@ use std::sync::ledger::{Blank, Ledger};
 use text_size::{TextRange, TextSize};
 
 /// A text in pages, with what turns offsets into places and back. Contracts see it as the text.
-#[derive(Debug, Drop)]
+#[derive(Drop)]
 pub struct TextPlaces {
     pages: Vec<Page>,
     end: Counts,

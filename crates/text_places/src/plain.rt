@@ -14,7 +14,7 @@ use crate::page::Page;
 const NEAR: usize = 8;
 
 /// A line of ASCII with a break of one byte: where it starts, and where its break begins.
-#[derive(Clone, Copy, Debug)]
+#[derive(Clone, Copy)]
 pub(crate) struct PlainLine {
     pub(crate) start: u32,
     pub(crate) limit: u32,

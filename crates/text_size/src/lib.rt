@@ -7,8 +7,6 @@
 
 mod range;
 mod size;
-#[cfg(test)]
-mod tests;
 mod traits;
 
 pub use range::{TextRange, slice, slice_mut};

@@ -21,6 +21,8 @@ mod of_source_location;
 #[cfg(test)]
 mod of_text_places;
 #[cfg(test)]
+mod of_text_size;
+#[cfg(test)]
 mod of_utf16_places;
 #[cfg(test)]
 mod plain_reader;

@@ -21,7 +21,7 @@ use line_shapes::bytes::{Kind, run, trimmed};
 use std::alloc::{AllocError, Global};
 
 /// Which lines add something, and what.
-#[derive(Clone, Copy, Debug, PartialEq, Eq)]
+#[derive(Clone, Copy, PartialEq, Eq)]
 pub enum Way {
     /// Each that is more than a gutter: its text.
     Plain,

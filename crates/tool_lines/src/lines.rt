@@ -38,7 +38,7 @@ use std::alloc::{AllocError, Global};
 
 /// A finding: where it is, and what its lines say as far as it is read from the line where it
 /// begins and the next one.
-#[derive(Clone, Copy, Debug, Drop)]
+#[derive(Clone, Copy, Drop)]
 pub struct Finding<'a> {
     /// The name of its file, and the rows and columns.
     pub place: Placed<'a>,
@@ -47,7 +47,7 @@ pub struct Finding<'a> {
 }
 
 /// What begins at a line.
-#[derive(Clone, Copy, Debug, PartialEq, Eq)]
+#[derive(Clone, Copy, PartialEq, Eq)]
 pub enum Sort {
     /// Nothing: the line is kept as it is.
     Kept,
@@ -62,7 +62,7 @@ pub enum Sort {
 }
 
 /// What begins at a line, with its finding.
-#[derive(Clone, Copy, Debug, Drop)]
+#[derive(Clone, Copy, Drop)]
 pub struct Begun<'a> {
     /// What it is.
     pub sort: Sort,
@@ -71,7 +71,7 @@ pub struct Begun<'a> {
 }
 
 /// A piece: so many lines.
-#[derive(Clone, Copy, Debug, Drop)]
+#[derive(Clone, Copy, Drop)]
 pub struct Piece<'a> {
     /// How many lines it has, the first one among them.
     pub lines: usize,

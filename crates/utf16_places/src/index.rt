@@ -27,7 +27,7 @@ use text_size::{TextRange, TextSize};
 ///
 /// A line ends after an LF, a CR that no LF follows, or a CRLF. The index holds no text and needs
 /// none to answer.
-#[derive(Debug, Drop)]
+#[derive(Drop)]
 pub struct Utf16Index {
     line_starts: Vec<TextSize>,
     line_breaks: Vec<TextSize>,

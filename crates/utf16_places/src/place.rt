@@ -4,7 +4,7 @@
 /// 0.
 ///
 /// A character up to U+FFFF is one unit, one past it two. Places are ordered by line, then by unit.
-#[derive(Clone, Copy, Debug, Default, PartialEq, Eq, PartialOrd, Ord, Hash)]
+#[derive(Clone, Copy, Default, PartialEq, Eq, PartialOrd, Ord, Hash)]
 pub struct Place16 {
     /// The line, from 0.
     pub line: u32,

@@ -12,7 +12,7 @@ use text_size::TextSize;
 
 /// A character past ASCII: where it starts and ends, and how many units of its line are before its
 /// end.
-#[derive(Debug, Clone, Copy)]
+#[derive(Clone, Copy)]
 pub(crate) struct WideCharacter {
     pub(crate) start: TextSize,
     pub(crate) end: TextSize,
@@ -20,7 +20,7 @@ pub(crate) struct WideCharacter {
 }
 
 /// A boundary of a line, and how many units of the line are before it.
-#[derive(Debug, Clone, Copy)]
+#[derive(Clone, Copy)]
 pub(crate) struct Counted {
     pub(crate) offset: TextSize,
     pub(crate) unit: u32,

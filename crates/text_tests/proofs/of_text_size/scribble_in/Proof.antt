@@ -40,13 +40,13 @@ use borrow.Table.Owned as bare
 use Rattle.std.proofs.raw_atomic.Walks.{proved}
 use Rattle.text_size.specs.contracts.range.TextRange.{the_row as Range}
 use Rattle.text_size.proofs.range.TextRange.TheLaws.{lowers, the_row_laws}
-use Rattle.text_size.specs.contracts.tests.scribble_in as f
-use Rattle.text_size.proofs.tests.scribble_in.Statement.{statement}
-use Rattle.text_size.proofs.tests.scribble_in.Code as code
+use Rattle.text_tests.specs.contracts.of_text_size.scribble_in as f
+use Rattle.text_tests.proofs.of_text_size.scribble_in.Statement.{statement}
+use Rattle.text_tests.proofs.of_text_size.scribble_in.Code as code
 use Rattle.text_size.specs.contracts.range.slice_mut as g
 use Rattle.text_size.proofs.range.slice_mut.Met.{met as slice_mut_met}
-use Rattle.text_size.specs.contracts.tests.scribble as h
-use Rattle.text_size.proofs.tests.scribble.Met.{met as scribble_met}
+use Rattle.text_tests.specs.contracts.of_text_size.scribble as h
+use Rattle.text_tests.proofs.of_text_size.scribble.Met.{met as scribble_met}
 
 module _ (i j : ℕ) (xs : List ℕ) (ordered : i ≤ j) (within : j ≤ length xs) where
   few : Room u8 (length xs) → (k : ℕ) → k ≡ j - i → k < 2 ^ 64
@@ -111,7 +111,7 @@ scribble_in_spec 𝓤 𝓛 𝓜 𝓡 wired =
     let G' = triple_of 𝓛 h.signature (h.spec 𝓛 𝓜.mem 𝓡.returns) in
     let z' : G'.Ghost = (((α ∷ [], tt), (full_share, tt), tt, (r, tt), (mut_slice_vals r, tt)), tt) in
     nothing ! $ move ! (1 ∷ 0 ∷ []) $ join ! $ move ! (2 ∷ 3 ∷ []) $ join ! $ join ! $ nothing ! $ move ! (1 ∷ 0 ∷ []) $ use2 𝓛 (raw (G'.pre z')) (id⊢ 𝓤 _) $
-    calls_at ! (framed 𝓤 𝓛.H 𝓜 𝓣) G' (scribble_met 𝓤 𝓛 𝓜 𝓡 (code.calls-text_size::tests::scribble 𝓡.env wired)) z' (and_then ! (get ! refl) (no_more !)) (λ w.
+    calls_at ! (framed 𝓤 𝓛.H 𝓜 𝓣) G' (scribble_met 𝓤 𝓛 𝓜 𝓡 (code.calls-text_tests::of_text_size::scribble 𝓡.env wired)) z' (and_then ! (get ! refl) (no_more !)) (λ w.
     use1 𝓛 (later (some (λ (u : Unit {0}). ((‵ (flft (α ∷ []) full_share) ⊛ ‵ ftrue) ⊛ ‵ (unit.own_val u (w ∷ []))) ⊛
     some (λ (ws : List ℕ × Unit {0}). ‵ (lasts h.ended z'.0.0 z'.0.3 ws) ⊛ ‵ ftrue)))) (id⊢ 𝓤 _) $
     await ! tt $ pick ! (λ u. split ! $ split ! $ split ! $ lft_end ! tt $ move ! (2 ∷ []) $ feq_l ! (λ is_unit.

@@ -7,11 +7,11 @@ ghost use Rattle.std.specs.List.{fold};
 ghost use Rattle.std.specs.Ordering.{nat_cmp};
 ghost use Rattle.std.specs.Str.{IsCharBoundary};
 
-use crate::{TextRange, TextSize, slice, slice_mut};
 use std::cmp::Ordering;
 use std::hash::{Hash, Hasher};
 use std::ops::RangeBounds;
 use std::test::Fail;
+use text_size::{TextRange, TextSize, slice, slice_mut};
 
 fn range(start: u32, end: u32) -> TextRange
     requires { start ≤ end }
