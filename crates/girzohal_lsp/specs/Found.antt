@@ -23,7 +23,7 @@ use Rattle.tool_lines.specs.Paint.{unpainted}
 use Rattle.line_reports.specs.Names as lines
 use Rattle.line_reports.specs.Reports as lines_meaning
 use Rattle.lsp_diagnostics.specs.Seen.{StandIn}
-use Rattle.girzohal_lsp.specs.Matching.{is_named, means_file}
+use Rattle.source_store.specs.Matching.{is_named, means_file}
 use Rattle.girzohal_lsp.specs.declared.log.LogFile.{LogFile}
 use Rattle.girzohal_lsp.specs.declared.log.LogFile.TheVariants.{Sarif, Lines, Fault}
 use Rattle.girzohal_lsp.specs.declared.words.Asked.{Asked}

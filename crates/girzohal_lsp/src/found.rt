@@ -13,14 +13,13 @@ ghost use Rattle.girzohal_lsp.specs.Found.{ShowsLog, columns_of as columns_meant
 ghost use Rattle.girzohal_lsp.specs.Found.{log_columns as columns_of_log, pick, tool_name as name_of};
 
 use crate::log::LogFile;
-use crate::matching::{is_named, means_file};
 use crate::words::Asked;
 use found_reports::{FoundFile, FoundReport, FoundReports, Lack, stand_in};
 use line_shapes::tables::Unit;
 use line_shapes::tools::{Columns, columns_of_tool, tool_shapes};
 use oxc_protocol::{Diagnostic, OxcDiagnostic};
 use sarif::{ColumnKind, Log};
-use source_store::{Fetched, Spelling, Store, gather, path_in};
+use source_store::{Fetched, Spelling, Store, gather, is_named, means_file, path_in};
 use std::alloc::{AllocError, Global};
 use tool_lines::lines::{lines_of, pieces_of};
 use tool_lines::paint::without_paint;

@@ -6,22 +6,17 @@
 //!
 //! - `words`: what the words ask for
 //! - `log`: a log, read
-//! - `matching`: which names mean an open file
 //! - `found`: the findings that a log has for it
 //! - `serve`: messages in, answers out
 #![tactic(auto)]
 
 mod found;
 mod log;
-mod matching;
 mod serve;
-#[cfg(test)]
-mod tests;
 mod words;
 
 pub use found::found_in;
 pub use log::{LogFile, read_bytes};
-pub use matching::{is_named, means_file};
 pub use serve::{refresh, serve};
 use std::env;
 use std::io::{self, ErrorKind};

@@ -1,4 +1,5 @@
 pub mod Told
 pub mod Place
 pub mod Named
+pub mod Matching
 pub mod Given

@@ -1,9 +1,9 @@
-// Which names mean an open file.
+// Which names mean a file.
 ghost use Rattle.std.specs.Prelude.{◌≡◌, ◌≤◌, IfOk, length};
-ghost use Rattle.girzohal_lsp.specs.Matching.{is_named as is_named_by, means_file as file_meant};
-ghost use Rattle.girzohal_lsp.specs.Matching.{plain_name, stands_apart};
+ghost use Rattle.source_store.specs.Matching.{is_named as is_named_by, means_file as file_meant};
+ghost use Rattle.source_store.specs.Matching.{plain_name, stands_apart};
 
-use source_store::{Spelling, path_in};
+use crate::named::{Spelling, path_in};
 use std::alloc::{AllocError, Global};
 
 /// Whether a name in a log means the file of this path: the path that the name says is the file's,
