@@ -1,7 +1,8 @@
 #!/usr/bin/env python3
 """Tries the built girzohal_lsp. usage: try_lsp.py PROGRAM
 
-PROGRAM is what `rt run` left in crates/girzohal_lsp/out. A transcript of a client goes in as a whole and in random
+PROGRAM is what `rt run` left in crates/girzohal_lsp/out. The sessions of lsp_rows.py get the very messages that stand there:
+what a server answers, what clients are told of a log, which words are none, which bytes are of no frame. A transcript of a client goes in as a whole and in random
 cuttings, and the answers are compared; each fault of a frame ends the program; a document that is changed by many ranges is
 compared with a plain replay, by where each of its rows begins and ends: a server never shows a text (those of
 crates/text_tests/src/of_client_text/transcript.rt are compared as they are). Where Neovim is installed, its own client opens a
@@ -17,6 +18,9 @@ import subprocess
 import sys
 import tempfile
 import time
+
+sys.dont_write_bytecode = True
+import lsp_rows as rows
 
 PROGRAM = os.path.abspath(sys.argv[1])
 HERE = os.path.dirname(os.path.abspath(__file__))
@@ -184,6 +188,83 @@ def try_logs(folder):
     check("JSON that begins with a list is told", published == [[]] and len(said) == 1 and "JSON of no known form" in said[0])
 
 
+def said(bodies):
+    """Bodies as frames, one behind another."""
+    return b"".join(frame(body.encode()) for body in bodies)
+
+
+def talk(folder, log, words, bodies):
+    """What the program says to these bodies, over this log."""
+    path = os.path.join(folder, "log")
+    if log is not None:
+        with open(path, "wb") as out:
+            out.write(log)
+    elif os.path.exists(path):
+        os.remove(path)
+    got = subprocess.run([PROGRAM] + words, input=said(bodies), capture_output=True, timeout=60, cwd=folder)
+    return got.stdout, got.stderr, got.returncode
+
+
+def try_sessions(folder):
+    """What is answered and told, message by message."""
+    sessions = rows.SERVED + rows.TOLD + [rows.ON_THE_FILE] + [rows.named_session(*row) for row in rows.NAMES]
+    sessions += [rows.log_session(number, *row) for number, row in enumerate(rows.LOGS)]
+    for name, log, words, bodies, wanted in sessions:
+        got = talk(folder, log, words + ["log"], bodies + [rows.END, rows.EXIT])
+        check(name, got == (said(wanted + [rows.ENDED]), b"", 0))
+    for capabilities, key, encoding in rows.ENCODINGS:
+        stdout, _, _ = talk(folder, b"", ["log"], [rows.begin(capabilities)])
+        check(f"{encoding} is agreed on: {capabilities}", f'"{key}":"{encoding}"'.encode() in stdout)
+    got = talk(folder, b"", ["log"], [body for body, _ in rows.LATE])
+    check("requests are answered", got == (said([answer for _, answer in rows.LATE if answer]), b"", 0))
+    for name, bodies, wanted, status in rows.LOOKED_UP:
+        check(name, talk(folder, None, rows.NONE_THERE + ["log"], bodies) == (said(wanted), b"", status))
+
+
+def try_words(folder):
+    """Which words are none, and the form that words say, by what is told of a log of lines and of a SARIF log."""
+    refused = (b"", rows.USAGE.encode(), 2)
+    for form, unit, read in rows.COUNTED:
+        got = talk(folder, b"", ["log", "--columns", unit, "--from", form], [rows.BEGIN, rows.END, rows.EXIT])
+        check(f"words: {form} counts {unit}", got == ((said([rows.BEGUN, rows.ENDED]), b"", 0) if read else refused))
+    for text, form in rows.WORDS:
+        got = [talk(folder, rows.named(spelling, "a.c"), text.split(" "), [rows.BEGIN, rows.IN_C, rows.END, rows.EXIT])
+               for spelling in ("lines", "sarif")]
+        wanted = [(said([rows.BEGUN] + told + [rows.ENDED]), b"", 0) for told in rows.FORMS[form]] if form else [refused, refused]
+        check(f"words: {text!r} say {form}", got == wanted)
+
+
+def ends_at_once(data):
+    """Whether the program ends with these bytes, though its input doesn't."""
+    child = subprocess.Popen([PROGRAM, "log"], stdin=subprocess.PIPE, stdout=subprocess.PIPE)
+    try:
+        child.stdin.write(data)
+        child.stdin.flush()
+        return child.wait(timeout=60) == 1 and child.stdout.read() == b""
+    except subprocess.TimeoutExpired:
+        child.kill()
+        return False
+    finally:
+        child.communicate()
+
+
+def try_frames():
+    """Bodies come with their last byte, and the first byte that can be of no frame ends the program."""
+    end, early = said([rows.END]), said([rows.EARLY_END])
+    for text, wanted in rows.BODIES:
+        data = text.encode()
+        check(f"a body comes with its last byte: {text[:44]!r}", run(["log"], data[:-1]).stdout == b"")
+        check("and comes whole", run(["log"], data + end).stdout == said(wanted) + early)
+    for text, place, rest in rows.FAULTS:
+        data = text.encode()
+        if rest is not None:
+            check(f"{place} bytes begin a frame: {text!r}", run(["log"], data[:place] + rest.encode() + end).stdout == early)
+        check(f"the byte behind {place} ends it: {text[:44]!r}", ends_at_once(data[:place + 1]))
+    chunks = run(["log"], "".join(rows.CHUNKS).encode())
+    check("chunks are read as their frames", (chunks.stdout, chunks.returncode) == (said([rows.NO_JSON]), 1))
+    check("lengths count bytes", run(["log"], said([rows.WIDE[0]])).stdout == said([rows.WIDE[1]]))
+
+
 def between(text, offset):
     """The offset, or the one before it where it stands within a CRLF."""
     return offset - 1 if text[offset - 1:offset + 1] == "\r\n" else offset
@@ -344,6 +425,9 @@ def those(look, numbers):
 
 
 with tempfile.TemporaryDirectory() as place:
+    try_sessions(place)
+    try_words(place)
+    try_frames()
     try_messages(place)
     try_logs(place)
     check("30 replays", all(try_replay(place, seed, ["utf-8", "utf-16", "utf-32"][seed % 3]) for seed in range(30)))

@@ -2,6 +2,7 @@
 //! alone, of `lsp_frames`, `lsp_marks`, `lsp_diagnostics` and `lsp_server`.
 #![tactic(auto)]
 
+#[cfg(test)]
 pub mod callers;
 #[cfg(test)]
 mod of_lsp_diagnostics;
@@ -11,3 +12,5 @@ mod of_lsp_frames;
 mod of_lsp_marks;
 #[cfg(test)]
 mod of_lsp_server;
+#[cfg(test)]
+mod of_source_store;

@@ -1,31 +1,8 @@
-// Frames as clients send them, and heads that none may send.
-ghost use Rattle.std.specs.Prelude.{◌≡◌, IfSome, length};
-ghost use Rattle.lsp_frames.specs.Ends.{shown};
-ghost use Rattle.lsp_frames.specs.Run.{bodies};
-
+// Bodies as they come, heads that no client may send, and why. What a program does with frames is
+// tried from outside.
+use crate::callers::count_in;
 use lsp_frames::{End, Frames, LONGEST_HEAD, Why, write_frame};
 use std::alloc::{AllocError, Global};
-use std::test::Fail;
-
-// Reads one chunk, and says how many messages ended in it, or none where a byte was refused or
-// memory was wanted.
-fn count_in(alloc: Global, frames: &mut Frames, bytes: &[u8]) -> Option<usize>
-    ensures { IfSome result (λ count. count ≡ length (bodies (shown frames.old) bytes.now)) }
-{
-    let mut used = 0;
-    let mut count = 0;
-    while used < bytes.len() {
-        let taken = frames.next(alloc, &bytes[used..]);
-        used += taken.used;
-        match taken.end {
-            End::More => return Some(count),
-            End::Message(_) => count += 1,
-            End::Refused(_) => return None,
-            End::OutOfMemory => return None,
-        }
-    }
-    Some(count)
-}
 
 /// Whether a body comes with the last byte of these, and not before.
 fn gives(alloc: Global, bytes: &[u8], wanted: &[u8]) -> bool {
@@ -35,52 +12,59 @@ fn gives(alloc: Global, bytes: &[u8], wanted: &[u8]) -> bool {
         && matches!(taken.end, End::Message(body) if body.as_slice() == wanted)
 }
 
-/// Which byte of these is the first that can be of no frame.
-fn refused(alloc: Global, bytes: &[u8]) -> Option<(usize, Why)> {
+/// Whether the byte behind so many is the first that can be of no frame, since none begins so.
+fn is_no_frame(alloc: Global, bytes: &str, used: usize) -> bool {
     let mut frames = Frames::new(alloc);
-    let taken = frames.next(alloc, bytes);
-    match taken.end {
-        End::Refused(why) => Some((taken.used, why)),
-        _ => None,
-    }
+    let taken = frames.next(alloc, bytes.as_bytes());
+    taken.used == used && matches!(taken.end, End::Refused(Why::NoFrame))
 }
+
+/// The same of a body that would be too long.
+fn is_long_body(alloc: Global, bytes: &str, used: usize) -> bool {
+    let mut frames = Frames::new(alloc);
+    let taken = frames.next(alloc, bytes.as_bytes());
+    taken.used == used && matches!(taken.end, End::Refused(Why::LongBody))
+}
+
+const BODIES: [(&str, &str); 3] = [
+    ("Content-Length: 2\r\n\r\n{}", "{}"),
+    ("Content-Length: 0\r\n\r\n", ""),
+    (
+        "content-LENGTH:  3\r\nContent-Type: a; b=c\r\n\r\n\u{e4}1",
+        "\u{e4}1",
+    ),
+];
 
 #[test]
 fn bodies_come_whole(rt: HostRuntime) {
     let alloc = rt.alloc();
-    let rows = [
-        ("Content-Length: 2\r\n\r\n{}", "{}"),
-        ("Content-Length: 0\r\n\r\n", ""),
-        (
-            "content-LENGTH:  3\r\nContent-Type: a; b=c\r\n\r\n\u{e4}1",
-            "\u{e4}1",
-        ),
-    ];
-    for (bytes, wanted) in rows {
-        assert!(rt; gives(alloc, bytes.as_bytes(), wanted.as_bytes()));
+    for row in &BODIES {
+        assert!(rt;
+            gives(alloc, row.0.as_bytes(), row.1.as_bytes()),
+            "{}",
+            row.1
+        );
     }
 }
+
+const FAULTS: [(&str, usize); 5] = [
+    ("Content-Length: 2 \r\n", 17),
+    ("Content-Length: 2\n", 17),
+    ("Content-Length 2\r\n", 16),
+    ("Content-Length: 2\r\nContent-Length:", 33),
+    ("A: b\r\n\r", 6),
+];
 
 #[test]
 fn faults_are_found_where_they_are(rt: HostRuntime) {
     let alloc = rt.alloc();
-    let rows = [
-        ("Content-Length: 2 \r\n", 17),
-        ("Content-Length: 2\n", 17),
-        ("Content-Length 2\r\n", 16),
-        ("Content-Length: 2\r\nContent-Length:", 33),
-        ("A: b\r\n\r", 6),
-    ];
-    for (bytes, place) in rows {
-        assert!(rt;
-            matches!(refused(alloc, bytes.as_bytes()), Some((at, Why::NoFrame)) if at == place)
-        );
+    for row in &FAULTS {
+        assert!(rt; is_no_frame(alloc, row.0, row.1), "{}", row.0);
     }
-    let long = "Content-Length: 8388609";
-    assert!(rt; matches!(refused(alloc, long.as_bytes()), Some((22, Why::LongBody))));
+    assert!(rt; is_long_body(alloc, "Content-Length: 8388609", 22));
 }
 
-// A head of so many bytes, and the empty body behind it.
+/// A head of so many bytes, and the empty body behind it.
 fn head_of(alloc: Global, len: usize) -> Result<String, AllocError> {
     let end = ":\r\nContent-Length: 0\r\n\r\n";
     let mut head = "x".repeat(alloc, len.saturating_sub(end.len()))?;
@@ -88,39 +72,61 @@ fn head_of(alloc: Global, len: usize) -> Result<String, AllocError> {
     Ok(head)
 }
 
-#[test]
-fn a_long_head_is_refused(rt: HostRuntime) -> Result<(), Fail> {
-    let alloc = rt.alloc();
-    let longest = head_of(alloc, LONGEST_HEAD)?;
-    assert!(rt; gives(alloc, longest.as_bytes(), b""));
-    let longer = head_of(alloc, LONGEST_HEAD + 1)?;
-    assert!(rt;
-        matches!(
-            refused(alloc, longer.as_bytes()),
-            Some((LONGEST_HEAD, Why::LongHead))
-        )
-    );
-    Ok(())
+/// Whether the longest head is one.
+fn takes_the_longest(alloc: Global) -> bool {
+    match head_of(alloc, LONGEST_HEAD) {
+        Ok(head) => gives(alloc, head.as_bytes(), b""),
+        Err(_) => false,
+    }
 }
+
+/// Whether a longer one is refused at its last byte.
+fn refuses_a_longer(alloc: Global) -> bool {
+    let Ok(head) = head_of(alloc, LONGEST_HEAD + 1) else {
+        return false;
+    };
+    let mut frames = Frames::new(alloc);
+    let taken = frames.next(alloc, head.as_bytes());
+    taken.used == LONGEST_HEAD && matches!(taken.end, End::Refused(Why::LongHead))
+}
+
+#[test]
+fn a_long_head_is_refused(rt: HostRuntime) {
+    let alloc = rt.alloc();
+    assert!(rt; takes_the_longest(alloc));
+    assert!(rt; refuses_a_longer(alloc));
+}
+
+const CHUNKS: [(&str, Option<usize>); 4] = [
+    ("Content-Length: 2\r\n\r\n{}Content-Le", Some(1)),
+    ("ngth: 0\r\n\r\nContent-Length: 1\r\n\r\n1", Some(2)),
+    ("Content-Length: 1\r\n\r\n", Some(0)),
+    ("1:", None),
+];
 
 #[test]
 fn chunks_are_counted(rt: HostRuntime) {
     let alloc = rt.alloc();
     let mut frames = Frames::new(alloc);
-    let rows = [
-        ("Content-Length: 2\r\n\r\n{}Content-Le", Some(1)),
-        ("ngth: 0\r\n\r\nContent-Length: 1\r\n\r\n1", Some(2)),
-        ("Content-Length: 1\r\n\r\n", Some(0)),
-        ("1:", None),
-    ];
-    for (bytes, wanted) in rows {
-        assert!(rt; count_in(alloc, &mut frames, bytes.as_bytes()) == wanted);
+    for row in &CHUNKS {
+        assert!(rt;
+            count_in(alloc, &mut frames, row.0.as_bytes()) == row.1,
+            "{}",
+            row.0
+        );
+    }
+}
+
+/// Whether the frame of a body is this text.
+fn is_framed(alloc: Global, body: &str, wanted: &str) -> bool {
+    match write_frame(alloc, body.as_bytes()) {
+        Ok(frame) => frame.as_slice() == wanted.as_bytes(),
+        Err(_) => false,
     }
 }
 
 #[test]
-fn lengths_count_bytes(rt: HostRuntime) -> Result<(), Fail> {
-    let frame = write_frame(rt.alloc(), "\u{e4}\u{1f600}".as_bytes())?;
-    assert!(rt; frame.as_slice() == "Content-Length: 6\r\n\r\n\u{e4}\u{1f600}".as_bytes());
-    Ok(())
+fn lengths_count_bytes(rt: HostRuntime) {
+    let wanted = "Content-Length: 6\r\n\r\n\u{e4}\u{1f600}";
+    assert!(rt; is_framed(rt.alloc(), "\u{e4}\u{1f600}", wanted));
 }

@@ -1,7 +1,7 @@
 // One change, and what it does to offsets and marks.
 use crate::callers::moves;
 use lsp_marks::{Change, Mark, move_mark, move_marks, move_offset};
-use std::test::Fail;
+use std::alloc::Global;
 
 const CHANGE: Change = Change {
     start: 4,
@@ -9,20 +9,31 @@ const CHANGE: Change = Change {
     inserted: 5,
 };
 
-/// Whether a mark goes to another, or goes where that is none.
-fn goes(mark: (usize, usize), wanted: Option<(usize, usize)>) -> bool {
-    if mark.0 > 100 || mark.1 > 100 {
-        return false;
-    }
-    let (start, end) = mark;
-    move_mark(CHANGE, Mark { start, end }) == wanted.map(|(start, end)| Mark { start, end })
+/// Whether an offset goes to another.
+fn shifts(offset: usize, wanted: usize) -> bool {
+    offset <= 100 && move_offset(CHANGE, offset) == wanted
 }
+
+/// Whether a mark goes to another, or goes where that is none.
+fn goes(mark: Mark, wanted: Option<Mark>) -> bool {
+    mark.start <= 100 && mark.end <= 100 && move_mark(CHANGE, mark) == wanted
+}
+
+/// Whether of two marks the one that becomes empty goes.
+fn leaves_one(alloc: Global) -> bool {
+    let marks = [Mark { start: 4, end: 5 }, Mark { start: 6, end: 7 }];
+    match move_marks(alloc, CHANGE, &marks) {
+        Ok(moved) => moved.as_slice() == [Mark { start: 9, end: 10 }].as_slice(),
+        Err(_) => false,
+    }
+}
+
+const OFFSETS: [(usize, usize); 5] = [(0, 0), (4, 4), (5, 4), (6, 9), (7, 10)];
 
 #[test]
 fn offsets_stay_go_and_shift(rt: HostRuntime) {
-    let rows = [(0, 0), (4, 4), (5, 4), (6, 9), (7, 10)];
-    for (offset, wanted) in rows {
-        assert_eq!(rt; move_offset(CHANGE, offset), wanted);
+    for row in &OFFSETS {
+        assert!(rt; shifts(row.0, row.1), "{}", row.0);
     }
 }
 
@@ -31,25 +42,23 @@ fn all_move_behind_a_first_byte(rt: HostRuntime) {
     assert!(rt; moves(1) && moves(u32::MAX));
 }
 
+const MARKS: [(Mark, Option<Mark>); 6] = [
+    (Mark { start: 4, end: 5 }, None),
+    (Mark { start: 4, end: 6 }, Some(Mark { start: 4, end: 9 })),
+    (Mark { start: 2, end: 7 }, Some(Mark { start: 2, end: 10 })),
+    (Mark { start: 5, end: 5 }, Some(Mark { start: 4, end: 4 })),
+    (Mark { start: 1, end: 3 }, Some(Mark { start: 1, end: 3 })),
+    (Mark { start: 5, end: 9 }, Some(Mark { start: 4, end: 12 })),
+];
+
 #[test]
 fn marks_move(rt: HostRuntime) {
-    let rows = [
-        ((4, 5), None),
-        ((4, 6), Some((4, 9))),
-        ((2, 7), Some((2, 10))),
-        ((5, 5), Some((4, 4))),
-        ((1, 3), Some((1, 3))),
-        ((5, 9), Some((4, 12))),
-    ];
-    for (mark, wanted) in rows {
-        assert!(rt; goes(mark, wanted));
+    for row in &MARKS {
+        assert!(rt; goes(row.0, row.1), "{}", row.0.end);
     }
 }
 
 #[test]
-fn an_emptied_mark_goes(rt: HostRuntime) -> Result<(), Fail> {
-    let marks = [Mark { start: 4, end: 5 }, Mark { start: 6, end: 7 }];
-    let moved = move_marks(rt.alloc(), CHANGE, &marks)?;
-    assert!(rt; moved.as_slice() == [Mark { start: 9, end: 10 }].as_slice());
-    Ok(())
+fn an_emptied_mark_goes(rt: HostRuntime) {
+    assert!(rt; leaves_one(rt.alloc()));
 }

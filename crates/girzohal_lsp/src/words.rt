@@ -17,7 +17,7 @@ use line_shapes::tools::{columns_of_tool, tool_shapes};
 use std::alloc::{AllocError, Global};
 
 /// How a log is written.
-#[derive(Clone, Copy, PartialEq, Eq)]
+#[derive(Clone, Copy)]
 pub enum Form {
     /// As its first bytes say: a SARIF log where they begin a JSON object, and else lines.
     Auto,

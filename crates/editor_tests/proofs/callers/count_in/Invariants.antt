@@ -2,7 +2,7 @@
 use Rattle.std.proofs.Common.{◌≡◌, ◌+◌, ◌-◌, ◌≤◌, length, drop}
 use Rattle.lsp_frames.specs.Ends.{shown}
 use Rattle.lsp_frames.specs.Run.{bodies}
-use Rattle.editor_tests.proofs.of_lsp_frames.count_in.Given as goal
+use Rattle.editor_tests.proofs.callers.count_in.Given as goal
 
 abbrev pub invariant-loop-used : goal.invariant-loop-used
 invariant-loop-used l = record {

@@ -4,7 +4,7 @@ use Rattle.lsp_frames.specs.Ends.{shown, Ends, IsMessage, Read}
 use Rattle.lsp_frames.specs.Run.{Machine, after, bodies}
 use Rattle.lsp_frames.specs.declared.frames.End.{End}
 use Rattle.lsp_frames.proofs.Runs.{bodies-append}
-use Rattle.editor_tests.proofs.of_lsp_frames.count_in.Goals as goal
+use Rattle.editor_tests.proofs.callers.count_in.Goals as goal
 
 -- the bodies that are read, and those to come
 count_on : (old new : Machine) (bytes : List ℕ) (n : ℕ) (said : List (List ℕ)) → Read old bytes n new said
