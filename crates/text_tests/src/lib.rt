@@ -3,7 +3,8 @@
 //! `text_places`, `client_text`, `oxc_windows` and `oxc_plan`.
 #![tactic(auto)]
 
-pub mod callers;
+#[cfg(test)]
+mod callers;
 #[cfg(test)]
 mod of_bytecount;
 #[cfg(test)]
@@ -26,3 +27,5 @@ mod of_text_size;
 mod of_utf16_places;
 #[cfg(test)]
 mod plain_reader;
+#[cfg(test)]
+mod texts;

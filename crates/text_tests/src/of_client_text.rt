@@ -5,10 +5,10 @@ ghost use Rattle.client_text.specs.Document.{IsEdited};
 
 mod transcript;
 
+use crate::texts::is_text;
 use client_text::{Change, ClientText, Fault, Refusal};
 use source_location::fits;
 use std::alloc::{AllocError, Global};
-use std::test::Fail;
 use text_places::{Encoding, Place};
 use transcript::{START, TRANSCRIPT};
 
@@ -23,7 +23,6 @@ fn did_change(client: &mut ClientText, version: i32, changes: &[Change]) -> Resu
 type Span = ((u32, u32), (u32, u32));
 
 // What a client sends, and what is left of it: the refusal, and the text behind it.
-#[derive(Clone, Copy)]
 struct Notification<'a> {
     version: i32,
     changes: &'a [(Option<Span>, &'a str)],
@@ -64,33 +63,39 @@ fn opened(
     ClientText::open(alloc, encoding, text, version)
 }
 
-// Whether a document takes or refuses a notification as it should, and has the text then.
-fn takes(alloc: Global, client: &mut ClientText, sent: &Notification) -> Result<bool, AllocError> {
-    let changes = changes_of(alloc, sent.changes)?;
+// Whether a document takes or refuses changes as the notification says.
+fn answers(client: &mut ClientText, sent: &Notification<'_>, changes: &[Change]) -> bool {
     let before = client.version();
-    let same = match did_change(client, sent.version, changes.as_slice()) {
+    match did_change(client, sent.version, changes) {
         Ok(()) => sent.refused.is_none() && client.version() == sent.version,
         Err(refusal) => {
             client.version() == before && sent.refused == Some((refusal.change, refusal.fault))
         }
-    };
-    let left = client.to_text(alloc)?;
-    Ok(same && left.as_str() == sent.text)
+    }
 }
 
+// Whether a document takes or refuses a notification as it should, and has the text then.
+fn takes(alloc: Global, client: &mut ClientText, sent: &Notification<'_>) -> bool {
+    let same = match changes_of(alloc, sent.changes) {
+        Ok(changes) => answers(client, sent, changes.as_slice()),
+        Err(_) => false,
+    };
+    same && is_text(client.to_text(alloc), sent.text)
+}
+
+// A document that is opened, and the notification that it is sent.
+type First = (Encoding, &'static str, Notification<'static>);
+
 // The same of a document that is opened for it.
-fn takes_first(
-    alloc: Global,
-    encoding: Encoding,
-    text: &str,
-    sent: &Notification,
-) -> Result<bool, AllocError> {
-    let mut client = opened(alloc, encoding, text, 1)?;
-    takes(alloc, &mut client, sent)
+fn takes_first(alloc: Global, row: &First) -> bool {
+    match opened(alloc, row.0, row.1, 1) {
+        Ok(mut client) => takes(alloc, &mut client, &row.2),
+        Err(_) => false,
+    }
 }
 
 // A document is opened, and sent a notification.
-const SINGLE: [(Encoding, &str, Notification<'static>); 7] = [
+const SINGLE: [First; 7] = [
     (
         Encoding::Utf16,
         "",
@@ -164,15 +169,14 @@ const SINGLE: [(Encoding, &str, Notification<'static>); 7] = [
 ];
 
 #[test]
-fn single_changes_are_made(rt: HostRuntime) -> Result<(), Fail> {
-    for (encoding, text, sent) in SINGLE {
-        assert!(rt; takes_first(rt.alloc(), encoding, text, &sent)?);
+fn single_changes_are_made(rt: HostRuntime) {
+    for row in &SINGLE {
+        assert!(rt; takes_first(rt.alloc(), row), "{}", row.2.text);
     }
-    Ok(())
 }
 
 // The same of lists and of what is refused.
-const MORE: [(Encoding, &str, Notification<'static>); 7] = [
+const MORE: [First; 7] = [
     (
         Encoding::Utf8,
         "\u{e9}\n",
@@ -246,31 +250,59 @@ const MORE: [(Encoding, &str, Notification<'static>); 7] = [
 ];
 
 #[test]
-fn changes_are_made_in_turn_or_refused(rt: HostRuntime) -> Result<(), Fail> {
-    for (encoding, text, sent) in MORE {
-        assert!(rt; takes_first(rt.alloc(), encoding, text, &sent)?);
+fn changes_are_made_in_turn_or_refused(rt: HostRuntime) {
+    for row in &MORE {
+        assert!(rt; takes_first(rt.alloc(), row), "{}", row.2.text);
     }
-    Ok(())
+}
+
+// Whether a document takes or refuses each notification as it should.
+fn takes_all(alloc: Global, client: &mut ClientText, all: &[Notification<'_>]) -> bool {
+    for sent in all {
+        if !takes(alloc, client, sent) {
+            return false;
+        }
+    }
+    true
+}
+
+// Whether a document that is opened with the first text takes the transcript.
+fn replays(alloc: Global) -> bool {
+    match opened(alloc, Encoding::Utf16, START, 1) {
+        Ok(mut client) => {
+            client.encoding() == Encoding::Utf16 && takes_all(alloc, &mut client, &TRANSCRIPT)
+        }
+        Err(_) => false,
+    }
 }
 
 #[test]
-fn a_transcript_is_replayed(rt: HostRuntime) -> Result<(), Fail> {
-    let mut client = opened(rt.alloc(), Encoding::Utf16, START, 1)?;
-    assert!(rt; client.encoding() == Encoding::Utf16);
-    for sent in TRANSCRIPT {
-        assert!(rt; takes(rt.alloc(), &mut client, &sent)?);
-    }
-    Ok(())
+fn a_transcript_is_replayed(rt: HostRuntime) {
+    assert!(rt; replays(rt.alloc()));
 }
 
-#[test]
-fn pieces_make_the_text(rt: HostRuntime) -> Result<(), Fail> {
-    let client = opened(rt.alloc(), Encoding::Utf8, "a\r\n\u{e9}", -7)?;
-    assert!(rt; client.version() == -7 && client.places().line_count() == 2);
-    let mut joined = String::new(rt.alloc());
+// The pieces of a document, joined.
+fn joined(alloc: Global, client: &ClientText) -> Result<String, AllocError> {
+    let mut joined = String::new(alloc);
     for piece in client.pieces() {
         joined.push_str(piece)?;
     }
-    assert!(rt; joined.as_str() == "a\r\n\u{e9}");
-    Ok(())
+    Ok(joined)
+}
+
+// Whether the pieces of a document make its text.
+fn has_pieces(alloc: Global) -> bool {
+    match opened(alloc, Encoding::Utf8, "a\r\n\u{e9}", -7) {
+        Ok(client) => {
+            client.version() == -7
+                && client.places().line_count() == 2
+                && is_text(joined(alloc, &client), "a\r\n\u{e9}")
+        }
+        Err(_) => false,
+    }
+}
+
+#[test]
+fn pieces_make_the_text(rt: HostRuntime) {
+    assert!(rt; has_pieces(rt.alloc()));
 }

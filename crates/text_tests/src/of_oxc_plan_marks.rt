@@ -42,19 +42,22 @@ const COLUMNS: [Example; 15] = [
 fn holds(example: &Example) -> bool {
     let (text, offset, at_start, width, column) = *example;
     match TabWidth::new(width) {
-        Some(tabs) if text.len() < 100 => column_of(&row_of(text), offset, at_start, tabs)
-            == column,
-        _ => false,
+        Some(tabs) => text.len() < 100
+            && column_of(&row_of(text), offset, at_start, tabs) == column,
+        None => false,
     }
 }
 
 #[test]
 fn a_column_is_the_width_of_the_text_before(rt: HostRuntime) {
-    assert!(rt; COLUMNS.iter().all(|example| holds(example)));
+    for example in &COLUMNS {
+        assert!(rt; holds(example), "{}", example.1);
+    }
 }
 
 #[test]
 fn tab_stops_are_from_one_to_sixteen_columns_apart(rt: HostRuntime) {
-    assert!(rt; TabWidth::new(0).is_none() && TabWidth::new(17).is_none());
-    assert_eq!(rt; TabWidth::default().get(), 4);
+    assert!(rt;
+        TabWidth::new(0).is_none() && TabWidth::new(17).is_none() && TabWidth::default().get() == 4
+    );
 }

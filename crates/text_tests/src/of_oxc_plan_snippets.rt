@@ -8,7 +8,6 @@ use oxc_plan::{Bar, BarKind, Hang, MarkCells, RowPlan, SnippetPlan, TabWidth, pl
 use oxc_span::LabeledSpan;
 use oxc_windows::SpanScanner;
 use std::alloc::{AllocError, Global};
-use std::test::Fail;
 
 /// Whether labels end within so many bytes.
 fn all_within(labels: &[LabeledSpan], len: usize) -> bool
@@ -35,11 +34,39 @@ fn plans_of<'a>(
     Ok(Some(plans))
 }
 
-/// A label with a text.
-fn label(alloc: Global, start: u32, len: u32, text: &str) -> Result<LabeledSpan, AllocError>
-    requires { start + len < 2 ^ 32 }
-{
-    Ok(LabeledSpan::new(Some(String::from_str(alloc, text)?), start, len))
+/// A label that is given: its text, if it has one, where it starts, and its length.
+type Given = (Option<&'static str>, u8, u8);
+
+/// A label as it is given.
+fn label(alloc: Global, given: &Given) -> Result<LabeledSpan, AllocError> {
+    let (text, start, len) = *given;
+    let text = match text {
+        Some(text) => Some(String::from_str(alloc, text)?),
+        None => None,
+    };
+    Ok(LabeledSpan::new(text, u32::from(start), u32::from(len)))
+}
+
+/// Labels as they are given.
+fn labels_of(alloc: Global, given: &[Given]) -> Result<Vec<LabeledSpan>, AllocError> {
+    let mut labels = Vec::new(alloc);
+    for one in given {
+        labels.push(label(alloc, one)?)?;
+    }
+    Ok(labels)
+}
+
+/// The snippets of labels of a short source, if all labels end within it.
+fn planned<'a>(
+    alloc: Global,
+    source: &'a str,
+    given: &[Given],
+) -> Result<Option<Vec<SnippetPlan<'a>>>, AllocError> {
+    let labels = labels_of(alloc, given)?;
+    if source.len() > 100 {
+        return Ok(None);
+    }
+    plans_of(alloc, source, labels.as_slice())
 }
 
 /// Whether one bar stands beside a row, and nothing below it but these texts at bars' ends.
@@ -54,120 +81,199 @@ fn has_head(plan: &SnippetPlan<'_>, line: usize, column: usize, gutter: usize) -
     plan.head_line == line && plan.head_column == column && plan.gutter == gutter
 }
 
-#[test]
-fn a_label_over_rows_has_a_bar_beside_each(rt: HostRuntime) -> Result<(), Fail> {
-    let alloc = rt.alloc();
-    let labels = [label(alloc, 2, 7, "block")?];
-    let plans = plans_of(alloc, "a {\n  b\n}\n", &labels)?.expect(&rt, "labels within the text");
-    assert_eq!(rt; plans.len(), 1);
-    assert!(rt; has_head(&plans[0], 1, 3, 1));
-    let rows = &plans[0].rows;
-    assert_eq!(rt; rows.len(), 3);
-    assert!(rt; has_bar(&rows[0], BarKind::Starts, &[]));
-    assert!(rt; has_bar(&rows[1], BarKind::Passes, &[]));
-    assert!(rt; has_bar(&rows[2], BarKind::Ends, &[0]));
-    assert_eq!(rt; rows[2].row.number, 3);
-    Ok(())
+/// Whether a label starts in the first of three rows and ends in the third.
+fn has_three_bars(rows: &[RowPlan<'_>]) -> bool {
+    match rows {
+        [first, second, third] => {
+            has_bar(first, BarKind::Starts, &[])
+                && has_bar(second, BarKind::Passes, &[])
+                && has_bar(third, BarKind::Ends, &[0])
+                && third.row.number == 3
+        }
+        _ => false,
+    }
+}
+
+fn is_block(plans: &[SnippetPlan<'_>]) -> bool {
+    match plans {
+        [plan] => has_head(plan, 1, 3, 1) && has_three_bars(plan.rows.as_slice()),
+        _ => false,
+    }
+}
+
+/// Whether a label over three rows has its bars.
+fn block_is_planned(alloc: Global) -> bool {
+    match planned(alloc, "a {\n  b\n}\n", &[(Some("block"), 2, 7)]) {
+        Ok(Some(plans)) => is_block(plans.as_slice()),
+        _ => false,
+    }
 }
 
 #[test]
-fn labels_within_a_row_have_marks_and_texts(rt: HostRuntime) -> Result<(), Fail> {
-    let alloc = rt.alloc();
-    let labels = [label(alloc, 0, 4, "A")?, label(alloc, 2, 4, "B")?];
-    let plans = plans_of(alloc, "abcdef", &labels)?.expect(&rt, "labels within the text");
-    assert_eq!(rt; plans.len(), 1);
-    assert_eq!(rt; plans[0].rows.len(), 1);
-    let row = &plans[0].rows[0];
-    assert_eq!(rt;
-        row.marks.as_slice(),
-        [
+fn a_label_over_rows_has_a_bar_beside_each(rt: HostRuntime) {
+    assert!(rt; block_is_planned(rt.alloc()));
+}
+
+/// A source of one row, its labels, and their marks.
+type Marked = (&'static str, &'static [Given], &'static [MarkCells]);
+
+/// Whether there is one snippet of one row, with these marks.
+fn has_marks(plans: &[SnippetPlan<'_>], marks: &[MarkCells]) -> bool {
+    match plans {
+        [plan] => match plan.rows.as_slice() {
+            [row] => row.marks.as_slice() == marks,
+            _ => false,
+        },
+        _ => false,
+    }
+}
+
+fn is_marked(alloc: Global, example: &Marked) -> bool {
+    match planned(alloc, example.0, example.1) {
+        Ok(Some(plans)) => has_marks(plans.as_slice(), example.2),
+        _ => false,
+    }
+}
+
+/// Whether there is one snippet of so many rows, and these texts hang below its first row.
+fn hang_below(plans: &[SnippetPlan<'_>], rows: usize, hangs: &[Hang]) -> bool {
+    match plans {
+        [plan] => plan.rows.len() == rows && rows > 0 && plan.rows[0].hangs.as_slice() == hangs,
+        _ => false,
+    }
+}
+
+const WITH_TEXTS: Marked = (
+    "abcdef",
+    &[(Some("A"), 0, 4), (Some("B"), 2, 4)],
+    &[
+        MarkCells {
+            label: 0,
+            start: 0,
+            end: 4,
+            bar: 2,
+        },
+        MarkCells {
+            label: 1,
+            start: 4,
+            end: 6,
+            bar: 5,
+        },
+    ],
+);
+
+/// Whether each text hangs at its own label.
+fn texts_hang(alloc: Global) -> bool {
+    match planned(alloc, WITH_TEXTS.0, WITH_TEXTS.1) {
+        Ok(Some(plans)) => hang_below(
+            plans.as_slice(),
+            1,
+            &[Hang { label: 0, at: 0 }, Hang { label: 1, at: 1 }],
+        ),
+        _ => false,
+    }
+}
+
+#[test]
+fn labels_within_a_row_have_marks_and_texts(rt: HostRuntime) {
+    assert!(rt; is_marked(rt.alloc(), &WITH_TEXTS) && texts_hang(rt.alloc()));
+}
+
+const SIDE_BY_SIDE: [Marked; 2] = [
+    (
+        "abcdef",
+        &[(None, 0, 4), (None, 2, 4)],
+        &[
             MarkCells {
                 label: 0,
                 start: 0,
                 end: 4,
-                bar: 2
+                bar: 2,
             },
             MarkCells {
                 label: 1,
                 start: 4,
                 end: 6,
-                bar: 5
+                bar: 5,
             },
-        ]
-        .as_slice()
-    );
-    assert_eq!(rt;
-        row.hangs.as_slice(),
-        [Hang { label: 0, at: 0 }, Hang { label: 1, at: 1 }].as_slice()
-    );
-    Ok(())
+        ],
+    ),
+    (
+        "\u{65e5}\u{672c} x",
+        &[(None, 3, 3), (None, 7, 1)],
+        &[
+            MarkCells {
+                label: 0,
+                start: 2,
+                end: 4,
+                bar: 3,
+            },
+            MarkCells {
+                label: 1,
+                start: 5,
+                end: 6,
+                bar: 5,
+            },
+        ],
+    ),
+];
+
+#[test]
+fn marks_stand_side_by_side_under_what_is_drawn(rt: HostRuntime) {
+    for example in &SIDE_BY_SIDE {
+        assert!(rt; is_marked(rt.alloc(), example), "{}", example.0);
+    }
 }
 
-fn mark(label: usize, start: usize, end: usize, bar: usize) -> MarkCells {
-    MarkCells {
-        label,
-        start,
-        end,
-        bar,
+const PAST_A_TAB: Marked = (
+    "é\txyz",
+    &[(None, 5, 1)],
+    &[MarkCells {
+        label: 0,
+        start: 6,
+        end: 7,
+        bar: 6,
+    }],
+);
+
+#[test]
+fn a_mark_stands_past_a_tab(rt: HostRuntime) {
+    assert!(rt; is_marked(rt.alloc(), &PAST_A_TAB));
+}
+
+/// Two labels that share a text and a place, and behind them a primary one.
+fn two_and_a_primary(alloc: Global) -> Result<Vec<LabeledSpan>, AllocError> {
+    let mut labels = labels_of(alloc, &[(Some("x"), 0, 1), (Some("x"), 0, 1)])?;
+    labels.push(LabeledSpan::primary_at(None, 3, 1))?;
+    Ok(labels)
+}
+
+/// Whether the head is at the primary label, and both texts hang at the first label.
+fn hang_together(plans: &[SnippetPlan<'_>]) -> bool {
+    match plans {
+        [plan] => {
+            has_head(plan, 2, 1, 0)
+                && hang_below(
+                    plans,
+                    2,
+                    &[Hang { label: 0, at: 0 }, Hang { label: 1, at: 0 }],
+                )
+        }
+        _ => false,
+    }
+}
+
+fn has_its_head(alloc: Global) -> bool {
+    let Ok(labels) = two_and_a_primary(alloc) else {
+        return false;
+    };
+    match plans_of(alloc, "a\r\nb", labels.as_slice()) {
+        Ok(Some(plans)) => hang_together(plans.as_slice()),
+        _ => false,
     }
 }
 
 #[test]
-fn marks_stand_side_by_side_under_what_is_drawn(rt: HostRuntime) -> Result<(), Fail> {
-    let alloc = rt.alloc();
-    let labels = [LabeledSpan::new(None, 0, 4), LabeledSpan::new(None, 2, 4)];
-    let overlapping = plans_of(alloc, "abcdef", &labels)?.expect(&rt, "labels within the text");
-    assert_eq!(rt; overlapping.len(), 1);
-    assert_eq!(rt; overlapping[0].rows.len(), 1);
-    assert_eq!(rt;
-        overlapping[0].rows[0].marks.as_slice(),
-        [mark(0, 0, 4, 2), mark(1, 4, 6, 5)].as_slice()
-    );
-    let labels = [LabeledSpan::new(None, 3, 3), LabeledSpan::new(None, 7, 1)];
-    let wide = plans_of(alloc, "\u{65e5}\u{672c} x", &labels)?.expect(
-        &rt,
-        "labels within the text",
-    );
-    assert_eq!(rt; wide.len(), 1);
-    assert_eq!(rt; wide[0].rows.len(), 1);
-    assert_eq!(rt;
-        wide[0].rows[0].marks.as_slice(),
-        [mark(0, 2, 4, 3), mark(1, 5, 6, 5)].as_slice()
-    );
-    Ok(())
-}
-
-#[test]
-fn a_mark_stands_past_a_tab(rt: HostRuntime) -> Result<(), Fail> {
-    let alloc = rt.alloc();
-    let labels = [LabeledSpan::new(None, 5, 1)];
-    let plans = plans_of(alloc, "é\txyz", &labels)?.expect(&rt, "labels within the text");
-    assert_eq!(rt; plans.len(), 1);
-    assert_eq!(rt; plans[0].rows.len(), 1);
-    assert_eq!(rt;
-        plans[0].rows[0].marks.as_slice(),
-        [mark(0, 6, 7, 6)].as_slice()
-    );
-    Ok(())
-}
-
-#[test]
-fn a_head_is_at_the_first_primary_label_and_equal_texts_hang_together(
-    rt: HostRuntime,
-) -> Result<(), Fail> {
-    let alloc = rt.alloc();
-    let labels = [
-        label(alloc, 0, 1, "x")?,
-        label(alloc, 0, 1, "x")?,
-        LabeledSpan::primary_at(None, 3, 1),
-    ];
-    let plans = plans_of(alloc, "a\r\nb", &labels)?.expect(&rt, "labels within the text");
-    assert_eq!(rt; plans.len(), 1);
-    assert!(rt; has_head(&plans[0], 2, 1, 0));
-    assert_eq!(rt; plans[0].rows.len(), 2);
-    assert_eq!(rt;
-        plans[0].rows[0].hangs.as_slice(),
-        [Hang { label: 0, at: 0 }, Hang { label: 1, at: 0 }].as_slice()
-    );
-    Ok(())
+fn a_head_is_at_the_first_primary_label_and_equal_texts_hang_together(rt: HostRuntime) {
+    assert!(rt; has_its_head(rt.alloc()));
 }

@@ -7,10 +7,11 @@ ghost use Rattle.std.specs.List.{fold};
 ghost use Rattle.std.specs.Ordering.{nat_cmp};
 ghost use Rattle.std.specs.Str.{IsCharBoundary};
 
+use crate::texts::is_text;
+use std::alloc::Global;
 use std::cmp::Ordering;
 use std::hash::{Hash, Hasher};
 use std::ops::RangeBounds;
-use std::test::Fail;
 use text_size::{TextRange, TextSize, slice, slice_mut};
 
 fn range(start: u32, end: u32) -> TextRange
@@ -107,56 +108,94 @@ fn total_of_lent(sizes: &[TextSize]) -> TextSize
     sizes.iter().sum()
 }
 
+// Two ranges, and how they are ordered.
+type Ordered = ((u32, u32), (u32, u32), Ordering);
+
+const ORDERED: [Ordered; 5] = [
+    ((0, 3), (4, 5), Ordering::Less),
+    ((0, 3), (3, 5), Ordering::Less),
+    ((0, 3), (2, 5), Ordering::Equal),
+    ((0, 3), (2, 2), Ordering::Equal),
+    ((2, 3), (2, 2), Ordering::Greater),
+];
+
+fn are_ordered(row: &Ordered) -> bool {
+    let ((start, end), (from, to), wanted) = *row;
+    start <= end && from <= to && range(start, end).ordering(range(from, to)) == wanted
+}
+
 #[test]
 fn ranges_are_ordered_as_in_the_original(rt: HostRuntime) {
-    for (first, second, expected) in [
-        (range(0, 3), range(4, 5), Ordering::Less),
-        (range(0, 3), range(3, 5), Ordering::Less),
-        (range(0, 3), range(2, 5), Ordering::Equal),
-        (range(0, 3), range(2, 2), Ordering::Equal),
-        (range(2, 3), range(2, 2), Ordering::Greater),
-    ] {
-        assert_eq!(rt; first.ordering(second), expected, "{first:?} {second:?}");
+    for row in &ORDERED {
+        assert!(rt; are_ordered(row), "{}", row.1.0);
     }
+}
+
+// Whether ranges meet and cover one another.
+fn meet_and_cover() -> bool {
+    range(0, 10).intersect(range(5, 15)) == Some(range(5, 10))
+        && range(0, 5).cover(range(15, 20)) == range(0, 20)
+        && range(0, 0).cover_offset(TextSize::new(20)) == range(0, 20)
+}
+
+// Whether one end moves alone.
+fn ends_move() -> bool {
+    let five = range(5, 10);
+    let two = TextSize::new(2);
+    five.sub_start(two) == range(3, 10)
+        && five.add_start(TextSize::new(3)) == range(8, 10)
+        && five.sub_end(two) == range(5, 8)
+        && five.add_end(two) == range(5, 12)
 }
 
 #[test]
 fn ranges_meet_cover_and_move_as_in_the_original(rt: HostRuntime) {
-    assert_eq!(rt; range(0, 10).intersect(range(5, 15)), Some(range(5, 10)));
-    assert_eq!(rt; range(0, 5).cover(range(15, 20)), range(0, 20));
-    assert_eq!(rt; range(0, 0).cover_offset(TextSize::new(20)), range(0, 20));
-    let five = range(5, 10);
-    assert_eq!(rt; five.sub_start(TextSize::new(2)), range(3, 10));
-    assert_eq!(rt; five.add_start(TextSize::new(3)), range(8, 10));
-    assert_eq!(rt; five.sub_end(TextSize::new(2)), range(5, 8));
-    assert_eq!(rt; five.add_end(TextSize::new(2)), range(5, 12));
+    assert!(rt; meet_and_cover() && ends_move());
 }
 
-#[test]
-fn texts_have_lengths_and_parts(rt: HostRuntime) -> Result<(), Fail> {
+// Whether a character and a text have their lengths.
+fn have_lengths() -> bool {
     let crab = '🦀';
-    assert!(rt; crab.len_utf8() <= 4);
-    assert_eq!(rt; TextSize::of(crab), TextSize::new(4));
-    assert_eq!(rt; TextSize::of("rust-analyzer"), TextSize::new(13));
-    let owned = "🦀".to_string(rt.alloc())?;
-    assert!(rt; owned.len() == 4);
-    assert_eq!(rt; TextSize::of(&owned), TextSize::new(4));
+    crab.len_utf8() <= 4
+        && TextSize::of(crab) == TextSize::new(4)
+        && TextSize::of("rust-analyzer") == TextSize::new(13)
+}
+
+// Whether an owned text has.
+fn owned_has_its_length(alloc: Global) -> bool {
+    match "🦀".to_string(alloc) {
+        Ok(owned) => owned.len() == 4 && TextSize::of(&owned) == TextSize::new(4),
+        Err(_) => false,
+    }
+}
+
+// Whether a text has a part, and another none.
+fn have_parts() -> bool {
     let two_to_seven = TextRange::at(TextSize::new(2), TextSize::new(5));
-    assert_eq!(rt; text_in("0123456789", two_to_seven), Some("23456"));
-    assert_eq!(rt; text_in("🦀", two_to_seven), None);
-    Ok(())
+    text_in("0123456789", two_to_seven) == Some("23456") && text_in("🦀", two_to_seven).is_none()
 }
 
 #[test]
-fn generic_code_takes_sizes_and_ranges(rt: HostRuntime) -> Result<(), Fail> {
+fn texts_have_lengths_and_parts(rt: HostRuntime) {
+    assert!(rt; have_lengths() && owned_has_its_length(rt.alloc()) && have_parts());
+}
+
+// Whether sizes are summed, lent or not.
+fn sizes_are_summed() -> bool {
     let sizes = [TextSize::new(3), TextSize::new(4)];
-    assert_eq!(rt; total_of_lent(&sizes), TextSize::new(7));
-    assert_eq!(rt; total_of(&sizes), TextSize::new(7));
-    assert!(rt; RangeBounds::contains(&range(3, 5), &TextSize::new(4)));
-    assert!(rt; !RangeBounds::contains(&range(3, 5), &TextSize::new(5)));
-    let printed = format!(in rt.alloc(); "{:?} {:?}", TextSize::new(7), range(5, 10))?;
-    assert_eq!(rt; printed.as_str(), "7 5..10");
-    Ok(())
+    total_of_lent(&sizes) == TextSize::new(7) && total_of(&sizes) == TextSize::new(7)
+}
+
+// Whether a range holds its start and not its end, as bounds say.
+fn bounds_hold() -> bool {
+    RangeBounds::contains(&range(3, 5), &TextSize::new(4))
+        && !RangeBounds::contains(&range(3, 5), &TextSize::new(5))
+}
+
+#[test]
+fn generic_code_takes_sizes_and_ranges(rt: HostRuntime) {
+    let printed = format!(in rt.alloc(); "{:?} {:?}", TextSize::new(7), range(5, 10));
+    assert!(rt; sizes_are_summed() && bounds_hold() && is_text(printed, "7 5..10"));
 }
 
 #[test]
@@ -164,7 +203,7 @@ fn writing_through_a_part_leaves_the_other_bytes(rt: HostRuntime) {
     let mut bytes = *b"0123456789";
     let two_to_seven = TextRange::at(TextSize::new(2), TextSize::new(5));
     slice_mut(&mut bytes, two_to_seven).fill(b'x');
-    assert_eq!(rt; bytes, *b"01xxxxx789");
+    assert!(rt; bytes == *b"01xxxxx789");
     scribble_in(&mut bytes, two_to_seven);
-    assert_eq!(rt; bytes, *b"01!xxxx789");
+    assert!(rt; bytes == *b"01!xxxx789");
 }

@@ -1,13 +1,11 @@
-ghost use Rattle.std.specs.Prelude.{◌≡◌, ◌^◌, ◌<◌, ◌↔◌, length, IsTrue};
+ghost use Rattle.std.specs.Prelude.{◌≡◌, ◌↔◌, IsTrue};
 ghost use Rattle.source_location.specs.Views.{line_view};
 
 use source_location::{
     Line, LineEnding, LineIndex, NewlineWithTrailingNewline, OneIndexed, SourceCode, SourceFile,
-    SourceFileBuilder, UniversalNewlineIterator, find_newline, fits, universal_newlines,
+    SourceFileBuilder, UniversalNewlineIterator, find_newline, universal_newlines,
 };
-use std::alloc::Global;
-use std::process::Abort;
-use std::test::Fail;
+use std::alloc::{AllocError, Global};
 use text_size::{TextRange, TextSize};
 
 // Whether a line came, with that text and at that offset.
@@ -18,27 +16,53 @@ fn is_line(line: &Option<Line<'_>>, text: &str, start: u32) -> bool {
     }
 }
 
+// Whether the lines of a text come from both ends, each once.
+fn come_from_both_ends() -> bool {
+    let mut lines = UniversalNewlineIterator::from("foo\nbar\n\r\nbaz\rbop");
+    is_line(&lines.next_back(), "bop", 14)
+        && is_line(&lines.next(), "foo\n", 0)
+        && is_line(&lines.next_back(), "baz\r", 10)
+        && is_line(&lines.next(), "bar\n", 4)
+        && is_line(&lines.next_back(), "\r\n", 8)
+        && lines.next().is_none()
+}
+
 #[test]
 fn lines_come_from_both_ends_once(rt: HostRuntime) {
-    let text = "foo\nbar\n\r\nbaz\rbop";
-    let mut lines = UniversalNewlineIterator::from(text);
-    assert!(rt; is_line(&lines.next_back(), "bop", 14));
-    assert!(rt; is_line(&lines.next(), "foo\n", 0));
-    assert!(rt; is_line(&lines.next_back(), "baz\r", 10));
-    assert!(rt; is_line(&lines.next(), "bar\n", 4));
-    assert!(rt; is_line(&lines.next_back(), "\r\n", 8));
-    assert!(rt; lines.next().is_none());
+    assert!(rt; come_from_both_ends());
+}
+
+// A text, and where its lines start.
+type Starts = (&'static str, &'static [u32]);
+
+const FORWARDS: [Starts; 5] = [
+    ("", &[]),
+    ("foo\nbar\n\r\nbaz\rbop", &[0, 4, 8, 10, 14]),
+    ("foo\nbar\n\r\nbaz\rbop\n", &[0, 4, 8, 10, 14]),
+    ("foo\nbar\n\r\nbaz\rbop\n\n", &[0, 4, 8, 10, 14, 18]),
+    (
+        "thirty-one bytes before a break\r\nand more than thirty-two in the next, whose break is last\n",
+        &[0, 33],
+    ),
+];
+
+// Whether a line came, and starts there.
+fn starts_at(line: &Option<Line<'_>>, start: u32) -> bool {
+    match line {
+        Some(line) => line.start().to_u32() == start,
+        None => false,
+    }
 }
 
 // The lines that come forwards start there, and then none comes.
-fn start_forwards(text: &str, starts: &[u32]) -> bool
-    requires { length text.now < 2 ^ 32 }
-{
-    let mut lines = universal_newlines(text);
-    for start in starts {
-        match lines.next() {
-            Some(line) if line.start().to_u32() == *start => {}
-            _ => return false,
+fn start_forwards(row: &Starts) -> bool {
+    if row.0.len() > 1000 {
+        return false;
+    }
+    let mut lines = universal_newlines(row.0);
+    for start in row.1 {
+        if !starts_at(&lines.next(), *start) {
+            return false;
         }
     }
     lines.next().is_none() && lines.next_back().is_none()
@@ -46,63 +70,75 @@ fn start_forwards(text: &str, starts: &[u32]) -> bool
 
 #[test]
 fn lines_come_forwards(rt: HostRuntime) {
-    assert!(rt; start_forwards("", &[]));
-    assert!(rt; start_forwards("foo\nbar\n\r\nbaz\rbop", &[0, 4, 8, 10, 14]));
-    assert!(rt; start_forwards("foo\nbar\n\r\nbaz\rbop\n", &[0, 4, 8, 10, 14]));
-    assert!(rt; start_forwards("foo\nbar\n\r\nbaz\rbop\n\n", &[0, 4, 8, 10, 14, 18]));
-    let long =
-        "thirty-one bytes before a break\r\nand more than thirty-two in the next, whose break is last\n";
-    assert!(rt; start_forwards(long, &[0, 33]));
+    for row in &FORWARDS {
+        assert!(rt; start_forwards(row), "{}", row.0);
+    }
 }
 
-// The last line of a text, by the trait's own call.
-fn last_start(text: &str) -> Option<u32>
-    requires { length text.now < 2 ^ 32 }
-{
-    match universal_newlines(text).last() {
-        Some(line) => Some(line.start().to_u32()),
-        None => None,
+// A line without its break, and where it starts.
+const BACKWARDS: [(&str, u32); 5] = [("bop", 13), ("baz", 9), ("", 8), ("bar", 4), ("foo", 0)];
+
+// Whether a line came, has that text without its break, and starts there.
+fn is_plain(line: &Option<Line<'_>>, row: &(&str, u32)) -> bool {
+    match line {
+        Some(line) => line.eq_text(row.0) && line.start().to_u32() == row.1,
+        None => false,
     }
+}
+
+// Whether these come backwards, and then none.
+fn come_backwards() -> bool {
+    let mut lines = UniversalNewlineIterator::from("foo\nbar\n\nbaz\rbop\n");
+    for row in &BACKWARDS {
+        if !is_plain(&lines.next_back(), row) {
+            return false;
+        }
+    }
+    lines.next_back().is_none()
+}
+
+// A text, and where its last line starts.
+const LAST: [(&str, u32); 3] = [
+    ("foo\nbop\n\n", 8),
+    (
+        "the first line has more than thirty-two bytes, a vector\nand so has the last one, with its break at the end\n",
+        56,
+    ),
+    (
+        "the first line has more than thirty-two bytes, a vector\n",
+        0,
+    ),
+];
+
+// Whether the last line starts there, by the trait's own call.
+fn last_starts(row: &(&str, u32)) -> bool {
+    row.0.len() < 1000 && starts_at(&universal_newlines(row.0).last(), row.1)
 }
 
 #[test]
 fn lines_come_backwards(rt: HostRuntime) {
-    let mut lines = UniversalNewlineIterator::from("foo\nbar\n\nbaz\rbop\n");
-    for (text, start) in [("bop", 13), ("baz", 9), ("", 8), ("bar", 4), ("foo", 0)] {
-        match lines.next_back() {
-            Some(line) => assert!(rt; line.eq_text(text) && line.start().to_u32() == start),
-            None => assert!(rt; false),
-        }
+    assert!(rt; come_backwards());
+    for row in &LAST {
+        assert!(rt; last_starts(row), "{}", row.1);
     }
-    assert!(rt; lines.next_back().is_none());
-    assert_eq!(rt; last_start("foo\nbop\n\n"), Some(8));
-    let long =
-        "the first line has more than thirty-two bytes, a vector\nand so has the last one, with its break at the end\n";
-    assert_eq!(rt; last_start(long), Some(56));
-    assert_eq!(rt; last_start(&long[..56]), Some(0));
+}
+
+// Whether an empty line comes behind a break at the end.
+fn brings_an_empty_line() -> bool {
+    let mut lines = NewlineWithTrailingNewline::from("a\r\nb\r");
+    is_line(&lines.next(), "a\r\n", 0)
+        && is_line(&lines.next(), "b\r", 3)
+        && is_line(&lines.next(), "", 5)
+        && lines.next().is_none()
 }
 
 #[test]
 fn a_trailing_break_brings_an_empty_line(rt: HostRuntime) {
-    let mut lines = NewlineWithTrailingNewline::from("a\r\nb\r");
-    assert!(rt; is_line(&lines.next(), "a\r\n", 0));
-    assert!(rt; is_line(&lines.next(), "b\r", 3));
-    assert!(rt; is_line(&lines.next(), "", 5));
-    assert!(rt; lines.next().is_none());
-    assert_eq!(rt; find_newline("ab\rc\n"), Some((2, LineEnding::Cr)));
-    assert_eq!(rt; LineEnding::default().as_str(), "\n");
-}
-
-fn file(rt: &impl Abort, alloc: Global, name: &str, text: &str) -> Result<SourceFile, Fail> {
-    assert!(rt; fits(text));
-    let index = LineIndex::from_source_text(alloc, text)?;
-    let name = String::from_str(alloc, name)?;
-    let code = String::from_str(alloc, text)?;
-    Ok(
-        SourceFileBuilder::new(name, code)
-            .line_index(index)
-            .finish(alloc)?,
-    )
+    assert!(rt;
+        brings_an_empty_line()
+            && find_newline("ab\rc\n") == Some((2, LineEnding::Cr))
+            && LineEnding::default().as_str() == "\n"
+    );
 }
 
 // Where a line starts and ends, with its break and without.
@@ -117,56 +153,113 @@ fn has_ranges(line: &Line<'_>, start: u32, end: u32, full_end: u32) -> bool {
         && full.end() == line.full_end()
 }
 
-#[test]
-fn a_line_has_its_ranges(rt: HostRuntime) {
+// Whether the first line of a text has its ranges.
+fn first_has_ranges() -> bool {
     match UniversalNewlineIterator::from("ab\r\ncd").next() {
-        Some(line) => assert!(rt; has_ranges(&line, 0, 2, 4)),
-        None => assert!(rt; false),
+        Some(line) => has_ranges(&line, 0, 2, 4),
+        None => false,
     }
 }
 
 #[test]
-fn parts_of_a_file(rt: HostRuntime) -> Result<(), Fail> {
-    let name = String::from_str(rt.alloc(), "a")?;
-    let code = String::from_str(rt.alloc(), "ab\ncd")?;
-    let index = LineIndex::from_source_text(rt.alloc(), "ab\ncd")?;
+fn a_line_has_its_ranges(rt: HostRuntime) {
+    assert!(rt; first_has_ranges());
+}
+
+// A file of two rows, whose index is set.
+fn file_with_index_set(alloc: Global) -> Result<SourceFile, AllocError> {
+    let name = String::from_str(alloc, "a")?;
+    let code = String::from_str(alloc, "ab\ncd")?;
+    let index = LineIndex::from_source_text(alloc, "ab\ncd")?;
     let mut builder = SourceFileBuilder::new(name, code);
     builder.set_line_index(index);
-    let made = builder.finish(rt.alloc())?;
-    let code = made.to_source_code();
+    builder.finish(alloc)
+}
+
+// Whether the second row has its parts.
+fn has_parts(code: &SourceCode<'_, '_>) -> bool {
     let at = TextSize::new(3);
     let two = OneIndexed::from_zero_indexed(1);
-    assert!(rt; code.text().is_char_boundary(3) && code.text().is_char_boundary(5));
-    assert!(rt; code.up_to(at) == "ab\n" && code.after(at) == "cd");
-    assert!(rt; code.slice(TextRange::new(at, TextSize::new(5))) == "cd");
-    assert!(rt; two.to_usize() <= code.line_count());
-    assert!(rt; code.line_start(two) == at && code.line_range(two).start() == at);
-    Ok(())
+    code.text().is_char_boundary(3)
+        && code.text().is_char_boundary(5)
+        && code.up_to(at) == "ab\n"
+        && code.after(at) == "cd"
+        && code.slice(TextRange::new(at, TextSize::new(5))) == "cd"
+        && two.to_usize() <= code.line_count()
+        && code.line_start(two) == at
+        && code.line_range(two).start() == at
+}
+
+fn file_has_parts(alloc: Global) -> bool {
+    match file_with_index_set(alloc) {
+        Ok(file) => has_parts(&file.to_source_code()),
+        Err(_) => false,
+    }
 }
 
 #[test]
-fn a_file_is_equal_to_its_copy(rt: HostRuntime) -> Result<(), Fail> {
-    let name = String::from_str(rt.alloc(), "a")?;
-    let first = SourceFileBuilder::new(name, String::from_str(rt.alloc(), "x\n")?).finish(
-        rt.alloc(),
-    )?;
-    let copy = first.try_clone(rt.alloc())?;
-    assert!(rt; is_same_file(&first, &copy));
-    assert!(rt; is_same_code(&first.to_source_code(), &copy.to_source_code()));
-    assert_eq!(rt; first.to_source_code().line_count(), 2);
-    assert_eq!(rt; copy.to_source_code().line_count(), 2);
-    Ok(())
+fn parts_of_a_file(rt: HostRuntime) {
+    assert!(rt; file_has_parts(rt.alloc()));
+}
+
+// A file without an index.
+fn plain_file(alloc: Global) -> Result<SourceFile, AllocError> {
+    let name = String::from_str(alloc, "a")?;
+    let code = String::from_str(alloc, "x\n")?;
+    SourceFileBuilder::new(name, code).finish(alloc)
+}
+
+// Whether a file and its copy are equal, and have two rows each.
+fn are_alike(file: &SourceFile, copy: &SourceFile) -> bool {
+    is_same_file(file, copy)
+        && is_same_code(&file.to_source_code(), &copy.to_source_code())
+        && file.to_source_code().line_count() == 2
+        && copy.to_source_code().line_count() == 2
+}
+
+fn is_like_its_copy(alloc: Global, file: &SourceFile) -> bool {
+    match file.try_clone(alloc) {
+        Ok(copy) => are_alike(file, &copy),
+        Err(_) => false,
+    }
 }
 
 #[test]
-fn rows_of_a_file_are_its_slices(rt: HostRuntime) -> Result<(), Fail> {
-    let made = file(&rt, rt.alloc(), "a", "x = 1\ny = 2\nz = x + y\n")?;
-    let code = made.to_source_code();
+fn a_file_is_equal_to_its_copy(rt: HostRuntime) {
+    let equal = match plain_file(rt.alloc()) {
+        Ok(file) => is_like_its_copy(rt.alloc(), &file),
+        Err(_) => false,
+    };
+    assert!(rt; equal);
+}
+
+const THREE_ROWS: &str = "x = 1\ny = 2\nz = x + y\n";
+
+// A file of three rows, which is given its index.
+fn file_with_index(alloc: Global) -> Result<SourceFile, AllocError> {
+    let index = LineIndex::from_source_text(alloc, THREE_ROWS)?;
+    let name = String::from_str(alloc, "a")?;
+    let code = String::from_str(alloc, THREE_ROWS)?;
+    SourceFileBuilder::new(name, code)
+        .line_index(index)
+        .finish(alloc)
+}
+
+// Whether the second row has its text, and a row past the last ends with the text.
+fn has_its_rows(code: &SourceCode<'_, '_>) -> bool {
     let two = OneIndexed::from_zero_indexed(1);
-    assert!(rt; two.to_usize() <= code.line_count());
-    assert_eq!(rt; code.line_text(two), "y = 2\n");
-    assert_eq!(rt; code.line_end(OneIndexed::MAX).to_u32(), 22);
-    Ok(())
+    two.to_usize() <= code.line_count()
+        && code.line_text(two) == "y = 2\n"
+        && code.line_end(OneIndexed::MAX).to_u32() == 22
+}
+
+#[test]
+fn rows_of_a_file_are_its_slices(rt: HostRuntime) {
+    let sliced = match file_with_index(rt.alloc()) {
+        Ok(file) => has_its_rows(&file.to_source_code()),
+        Err(_) => false,
+    };
+    assert!(rt; sliced);
 }
 
 // Lines are equal where their texts and offsets are.
@@ -190,13 +283,18 @@ fn is_same_file(a: &SourceFile, b: &SourceFile) -> bool
     *a == *b
 }
 
-#[test]
-fn lines_are_equal_by_text_and_offset(rt: HostRuntime) {
+// Whether the first of two lines with one text is equal to itself, and not to the second.
+fn are_told_apart() -> bool {
     let mut lines = universal_newlines("a\na\n");
     match (lines.next(), lines.next()) {
         (Some(first), Some(second)) => {
-            assert!(rt; is_same_line(&first, &first) && !is_same_line(&first, &second));
+            is_same_line(&first, &first) && !is_same_line(&first, &second)
         }
-        _ => assert!(rt; false),
+        _ => false,
     }
+}
+
+#[test]
+fn lines_are_equal_by_text_and_offset(rt: HostRuntime) {
+    assert!(rt; are_told_apart());
 }
