@@ -1,6 +1,6 @@
 #!/usr/bin/env python3
 """Tries the built program `report` from outside: its limit on input, the places of its labels, its generated document,
-and outputs and inputs that fail.
+outputs and inputs that fail, and the runs of report_rows.py.
 
 usage: try_report.py PROGRAM      (crates/report/out/report after `rt run` there)
 
@@ -9,6 +9,9 @@ import json
 import os
 import subprocess
 import sys
+
+sys.dont_write_bytecode = True  # nothing is left beside the sources
+import report_rows  # noqa: E402
 
 LIMIT = 64 * 1024 * 1024
 MARK = "\ufeff"
@@ -61,7 +64,8 @@ class Tries:
         """A generated document: how much its drawing is."""
         for count in (0, 1, 5000):
             made = subprocess.run([self.program, "--make", str(count)], capture_output=True, timeout=120)
-            self.check(f"--make {count}", made.returncode == 0 and made.stdout.endswith(b"\n") and not made.stderr, made)
+            self.check(f"--make {count}", made.returncode == 0 and made.stdout.startswith(b"%d reports, " % count)
+                       and made.stdout.endswith(b"\n") and not made.stderr, made)
         for word in ("5001", "-1", "x"):
             self.ends(f"--make {word}", 2, ["--make", word], out=b"", err=b"report: bad arguments\n")
 
@@ -80,6 +84,11 @@ class Tries:
         os.close(folder)
         self.check("an input that is a folder", said.returncode == 4 and said.stderr == b"report: input failed\n", said)
 
+    def try_rows(self):
+        """Documents, settings, refusals and words by table."""
+        for row in report_rows.rows():
+            self.ends(*row)
+
 
 def main():
     if len(sys.argv) != 2:
@@ -90,6 +99,7 @@ def main():
     tries.try_places()
     tries.try_made()
     tries.try_devices()
+    tries.try_rows()
     print(f"{tries.passed} passed, {tries.failed} failed")
     return 0 if tries.failed == 0 else 1
 

@@ -1,0 +1,83 @@
+// The drawing of a generated document, and how much it is.
+ghost use Rattle.std.specs.Prelude.{◌≡◌, ◌==◌, ◌≤◌, count_by, false, map};
+ghost use Rattle.std.specs.Prelude.{IfOk, OnOk, None, Some, string_bytes};
+ghost use Rattle.render_files.specs.Given.{given_report};
+ghost use Rattle.render_files.specs.Refusal.{refusal_of};
+ghost use Rattle.documents.specs.Document.{document_of};
+ghost use Rattle.documents.specs.Generated.{document_made, generated};
+ghost use Rattle.documents.specs.Views.{document_view};
+ghost use Rattle.report_run.specs.declared.words.ThemeName.TheVariants.{Plain};
+ghost use Rattle.report_run.specs.Drawn.{measured, shown};
+ghost use Rattle.report_run.specs.Ending.{status_of};
+ghost use Rattle.report_run.specs.Run.{IsUntouched, Measures, device};
+
+use crate::ending::Ending;
+use documents::{Document, generate, read_document};
+use oxc_handlers::{GraphicalReportHandler, GraphicalTheme};
+use oxc_protocol::{Sink, write_all};
+use render_files::{ReportError, files_text};
+use std::alloc::{AllocError, Global};
+
+/// Draws the generated document, and writes how much that is.
+pub(crate) fn make<O: Sink>(alloc: Global, count: u32, out: &mut O) -> Ending
+    requires { count ≤ 5000 }
+    ensures measures { Measures result count (device O.received O.faults out.old out.new) }
+    ensures untouched { IsUntouched (status_of result) out.old out.new }
+{
+    let Ok(line) = made_line(alloc, count) else {
+        return Ending::OutOfMemory;
+    };
+    match write_all(out, line.as_bytes()) {
+        Ok(()) => Ending::Done,
+        Err(_) => Ending::SinkFault,
+    }
+}
+
+// The line that says how much the drawing of the generated document is.
+#[tactic(auto, unfolding(crate::specs::Drawn::measured))]
+fn made_line(alloc: Global, count: u32) -> Result<String, AllocError>
+    requires { count ≤ 5000 }
+    ensures made { OnOk result (document_of (generated count) ≡ Some (document_made count)) }
+    ensures line { IfOk result (λ line. string_bytes line ≡ measured count (document_made count)) }
+{
+    let text = made_text(alloc, count)?;
+    let length = text.len();
+    let lines = lines_in(text.as_str());
+    let line = format!(in alloc; "{count} reports, {length} bytes, {lines} lines\n")?;
+    Ok(line)
+}
+
+// How many LFs a text has.
+fn lines_in(text: &str) -> usize
+    ensures { result ≡ count_by (λ byte. byte == 10) text.now }
+{
+    bytecount::count(text.as_bytes(), b'\n')
+}
+
+// The drawing of the generated document.
+fn made_text(alloc: Global, count: u32) -> Result<String, AllocError>
+    requires { count ≤ 5000 }
+    ensures made { OnOk result (document_of (generated count) ≡ Some (document_made count)) }
+    ensures text { IfOk result (λ text. string_bytes text
+        ≡ shown Plain 80 4 false (document_made count)) }
+{
+    let bytes = generate(alloc, count)?;
+    match read_document(alloc, &bytes)? {
+        Some(document) => drawn_text(alloc, &document),
+        None => unreachable!(),
+    }
+}
+
+// The plain drawing of a document without refusal.
+fn drawn_text(alloc: Global, document: &Document) -> Result<String, AllocError>
+    requires { refusal_of document.now.files (map given_report document.now.reports.items) ≡ None }
+    ensures { IfOk result (λ text. string_bytes text
+        ≡ shown Plain 80 4 false (document_view document.now)) }
+{
+    let handler = GraphicalReportHandler::new_themed(GraphicalTheme::none()).with_width(80);
+    match files_text(alloc, &handler, &document.files, &document.reports) {
+        Ok(text) => Ok(text),
+        Err(ReportError::OutOfMemory) => Err(AllocError),
+        Err(_) => unreachable!(),
+    }
+}
