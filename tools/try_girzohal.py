@@ -15,6 +15,7 @@ import threading
 
 sys.dont_write_bytecode = True
 import format_places
+import run_rows
 from tries_around import Around
 
 TOP = os.path.dirname(os.path.dirname(os.path.abspath(__file__)))
@@ -100,6 +101,16 @@ class Tries(Around):
         holds = said.returncode == status and (out is None or out in said.stdout) and (err is None or err in said.stderr)
         self.check(f"{what}: {' '.join(words)}", holds, said)
         return said
+
+    def try_runs(self):
+        """Whole runs by table."""
+        for what, words, given, wanted in run_rows.rows():
+            with tempfile.TemporaryDirectory() as folder:
+                for name, text in run_rows.FILES.items():
+                    with open(f"{folder}/{name}", "w", encoding="utf-8") as file:
+                        file.write(text)
+                said = self.run(*words, given=given, cwd=folder)
+                self.check(f"a run: {what}", (said.returncode, said.stdout, said.stderr) == wanted, said)
 
     # ---- the words
 
@@ -551,7 +562,7 @@ class Tries(Around):
             for name, text in (("a.c", SOURCE), ("in.txt", LINE), ("sub/b.c", b"below\n")):
                 with open(f"{self.room}/{name}", "wb") as file:
                     file.write(text)
-            for each in (self.try_words, self.try_columns, self.try_effects, self.try_tools, self.try_looks, self.try_asking, self.try_inputs,
+            for each in (self.try_runs, self.try_words, self.try_columns, self.try_effects, self.try_tools, self.try_looks, self.try_asking, self.try_inputs,
                          self.try_sources, self.try_terminals, self.try_pipes, self.try_slowly, self.try_paint, self.try_formats, self.try_lost,
                          self.try_colors, self.try_keyboard, self.try_limits, self.try_memory, self.try_help, self.try_manual,
                          self.try_completions, self.try_install):

@@ -1,46 +1,25 @@
 //! The program `girzohal`: what linters and compilers found, drawn with the sources, or in the forms that
 //! other programs read.
 //!
-//! [`run`] is the whole program over any source, store and sinks; `main` reads the words and gives it the
-//! standard streams and the disk. A run goes through the modules in this order:
+//! [`run`](girzohal_run::run) is the whole run over any source, store and sinks; `main` reads the words
+//! and gives it the standard streams and the disk. Besides there are:
 //!
 //! - `help`: what the program says of itself
 //! - `words`: why words ask for nothing
 //! - `surroundings`: what the environment says of colors and width
-//! - `program`: the run itself: an input is read, and what is made of it is written
-//! - `making`: what is made of an input, in its form
-//! - `object`, `logs`: of a JSON object, which is a document or a log
-//! - `lines`: of lines that a tool prints for people
-//! - `opening`, `live`: of an input whose lines are written as they come
-//! - `texts`: what is written of reports
-//! - `fault`: why nothing is made
-//! - `status`: how a run ended
 #![tactic(auto)]
 
-mod fault;
 mod help;
-mod lines;
-mod live;
-mod logs;
-mod making;
-mod object;
-mod opening;
-mod program;
-mod status;
 mod surroundings;
-#[cfg(test)]
-mod tests;
-mod texts;
 mod words;
 
 use documents::{ReaderSource, Source, StderrSink, StdinSource, StdoutSink};
 use girzohal_asked::Asked;
+use girzohal_run::{Status, run};
 use girzohal_words::{Refusal, Request, WordFault, read_words};
 use harmless::{Kind, harmless};
 use help::{HELP, MORE, VERSION};
-pub use program::run;
 use source_store::DiskStore;
-pub use status::Status;
 use std::alloc::Global;
 use std::fs::Files;
 use std::io::{ErrorKind, IsTerminal};

@@ -21,6 +21,9 @@ pub(crate) struct Surroundings {
 }
 
 impl Surroundings {
+    ghost use Rattle.std.specs.Prelude.{◌≡◌, ◌≢◌, IfSome};
+    ghost use Rattle.girzohal_asked.specs.declared.ThemeChoice.TheVariants.{Auto};
+
     /// What the environment of the program says.
     pub(crate) fn of(rt: &HostRuntime, terminal: bool) -> Surroundings {
         let columns = match env::var(rt, "COLUMNS") {
@@ -38,7 +41,10 @@ impl Surroundings {
 
     /// The theme of a choice: of `Auto` one with colors where they are forced, or where a person looks
     /// who doesn't refuse them.
-    pub(crate) fn theme(self, choice: ThemeChoice) -> ThemeChoice {
+    pub(crate) fn theme(self, choice: ThemeChoice) -> ThemeChoice
+        ensures asked { choice ≢ Auto → result ≡ choice }
+        ensures settled { result ≢ Auto }
+    {
         match choice {
             ThemeChoice::Auto if self.has_colors() => ThemeChoice::Unicode,
             ThemeChoice::Auto => ThemeChoice::UnicodeNocolor,
@@ -51,7 +57,9 @@ impl Surroundings {
     }
 
     /// The width of a drawing.
-    pub(crate) fn width(self, asked: Option<usize>) -> usize {
+    pub(crate) fn width(self, asked: Option<usize>) -> usize
+        ensures { IfSome asked (λ width. result ≡ width) }
+    {
         match asked {
             Some(width) => width,
             None => self.columns.unwrap_or(WIDTH),

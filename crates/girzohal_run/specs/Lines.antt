@@ -1,0 +1,61 @@
+-- What is made of lines that a tool prints for people.
+use Rattle.std.specs.Prelude.{◌≡◌, ◌||◌, ℕ, List, None, Bool, true, false}
+use Rattle.found_reports.specs.Files.{files_of}
+use Rattle.found_reports.specs.Held.{Held}
+use Rattle.found_reports.specs.Kept.{FoundParts}
+use Rattle.source_store.specs.Given.{IsGiven}
+use Rattle.source_store.specs.declared.named.Spelling.TheVariants.{Path}
+use Rattle.tool_lines.specs.Lines.{ArePieces, PieceParts}
+use Rattle.line_reports.specs.Names.{names_in}
+use Rattle.line_reports.specs.Reports.{reports_in}
+use Rattle.report_counts.specs.Counted.{one_reaches}
+use Rattle.girzohal_asked.specs.declared.Asked.{Asked}
+use Rattle.girzohal_asked.specs.declared.OutputForm.{OutputForm}
+use Rattle.girzohal_asked.specs.declared.OutputForm.TheVariants.{Drawing, Json, Document, Sarif, Problems, Github, Gitlab, Checkstyle, Junit, Stylish}
+use Rattle.drawn_lines.specs.Text.{lines_of}
+use Rattle.drawn_lines.specs.Lines.{annotates, columns_of, kept_text, shapes_of}
+use Rattle.drawn_lines.specs.Coming.{IsDrawn}
+use Rattle.girzohal_run.specs.Texts.{IsText}
+use Rattle.girzohal_run.specs.Told.{Told}
+
+abbrev pub is_drawing : OutputForm → Bool
+is_drawing Drawing = true
+is_drawing Json = false
+is_drawing Document = false
+is_drawing Sarif = false
+is_drawing Problems = false
+is_drawing Github = false
+is_drawing Gitlab = false
+is_drawing Checkstyle = false
+is_drawing Junit = false
+is_drawing Stylish = false
+
+-- drawings and annotations of lines are written as the lines come
+abbrev pub is_live : OutputForm → Bool
+is_live form = is_drawing form || annotates form
+
+-- the text and the level of the reports that these pieces of lines mean with what was given, among the files that they are on, and the lines that
+-- stand aside
+pub record WritesPieces (asked : Asked) (given : List ℕ → Held) (lines : List (List ℕ)) (pieces : List PieceParts) (text aside : List ℕ) (reached : Bool) : Type 0 where
+  pub parts : FoundParts
+  pub reports : parts.found ≡ reports_in (columns_of asked) given lines pieces
+  pub files : parts.files ≡ files_of parts.found
+  pub written : IsText asked parts text
+  pub kept : aside ≡ kept_text asked lines pieces
+  pub level : reached ≡ one_reaches asked.fail_on parts.found
+
+-- those of the pieces of a text's lines, with what was given of the names in them
+pub record ListsLines (told : Told) (asked : Asked) (bytes text aside : List ℕ) (reached : Bool) : Type 0 where
+  pub pieces : List PieceParts
+  pub are : ArePieces (shapes_of asked) None (lines_of bytes) pieces
+  pub given : List ℕ → Held
+  pub told_so : IsGiven told Path (names_in pieces) given
+  pub writes : WritesPieces asked given (lines_of bytes) pieces text aside reached
+
+-- drawn, kept lines stand in their place; in other forms they stand aside
+abbrev pub MakesLinesBy : Bool → Told → Asked → List ℕ → List ℕ → List ℕ → Bool → Type 0
+MakesLinesBy true told asked bytes text aside reached = IsDrawn told asked bytes text aside reached
+MakesLinesBy false told asked bytes text aside reached = ListsLines told asked bytes text aside reached
+
+abbrev pub MakesLines : Told → Asked → List ℕ → List ℕ → List ℕ → Bool → Type 0
+MakesLines told asked bytes text aside reached = MakesLinesBy (is_drawing asked.to) told asked bytes text aside reached

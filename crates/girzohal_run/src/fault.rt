@@ -1,0 +1,51 @@
+// Why nothing is made of an input.
+ghost use Rattle.std.specs.Prelude.{◌≡◌, ◌++◌, codes};
+ghost use Rattle.girzohal_run.specs.Made.{Says};
+
+use shown_reports::ShowError;
+use std::alloc::{AllocError, Global};
+
+/// Why nothing is made of an input.
+#[derive(Drop)]
+pub(crate) enum Fault {
+    /// The input isn't of its form: what the error output is told, which ends in the line that says
+    /// why.
+    NoForm(Vec<u8>),
+    /// There was no memory left.
+    OutOfMemory,
+}
+
+impl From<AllocError> for Fault {
+    ghost use Rattle.std.specs.Prelude.{◌≡◌};
+    ghost use Rattle.girzohal_run.specs.declared.fault.Fault.TheVariants.{OutOfMemory};
+
+    ghost from_gives = { λ _ fault. fault ≡ OutOfMemory };
+
+    fn from(_error: AllocError) -> Fault {
+        Fault::OutOfMemory
+    }
+}
+
+impl From<ShowError> for Fault {
+    ghost use Rattle.std.specs.Prelude.{◌≡◌};
+    ghost use Rattle.girzohal_run.specs.declared.fault.Fault.TheVariants.{OutOfMemory};
+
+    ghost from_gives = { λ _ fault. fault ≡ OutOfMemory };
+
+    fn from(error: ShowError) -> Fault {
+        match error {
+            // More files than have numbers would take more memory than there is.
+            ShowError::TooManyFiles | ShowError::OutOfMemory => Fault::OutOfMemory,
+        }
+    }
+}
+
+/// That an input isn't of its form.
+pub(crate) fn no_form(alloc: Global, text: &str) -> Fault
+    ensures { Says (λ line. line ≡ codes "girzohal: " ++ text.now ++ codes "\n") result }
+{
+    match format!(in alloc; "girzohal: {text}\n") {
+        Ok(line) => Fault::NoForm(line.into_bytes()),
+        Err(_) => Fault::OutOfMemory,
+    }
+}

@@ -1,0 +1,158 @@
+// What is made of lines that a tool prints for people.
+ghost use Rattle.std.specs.Prelude.{◌≡◌, IfErr, IfOk, map, string_bytes};
+ghost use Rattle.found_reports.specs.Listed.{held_in};
+ghost use Rattle.tool_lines.specs.Lines.{piece_parts};
+ghost use Rattle.drawn_lines.specs.Coming.{IsDrawn};
+ghost use Rattle.drawn_lines.specs.Text.{lines_in_text, without_lf as lf_less};
+ghost use Rattle.girzohal_run.specs.Lines.{ListsLines, MakesLines, WritesPieces};
+ghost use Rattle.girzohal_run.specs.Lines.{is_drawing as is_drawn, is_live as is_live_form};
+ghost use Rattle.girzohal_run.specs.Made.{IsFree};
+
+use crate::fault::Fault;
+use crate::making::{Made, Written};
+use crate::texts::text_of;
+use drawn_lines::{Come, Coming, Ended, annotates, columns_of, kept_text, shapes_of};
+use found_reports::ListedSources;
+use girzohal_asked::{Asked, OutputForm};
+use input_forms::without_mark;
+use line_reports::{names_of, reports_of};
+use line_shapes::bytes::before_last;
+use report_counts::one_reaches;
+use source_store::{Spelling, Store, gather};
+use std::alloc::{AllocError, Global};
+use tool_lines::lines::{Piece, lines_of, pieces_of};
+use tool_lines::paint::without_paint;
+
+/// What is made of lines.
+pub(crate) fn make_lines<S: Store>(
+    alloc: Global,
+    asked: &Asked,
+    bytes: &[u8],
+    store: &S,
+) -> Result<Made, Fault>
+    ensures made { IfOk result (λ it. MakesLines (S.told store.now) asked.now bytes.now
+        (string_bytes it.written.text) it.aside.items it.written.reached) }
+    ensures cause { IfErr result IsFree }
+{
+    if is_drawing(asked.to) {
+        drawn(alloc, asked, bytes, store)
+    } else {
+        list_lines(alloc, asked, bytes, store)
+    }
+}
+
+/// Whether reports are drawn.
+fn is_drawing(form: OutputForm) -> bool
+    ensures { result ≡ is_drawn form }
+{
+    match form {
+        OutputForm::Drawing => true,
+        OutputForm::Json
+        | OutputForm::Document
+        | OutputForm::Sarif
+        | OutputForm::Problems
+        | OutputForm::Github
+        | OutputForm::Gitlab
+        | OutputForm::Checkstyle
+        | OutputForm::Junit
+        | OutputForm::Stylish => false,
+    }
+}
+
+/// Whether drawings or annotations are written: of lines they are as the lines come.
+pub(crate) fn is_live(form: OutputForm) -> bool
+    ensures { result ≡ is_live_form form }
+{
+    is_drawing(form) || annotates(form)
+}
+
+/// Lines as they are drawn.
+fn drawn<S: Store>(alloc: Global, asked: &Asked, bytes: &[u8], store: &S) -> Result<Made, Fault>
+    ensures drawn { IfOk result (λ it. IsDrawn (S.told store.now) asked.now bytes.now
+        (string_bytes it.written.text) it.aside.items it.written.reached) }
+    ensures cause { IfErr result IsFree }
+{
+    let shapes = shapes_of(alloc, asked)?;
+    let coming = Coming::new(alloc);
+    let come = coming.with_bytes(alloc, asked, &shapes, store, bytes)?;
+    let Come {
+        coming,
+        mut text,
+        mut aside,
+        known: _,
+    } = come;
+    let end = coming.ended(alloc, asked, &shapes, store)?;
+    let Ended {
+        text: rest,
+        aside: more,
+        reached,
+    } = end;
+    text.push_str(rest.as_str())?;
+    aside.push_str(more.as_str())?;
+    let written = Written { text, reached };
+    let aside = aside.into_bytes();
+    Ok(Made { written, aside })
+}
+
+/// What is made of lines in a form that isn't drawn.
+fn list_lines<S: Store>(
+    alloc: Global,
+    asked: &Asked,
+    bytes: &[u8],
+    store: &S,
+) -> Result<Made, Fault>
+    ensures made { IfOk result (λ it. ListsLines (S.told store.now) asked.now bytes.now
+        (string_bytes it.written.text) it.aside.items it.written.reached) }
+    ensures cause { IfErr result IsFree }
+{
+    let text = without_paint(alloc, without_mark(bytes))?;
+    let lines = text_lines(alloc, &text)?;
+    let shapes = shapes_of(alloc, asked)?;
+    let pieces = pieces_of(alloc, &lines, &shapes)?;
+    let names = names_of(alloc, &pieces)?;
+    let sources = gather(alloc, store, Spelling::Path, &names)?;
+    write_pieces(alloc, asked, &lines, &pieces, &sources)
+}
+
+/// The lines of a text that came whole: a last LF ends one, and begins none.
+#[tactic(auto, unfolding(drawn_lines::specs::Text::lines_in_text))]
+fn text_lines<'a>(alloc: Global, text: &'a [u8]) -> Result<Vec<&'a [u8]>, AllocError>
+    ensures { IfOk result (λ lines. map (λ line. line.now) lines.items
+        ≡ lines_in_text text.entry.now) }
+{
+    if text.is_empty() {
+        return Ok(Vec::new(alloc));
+    }
+    lines_of(alloc, without_lf(text))
+}
+
+/// A text without an LF at its end.
+fn without_lf(text: &[u8]) -> &[u8]
+    ensures { result.now ≡ lf_less text.now }
+{
+    match before_last(text, b'\n') {
+        Some(front) => front,
+        None => text,
+    }
+}
+
+/// What is made of the pieces of lines, with these sources.
+fn write_pieces(
+    alloc: Global,
+    asked: &Asked,
+    lines: &[&[u8]],
+    pieces: &[Piece<'_>],
+    sources: &ListedSources,
+) -> Result<Made, Fault>
+    ensures made { IfOk result (λ it. WritesPieces asked.now (held_in sources.now.entries.items)
+        (map (λ line. line.now) lines.now) (map piece_parts pieces.now)
+        (string_bytes it.written.text) it.aside.items it.written.reached) }
+    ensures cause { IfErr result IsFree }
+{
+    let found = reports_of(alloc, lines, pieces, sources, columns_of(asked))?;
+    let reached = one_reaches(asked.fail_on, &found);
+    let text = text_of(alloc, asked, &found)?;
+    let aside = kept_text(alloc, asked, lines, pieces)?.into_bytes();
+    let written = Written { text, reached };
+    Ok(Made { written, aside })
+}

@@ -1,0 +1,91 @@
+// What is written of a SARIF log.
+ghost use Rattle.std.specs.Prelude.{◌≡◌, IfErr, IfOk, string_bytes};
+ghost use Rattle.girzohal_run.specs.Logs.{IsNoLog, NamesPlace, ReadsLog, log_columns as columns_of};
+ghost use Rattle.girzohal_run.specs.Logs.{fault_line, harmless_path as harmless_path_of, no_log_line};
+ghost use Rattle.girzohal_run.specs.Made.{HasCause, Says, Writes};
+
+use crate::fault::Fault;
+use crate::making::Written;
+use crate::object::write;
+use bytecount::count;
+use girzohal_asked::Asked;
+use harmless::{Kind, harmless};
+use line_shapes::tables::Unit;
+use sarif::{ColumnKind, LogError, names_of, read_log, reports_of};
+use source_store::{Spelling, Store, gather};
+use std::alloc::{AllocError, Global};
+
+/// What is written of a log, before which this stands.
+pub(crate) fn write_log<S: Store>(
+    alloc: Global,
+    asked: &Asked,
+    before: &[u8],
+    part: &[u8],
+    store: &S,
+) -> Result<Written, Fault>
+    ensures written { IfOk result (λ it. Writes
+        (ReadsLog (S.told store.now) (columns_of asked.now.columns) part.now) asked.now
+        (string_bytes it.text) it.reached) }
+    ensures cause { IfErr result (HasCause IsNoLog part.now) }
+{
+    let log = match read_log(alloc, part) {
+        Ok(log) => log,
+        Err(LogError::OutOfMemory) => return Err(Fault::OutOfMemory),
+        Err(LogError::NoJson { line, column }) => {
+            return Err(no_json(alloc, count(before, b'\n').saturating_add(line), column));
+        }
+        Err(LogError::Fault { path, wanted }) => return Err(no_log(alloc, path.as_str(), wanted)),
+    };
+    let names = names_of(alloc, &log)?;
+    let sources = gather(alloc, store, Spelling::Uri, &names)?;
+    let found = reports_of(alloc, &log, &sources, log_columns(asked.columns))?;
+    write(alloc, asked, &found)
+}
+
+/// What columns of a log count.
+fn log_columns(unit: Option<Unit>) -> Option<ColumnKind>
+    ensures { result ≡ columns_of unit }
+{
+    match unit {
+        Some(Unit::Characters) => Some(ColumnKind::Characters),
+        Some(Unit::Utf16) => Some(ColumnKind::Utf16),
+        Some(Unit::Bytes | Unit::Cells) | None => None,
+    }
+}
+
+/// Where reading as JSON stopped.
+fn no_json(alloc: Global, line: usize, column: usize) -> Fault
+    ensures { Says NamesPlace result }
+{
+    match format!(in alloc; "girzohal: line {line}, column {column}: input is no JSON\n") {
+        Ok(line) => Fault::NoForm(line.into_bytes()),
+        Err(_) => Fault::OutOfMemory,
+    }
+}
+
+/// What was wanted of a log; a path holds the log's own keys, which are made harmless.
+fn no_log(alloc: Global, path: &str, wanted: &str) -> Fault
+    ensures { Says (λ said. said ≡ no_log_line path.now wanted.now) result }
+{
+    match harmless_path(alloc, path) {
+        Ok(path) => fault_at(alloc, path.as_str(), wanted),
+        Err(_) => Fault::OutOfMemory,
+    }
+}
+
+/// A path that can't drive a terminal.
+fn harmless_path(alloc: Global, path: &str) -> Result<String, AllocError>
+    ensures { IfOk result (λ out. string_bytes out ≡ harmless_path_of path.now) }
+{
+    harmless(alloc, Kind::Name, path)
+}
+
+/// The fault at a path.
+fn fault_at(alloc: Global, path: &str, wanted: &str) -> Fault
+    ensures { Says (λ said. said ≡ fault_line path.now wanted.now) result }
+{
+    match format!(in alloc; "girzohal: {path}: wanted {wanted}\n") {
+        Ok(line) => Fault::NoForm(line.into_bytes()),
+        Err(_) => Fault::OutOfMemory,
+    }
+}

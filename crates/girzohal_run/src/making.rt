@@ -1,0 +1,67 @@
+// What is made of an input: its text, and whether a report is at or above the level.
+ghost use Rattle.std.specs.Prelude.{◌≡◌, IfErr, IfOk, string_bytes};
+ghost use Rattle.girzohal_run.specs.Made.{HasCause, IsMade, IsOfNoForm};
+ghost use Rattle.girzohal_run.specs.Made.{object_form as form_of_object};
+
+use crate::fault::{Fault, no_form};
+use crate::lines::make_lines;
+use crate::object::{ObjectForm, make_object};
+use girzohal_asked::{Asked, InputForm};
+use input_forms::{Begun, begins_as};
+use line_shapes::tables::Unit;
+use source_store::Store;
+use std::alloc::Global;
+
+/// What is written of an input.
+#[derive(Drop)]
+pub(crate) struct Written {
+    /// The text.
+    pub(crate) text: String,
+    /// Whether a report is at or above the level.
+    pub(crate) reached: bool,
+}
+
+/// What is made of an input.
+#[derive(Drop)]
+pub(crate) struct Made {
+    /// What is written.
+    pub(crate) written: Written,
+    /// What is none of its reports.
+    pub(crate) aside: Vec<u8>,
+}
+
+/// What is made of an input, in the form that was asked for.
+pub(crate) fn make<S: Store>(
+    alloc: Global,
+    asked: &Asked,
+    bytes: &[u8],
+    store: &S,
+) -> Result<Made, Fault>
+    ensures made { IfOk result (λ it. IsMade (S.told store.now) asked.now bytes.now
+        (string_bytes it.written.text) it.aside.items it.written.reached) }
+    ensures cause { IfErr result (HasCause (IsOfNoForm asked.now) bytes.now) }
+{
+    match asked.from {
+        InputForm::Auto => match begins_as(bytes) {
+            Begun::Object => make_object(alloc, object_form(asked.columns), asked, bytes, store),
+            Begun::OtherJson => Err(no_form(
+                alloc,
+                "JSON of no known form; lines and SARIF are read, and documents",
+            )),
+            Begun::Lines => make_lines(alloc, asked, bytes, store),
+        },
+        InputForm::Document => make_object(alloc, ObjectForm::AsDocument, asked, bytes, store),
+        InputForm::Sarif => make_object(alloc, ObjectForm::AsLog, asked, bytes, store),
+        InputForm::Lines => make_lines(alloc, asked, bytes, store),
+    }
+}
+
+/// How a JSON object is read that may be a document or a log: no log's columns count bytes or cells.
+fn object_form(columns: Option<Unit>) -> ObjectForm
+    ensures { result ≡ form_of_object columns }
+{
+    match columns {
+        None | Some(Unit::Characters | Unit::Utf16) => ObjectForm::Keyed,
+        Some(Unit::Bytes | Unit::Cells) => ObjectForm::AsDocument,
+    }
+}

@@ -1,0 +1,34 @@
+// What is written of reports.
+ghost use Rattle.std.specs.Prelude.{IfErr, IfOk, string_bytes};
+ghost use Rattle.girzohal_run.specs.Made.{IsFree};
+ghost use Rattle.girzohal_run.specs.Texts.{IsText};
+
+use crate::fault::Fault;
+use ci_texts::{CiFormat, ci_text, gitlab_text};
+use found_reports::FoundReports;
+use girzohal_asked::{Asked, OutputForm};
+use report_texts::{document_text, drawing_text, json_text, named_tool, sarif_text};
+use std::alloc::Global;
+
+/// What is written of reports, as it was asked for.
+pub(crate) fn text_of(
+    alloc: Global,
+    asked: &Asked,
+    found: &FoundReports<'_>,
+) -> Result<String, Fault>
+    ensures text { IfOk result (λ text. IsText asked.now found.now (string_bytes text)) }
+    ensures cause { IfErr result IsFree }
+{
+    match asked.to {
+        OutputForm::Drawing => Ok(drawing_text(alloc, asked, found)?),
+        OutputForm::Json => Ok(json_text(alloc, asked.raw, found)?),
+        OutputForm::Document => Ok(document_text(alloc, asked.raw, found)?),
+        OutputForm::Sarif => Ok(sarif_text(alloc, asked, found)?),
+        OutputForm::Problems => Ok(ci_text(alloc, CiFormat::Problems, asked.raw, found)?),
+        OutputForm::Github => Ok(ci_text(alloc, CiFormat::Github, asked.raw, found)?),
+        OutputForm::Gitlab => Ok(gitlab_text(alloc, named_tool(asked), asked.raw, found)?),
+        OutputForm::Checkstyle => Ok(ci_text(alloc, CiFormat::Checkstyle, asked.raw, found)?),
+        OutputForm::Junit => Ok(ci_text(alloc, CiFormat::Junit, asked.raw, found)?),
+        OutputForm::Stylish => Ok(ci_text(alloc, CiFormat::Stylish, asked.raw, found)?),
+    }
+}
