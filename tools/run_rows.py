@@ -1,5 +1,5 @@
 """Whole runs of the program `girzohal`, which `try_girzohal.py` makes. A row is a name, the form that is written, standard input, the exit
-status, standard output and standard error; beside each run lie `FILES`. What is wanted was worked out by hand."""
+status, standard output and standard error; beside each run lie `FILES`."""
 
 FILES = {"a.c": "int x\n"}
 
