@@ -16,6 +16,7 @@ import threading
 sys.dont_write_bytecode = True
 import format_places
 import run_rows
+from finding_rows import FindingRows
 from tries_around import Around
 
 TOP = os.path.dirname(os.path.dirname(os.path.abspath(__file__)))
@@ -78,7 +79,7 @@ def drives(text):
     return re.search("[\x00-\x08\x0b-\x1f\x7f\x80-\x9f\u202a-\u202e\u2066-\u2069]", text.replace("\r\n", "\n")) is not None
 
 
-class Tries(Around):
+class Tries(Around, FindingRows):
     def __init__(self, program):
         self.program, self.passed, self.failed = program, 0, 0
 
@@ -565,7 +566,7 @@ class Tries(Around):
             for each in (self.try_runs, self.try_words, self.try_columns, self.try_effects, self.try_tools, self.try_looks, self.try_asking, self.try_inputs,
                          self.try_sources, self.try_terminals, self.try_pipes, self.try_slowly, self.try_paint, self.try_formats, self.try_lost,
                          self.try_colors, self.try_keyboard, self.try_limits, self.try_memory, self.try_help, self.try_manual,
-                         self.try_completions, self.try_install):
+                         self.try_completions, self.try_install, self.try_findings, self.try_finding_logs, self.try_finding_lines):
                 try:
                     each()
                 except Exception as why:
