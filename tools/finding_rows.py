@@ -203,6 +203,7 @@ RUNS = [
                           (("--most", "1"), FIRST_DRAWN + "and 1 more\n1 error, 1 warning\n"), (("--most", "0", "--quiet"), "and 2 more\n"))],
     *[("two reports", ("--to", form), TWO, 1, text) for form, text in (("json", JSON), ("document", DOCUMENT_OF_LINES), ("sarif", LOG))],
     ("a document", ("--to", "document"), DOCUMENT.encode(), 1, DOCUMENT),
+    ("a label that stands in its source", ("--to", "problems"), labelled([1, 1], [1, 2]), 1, "a.c:1:1:1:2: error: m\n"),
     *[("texts", ("--anywhere", "--to", "document", *words), HOSTILE, 0, HOSTILE_FOUND % (name, message, f"at {name}:3 (not read: no plain file)"))
       for words, name, message in (((), "a?.c", "?[2J"), (("--raw",), r"a\n.c", r"\u001b[2J"))],
 ]
@@ -218,7 +219,6 @@ PARTS = [
     ("characters that XML lacks", ("--raw", "--to", "checkstyle"), XML, 1, XML_SHOWN),
     ("a log's tool", ("--to", "sarif", "--tool", "mypy"), b"", 0, '{"name":"mypy","rules":[]}'),
     ("a log's tool", ("--to", "sarif", "--tool", "sarif"), log(), 0, '{"name":"girzohal","rules":[]}'),
-    ("a label that stands in its source", ("--to", "json"), labelled([1, 1], [1, 2]), 1, '"message": "m"'),
 ]
 
 # The same, where an input is refused: its report, and what is said.
