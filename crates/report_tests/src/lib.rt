@@ -2,7 +2,8 @@
 //! are proved from contracts alone, of `oxc_span`, `textwrap`, `oxc_protocol` and `diagnostics`.
 #![tactic(auto)]
 
-pub mod callers;
+#[cfg(test)]
+mod callers;
 #[cfg(test)]
 mod of_diagnostics;
 #[cfg(test)]
@@ -15,3 +16,5 @@ mod of_oxc_protocol_reporters;
 mod of_oxc_span;
 #[cfg(test)]
 mod of_textwrap;
+#[cfg(test)]
+mod texts;

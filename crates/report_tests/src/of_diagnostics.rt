@@ -1,36 +1,49 @@
 // The example of README, as it is drawn.
-use diagnostics::{
-    GraphicalReportHandler, GraphicalTheme, LabeledSpan, OxcDiagnostic, RenderError, draw_on,
-};
-use std::alloc::Global;
-use std::test::Fail;
+use diagnostics::{GraphicalReportHandler, GraphicalTheme, LabeledSpan, OxcDiagnostic, draw_on};
+use std::alloc::{AllocError, Global};
 
-/// A report of a name that isn't there.
-fn undefined(alloc: Global) -> Result<String, RenderError> {
-    let text = "let total = 1;\nprint(totl);\n";
-    let name = LabeledSpan::new(Some(String::from_str(alloc, "not found")?), 21, 4);
-    let report = OxcDiagnostic::error(alloc, "`totl` isn't defined.")?
+/// A label at a name that isn't there.
+fn not_found(alloc: Global) -> Result<LabeledSpan, AllocError> {
+    let text = String::from_str(alloc, "not found")?;
+    Ok(LabeledSpan::new(Some(text), 21, 4))
+}
+
+/// A report of this name.
+fn undefined(alloc: Global) -> Result<OxcDiagnostic, AllocError> {
+    let name = not_found(alloc)?;
+    OxcDiagnostic::error(alloc, "`totl` isn't defined.")?
         .with_error_code(alloc, "eslint", "no-undef")?
         .with_label(alloc, name)?
-        .with_help(alloc, "Did you mean `total`?")?;
+        .with_help(alloc, "Did you mean `total`?")
+}
+
+const TEXT: &str = "let total = 1;\nprint(totl);\n";
+
+const ROWS: &str = concat!(
+    "\n  × eslint(no-undef): `totl` isn't defined.\n",
+    "   ╭─[cart.js:2:7]\n",
+    " 1 │ let total = 1;\n",
+    " 2 │ print(totl);\n",
+    "   ·       ──┬─\n",
+    "   ·         ╰── not found\n",
+    "   ╰────\n",
+    "  help: Did you mean `total`?\n",
+);
+
+/// Whether a report on the text is drawn as these rows.
+fn is_drawn(alloc: Global, report: &OxcDiagnostic) -> bool {
     let look = GraphicalReportHandler::new_themed(GraphicalTheme::unicode_nocolor());
-    draw_on(alloc, &look, "cart.js", text, &report)
+    match draw_on(alloc, &look, "cart.js", TEXT, report) {
+        Ok(drawn) => drawn.as_str() == ROWS,
+        Err(_) => false,
+    }
 }
 
 #[test]
-fn a_report_is_drawn(rt: HostRuntime) -> Result<(), Fail> {
-    let alloc = rt.alloc();
-    let text = undefined(alloc)?;
-    let rows = concat!(
-        "\n  × eslint(no-undef): `totl` isn't defined.\n",
-        "   ╭─[cart.js:2:7]\n",
-        " 1 │ let total = 1;\n",
-        " 2 │ print(totl);\n",
-        "   ·       ──┬─\n",
-        "   ·         ╰── not found\n",
-        "   ╰────\n",
-        "  help: Did you mean `total`?\n",
-    );
-    assert_eq!(rt; text.as_str(), rows);
-    Ok(())
+fn a_report_is_drawn(rt: HostRuntime) {
+    let is_whole = match undefined(rt.alloc()) {
+        Ok(report) => is_drawn(rt.alloc(), &report),
+        Err(_) => false,
+    };
+    assert!(rt; is_whole);
 }

@@ -8,14 +8,13 @@ ghost use Rattle.oxc_protocol.specs.Severities.{rank};
 ghost use Rattle.oxc_protocol.specs.Views.{code_parts, inner_parts};
 ghost use Rattle.oxc_protocol.specs.declared.protocol.Severity.TheVariants.{Error, Warning};
 
+use crate::texts::{is_text, reads};
 use oxc_protocol::{
     Diagnostic, DiagnosticWithSource, Diagnostics, Error, LabeledSpan, NamedSource, OxcCode,
     OxcDiagnostic, OxcDiagnosticInner, Severity, SourceCode, TextSource,
 };
 use std::alloc::{AllocError, Global};
 use std::cmp::Ordering;
-use std::process::Abort;
-use std::test::Fail;
 
 fn code_order(a: &OxcCode, b: &OxcCode) -> Ordering
     ensures { result ≡ code_cmp (code_parts a.now) (code_parts b.now) }
@@ -75,134 +74,243 @@ fn lines_of(alloc: Global, errors: &[Error]) -> Result<String, AllocError>
     Ok(lines)
 }
 
-/// Through the trait alone, as a renderer sees it.
-fn shows_code(
-    rt: &impl Abort,
-    alloc: Global,
-    diagnostic: &dyn Diagnostic,
-    code: Option<&str>,
-) -> Result<(), Fail> {
-    let shown = diagnostic.code(alloc)?;
-    assert_eq!(rt; shown.as_deref(), code);
-    Ok(())
+fn owned(alloc: Global, text: Option<&str>) -> Result<Option<String>, AllocError> {
+    match text {
+        Some(text) => Ok(Some(String::from_str(alloc, text)?)),
+        None => Ok(None),
+    }
 }
 
 fn code(alloc: Global, scope: Option<&str>, number: Option<&str>) -> Result<OxcCode, AllocError> {
-    let scope = match scope {
-        Some(text) => Some(String::from_str(alloc, text)?),
-        None => None,
-    };
-    let number = match number {
-        Some(text) => Some(String::from_str(alloc, text)?),
-        None => None,
-    };
+    let scope = owned(alloc, scope)?;
+    let number = owned(alloc, number)?;
     Ok(OxcCode { scope, number })
 }
 
-const ASCENDING: [(Option<&str>, Option<&str>); 8] = [
-    (None, None),
-    (None, Some("9")),
-    (Some(""), None),
-    (Some("S"), None),
-    (Some("s"), None),
-    (Some("s"), Some("1")),
-    (Some("s"), Some("10")),
-    (Some("s"), Some("9")),
+/// The number of a code in rising order, its scope, and its own number.
+type Ranked = (u8, Option<&'static str>, Option<&'static str>);
+
+const ASCENDING: [Ranked; 8] = [
+    (0, None, None),
+    (1, None, Some("9")),
+    (2, Some(""), None),
+    (3, Some("S"), None),
+    (4, Some("s"), None),
+    (5, Some("s"), Some("1")),
+    (6, Some("s"), Some("10")),
+    (7, Some("s"), Some("9")),
 ];
 
-#[test]
-fn codes_are_ordered_none_first_and_texts_by_bytes(rt: HostRuntime) -> Result<(), Fail> {
-    let alloc = rt.alloc();
-    for (i, a) in ASCENDING.iter().enumerate() {
-        for (j, b) in ASCENDING.iter().enumerate() {
-            let order = code_order(&code(alloc, a.0, a.1)?, &code(alloc, b.0, b.1)?);
-            assert_eq!(rt; order, i.cmp(&j), "{i} and {j}");
-        }
+/// Whether a code is ordered to another as their rows are.
+fn is_ordered(alloc: Global, first: &OxcCode, at: u8, row: &Ranked) -> bool {
+    match code(alloc, row.1, row.2) {
+        Ok(second) => code_order(first, &second) == at.cmp(&row.0),
+        Err(_) => false,
     }
-    Ok(())
 }
 
-fn built(alloc: Global) -> Result<OxcDiagnostic, AllocError> {
-    let more = Vec::from_array(alloc, [LabeledSpan::new(None, 4, 1)])?;
+/// Whether the code of a row is ordered to those of all rows as the rows are.
+fn is_in_order(alloc: Global, row: &Ranked) -> bool {
+    let Ok(first) = code(alloc, row.1, row.2) else {
+        return false;
+    };
+    let mut in_order = true;
+    for other in &ASCENDING {
+        in_order = in_order && is_ordered(alloc, &first, row.0, other);
+    }
+    in_order
+}
+
+#[test]
+fn codes_are_ordered_none_first_and_texts_by_bytes(rt: HostRuntime) {
+    for row in &ASCENDING {
+        assert!(rt; is_in_order(rt.alloc(), row), "{}", row.0);
+    }
+}
+
+/// A list of one label, of one byte.
+fn one_label(alloc: Global, offset: u32) -> Result<Vec<LabeledSpan>, AllocError>
+    requires { offset + 1 < 2 ^ 32 }
+{
+    let mut labels = Vec::new(alloc);
+    labels.push(LabeledSpan::new(None, offset, 1))?;
+    Ok(labels)
+}
+
+fn with_texts(alloc: Global) -> Result<OxcDiagnostic, AllocError> {
     OxcDiagnostic::warn(alloc, "w")?
         .with_help(alloc, "h")?
         .with_note(alloc, "n")?
-        .with_url(alloc, "u")?
+        .with_url(alloc, "u")
+}
+
+fn built(alloc: Global) -> Result<OxcDiagnostic, AllocError> {
+    let more = one_label(alloc, 4)?;
+    with_texts(alloc)?
         .with_label(alloc, LabeledSpan::new(None, 0, 1))?
         .and_label(LabeledSpan::new(None, 2, 1))?
         .and_labels(more)
 }
 
-fn has_labels_at(rt: &impl Abort, diagnostic: &dyn Diagnostic, offsets: &[u32]) {
-    let labels = diagnostic.labels();
-    assert_eq!(rt; labels.len(), offsets.len());
-    for (label, offset) in labels.iter().zip(offsets) {
-        assert_eq!(rt; label.offset(), *offset);
+/// Through the trait alone, as a renderer sees it.
+fn has_three_labels(diagnostic: &dyn Diagnostic) -> bool {
+    match diagnostic.labels() {
+        [first, second, third] => {
+            first.offset() == 0 && second.offset() == 2 && third.offset() == 4
+        }
+        _ => false,
     }
 }
 
-fn has_texts(rt: &impl Abort, diagnostic: &dyn Diagnostic, texts: [Option<&str>; 4]) {
-    assert_eq!(rt; Some(diagnostic.message()), texts[0]);
-    assert_eq!(rt; diagnostic.help(), texts[1]);
-    assert_eq!(rt; diagnostic.note(), texts[2]);
-    assert_eq!(rt; diagnostic.url(), texts[3]);
+fn has_one_label(diagnostic: &dyn Diagnostic) -> bool {
+    match diagnostic.labels() {
+        [label] => label.offset() == 6,
+        _ => false,
+    }
+}
+
+fn has_texts(diagnostic: &dyn Diagnostic) -> bool {
+    diagnostic.message() == "w"
+        && reads(diagnostic.help(), "h")
+        && reads(diagnostic.note(), "n")
+        && reads(diagnostic.url(), "u")
 }
 
 #[test]
-fn builders_set_their_part(rt: HostRuntime) -> Result<(), Fail> {
-    let built = built(rt.alloc())?;
-    has_texts(&rt, &built, [Some("w"), Some("h"), Some("n"), Some("u")]);
-    has_labels_at(&rt, &built, &[0, 2, 4]);
-    assert_eq!(rt; built.severity(), Some(Severity::Warning));
-    Ok(())
+fn builders_set_their_part(rt: HostRuntime) {
+    let are_set = match built(rt.alloc()) {
+        Ok(built) => {
+            has_texts(&built)
+                && has_three_labels(&built)
+                && built.severity() == Some(Severity::Warning)
+        }
+        Err(_) => false,
+    };
+    assert!(rt; are_set);
+}
+
+fn is_copied(alloc: Global, built: &OxcDiagnostic) -> bool {
+    match built.try_clone(alloc) {
+        Ok(copy) => copy == *built,
+        Err(_) => false,
+    }
+}
+
+/// A copy with another label.
+fn relabelled(alloc: Global, built: &OxcDiagnostic) -> Result<OxcDiagnostic, AllocError> {
+    let one = one_label(alloc, 6)?;
+    built.try_clone(alloc)?.with_labels(alloc, one)
+}
+
+fn is_relabelled(alloc: Global, built: &OxcDiagnostic) -> bool {
+    match relabelled(alloc, built) {
+        Ok(copy) => has_one_label(&copy) && has_three_labels(built),
+        Err(_) => false,
+    }
 }
 
 #[test]
-fn labels_are_set_anew_in_a_copy_alone(rt: HostRuntime) -> Result<(), Fail> {
+fn labels_are_set_anew_in_a_copy_alone(rt: HostRuntime) {
     let alloc = rt.alloc();
-    let built = built(alloc)?;
-    let copy = built.try_clone(alloc)?;
-    assert!(rt; copy == built);
-    let one = Vec::from_array(alloc, [LabeledSpan::new(None, 6, 1)])?;
-    has_labels_at(&rt, &copy.with_labels(alloc, one)?, &[6]);
-    has_labels_at(&rt, &built, &[0, 2, 4]);
-    Ok(())
+    let are_set = match built(alloc) {
+        Ok(built) => is_copied(alloc, &built) && is_relabelled(alloc, &built),
+        Err(_) => false,
+    };
+    assert!(rt; are_set);
+}
+
+fn bare(alloc: Global) -> Result<OxcDiagnostic, AllocError> {
+    OxcDiagnostic::error(alloc, "m")
+}
+
+fn coded(alloc: Global) -> Result<OxcDiagnostic, AllocError> {
+    bare(alloc)?.with_error_code(alloc, "s", "1")
+}
+
+fn scoped_again(alloc: Global) -> Result<OxcDiagnostic, AllocError> {
+    coded(alloc)?.with_error_code_scope(alloc, "t")
+}
+
+fn coded_again(alloc: Global) -> Result<OxcDiagnostic, AllocError> {
+    scoped_again(alloc)?.with_error_code(alloc, "u", "2")
+}
+
+fn numbered(alloc: Global) -> Result<OxcDiagnostic, AllocError> {
+    bare(alloc)?.with_error_code_num(alloc, "1")
+}
+
+/// Through the trait alone, as a renderer sees it.
+fn shown_code(alloc: Global, diagnostic: &dyn Diagnostic) -> Result<Option<String>, AllocError> {
+    diagnostic.code(alloc)
+}
+
+/// Whether a diagnostic shows a code.
+fn shows(alloc: Global, diagnostic: Result<OxcDiagnostic, AllocError>, wanted: &str) -> bool {
+    let Ok(diagnostic) = diagnostic else {
+        return false;
+    };
+    match shown_code(alloc, &diagnostic) {
+        Ok(shown) => reads(shown.as_deref(), wanted),
+        Err(_) => false,
+    }
+}
+
+fn shows_none(alloc: Global, diagnostic: Result<OxcDiagnostic, AllocError>) -> bool {
+    let Ok(diagnostic) = diagnostic else {
+        return false;
+    };
+    match shown_code(alloc, &diagnostic) {
+        Ok(shown) => shown.is_none(),
+        Err(_) => false,
+    }
 }
 
 #[test]
-fn a_part_of_a_code_that_is_there_stays(rt: HostRuntime) -> Result<(), Fail> {
+fn a_part_of_a_code_that_is_there_stays(rt: HostRuntime) {
     let alloc = rt.alloc();
-    let coded = OxcDiagnostic::error(alloc, "m")?.with_error_code(alloc, "s", "1")?;
-    shows_code(&rt, alloc, &coded, Some("s(1)"))?;
-    let again = coded.with_error_code_scope(alloc, "t")?;
-    shows_code(&rt, alloc, &again, Some("s(1)"))?;
-    let both = again.with_error_code(alloc, "u", "2")?;
-    shows_code(&rt, alloc, &both, Some("s(1)"))
+    assert!(rt; shows(alloc, coded(alloc), "s(1)"));
+    assert!(rt; shows(alloc, scoped_again(alloc), "s(1)"));
+    assert!(rt; shows(alloc, coded_again(alloc), "s(1)"));
+}
+
+fn default_is_less(alloc: Global) -> bool {
+    match code(alloc, Some("s"), Some("1")) {
+        Ok(code) => OxcCode::default() < code,
+        Err(_) => false,
+    }
 }
 
 #[test]
-fn a_code_may_lack_parts(rt: HostRuntime) -> Result<(), Fail> {
+fn a_code_may_lack_parts(rt: HostRuntime) {
     let alloc = rt.alloc();
-    let bare = OxcDiagnostic::error(alloc, "m")?;
-    shows_code(&rt, alloc, &bare, None)?;
-    let number = bare.with_error_code_num(alloc, "1")?;
-    shows_code(&rt, alloc, &number, Some("1"))?;
-    assert!(rt; !OxcCode::default().is_some());
-    assert!(rt; OxcCode::default() < code(alloc, Some("s"), Some("1"))?);
-    Ok(())
+    assert!(rt; shows_none(alloc, bare(alloc)) && shows(alloc, numbered(alloc), "1"));
+    assert!(rt; !OxcCode::default().is_some() && default_is_less(alloc));
+}
+
+/// Whether a diagnostic's code is appended as wanted.
+fn pushes(text: &mut String, it: Result<OxcDiagnostic, AllocError>, wanted: bool) -> bool {
+    match it {
+        Ok(it) => it.push_code(text) == Ok(wanted),
+        Err(_) => false,
+    }
+}
+
+/// Whether a code was made and is appended.
+fn is_pushed(text: &mut String, code: Result<OxcCode, AllocError>) -> bool {
+    match code {
+        Ok(code) => code.push_onto(text) == Ok(true),
+        Err(_) => false,
+    }
 }
 
 #[test]
-fn codes_are_gathered_in_one_text(rt: HostRuntime) -> Result<(), Fail> {
+fn codes_are_gathered_in_one_text(rt: HostRuntime) {
     let alloc = rt.alloc();
     let mut text = String::new(alloc);
-    let bare = OxcDiagnostic::error(alloc, "m")?;
-    assert!(rt; !bare.push_code(&mut text)?);
-    let coded = bare.with_error_code(alloc, "s", "1")?;
-    assert!(rt; coded.push_code(&mut text)?);
-    assert!(rt; code(alloc, None, Some("9"))?.push_onto(&mut text)?);
-    assert_eq!(rt; text.as_str(), "s(1)9");
-    Ok(())
+    let are_pushed = pushes(&mut text, bare(alloc), false)
+        && pushes(&mut text, coded(alloc), true)
+        && is_pushed(&mut text, code(alloc, None, Some("9")));
+    assert!(rt; are_pushed && text.as_str() == "s(1)9");
 }
 
 fn two(alloc: Global) -> Result<Vec<OxcDiagnostic>, AllocError> {
@@ -212,83 +320,171 @@ fn two(alloc: Global) -> Result<Vec<OxcDiagnostic>, AllocError> {
     Ok(two)
 }
 
-#[test]
-fn lists_grow_and_copy(rt: HostRuntime) -> Result<(), Fail> {
-    let alloc = rt.alloc();
-    let mut list = Diagnostics::from_one(alloc, OxcDiagnostic::error(alloc, "a")?)?;
-    assert_eq!(rt; list.as_slice().len(), 1);
+fn list_of_one(alloc: Global) -> Result<Diagnostics, AllocError> {
+    Diagnostics::from_one(alloc, OxcDiagnostic::error(alloc, "a")?)
+}
+
+fn list_of_two(alloc: Global) -> Result<Diagnostics, AllocError> {
+    let mut list = list_of_one(alloc)?;
     list.push(OxcDiagnostic::warn(alloc, "b")?)?;
-    assert_eq!(rt; list.as_slice().len(), 2);
+    Ok(list)
+}
+
+fn list_of_four(alloc: Global) -> Result<Diagnostics, AllocError> {
+    let mut list = list_of_two(alloc)?;
     list.extend(two(alloc)?)?;
-    assert_eq!(rt; list.as_slice().len(), 4);
-    assert!(rt; list.try_clone(alloc)? == list);
-    assert!(rt; list != Diagnostics::new(alloc));
-    assert_eq!(rt; list.into_vec().len(), 4);
-    Ok(())
+    Ok(list)
+}
+
+fn has_count(list: Result<Diagnostics, AllocError>, count: usize) -> bool {
+    match list {
+        Ok(list) => list.as_slice().len() == count,
+        Err(_) => false,
+    }
+}
+
+fn is_list_copied(alloc: Global, list: &Diagnostics) -> bool {
+    match list.try_clone(alloc) {
+        Ok(copy) => copy == *list,
+        Err(_) => false,
+    }
+}
+
+/// Whether a list of four is its copy, isn't the empty one, and is a `Vec` of four.
+fn are_four(alloc: Global, list: Result<Diagnostics, AllocError>) -> bool {
+    match list {
+        Ok(list) => {
+            is_list_copied(alloc, &list)
+                && list != Diagnostics::new(alloc)
+                && list.into_vec().len() == 4
+        }
+        Err(_) => false,
+    }
 }
 
 #[test]
-fn errors_and_warnings_stand_apart(rt: HostRuntime) -> Result<(), Fail> {
+fn lists_grow_and_copy(rt: HostRuntime) {
     let alloc = rt.alloc();
-    let list = Diagnostics::from_vec(two(alloc)?);
-    assert!(rt; list.has_errors());
-    assert!(rt; list.has_warnings());
+    assert!(rt; has_count(list_of_one(alloc), 1) && has_count(list_of_two(alloc), 2));
+    assert!(rt; has_count(list_of_four(alloc), 4) && are_four(alloc, list_of_four(alloc)));
+}
+
+/// The messages of a list's errors.
+fn errors_in(alloc: Global, list: &Diagnostics) -> Result<String, AllocError> {
     let mut messages = String::new(alloc);
     for error in list.errors() {
         messages.push_str(error.message())?;
     }
-    assert_eq!(rt; messages.as_str(), "d");
+    Ok(messages)
+}
+
+/// The messages of its errors, and those of its warnings behind them.
+fn both_in(alloc: Global, list: &Diagnostics) -> Result<String, AllocError> {
+    let mut messages = errors_in(alloc, list)?;
     for warning in list.warnings() {
         messages.push_str(warning.message())?;
     }
-    assert_eq!(rt; messages.as_str(), "dc");
-    Ok(())
+    Ok(messages)
+}
+
+/// Whether a list of a warning `c` and an error `d` tells them apart.
+fn are_apart(alloc: Global, list: &Diagnostics) -> bool {
+    list.has_errors()
+        && list.has_warnings()
+        && is_text(errors_in(alloc, list), "d")
+        && is_text(both_in(alloc, list), "dc")
 }
 
 #[test]
-fn lists_are_walked_in_order(rt: HostRuntime) -> Result<(), Fail> {
-    let mut list = Diagnostics::from_vec(two(rt.alloc())?);
+fn errors_and_warnings_stand_apart(rt: HostRuntime) {
+    let stand = match two(rt.alloc()) {
+        Ok(two) => are_apart(rt.alloc(), &Diagnostics::from_vec(two)),
+        Err(_) => false,
+    };
+    assert!(rt; stand);
+}
+
+fn make_advice(list: &mut Diagnostics) {
     for diagnostic in list.as_mut_slice() {
         diagnostic.inner_mut().severity = Severity::Advice;
     }
-    for (diagnostic, message) in (&list).into_iter().zip(["c", "d"]) {
-        assert_eq!(rt; diagnostic.message(), message);
+}
+
+fn is_c_and_d(list: &Diagnostics) -> bool {
+    for (diagnostic, message) in list.into_iter().zip(["c", "d"]) {
+        if diagnostic.message() != message {
+            return false;
+        }
     }
+    true
+}
+
+/// Whether each is an error once it was made one.
+fn become_errors(list: Diagnostics) -> bool {
+    let mut all = true;
     for diagnostic in list {
-        assert_eq!(rt;
-            diagnostic.with_severity(Severity::Error).severity(),
-            Some(Severity::Error)
-        );
+        let grave = diagnostic.with_severity(Severity::Error).severity();
+        all = all && grave == Some(Severity::Error);
     }
-    Ok(())
+    all
+}
+
+fn is_walked(mut list: Diagnostics) -> bool {
+    make_advice(&mut list);
+    is_c_and_d(&list) && become_errors(list)
+}
+
+#[test]
+fn lists_are_walked_in_order(rt: HostRuntime) {
+    let in_order = match two(rt.alloc()) {
+        Ok(two) => is_walked(Diagnostics::from_vec(two)),
+        Err(_) => false,
+    };
+    assert!(rt; in_order);
+}
+
+fn source(alloc: Global) -> Result<NamedSource<TextSource>, AllocError> {
+    let text = String::from_str(alloc, "let a;")?;
+    let name = String::from_str(alloc, "a.js")?;
+    Ok(NamedSource::new(name, TextSource::new(text)))
 }
 
 fn sourced(alloc: Global) -> Result<DiagnosticWithSource<NamedSource<TextSource>>, AllocError> {
-    let source = TextSource::new(String::from_str(alloc, "let a;")?);
-    let named = NamedSource::new(String::from_str(alloc, "a.js")?, source);
+    let named = source(alloc)?;
     Ok(OxcDiagnostic::error(alloc, "b")?.with_source_code(named))
 }
 
-fn has_source(rt: &impl Abort, diagnostic: &dyn Diagnostic, bytes: &[u8], name: &str) {
+fn has_source(diagnostic: &dyn Diagnostic) -> bool {
     match diagnostic.source_code() {
-        Some(source) => {
-            assert_eq!(rt; source.bytes(), bytes);
-            assert_eq!(rt; source.name(), Some(name));
-        }
-        None => assert!(rt; false, "no source"),
+        Some(source) => source.bytes() == "let a;".as_bytes() && reads(source.name(), "a.js"),
+        None => false,
+    }
+}
+
+/// An error without a source, and one with it.
+fn boxes(alloc: Global) -> Result<Vec<Error>, AllocError> {
+    let mut errors: Vec<Error> = Vec::new(alloc);
+    errors.push(Box::new(alloc, OxcDiagnostic::error(alloc, "a")?)?)?;
+    errors.push(Box::new(alloc, sourced(alloc)?)?)?;
+    Ok(errors)
+}
+
+fn are_shown(alloc: Global, errors: &[Error]) -> bool {
+    match errors {
+        [_, second] => is_text(lines_of(alloc, errors), "a\nb\n") && has_source(&**second),
+        _ => false,
     }
 }
 
 #[test]
-fn a_box_shows_what_is_in_it(rt: HostRuntime) -> Result<(), Fail> {
-    let alloc = rt.alloc();
-    has_source(&rt, &sourced(alloc)?, b"let a;", "a.js");
-    let mut errors: Vec<Error> = Vec::new(alloc);
-    errors.push(Box::new(alloc, OxcDiagnostic::error(alloc, "a")?)?)?;
-    errors.push(Box::new(alloc, sourced(alloc)?)?)?;
-    assert_eq!(rt; lines_of(alloc, &errors)?.as_str(), "a\nb\n");
-    for error in &errors[1..] {
-        has_source(&rt, &**error, b"let a;", "a.js");
-    }
-    Ok(())
+fn a_box_shows_what_is_in_it(rt: HostRuntime) {
+    let is_shown = match sourced(rt.alloc()) {
+        Ok(sourced) => has_source(&sourced),
+        Err(_) => false,
+    };
+    let are_shown = match boxes(rt.alloc()) {
+        Ok(errors) => are_shown(rt.alloc(), &errors),
+        Err(_) => false,
+    };
+    assert!(rt; is_shown && are_shown);
 }

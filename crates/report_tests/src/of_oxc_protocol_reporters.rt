@@ -8,14 +8,13 @@ ghost use Rattle.oxc_protocol.specs.MessageLines.{unless_skip};
 ghost use Rattle.oxc_protocol.specs.Reporters.{texts_in};
 ghost use Rattle.oxc_protocol.specs.Source.{Fits};
 
+use crate::texts::{is_text, reads};
 use oxc_protocol::{
     DiagnosticReporter, DiagnosticResult, DiagnosticWithSource, Error, Info, InfoPosition,
     LabeledSpan, NamedSource, OxcDiagnostic, Severity, TextSource,
 };
 use std::alloc::{AllocError, Global};
 use std::cmp::Ordering;
-use std::fmt::Write;
-use std::test::Fail;
 
 /// Gives the message of each diagnostic, and leaves out those whose message is `skip`.
 #[derive(Drop)]
@@ -86,51 +85,111 @@ fn no_result() -> DiagnosticResult
     DiagnosticResult::default()
 }
 
-#[test]
-fn texts_are_handed_on_in_order(rt: HostRuntime) -> Result<(), Fail> {
-    let alloc = rt.alloc();
+/// Appends an error without a source.
+fn push_error(alloc: Global, errors: &mut Vec<Error>, message: &str) -> Result<(), AllocError> {
+    errors.push(Box::new(alloc, OxcDiagnostic::error(alloc, message)?)?)?;
+    Ok(())
+}
+
+fn three(alloc: Global) -> Result<Vec<Error>, AllocError> {
     let mut errors: Vec<Error> = Vec::new(alloc);
-    for message in ["a", "skip", "b"] {
-        errors.push(Box::new(alloc, OxcDiagnostic::error(alloc, message)?)?)?;
+    push_error(alloc, &mut errors, "a")?;
+    push_error(alloc, &mut errors, "skip")?;
+    push_error(alloc, &mut errors, "b")?;
+    Ok(errors)
+}
+
+/// Whether there was memory for all texts of these errors, and they are `a` and `b`.
+fn are_handed_on(alloc: Global, errors: Vec<Error>) -> bool {
+    match gathered(alloc, errors) {
+        Ok((text, whole)) => whole && text.as_str() == "ab",
+        Err(_) => false,
     }
-    let (text, whole) = gathered(alloc, errors)?;
-    assert!(rt; whole && text.as_str() == "ab");
-    assert!(rt; Messages.finish(alloc, &no_result())?.is_none());
-    Ok(())
+}
+
+fn finishes_with_nothing(alloc: Global) -> bool {
+    match Messages.finish(alloc, &no_result()) {
+        Ok(text) => text.is_none(),
+        Err(_) => false,
+    }
 }
 
 #[test]
-fn a_text_that_is_not_kept_is_the_last(rt: HostRuntime) -> Result<(), Fail> {
-    let alloc = rt.alloc();
-    for (last, offered) in [
-        ("a", "a.js a "),
-        ("b", "a.js a - b "),
-        ("z", "a.js a - b - c "),
-    ] {
-        let mut errors: Vec<Error> = Vec::new(alloc);
-        errors.push(Box::new(alloc, sourced(alloc, "a", 0, 1)?)?)?;
-        for message in ["skip", "b", "c"] {
-            errors.push(Box::new(alloc, OxcDiagnostic::error(alloc, message)?)?)?;
-        }
-        let mut seen = String::new(alloc);
-        let keep = |name: Option<&str>, text: &str| {
-            let added = write!(seen, "{} {text} ", name.unwrap_or("-"));
-            added.is_ok() && text != last
-        };
-        Messages.render_errors_until(alloc, errors, keep)?;
-        assert_eq!(rt; seen.as_str(), offered);
+fn texts_are_handed_on_in_order(rt: HostRuntime) {
+    let in_order = match three(rt.alloc()) {
+        Ok(errors) => are_handed_on(rt.alloc(), errors),
+        Err(_) => false,
+    };
+    assert!(rt; in_order && finishes_with_nothing(rt.alloc()));
+}
+
+fn four(alloc: Global) -> Result<Vec<Error>, AllocError> {
+    let mut errors: Vec<Error> = Vec::new(alloc);
+    errors.push(Box::new(alloc, sourced(alloc, "a", 0, 1)?)?)?;
+    push_error(alloc, &mut errors, "skip")?;
+    push_error(alloc, &mut errors, "b")?;
+    push_error(alloc, &mut errors, "c")?;
+    Ok(errors)
+}
+
+/// Appends a name or `-`, and a text, each with a blank behind it.
+fn push_offered(seen: &mut String, name: Option<&str>, text: &str) -> Result<(), AllocError> {
+    seen.push_str(name.unwrap_or("-"))?;
+    seen.push(' ')?;
+    seen.push_str(text)?;
+    seen.push(' ')
+}
+
+/// The names and texts that are offered, where the text `last` isn't kept.
+fn offered(alloc: Global, last: &str) -> Result<String, AllocError> {
+    let errors = four(alloc)?;
+    let mut seen = String::new(alloc);
+    let keep = |name: Option<&str>, text: &str| {
+        push_offered(&mut seen, name, text).is_ok() && text != last
+    };
+    Messages.render_errors_until(alloc, errors, keep)?;
+    Ok(seen)
+}
+
+/// The text that isn't kept, and what is offered.
+const OFFERED: [(&str, &str); 3] = [
+    ("a", "a.js a "),
+    ("b", "a.js a - b "),
+    ("z", "a.js a - b - c "),
+];
+
+#[test]
+fn a_text_that_is_not_kept_is_the_last(rt: HostRuntime) {
+    for row in &OFFERED {
+        assert!(rt; is_text(offered(rt.alloc(), row.0), row.1), "{}", row.0);
     }
-    Ok(())
 }
 
 #[test]
-fn a_result_keeps_its_numbers(rt: HostRuntime) -> Result<(), Fail> {
+fn a_result_keeps_its_numbers(rt: HostRuntime) {
     let counts = DiagnosticResult::new(1, 2, true);
     assert!(rt;
         counts.warnings_count() == 1 && counts.errors_count() == 2 && counts.max_warnings_exceeded()
     );
     assert!(rt; keeps_fallback());
-    Ok(())
+}
+
+fn source(alloc: Global) -> Result<NamedSource<TextSource>, AllocError> {
+    let text = String::from_str(alloc, "foo\nbar\nbaz")?;
+    let name = String::from_str(alloc, "a.js")?;
+    Ok(NamedSource::new(name, TextSource::new(text)))
+}
+
+/// An error with one label.
+fn labelled(
+    alloc: Global,
+    message: &str,
+    offset: u32,
+    len: u32,
+) -> Result<OxcDiagnostic, AllocError>
+    requires { offset + len < 2 ^ 32 }
+{
+    OxcDiagnostic::error(alloc, message)?.with_label(alloc, LabeledSpan::new(None, offset, len))
 }
 
 /// An error in `a.js` with one label.
@@ -142,14 +201,8 @@ fn sourced(
 ) -> Result<DiagnosticWithSource<NamedSource<TextSource>>, AllocError>
     requires { offset + len < 2 ^ 32 }
 {
-    let source = TextSource::new(String::from_str(alloc, "foo\nbar\nbaz")?);
-    let named = NamedSource::new(String::from_str(alloc, "a.js")?, source);
-    let label = LabeledSpan::new(None, offset, len);
-    Ok(
-        OxcDiagnostic::error(alloc, message)?
-            .with_label(alloc, label)?
-            .with_source_code(named),
-    )
+    let named = source(alloc)?;
+    Ok(labelled(alloc, message, offset, len)?.with_source_code(named))
 }
 
 /// What is told of a label of a text.
@@ -158,19 +211,24 @@ fn told(alloc: Global, text: &str, offset: u32, len: u32) -> Result<Info, AllocE
     requires in_range { offset + len < 2 ^ 32 }
 {
     let source = TextSource::new(String::from_str(alloc, text)?);
-    let label = LabeledSpan::new(None, offset, len);
-    let diagnostic = OxcDiagnostic::error(alloc, "m")?
-        .with_label(alloc, label)?
-        .with_source_code(source);
+    let diagnostic = labelled(alloc, "m", offset, len)?.with_source_code(source);
     Info::new(alloc, &diagnostic)
 }
 
-fn is_at(info: &Info, start: (usize, usize), end: (usize, usize)) -> bool {
-    (info.start.line, info.start.column) == start && (info.end.line, info.end.column) == end
+/// Where something starts or ends: the row and the column.
+type At = (usize, usize);
+
+fn is_at(info: &Info, start: At, end: At) -> bool {
+    info.start.line == start.0
+        && info.start.column == start.1
+        && info.end.line == end.0
+        && info.end.column == end.1
 }
 
 // text, offset and length of the label, where it starts and ends
-const PLACES: [(&str, u32, u32, (usize, usize), (usize, usize)); 6] = [
+type Place = (&'static str, u32, u32, At, At);
+
+const PLACES: [Place; 6] = [
     ("foo\nbar\nbaz", 4, 3, (2, 1), (2, 4)),
     ("ab\r\ncd", 3, 2, (1, 3), (2, 2)),
     ("a\rb", 1, 2, (1, 2), (2, 2)),
@@ -179,39 +237,77 @@ const PLACES: [(&str, u32, u32, (usize, usize), (usize, usize)); 6] = [
     ("ab", 1, 2, (0, 0), (0, 0)),
 ];
 
-#[test]
-fn positions_are_rows_and_byte_columns_from_1(rt: HostRuntime) -> Result<(), Fail> {
-    for (text, offset, len, start, end) in PLACES {
-        let info = told(rt.alloc(), text, offset, len)?;
-        assert!(rt; is_at(&info, start, end), "{offset} and {len} in {text:?}");
+/// Whether a label is told to be where the row says.
+fn is_told(alloc: Global, row: &Place) -> bool {
+    let (text, offset, len, start, end) = *row;
+    if text.len() > 99 || offset > 99 || len > 99 {
+        return false;
     }
-    Ok(())
+    match told(alloc, text, offset, len) {
+        Ok(info) => is_at(&info, start, end),
+        Err(_) => false,
+    }
 }
 
-fn says(
-    info: &Info,
-    filename: &str,
-    message: &str,
-    severity: Severity,
-    rule: Option<&str>,
-) -> bool {
+#[test]
+fn positions_are_rows_and_byte_columns_from_1(rt: HostRuntime) {
+    for row in &PLACES {
+        assert!(rt; is_told(rt.alloc(), row), "{}", row.0);
+    }
+}
+
+/// What is told of an error in `a.js`, with one label.
+fn told_oops(alloc: Global, offset: u32, len: u32) -> Result<Info, AllocError>
+    requires { offset + len < 2 ^ 32 }
+{
+    let oops = sourced(alloc, "Oops", offset, len)?;
+    Info::new(alloc, &oops)
+}
+
+/// What is told of an error with a code and without a source.
+fn told_coded(alloc: Global) -> Result<Info, AllocError> {
+    let coded = OxcDiagnostic::error(alloc, "m")?.with_error_code(alloc, "s", "1")?;
+    Info::new(alloc, &coded)
+}
+
+fn says(info: &Info, filename: &str, message: &str, severity: Severity) -> bool {
     info.filename.as_str() == filename
         && info.message.as_str() == message
         && info.severity == severity
-        && info.rule_id.as_deref() == rule
+}
+
+fn is_placed_oops(info: &Info) -> bool {
+    is_at(info, (2, 1), (2, 4))
+        && says(info, "a.js", "Oops", Severity::Error)
+        && info.rule_id.is_none()
+}
+
+fn is_lost_oops(info: &Info) -> bool {
+    is_at(info, (0, 0), (0, 0))
+        && says(info, "a.js", "", Severity::Warning)
+        && info.rule_id.is_none()
+}
+
+fn is_lost_code(info: &Info) -> bool {
+    is_at(info, (0, 0), (0, 0))
+        && says(info, "", "", Severity::Warning)
+        && reads(info.rule_id.as_deref(), "s(1)")
 }
 
 #[test]
-fn without_a_position_it_is_a_warning_with_no_message(rt: HostRuntime) -> Result<(), Fail> {
+fn without_a_position_it_is_a_warning_with_no_message(rt: HostRuntime) {
     let alloc = rt.alloc();
-    let info = Info::new(alloc, &sourced(alloc, "Oops", 4, 3)?)?;
-    assert!(rt; is_at(&info, (2, 1), (2, 4)) && says(&info, "a.js", "Oops", Severity::Error, None));
-    let past = Info::new(alloc, &sourced(alloc, "Oops", 9, 3)?)?;
-    assert!(rt; is_at(&past, (0, 0), (0, 0)) && says(&past, "a.js", "", Severity::Warning, None));
-    let coded = OxcDiagnostic::error(alloc, "m")?.with_error_code(alloc, "s", "1")?;
-    let bare = Info::new(alloc, &coded)?;
-    assert!(rt;
-        is_at(&bare, (0, 0), (0, 0)) && says(&bare, "", "", Severity::Warning, Some("s(1)"))
-    );
-    Ok(())
+    let is_placed = match told_oops(alloc, 4, 3) {
+        Ok(info) => is_placed_oops(&info),
+        Err(_) => false,
+    };
+    let is_lost = match told_oops(alloc, 9, 3) {
+        Ok(info) => is_lost_oops(&info),
+        Err(_) => false,
+    };
+    let is_bare = match told_coded(alloc) {
+        Ok(info) => is_lost_code(&info),
+        Err(_) => false,
+    };
+    assert!(rt; is_placed && is_lost && is_bare);
 }

@@ -2,9 +2,8 @@
 ghost use Rattle.std.specs.Prelude.{◌≡◌, ◌-◌, IfOk, codes, string_bytes};
 ghost use Rattle.textwrap.specs.Filled.{filled};
 
+use crate::texts::is_text;
 use std::alloc::{AllocError, Global};
-use std::process::Abort;
-use std::test::Fail;
 use textwrap::core_::display_width;
 use textwrap::{Options, fill};
 
@@ -17,17 +16,16 @@ type Case = (
     &'static str,
 );
 
-fn fills(rt: &impl Abort, alloc: Global, case: &Case) -> Result<(), Fail> {
-    let (text, width, first, later, want) = *case;
+/// Whether a text is filled so.
+fn is_filled(alloc: Global, case: &Case) -> bool {
+    let (text, width, first, later, wanted) = *case;
     let options = Options::new(width)
         .initial_indent(first)
         .subsequent_indent(later);
-    let filled = fill(alloc, text, &options)?;
-    assert_eq!(rt; filled.as_str(), want);
-    Ok(())
+    is_text(fill(alloc, text, &options), wanted)
 }
 
-const CASES: &[Case] = &[
+const CASES: [Case; 40] = [
     // a word parted at its hyphen, behind indents
     ("a-b  cd", 4, "> ", ". ", "> a-\n. b\n. cd"),
     // empty texts and breaks at either end
@@ -90,14 +88,13 @@ const CASES: &[Case] = &[
 ];
 
 #[test]
-fn texts_fill_narrow_widths(rt: HostRuntime) -> Result<(), Fail> {
-    for case in CASES {
-        fills(&rt, rt.alloc(), case)?;
+fn texts_fill_narrow_widths(rt: HostRuntime) {
+    for case in &CASES {
+        assert!(rt; is_filled(rt.alloc(), case), "{}", case.4);
     }
-    Ok(())
 }
 
-const WIDTHS: &[(&str, usize)] = &[
+const WIDTHS: [(&str, usize); 13] = [
     ("", 0),
     ("\u{1b}[31m\u{65e5}\u{1b}[0m", 2),
     ("a\tb", 2),
@@ -115,8 +112,8 @@ const WIDTHS: &[(&str, usize)] = &[
 
 #[test]
 fn escape_sequences_take_no_cells(rt: HostRuntime) {
-    for (text, width) in WIDTHS {
-        assert_eq!(rt; display_width(text), *width);
+    for row in &WIDTHS {
+        assert!(rt; display_width(row.0) == row.1, "{}", row.0);
     }
 }
 
@@ -132,8 +129,7 @@ fn help(alloc: Global, text: &str, width: usize) -> Result<String, AllocError>
 }
 
 #[test]
-fn a_help_text_hangs_behind_its_label(rt: HostRuntime) -> Result<(), Fail> {
-    let shown = help(rt.alloc(), "remove this name", 22)?;
-    assert_eq!(rt; shown.as_str(), "  help: remove\n        this name");
-    Ok(())
+fn a_help_text_hangs_behind_its_label(rt: HostRuntime) {
+    let shown = help(rt.alloc(), "remove this name", 22);
+    assert!(rt; is_text(shown, "  help: remove\n        this name"));
 }
