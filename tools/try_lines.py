@@ -1,6 +1,7 @@
 #!/usr/bin/env python3
 """Holds the program `girzohal` against `line_reader.py`, a second reader of the lines that tools print: what each table row says,
-lines of many tools one behind the other (lines.txt), the outputs of real tools, and lines made at random of the parts of shapes.
+lines of many tools one behind the other (lines.txt), the outputs of real tools, and lines made at random of the parts of shapes. The rows of
+`line_rows.py` are held against what was worked out by hand.
 
 usage: try_lines.py PROGRAM [LINES [SEED]]      (crates/girzohal/out/girzohal after `rt run` there)
 
@@ -16,6 +17,7 @@ import tempfile
 
 sys.dont_write_bytecode = True
 import line_reader
+import line_rows
 
 TOP = os.path.dirname(os.path.dirname(os.path.abspath(__file__)))
 NAMES = ["a.c", "src/b.rs", "/p/C.java", "C:\\d\\e.cs", "my file.py", "é.ts", "<stdin>", "Makefile", "x.f90", "x", "10", "file:///p/a.c", "<a b>", "a:b.c", "host1", "2024-01-02T10"]
@@ -260,6 +262,7 @@ def main():
         empty, full = os.path.join(room, "empty"), os.path.join(room, "full")
         os.mkdir(empty)
         try_table(tries, empty)
+        line_rows.try_rows(tries, empty, read_reports)
         for path in [os.path.join(TOP, "tools", "lines.txt"), *sorted(glob.glob(os.path.join(TOP, "examples", "outputs", "*.txt")))]:
             with open(path, encoding="utf-8", newline="") as it:
                 tries.text(os.path.basename(path), it.read(), empty)

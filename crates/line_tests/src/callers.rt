@@ -1,4 +1,4 @@
-//! A caller that is proved from contracts alone, and is tested beside the others.
+//! A caller that is proved from contracts alone.
 ghost use Rattle.std.specs.Prelude.{◌≡◌, map, option_map};
 ghost use Rattle.std.specs.Option.{option_or};
 ghost use Rattle.line_shapes.specs.Place.{place as place_there, placed};

@@ -1,9 +1,10 @@
 //! Tests of lines that tools print: small tables, and callers that are proved from contracts
 //! alone, of `line_shapes`, `tool_lines`, `fed_lines`, `line_reports`, `problem_lines` and
-//! `problem_roundtrip`.
+//! `problem_roundtrip`. What the program writes of lines is tried by `tools/try_lines.py`.
 #![tactic(auto)]
 
-pub mod callers;
+#[cfg(test)]
+mod callers;
 #[cfg(test)]
 mod of_fed_lines;
 #[cfg(test)]

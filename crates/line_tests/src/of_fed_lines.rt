@@ -5,8 +5,8 @@ ghost use Rattle.fed_lines.specs.Feed.{known_piece};
 ghost use Rattle.fed_lines.specs.Held.{held_lines, held_name, held_shapes};
 
 use fed_lines::Lines;
-use fed_lines::whole::cut_as_they_come;
-use std::test::Fail;
+use fed_lines::whole::{Cut, cut_as_they_come};
+use std::alloc::{AllocError, Global};
 use tool_lines::lines::Sort;
 
 /// Lets the next piece go that is known, and says how many lines it has.
@@ -20,30 +20,45 @@ fn given(lines: &mut Lines<'_>) -> Option<usize>
     Some(count)
 }
 
-/// Lines in their order, and how many lines each piece has that is known with this one.
-const COMING: [(&str, &[usize]); 8] = [
-    ("a.c:1:2: error: x", &[]),
-    ("  y", &[]),
-    ("", &[2]),
-    ("z", &[1]),
-    ("a.c:2:3: error: x", &[1]),
-    ("a.js", &[]),
-    ("  3:5  error  x  no-undef", &[1, 1, 1]),
-    ("w", &[]),
+/// A line, how many pieces are known with it, and how many lines each of them has.
+type Coming = (&'static str, u8, usize);
+
+/// Lines in their order.
+const COMING: [Coming; 8] = [
+    ("a.c:1:2: error: x", 0, 0),
+    ("  y", 0, 0),
+    ("", 1, 2),
+    ("z", 1, 1),
+    ("a.c:2:3: error: x", 1, 1),
+    ("a.js", 0, 0),
+    ("  3:5  error  x  no-undef", 3, 1),
+    ("w", 0, 0),
 ];
 
-#[test]
-fn pieces_are_given_once_they_are_known(rt: HostRuntime) -> Result<(), Fail> {
-    let alloc = rt.alloc();
-    let mut lines = Lines::new(alloc, &[]);
-    for (line, counts) in COMING {
-        lines.feed(line.as_bytes().to_vec(alloc)?)?;
-        for count in counts {
-            assert_eq!(rt; given(&mut lines), Some(*count), "{line}");
-        }
-        assert_eq!(rt; given(&mut lines), None, "{line}");
+/// Whether so many pieces are known, of so many lines each, and no more.
+fn are_given(lines: &mut Lines<'_>, pieces: u8, count: usize) -> bool {
+    let mut so_far = true;
+    for _ in 0..pieces {
+        so_far = so_far && given(lines) == Some(count);
     }
-    Ok(())
+    so_far && given(lines).is_none()
+}
+
+/// Whether these pieces are known with a line.
+fn is_known_with(alloc: Global, lines: &mut Lines<'_>, row: &Coming) -> bool {
+    let (line, pieces, count) = *row;
+    match line.as_bytes().to_vec(alloc) {
+        Ok(line) => lines.feed(line).is_ok() && are_given(lines, pieces, count),
+        Err(_) => false,
+    }
+}
+
+#[test]
+fn pieces_are_given_once_they_are_known(rt: HostRuntime) {
+    let mut lines = Lines::new(rt.alloc(), &[]);
+    for row in &COMING {
+        assert!(rt; is_known_with(rt.alloc(), &mut lines, row), "{}", row.0);
+    }
 }
 
 /// How these lines are cut.
@@ -57,17 +72,34 @@ const CUTS: [(Sort, usize); 7] = [
     (Sort::Kept, 1),
 ];
 
-#[test]
-fn lines_are_cut_as_they_come(rt: HostRuntime) -> Result<(), Fail> {
-    let alloc = rt.alloc();
+fn coming(alloc: Global) -> Result<Vec<&'static [u8]>, AllocError> {
     let mut lines = Vec::new(alloc);
-    for (line, _) in COMING {
-        lines.push(line.as_bytes())?;
+    for row in &COMING {
+        lines.push(row.0.as_bytes())?;
     }
-    let cuts = cut_as_they_come(alloc, &[], &lines)?;
-    assert_eq!(rt; cuts.len(), CUTS.len());
-    for (cut, (sort, count)) in cuts.iter().zip(CUTS) {
-        assert_eq!(rt; (cut.sort, cut.lines), (sort, count));
+    Ok(lines)
+}
+
+fn are_cut(cuts: &[Cut]) -> bool {
+    let mut so_far = cuts.len() == CUTS.len();
+    for (cut, wanted) in cuts.iter().zip(&CUTS) {
+        so_far = so_far && cut.sort == wanted.0 && cut.lines == wanted.1;
     }
-    Ok(())
+    so_far
+}
+
+fn is_cut_as_it_comes(alloc: Global, lines: &[&[u8]]) -> bool {
+    match cut_as_they_come(alloc, &[], lines) {
+        Ok(cuts) => are_cut(&cuts),
+        Err(_) => false,
+    }
+}
+
+#[test]
+fn lines_are_cut_as_they_come(rt: HostRuntime) {
+    let is_cut = match coming(rt.alloc()) {
+        Ok(lines) => is_cut_as_it_comes(rt.alloc(), &lines),
+        Err(_) => false,
+    };
+    assert!(rt; is_cut);
 }

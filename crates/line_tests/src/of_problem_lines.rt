@@ -11,9 +11,7 @@ use problem_lines::{
     ProblemError, ProblemReporter, lines_read_back, read_problem, read_problems, report_lines,
     write_problem,
 };
-use regex::Regex;
 use std::alloc::{AllocError, Global};
-use std::test::Fail;
 
 /// A problem, written and read back.
 fn there_and_back(alloc: Global, info: &Info) -> Result<Option<Info>, AllocError>
@@ -23,35 +21,58 @@ fn there_and_back(alloc: Global, info: &Info) -> Result<Option<Info>, AllocError
     read_problem(alloc, line.as_str())
 }
 
+/// A problem whose texts have what has to be escaped.
+fn colon_problem(alloc: Global) -> Result<Info, AllocError> {
+    let filename = String::from_str(alloc, "a:b")?;
+    let message = String::from_str(alloc, "x\ny")?;
+    Ok(Info {
+        start: InfoPosition { line: 1, column: 1 },
+        end: InfoPosition { line: 1, column: 2 },
+        filename,
+        message,
+        severity: Severity::Error,
+        rule_id: None,
+    })
+}
+
 fn is_colon_problem(info: &Info) -> bool {
-    (
-        info.start.line,
-        info.start.column,
-        info.end.line,
-        info.end.column,
-    ) == (1, 1, 1, 2)
+    info.start.line == 1
+        && info.start.column == 1
+        && info.end.line == 1
+        && info.end.column == 2
         && info.filename.as_str() == "a:b"
         && info.message.as_str() == "x\ny"
         && info.severity == Severity::Error
         && info.rule_id.is_none()
 }
 
+/// Whether there was memory for a text, and it is the wanted one.
+fn is_text(text: Result<String, AllocError>, wanted: &str) -> bool {
+    match text {
+        Ok(text) => text.as_str() == wanted,
+        Err(_) => false,
+    }
+}
+
+/// Whether it comes back.
+fn comes_back(alloc: Global, info: &Info) -> bool {
+    match there_and_back(alloc, info) {
+        Ok(Some(back)) => is_colon_problem(&back),
+        _ => false,
+    }
+}
+
 #[test]
-fn a_line_gives_its_problem_back(rt: HostRuntime) -> Result<(), Fail> {
+fn a_line_gives_its_problem_back(rt: HostRuntime) {
     let alloc = rt.alloc();
-    let info = Info {
-        start: InfoPosition { line: 1, column: 1 },
-        end: InfoPosition { line: 1, column: 2 },
-        filename: String::from_str(alloc, "a:b")?,
-        message: String::from_str(alloc, "x\ny")?,
-        severity: Severity::Error,
-        rule_id: None,
+    let is_given_back = match colon_problem(alloc) {
+        Ok(info) => {
+            is_text(write_problem(alloc, &info), "a\\cb:1:1:1:2: error: x\\ny\n")
+                && comes_back(alloc, &info)
+        }
+        Err(_) => false,
     };
-    let line = write_problem(alloc, &info)?;
-    assert_eq!(rt; line.as_str(), "a\\cb:1:1:1:2: error: x\\ny\n");
-    let back = there_and_back(alloc, &info)?;
-    assert!(rt; back.is_some_and(|back| is_colon_problem(&back)));
-    Ok(())
+    assert!(rt; is_given_back);
 }
 
 const NO_LINES: [&str; 13] = [
@@ -70,46 +91,74 @@ const NO_LINES: [&str; 13] = [
     "",
 ];
 
-#[test]
-fn other_lines_are_none(rt: HostRuntime) -> Result<(), Fail> {
-    for line in NO_LINES {
-        assert!(rt; read_problem(rt.alloc(), line)?.is_none(), "{line:?}");
+/// Whether a line is no problem's.
+fn is_none(alloc: Global, line: &str) -> bool {
+    match read_problem(alloc, line) {
+        Ok(told) => told.is_none(),
+        Err(_) => false,
     }
-    let told = read_problem(
-        rt.alloc(),
-        "é:18446744073709551615:1:1:1: advice[\\b: ]: \n",
-    )?;
-    assert!(rt; told.is_some_and(|info| info.rule_id.as_deref() == Some("]: ")));
-    Ok(())
+}
+
+/// Whether the rule of a line's problem is read so.
+fn has_rule(alloc: Global, line: &str, rule: &str) -> bool {
+    match read_problem(alloc, line) {
+        Ok(Some(info)) => info.rule_id.as_deref() == Some(rule),
+        _ => false,
+    }
+}
+
+const WITH_RULE: &str = "é:18446744073709551615:1:1:1: advice[\\b: ]: \n";
+
+#[test]
+fn other_lines_are_none(rt: HostRuntime) {
+    for line in &NO_LINES {
+        assert!(rt; is_none(rt.alloc(), line), "{line}");
+    }
+    assert!(rt; has_rule(rt.alloc(), WITH_RULE, "]: "));
+}
+
+/// Whether the second line of a text is the first that is no problem's.
+fn names_the_second(alloc: Global, text: &str) -> bool {
+    match read_problems(alloc, text) {
+        Ok(_) => false,
+        Err(error) => error == ProblemError::NotALine { line: 1 },
+    }
 }
 
 #[test]
-fn the_first_line_that_is_none_is_named(rt: HostRuntime) -> Result<(), Fail> {
+fn the_first_line_that_is_none_is_named(rt: HostRuntime) {
     let text = "a.js:2:1:2:4: error: Oops\nzz\n";
-    let refused = read_problems(rt.alloc(), text).err();
-    assert!(rt; refused == Some(ProblemError::NotALine { line: 1 }));
-    Ok(())
+    assert!(rt; names_the_second(rt.alloc(), text));
 }
 
-/// An error in the second row of `a.js`, with a code or without one.
-fn oops(alloc: Global, coded: bool) -> Result<Error, AllocError> {
-    let source = TextSource::new(String::from_str(alloc, "foo\nbar\nbaz")?);
-    let named = NamedSource::new(String::from_str(alloc, "a.js")?, source);
+fn source(alloc: Global) -> Result<NamedSource<TextSource>, AllocError> {
+    let text = String::from_str(alloc, "foo\nbar\nbaz")?;
+    let name = String::from_str(alloc, "a.js")?;
+    Ok(NamedSource::new(name, TextSource::new(text)))
+}
+
+/// An error in the second row.
+fn oops(alloc: Global) -> Result<OxcDiagnostic, AllocError> {
     let label = LabeledSpan::new(None, 4, 3);
-    let bare = OxcDiagnostic::error(alloc, "Oops")?.with_label(alloc, label)?;
-    let error = if coded {
-        bare.with_error_code(alloc, "s", "1")?
-    } else {
-        bare
-    };
-    Ok(Box::new(alloc, error.with_source_code(named))?)
+    OxcDiagnostic::error(alloc, "Oops")?.with_label(alloc, label)
+}
+
+/// The same with a code.
+fn coded(alloc: Global) -> Result<OxcDiagnostic, AllocError> {
+    oops(alloc)?.with_error_code(alloc, "s", "1")
+}
+
+/// Appends a diagnostic, in the source.
+fn push(alloc: Global, errors: &mut Vec<Error>, it: OxcDiagnostic) -> Result<(), AllocError> {
+    let named = source(alloc)?;
+    errors.push(Box::new(alloc, it.with_source_code(named))?)
 }
 
 /// An error in a source, the same with a code, and one without a source.
 fn three(alloc: Global) -> Result<Vec<Error>, AllocError> {
     let mut errors: Vec<Error> = Vec::new(alloc);
-    errors.push(oops(alloc, false)?)?;
-    errors.push(oops(alloc, true)?)?;
+    push(alloc, &mut errors, oops(alloc)?)?;
+    push(alloc, &mut errors, coded(alloc)?)?;
     errors.push(Box::new(alloc, OxcDiagnostic::error(alloc, "m")?)?)?;
     Ok(errors)
 }
@@ -117,75 +166,52 @@ fn three(alloc: Global) -> Result<Vec<Error>, AllocError> {
 const THREE_LINES: &str =
     "a.js:2:1:2:4: error: Oops\na.js:2:1:2:4: error[s(1)]: Oops\n:0:0:0:0: warning: \n";
 
+fn lines_of_three(alloc: Global) -> Result<String, AllocError> {
+    let errors = three(alloc)?;
+    report_lines(alloc, errors)
+}
+
+fn are_three(told: Result<Vec<Info>, ProblemError>) -> bool {
+    match told {
+        Ok(told) => told.len() == 3,
+        Err(_) => false,
+    }
+}
+
 #[test]
-fn the_lines_of_diagnostics_read_back(rt: HostRuntime) -> Result<(), Fail> {
+fn the_lines_of_diagnostics_read_back(rt: HostRuntime) {
     let alloc = rt.alloc();
-    assert_eq!(rt; report_lines(alloc, three(alloc)?)?.as_str(), THREE_LINES);
-    let told = lines_read_back(alloc, three(alloc)?);
-    assert!(rt; told.is_ok_and(|told| told.len() == 3));
-    Ok(())
+    let are_read_back = match three(alloc) {
+        Ok(errors) => are_three(lines_read_back(alloc, errors)),
+        Err(_) => false,
+    };
+    assert!(rt; are_read_back && is_text(lines_of_three(alloc), THREE_LINES));
 }
 
-#[test]
-fn the_counts_stand_in_one_line(rt: HostRuntime) -> Result<(), Fail> {
-    let mut reporter = ProblemReporter::new();
-    assert!(rt; !reporter.supports_minified_file_fallback());
-    for (exceeded, line) in [
-        (false, "2 errors, 1 warnings\n"),
-        (true, "2 errors, 1 warnings, too many warnings\n"),
-    ] {
-        let counts = DiagnosticResult::new(1, 2, exceeded);
-        let told = reporter.finish(rt.alloc(), &counts)?;
-        assert!(rt; told.as_deref() == Some(line));
+/// Whether the counts of two errors and a warning are told so.
+fn are_told(alloc: Global, exceeded: bool, line: &str) -> bool {
+    let counts = DiagnosticResult::new(1, 2, exceeded);
+    match ProblemReporter::new().finish(alloc, &counts) {
+        Ok(Some(told)) => told.as_str() == line,
+        _ => false,
     }
-    Ok(())
-}
-
-const MATCHER: &str =
-    r"^([^:]*):([0-9]+):([0-9]+):([0-9]+):([0-9]+): (error|warning|advice)(?:\[([^\]]*)\])?: ([^\n]*)$";
-
-// a line without its LF; the name, the four numbers, the severity, the rule or -, the message
-const MATCHED: [(&str, &str); 5] = [
-    ("a.js:2:1:2:4: error: Oops", "a.js 2 1 2 4 error - Oops"),
-    (
-        "a.js:2:1:2:4: error[s(1)]: Oops",
-        "a.js 2 1 2 4 error s(1) Oops",
-    ),
-    (":0:0:0:0: warning: ", " 0 0 0 0 warning - "),
-    (
-        "a\\cb:1:1:1:2: advice[\\b: ]: x: y",
-        "a\\cb 1 1 1 2 advice \\b:  x: y",
-    ),
-    ("a:01:1:1:1: error: x", "a 01 1 1 1 error - x"),
-];
-
-#[test]
-fn an_editor_takes_a_line_apart(rt: HostRuntime) -> Result<(), Fail> {
-    let regex = Regex::new(rt.alloc(), MATCHER)?;
-    let mut matcher = regex.matcher(rt.alloc())?;
-    for (line, parts) in MATCHED {
-        let found = matcher.captures(line).ok_or("none")?;
-        let mut told = String::new(rt.alloc());
-        for group in 1..9 {
-            if group > 1 {
-                told.push(' ')?;
-            }
-            told.push_str(found.get(group).map_or("-", |part| part.as_str()))?;
-        }
-        assert_eq!(rt; told.as_str(), parts);
-    }
-    Ok(())
 }
 
 #[test]
-fn errors_say_what_happened(rt: HostRuntime) -> Result<(), Fail> {
+fn the_counts_stand_in_one_line(rt: HostRuntime) {
     let alloc = rt.alloc();
-    let texts = [
-        (ProblemError::NotALine { line: 3 }, "line 3 is no problem"),
-        (ProblemError::OutOfMemory, "out of memory"),
-    ];
-    for (error, text) in texts {
-        assert_eq!(rt; format!(in alloc; "{error}")?.as_str(), text);
-    }
-    Ok(())
+    assert!(rt; !ProblemReporter::new().supports_minified_file_fallback());
+    assert!(rt; are_told(alloc, false, "2 errors, 1 warnings\n"));
+    assert!(rt; are_told(alloc, true, "2 errors, 1 warnings, too many warnings\n"));
+}
+
+fn shown(alloc: Global, error: ProblemError) -> Result<String, AllocError> {
+    format!(in alloc; "{error}")
+}
+
+#[test]
+fn errors_say_what_happened(rt: HostRuntime) {
+    let third = shown(rt.alloc(), ProblemError::NotALine { line: 3 });
+    let memory = shown(rt.alloc(), ProblemError::OutOfMemory);
+    assert!(rt; is_text(third, "line 3 is no problem") && is_text(memory, "out of memory"));
 }

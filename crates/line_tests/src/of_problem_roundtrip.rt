@@ -1,16 +1,11 @@
-// Problems that are plain, written and read, others that aren't, and a caller that is proved from
-// the contracts alone.
+// Which problems are plain, and a caller that is proved from the contracts alone.
 ghost use Rattle.std.specs.Prelude.{◌≡◌, true};
 ghost use Rattle.oxc_protocol.specs.Info.{info_parts};
 ghost use Rattle.problem_roundtrip.specs.Read.{ReadsBack};
 
-use line_shapes::level::Severity as Grave;
 use oxc_protocol::{Info, InfoPosition, Severity};
-use problem_lines::write_problem;
 use problem_roundtrip::{is_plain, problem_is_read_back};
 use std::alloc::{AllocError, Global};
-use std::test::Fail;
-use tool_lines::lines::{Finding, read_lines};
 
 /// Whether it is known that a problem's line is read as the problem.
 fn is_known(info: &Info) -> bool
@@ -24,61 +19,40 @@ fn is_known(info: &Info) -> bool
     }
 }
 
-/// A problem of this name, code and message.
-fn problem(
-    alloc: Global,
-    name: &str,
-    rule: Option<&str>,
-    message: &str,
-) -> Result<Info, AllocError> {
-    let rule_id = match rule {
-        Some(rule) => Some(String::from_str(alloc, rule)?),
-        None => None,
-    };
+fn rule_of(alloc: Global, rule: Option<&str>) -> Result<Option<String>, AllocError> {
+    match rule {
+        Some(rule) => Ok(Some(String::from_str(alloc, rule)?)),
+        None => Ok(None),
+    }
+}
+
+/// A name, a code and a message.
+type Texts = (&'static str, Option<&'static str>, &'static str);
+
+/// A problem of these texts.
+fn problem(alloc: Global, texts: &Texts) -> Result<Info, AllocError> {
+    let filename = String::from_str(alloc, texts.0)?;
+    let rule_id = rule_of(alloc, texts.1)?;
+    let message = String::from_str(alloc, texts.2)?;
     Ok(Info {
         start: InfoPosition { line: 2, column: 1 },
         end: InfoPosition { line: 2, column: 4 },
-        filename: String::from_str(alloc, name)?,
-        message: String::from_str(alloc, message)?,
+        filename,
+        message,
         severity: Severity::Advice,
         rule_id,
     })
 }
 
-/// Whether a code that was read is a problem's.
-fn is_code(code: Option<&[u8]>, rule: &Option<String>) -> bool {
-    match (code, rule) {
-        (Some(code), Some(rule)) => code == rule.as_str().as_bytes(),
-        (None, None) => true,
-        _ => false,
+/// Whether it is known, or isn't, as wanted, that the line of such a problem is read back.
+fn is_judged(alloc: Global, texts: &Texts, wanted: bool) -> bool {
+    match problem(alloc, texts) {
+        Ok(info) => is_known(&info) == wanted,
+        Err(_) => false,
     }
 }
 
-/// Whether a finding is a problem that is an advice, at the place of `problem`.
-fn is_problem(finding: &Finding<'_>, info: &Info) -> bool {
-    let found = finding.place.found;
-    finding.place.name == info.filename.as_str().as_bytes()
-        && (found.line, found.column) == (Some(2), Some(1))
-        && (found.end_line, found.end_column) == (Some(2), Some(4))
-        && finding.says.severity == Grave::Advice
-        && finding.says.message == info.message.as_str().as_bytes()
-        && is_code(finding.says.code, &info.rule_id)
-}
-
-/// What is read of a problem's line: the problem, or something else.
-fn is_read(alloc: Global, info: &Info) -> Result<bool, AllocError> {
-    let line = write_problem(alloc, info)?;
-    let pieces = read_lines(alloc, line.as_str().as_bytes(), &[])?;
-    Ok(match pieces.as_slice() {
-        [first, _] => match &first.begun.finding {
-            Some(finding) => is_problem(finding, info),
-            None => false,
-        },
-        _ => false,
-    })
-}
-
-const PLAIN: [(&str, Option<&str>, &str); 4] = [
+const PLAIN: [Texts; 4] = [
     ("src/a(1).rs", Some("no-var/x"), "Oops (again): 1:2: x"),
     ("a b.js", None, "Oops"),
     ("<stdin>", None, "see [1]: more"),
@@ -86,17 +60,13 @@ const PLAIN: [(&str, Option<&str>, &str); 4] = [
 ];
 
 #[test]
-fn plain_problems_are_read_back(rt: HostRuntime) -> Result<(), Fail> {
-    let alloc = rt.alloc();
-    for (name, rule, message) in PLAIN {
-        let info = problem(alloc, name, rule, message)?;
-        assert!(rt; is_known(&info));
-        assert!(rt; is_read(alloc, &info)?);
+fn plain_problems_are_known(rt: HostRuntime) {
+    for texts in &PLAIN {
+        assert!(rt; is_judged(rt.alloc(), texts, true), "{}", texts.0);
     }
-    Ok(())
 }
 
-const OTHERS: [(&str, Option<&str>, &str); 8] = [
+const OTHERS: [Texts; 8] = [
     // The name is taken for a level.
     ("[error] a.js", None, "Oops"),
     // The message is taken for a code, or ends in one.
@@ -112,12 +82,8 @@ const OTHERS: [(&str, Option<&str>, &str); 8] = [
 ];
 
 #[test]
-fn others_are_read_otherwise(rt: HostRuntime) -> Result<(), Fail> {
-    let alloc = rt.alloc();
-    for (name, rule, message) in OTHERS {
-        let info = problem(alloc, name, rule, message)?;
-        assert!(rt; !is_known(&info));
-        assert!(rt; !is_read(alloc, &info)?);
+fn others_are_not_known(rt: HostRuntime) {
+    for texts in &OTHERS {
+        assert!(rt; is_judged(rt.alloc(), texts, false), "{}", texts.2);
     }
-    Ok(())
 }

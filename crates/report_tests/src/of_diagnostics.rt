@@ -1,23 +1,20 @@
 // The example of README, as it is drawn.
-use diagnostics::{GraphicalReportHandler, GraphicalTheme, LabeledSpan, OxcDiagnostic, draw_on};
-use std::alloc::{AllocError, Global};
+use diagnostics::{
+    GraphicalReportHandler, GraphicalTheme, LabeledSpan, OxcDiagnostic, RenderError, draw_on,
+};
+use std::alloc::Global;
 
-/// A label at a name that isn't there.
-fn not_found(alloc: Global) -> Result<LabeledSpan, AllocError> {
-    let text = String::from_str(alloc, "not found")?;
-    Ok(LabeledSpan::new(Some(text), 21, 4))
-}
-
-/// A report of this name.
-fn undefined(alloc: Global) -> Result<OxcDiagnostic, AllocError> {
-    let name = not_found(alloc)?;
-    OxcDiagnostic::error(alloc, "`totl` isn't defined.")?
+/// A report of a name that isn't there.
+fn undefined(alloc: Global) -> Result<String, RenderError> {
+    let text = "let total = 1;\nprint(totl);\n";
+    let name = LabeledSpan::new(Some(String::from_str(alloc, "not found")?), 21, 4);
+    let report = OxcDiagnostic::error(alloc, "`totl` isn't defined.")?
         .with_error_code(alloc, "eslint", "no-undef")?
         .with_label(alloc, name)?
-        .with_help(alloc, "Did you mean `total`?")
+        .with_help(alloc, "Did you mean `total`?")?;
+    let look = GraphicalReportHandler::new_themed(GraphicalTheme::unicode_nocolor());
+    draw_on(alloc, &look, "cart.js", text, &report)
 }
-
-const TEXT: &str = "let total = 1;\nprint(totl);\n";
 
 const ROWS: &str = concat!(
     "\n  × eslint(no-undef): `totl` isn't defined.\n",
@@ -30,20 +27,11 @@ const ROWS: &str = concat!(
     "  help: Did you mean `total`?\n",
 );
 
-/// Whether a report on the text is drawn as these rows.
-fn is_drawn(alloc: Global, report: &OxcDiagnostic) -> bool {
-    let look = GraphicalReportHandler::new_themed(GraphicalTheme::unicode_nocolor());
-    match draw_on(alloc, &look, "cart.js", TEXT, report) {
-        Ok(drawn) => drawn.as_str() == ROWS,
-        Err(_) => false,
-    }
-}
-
 #[test]
 fn a_report_is_drawn(rt: HostRuntime) {
-    let is_whole = match undefined(rt.alloc()) {
-        Ok(report) => is_drawn(rt.alloc(), &report),
+    let is_drawn = match undefined(rt.alloc()) {
+        Ok(text) => text.as_str() == ROWS,
         Err(_) => false,
     };
-    assert!(rt; is_whole);
+    assert!(rt; is_drawn);
 }
