@@ -1,6 +1,6 @@
 #!/usr/bin/env python3
-"""Tries the built program `report` from outside: its limit on input, the places of its labels, its generated document,
-outputs and inputs that fail, and the runs of report_rows.py.
+"""Tries the built program `report` from outside: the rows of document_rows.py, drawing_rows.py and report_rows.py, its limit on
+input, the places of its labels, its generated document, and outputs and inputs that fail.
 
 usage: try_report.py PROGRAM      (crates/report/out/report after `rt run` there)
 
@@ -10,8 +10,10 @@ import os
 import subprocess
 import sys
 
-sys.dont_write_bytecode = True  # nothing is left beside the sources
-import report_rows  # noqa: E402
+sys.dont_write_bytecode = True
+import document_rows
+import drawing_rows
+import report_rows
 
 LIMIT = 64 * 1024 * 1024
 MARK = "\ufeff"
@@ -95,6 +97,8 @@ def main():
         print(__doc__, file=sys.stderr)
         return 2
     tries = Tries(os.path.abspath(sys.argv[1]))
+    for row in document_rows.ROWS + drawing_rows.ROWS:
+        tries.ends(*row)
     tries.try_limit()
     tries.try_places()
     tries.try_made()

@@ -2,7 +2,8 @@
 //! `oxc_handlers` and `report_reader`.
 #![tactic(auto)]
 
-pub mod callers;
+#[cfg(test)]
+mod callers;
 #[cfg(test)]
 mod of_oxc_handlers;
 #[cfg(test)]

@@ -1,7 +1,8 @@
 // Diagnostics in boxes by example, and that memory suffices for them. What is expected was worked
 // out by hand.
-ghost use Rattle.std.specs.Prelude.{◌+◌, ◌^◌, ◌<◌, length};
+ghost use Rattle.std.specs.Prelude.{◌+◌, ◌^◌, ◌<◌};
 
+use crate::of_oxc_handlers::is_drawn;
 use oxc_handlers::{
     GraphicalReportHandler, GraphicalTheme, Keep, RenderError, render, render_with_source_code,
 };
@@ -9,7 +10,6 @@ use oxc_protocol::{
     Diagnostic, Error, LabeledSpan, MemorySink, NamedSource, OxcDiagnostic, TextSource,
 };
 use std::alloc::{AllocError, Global};
-use std::test::Fail;
 
 /// Keeps no text.
 #[derive(Drop)]
@@ -54,10 +54,28 @@ const ONCE: &str = "
 ";
 
 const BETWEEN: &str = "
+  x Oops
+   ,-[a.js:2:1]
+ 1 | foo
+ 2 | bar
+   : ^|^
+   :  `-- here
+ 3 | baz
+   `----
+
   x b
    ,----
  1 |     x
    :     ^
+   `----
+
+  x Oops
+   ,-[a.js:2:1]
+ 1 | foo
+ 2 | bar
+   : ^|^
+   :  `-- here
+ 3 | baz
    `----
 ";
 
@@ -82,88 +100,108 @@ const TWICE: &str = "
 ";
 
 /// Whether the reports of diagnostics are sent as a text.
-fn are_sent(alloc: Global, diagnostics: &[Error], text: &str) -> Result<bool, RenderError> {
-    let mut sink = MemorySink::new(alloc, 1000, 7, Vec::new(alloc))?;
-    plain().render_reports(alloc, &mut sink, diagnostics)?;
-    Ok(sink.received() == text.as_bytes())
+fn are_sent(alloc: Global, diagnostics: &[Error], text: &str) -> bool {
+    let Ok(mut sink) = MemorySink::new(alloc, 1000, 7, Vec::new(alloc)) else {
+        return false;
+    };
+    plain()
+        .render_reports(alloc, &mut sink, diagnostics)
+        .is_ok()
+        && sink.received() == text.as_bytes()
 }
 
-/// Why a diagnostic with a label in this text is not sent.
-fn refusal(
-    alloc: Global,
-    text: &str,
-    start: u32,
-    len: u32,
-) -> Result<Option<RenderError>, AllocError>
-    requires fits { length text.now < 4294967295 }
-    requires label { start + len < 2 ^ 32 }
+/// Whether they aren't sent to a sink that fails at once.
+fn are_not_sent(alloc: Global, diagnostics: &[Error]) -> Result<bool, AllocError> {
+    let mut sink = MemorySink::new(alloc, 1000, 7, Vec::from_array(alloc, [0])?)?;
+    let answer = plain().render_reports(alloc, &mut sink, diagnostics);
+    Ok(answer == Err(RenderError::SinkFault) && sink.received().is_empty())
+}
+
+/// The error with its source, in a box.
+fn boxed(alloc: Global) -> Result<Error, AllocError> {
+    let error = oops(alloc)?;
+    Ok(Box::new(alloc, error.with_source_code(rows(alloc)?))?)
+}
+
+/// Another error with another source, in a box.
+fn between(alloc: Global) -> Result<Error, AllocError> {
+    let label = LabeledSpan::new(None, 1, 1);
+    let error = OxcDiagnostic::error(alloc, "b")?.with_label(alloc, label)?;
+    let source = TextSource::new(String::from_str(alloc, "\tx")?);
+    Ok(Box::new(alloc, error.with_source_code(source))?)
+}
+
+/// The error twice, and the other one between where that is wanted.
+fn errors(alloc: Global, other: bool) -> Result<Vec<Error>, AllocError> {
+    let mut errors = Vec::new(alloc);
+    errors.push(boxed(alloc)?)?;
+    if other {
+        errors.push(between(alloc)?)?;
+    }
+    errors.push(boxed(alloc)?)?;
+    Ok(errors)
+}
+
+#[test]
+fn diagnostics_in_boxes_are_sent_in_order(rt: HostRuntime) {
+    let alloc = rt.alloc();
+    let sent = match errors(alloc, false) {
+        Ok(errors) => {
+            are_sent(alloc, &errors, TWICE)
+                && plain().render_reports_until(alloc, &errors, &mut KeepsNone) == Ok(1)
+                && matches!(are_not_sent(alloc, &errors), Ok(true))
+        }
+        Err(_) => false,
+    };
+    assert!(rt; sent);
+}
+
+#[test]
+fn another_source_between_takes_nothing_from_the_others(rt: HostRuntime) {
+    let sent = match errors(rt.alloc(), true) {
+        Ok(errors) => are_sent(rt.alloc(), &errors, BETWEEN),
+        Err(_) => false,
+    };
+    assert!(rt; sent);
+}
+
+/// What comes of sending a diagnostic with a label of so many bytes at the end of its text.
+fn answer_to(alloc: Global, len: u32) -> Result<(), RenderError>
+    requires { 5 + len < 2 ^ 32 }
 {
-    let source = TextSource::new(String::from_str(alloc, text)?);
+    let source = TextSource::new(String::from_str(alloc, "\tlet x")?);
     let error = OxcDiagnostic::error(alloc, "m")?
-        .with_label(alloc, LabeledSpan::new(None, start, len))?
+        .with_label(alloc, LabeledSpan::new(None, 5, len))?
         .with_source_code(source);
     let mut sink = MemorySink::new(alloc, 1000, 7, Vec::new(alloc))?;
-    Ok(plain().render_report(alloc, &mut sink, &error).err())
-}
-
-/// Whether the report of a diagnostic is sent as a text.
-fn is_sent(alloc: Global, diagnostic: &dyn Diagnostic, text: &str) -> Result<bool, RenderError> {
-    let mut sink = MemorySink::new(alloc, 1000, 7, Vec::new(alloc))?;
-    plain().render_report(alloc, &mut sink, diagnostic)?;
-    Ok(sink.received() == text.as_bytes())
+    plain().render_report(alloc, &mut sink, &error)
 }
 
 #[test]
-fn diagnostics_in_boxes_are_sent_in_order(rt: HostRuntime) -> Result<(), Fail> {
-    let alloc = rt.alloc();
-    let mut diagnostics: Vec<Error> = Vec::new(alloc);
-    diagnostics.push(Box::new(alloc, oops(alloc)?.with_source_code(rows(alloc)?))?)?;
-    diagnostics.push(Box::new(alloc, oops(alloc)?.with_source_code(rows(alloc)?))?)?;
-    assert!(rt; are_sent(alloc, &diagnostics, TWICE)?);
-    let count = plain().render_reports_until(alloc, &diagnostics, &mut KeepsNone)?;
-    assert_eq!(rt; count, 1);
-    let mut failing = MemorySink::new(alloc, 1000, 7, Vec::from_array(alloc, [0])?)?;
-    let answer = plain().render_reports(alloc, &mut failing, &diagnostics);
-    assert!(rt; answer == Err(RenderError::SinkFault) && failing.received().is_empty());
-    Ok(())
-}
-
-#[test]
-fn another_source_between_takes_nothing_from_the_others(rt: HostRuntime) -> Result<(), Fail> {
-    let alloc = rt.alloc();
-    let label = LabeledSpan::new(None, 1, 1);
-    let between = OxcDiagnostic::error(alloc, "b")?.with_label(alloc, label)?;
-    let source = TextSource::new(String::from_str(alloc, "\tx")?);
-    let mut diagnostics: Vec<Error> = Vec::new(alloc);
-    diagnostics.push(Box::new(alloc, oops(alloc)?.with_source_code(rows(alloc)?))?)?;
-    diagnostics.push(Box::new(alloc, between.with_source_code(source))?)?;
-    diagnostics.push(Box::new(alloc, oops(alloc)?.with_source_code(rows(alloc)?))?)?;
-    let mut text = String::from_str(alloc, ONCE)?;
-    text.push_str(BETWEEN)?;
-    text.push_str(ONCE)?;
-    assert!(rt; are_sent(alloc, &diagnostics, text.as_str())?);
-    Ok(())
-}
-
-#[test]
-fn what_can_t_be_drawn_is_not_sent(rt: HostRuntime) -> Result<(), Fail> {
-    let alloc = rt.alloc();
+fn what_can_t_be_drawn_is_not_sent(rt: HostRuntime) {
     let outside = RenderError::LabelOutside {
         report: 0,
         label: 0,
     };
-    assert!(rt; refusal(alloc, "\tlet x", 5, 4)? == Some(outside));
-    assert!(rt; refusal(alloc, "\tlet x", 5, 1)? == None);
-    Ok(())
+    assert!(rt; answer_to(rt.alloc(), 4) == Err(outside));
+    assert!(rt; answer_to(rt.alloc(), 1) == Ok(()));
+}
+
+/// Whether the report of a message alone is sent, and rendered.
+fn is_sent_and_rendered(alloc: Global) -> Result<bool, RenderError> {
+    let error = OxcDiagnostic::error(alloc, "m")?;
+    let mut sink = MemorySink::new(alloc, 1000, 7, Vec::new(alloc))?;
+    plain().render_report(alloc, &mut sink, &error)?;
+    Ok(sink.received() == "\n  x m\n".as_bytes() && is_drawn(render(alloc, &error), "\n  x m\n"))
+}
+
+/// The error as it is rendered with its source.
+fn with_its_source(alloc: Global) -> Result<String, RenderError> {
+    render_with_source_code(alloc, oops(alloc)?, rows(alloc)?)
 }
 
 #[test]
-fn a_diagnostic_is_sent_or_rendered(rt: HostRuntime) -> Result<(), Fail> {
-    let alloc = rt.alloc();
-    let error = OxcDiagnostic::error(alloc, "m")?;
-    assert!(rt; is_sent(alloc, &error, "\n  x m\n")?);
-    assert!(rt; render(alloc, &error)?.as_str() == "\n  x m\n");
-    let text = render_with_source_code(alloc, oops(alloc)?, rows(alloc)?)?;
-    assert!(rt; text.as_str() == ONCE);
-    Ok(())
+fn a_diagnostic_is_sent_or_rendered(rt: HostRuntime) {
+    assert!(rt; matches!(is_sent_and_rendered(rt.alloc()), Ok(true)));
+    assert!(rt; is_drawn(with_its_source(rt.alloc()), ONCE));
 }

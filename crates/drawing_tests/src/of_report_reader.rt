@@ -78,15 +78,20 @@ fn is_labeled(seen: &Seen) -> bool {
     }
 }
 
+/// Whether [`LABELED`] is read, and shown again as it was.
+fn is_read_and_shown(alloc: Global) -> bool {
+    let Ok(Some(seen)) = read_report(alloc, LABELED) else {
+        return false;
+    };
+    match show_report(alloc, &seen) {
+        Ok(shown) => is_labeled(&seen) && shown.as_str() == LABELED,
+        Err(_) => false,
+    }
+}
+
 #[test]
 fn a_label_is_read_and_shown(rt: HostRuntime) {
-    let alloc = rt.alloc();
-    let seen = read_report(alloc, LABELED)
-        .expect(&rt, "memory")
-        .expect(&rt, "a report");
-    assert!(rt; is_labeled(&seen));
-    let shown = show_report(alloc, &seen).expect(&rt, "memory");
-    assert!(rt; shown.as_str() == LABELED);
+    assert!(rt; is_read_and_shown(rt.alloc()));
 }
 
 /// The label of [`WITH_A_GUTTER`] without its text.
@@ -98,17 +103,27 @@ const WITH_HELP: &str = "\n  x m\n  help: h\n";
 
 const WITH_A_NOTE: &str = "\n  x m\n  note: n\n";
 
+/// Texts, and whether they are read.
+const READ: [(&str, bool); 5] = [
+    (WITH_A_GUTTER, false),
+    (CUT_OFF, false),
+    (WITH_HELP, false),
+    (WITH_A_NOTE, false),
+    (WITH_BARS_ALONE, true),
+];
+
+/// Whether a text is read, or not, as wanted.
+fn is_read(alloc: Global, text: &str, wanted: bool) -> bool {
+    match read_report(alloc, text) {
+        Ok(seen) => seen.is_some() == wanted,
+        Err(_) => false,
+    }
+}
+
 #[test]
 fn gutters_footers_and_cut_texts_are_refused(rt: HostRuntime) {
-    for (text, is_read) in [
-        (WITH_A_GUTTER, false),
-        (CUT_OFF, false),
-        (WITH_HELP, false),
-        (WITH_A_NOTE, false),
-        (WITH_BARS_ALONE, true),
-    ] {
-        let read = read_report(rt.alloc(), text).expect(&rt, "memory");
-        assert!(rt; read.is_some() == is_read, "{text}");
+    for (text, wanted) in &READ {
+        assert!(rt; is_read(rt.alloc(), text, *wanted), "{text}");
     }
 }
 
@@ -136,15 +151,28 @@ fn say_the_same(alloc: Global, one: &str, other: &str) -> Result<Option<bool>, A
 const OTHERWISE_LABELED: &str =
     "\n  x Oops\n   ,-[a.js:2:1]\n 1 | foo\n 2 | bar\n   : ^|^\n   :  `-- there\n 3 | baz\n   `----\n";
 
+/// Texts, and whether they say the same as [`LABELED`].
+const COMPARED: [(&str, Option<bool>); 3] = [
+    (LABELED, Some(true)),
+    (OTHERWISE_LABELED, Some(false)),
+    (CUT_OFF, None),
+];
+
+/// Whether a text says the same as [`LABELED`], or not, or is no report, as wanted.
+fn is_told(alloc: Global, other: &str, wanted: Option<bool>) -> bool {
+    match say_the_same(alloc, LABELED, other) {
+        Ok(same) => same == wanted,
+        Err(_) => false,
+    }
+}
+
 #[test]
 fn reports_are_compared_in_every_part(rt: HostRuntime) {
-    for (other, same) in [
-        (LABELED, Some(true)),
-        (OTHERWISE_LABELED, Some(false)),
-        (CUT_OFF, None),
-    ] {
-        let told = say_the_same(rt.alloc(), LABELED, other).expect(&rt, "memory");
-        assert!(rt; told == same, "{other}");
+    for (other, same) in &COMPARED {
+        assert!(rt;
+            say_the_same(rt.alloc(), LABELED, other) == Ok(*same),
+            "{other}"
+        );
     }
 }
 
