@@ -4,9 +4,11 @@
 usage: archive.py [--within SECONDS] FOLDER      (run anywhere; it needs rt)
 
 Where `rt ci` has just proved the crates of this checkout, what it left in crates/*/out is taken: then the static library
-alone is proved once more, since `rt ci` keeps nothing of it, and each compiler takes what that check proved. Else `rt lib`
-builds it, which proves all that has no work kept by `rt check`. With --within, `rt lib` gets so many seconds for each
-compiler; past them, the status is 3 and what was there is left."""
+alone is proved once more, and each compiler takes what that check proved. There is no way round that one check: `rt ci`
+checks a static library without writing what it checked, and a library is built only of a check that was written for its
+own kind of crate. Else `rt lib` builds it, which proves all that has no work kept by `rt check`. With --within, `rt lib`
+gets so many seconds for each compiler; past them, the status is 3 and what was there is left. What was proved here, and
+what that took, stands in lines that begin with `archive.py: `."""
 import os
 import shutil
 import signal
@@ -76,22 +78,36 @@ def words(own, of_kit, libraries):
     return told + ["--antt-project", f"{kit()}/rattle/logic/antt-project.json"]
 
 
+def spent():
+    """The processor seconds of all commands that have ended."""
+    took = os.times()
+    return took.children_user + took.children_system
+
+
 def over_ci(own, of_kit, libraries, to):
     """Proves the static library over what `rt ci` proved, and has each compiler build what was proved."""
     rattle, told = f"{kit()}/bin/rattle", words(own, of_kit, libraries)
     with tempfile.TemporaryDirectory() as room:
         proved = room + "/proved"
         jobs = "2" if len(os.sched_getaffinity(0)) > 1 else "1"
-        checks = [["check", *told, "--logic-built", f"{kit()}/logic_built", "--jobs", jobs, "-o", proved]]
+        checked = ["check", *told, "--logic-built", f"{kit()}/logic_built", "--jobs", jobs, "-o", proved]
+        steps = [(f"{NAME} was proved once more, since rt ci keeps nothing of it, and none of the {len(libraries)} libraries below it", checked)]
         for it in COMPILERS:
             made = ["--crate-checked", proved, "--toolchain", f"{kit()}/toolchain", "--backend", it]
-            checks.append(["build", *told, *made, "-o", f"{to}/{it}/lib{NAME}.a"])
-        return next((status for it in checks if (status := subprocess.run([rattle, *it], cwd=FOLDER).returncode)), 0)
+            steps.append((f"it was built by {it}", ["build", *told, *made, "-o", f"{to}/{it}/lib{NAME}.a"]))
+        for what, step in steps:
+            before = spent()
+            status = subprocess.run([rattle, *step], cwd=FOLDER).returncode
+            if status:
+                return status
+            print(f"archive.py: {what}: {spent() - before:.0f} processor seconds", flush=True)
+        return 0
 
 
 def by_rt(to, within):
     """Has `rt lib` build it by each compiler."""
     for it in COMPILERS:
+        before = spent()
         # a session of its own, so that the provers end with it
         with subprocess.Popen(["rt", "lib", "--backend", it], cwd=FOLDER, start_new_session=True) as ran:
             try:
@@ -103,6 +119,7 @@ def by_rt(to, within):
         if status:
             return 1
         shutil.copyfile(os.path.join(FOLDER, "out", f"lib{NAME}.a"), f"{to}/{it}/lib{NAME}.a")
+        print(f"archive.py: rt lib proved what had no kept work, and built it by {it}: {spent() - before:.0f} processor seconds", flush=True)
     return 0
 
 

@@ -62,6 +62,8 @@ archives() {
     fi
     part "$name" as_built
     [ "$built" -eq 0 ] || finish
+    # what was proved for it, and what that took
+    grep '^archive.py: ' "$out/built"
 }
 
 as_built() { cat "$out/built" && return "$built"; }
