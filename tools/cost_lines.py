@@ -5,7 +5,8 @@ usage: cost_lines.py PROGRAM [MIB]       (crates/girzohal/out/girzohal after `rt
        cost_lines.py --log MIB           (only writes such a build's output, the same bytes each time)
 
 PROGRAM is run under callgrind on the output of a build without a finding, and on some with findings in 400 files, twice as many
-each time: the whole process, with reading the input and writing what is found as lines of problems."""
+each time: the whole process, with reading the input and writing what is found as lines of problems. The first is also drawn, all of
+its lines being kept, without colors and with."""
 import os
 import random
 import re
@@ -62,11 +63,14 @@ class Build:
         return "\n".join(lines) + "\n"
 
 
-def counted(program, text, room):
+FOUND = ("--to", "problems", "--only-findings")
+
+
+def counted(program, text, room, written=FOUND):
     path = os.path.join(room, "log")
     with open(path, "w", encoding="utf-8") as it:
         it.write(text)
-    words = [program, "--from", "lines", "--to", "problems", "--only-findings", "--fail-on", "never", "--root", room, path]
+    words = [program, "--from", "lines", *written, "--fail-on", "never", "--root", room, path]
     run = subprocess.run(["valgrind", "--tool=callgrind", "--callgrind-out-file=/dev/null", *words], capture_output=True, check=True)
     return int(re.search(rb"Collected : ([0-9]+)", run.stderr)[1])
 
@@ -82,6 +86,9 @@ def main():
         text = Build().clean(mib << 20)
         count = counted(sys.argv[1], text, room)
         print(f"no finding: {len(text):,} bytes, {count / 1e6:,.1f} million instructions, {count / len(text):.1f} a byte")
+        for theme in ("unicode_nocolor", "unicode"):
+            count = counted(sys.argv[1], text, room, ("--theme", theme))
+            print(f"drawn, {theme}: {count / 1e6:,.1f} million instructions, {count / len(text):.1f} a byte")
         for findings in (25_000, 50_000, 100_000):
             text = Build().findings(findings)
             count = counted(sys.argv[1], text, room)
