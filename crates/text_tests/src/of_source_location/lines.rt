@@ -18,7 +18,8 @@ fn is_line(line: &Option<Line<'_>>, text: &str, start: u32) -> bool {
 
 // Whether the lines of a text come from both ends, each once.
 fn come_from_both_ends() -> bool {
-    let mut lines = UniversalNewlineIterator::from("foo\nbar\n\r\nbaz\rbop");
+    let text = "foo\nbar\n\r\nbaz\rbop";
+    let mut lines = UniversalNewlineIterator::from(text);
     is_line(&lines.next_back(), "bop", 14)
         && is_line(&lines.next(), "foo\n", 0)
         && is_line(&lines.next_back(), "baz\r", 10)
