@@ -1,8 +1,7 @@
 #!/usr/bin/env python3
-"""The public calls of all crates, read off the sources: usage: python3 tools/calls.py [--check]
+"""The public calls of all crates, read from the sources. usage: calls.py FOLDER
 
-With no word it writes docs/CALLS.md anew; with --check it says whether that file has every public call, each with
-its conditions and its answers as the sources state them, and ends with 1 where it hasn't."""
+It writes FOLDER/CALLS.md. `tools/reference.sh` calls it."""
 import collections
 import os
 import re
@@ -116,18 +115,16 @@ def escape(text):
 
 HEAD = """# Every public call
 
-Read off the sources by `python3 tools/calls.py`, run at the top; `sh tools/checks.sh` compares, so none is missing. A
-call's clauses stand in its *File*, behind its head. The words in them are in [CLAUSE_WORDS](CLAUSE_WORDS.md), under
-the crate's name, each with a link to its definition: from a call to a definition it is two steps.
+Made from the sources by `sh tools/reference.sh`. The clauses of a call are in its *File*, after its head. Their words are in
+[CLAUSE_WORDS](CLAUSE_WORDS.md) under the name of the crate, each with a link to its definition.
 
-A condition stands here as the contract has it; each can be tested, or follows from how the value was made. Where a call
-may answer otherwise than it is asked to, the clauses beside it say when. A call that may take memory can answer want of
-memory, whenever it is.
+A condition is shown as the contract has it. Each can be tested, or follows from how the value was made. *Other answers* are errors
+and `None`; the clauses say when each is given. A call that allocates can fail because it is out of memory, at any time.
 """
-COLUMNS = ("Call", "Conditions", "Other answers", "Named clauses", "Takes memory", "File")
+COLUMNS = ("Call", "Conditions", "Other answers", "Named clauses", "Allocates", "File")
 
 
-def row(item, path, root):
+def row(item, path, root, up):
     call = f"{item.place}::{item.name}" if item.place else item.name
     asked = "; ".join(f"`{escape(c)}`" for c in conditions(item.clauses))
     result = result_of(item.head)
@@ -136,11 +133,12 @@ def row(item, path, root):
     never = NEVER_FAILS.search(" ".join(item.clauses))
     memory = "yes" if (TAKES.search(result) or exported_alloc) and not never else ""
     other = "" if never else refusals(result)
-    file = f"[{os.path.relpath(path, root)}](../{os.path.relpath(path, TOP)})"
+    file = f"[{os.path.relpath(path, root)}]({up}/{os.path.relpath(path, TOP)})"
     return f"| `{call}` | {asked} | {other} | {stated} | {memory} | {file} |"
 
 
-def table():
+def table(up):
+    """The page; `up` leads from its folder to the top of the checkout."""
     out = [HEAD]
     for crate in crates():
         rows = []
@@ -150,7 +148,7 @@ def table():
             whole = path == root or os.path.basename(path)[:-3] in modules
             for item in public_items(text):
                 if whole or (item.place or item.name) in names:
-                    rows.append(row(item, path, os.path.dirname(root)))
+                    rows.append(row(item, path, os.path.dirname(root), up))
         if rows:
             out += [f"## `{crate}`", "", f"[The words of its clauses](CLAUSE_WORDS.md#{crate})", ""]
             out += ["| " + " | ".join(COLUMNS) + " |", "|---" * len(COLUMNS) + "|", *rows, ""]
@@ -158,14 +156,10 @@ def table():
 
 
 def main():
-    path = os.path.join(TOP, "docs", "CALLS.md")
-    text = table()
-    if "--check" in sys.argv:
-        same = os.path.isfile(path) and open(path, encoding="utf-8").read() == text
-        print("docs/CALLS.md has every public call" if same else "docs/CALLS.md isn't what the sources say: run tools/calls.py")
-        sys.exit(0 if same else 1)
-    with open(path, "w", encoding="utf-8") as file:
-        file.write(text)
+    if len(sys.argv) != 2:
+        sys.exit(__doc__)
+    with open(os.path.join(sys.argv[1], "CALLS.md"), "w", encoding="utf-8") as file:
+        file.write(table(os.path.relpath(TOP, sys.argv[1])))
 
 
 if __name__ == "__main__":

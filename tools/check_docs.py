@@ -3,7 +3,6 @@
 
 - Each link of a .md file leads to a file that is there, and to a heading of it where it names one.
 - docs/MAP.md has a row for each crate of crates.txt, and no row stands on one below it.
-- Each row of docs/DEFINITIONS.md names files, and its words are defined in them, not only handed on.
 - Each row of docs/PROMISES.md names a file, a call in it, clauses of that call, and definitions that stand in specs/.
 - Each function under "A caller" or "How it is called" on a page of a crate stands in that crate's sources, but for layout,
   and so is proved. (An example under another heading, as "How a call looks", shows just that.) So does each function of
@@ -14,9 +13,6 @@ import glob
 import os
 import re
 import sys
-
-sys.dont_write_bytecode = True  # nothing is left beside the sources
-import clause_words
 
 TOP = os.path.dirname(os.path.dirname(os.path.abspath(__file__)))
 LINK = re.compile(r"\[[^\]]*\]\(([^)\s]+)\)")
@@ -30,7 +26,7 @@ def read(path):
 
 def pages():
     for base, folders, names in os.walk(TOP):
-        folders[:] = [name for name in folders if name not in (".git", "out", "target", "node_modules")]
+        folders[:] = [name for name in folders if name not in (".git", "out", "target", "node_modules", "reference")]
         yield from (os.path.join(base, name) for name in names if name.endswith(".md"))
 
 
@@ -164,27 +160,6 @@ def wrong_promises():
                 yield f"{crate}: no definition `{word}` in specs/"
 
 
-def is_defined(word, file):
-    """Whether a word is defined in a file of specs/ or src/, or handed on by it under another name than its own."""
-    if file.endswith(".rt"):
-        return re.search(rf"^\s*(?:pub )?(?:enum|struct|trait|type|const|fn|ghost) {word}\b", read(file), re.M)
-    further = clause_words.handed_on(file, word)
-    return word in clause_words.definitions_in(file) or further and further[1] != word
-
-
-def wrong_definitions():
-    tables = read(os.path.join(TOP, "docs", "DEFINITIONS.md")).partition("## Index by word")[0]
-    for number, line in enumerate(tables.split("\n"), 1):
-        cells = re.split(r"(?<!\\)\|", line)
-        names = re.findall(r"`([\w./]+\.(?:antt|rt))`", cells[-2]) if len(cells) > 4 else []
-        files = [os.path.join(TOP, "crates", name) for name in names]
-        yield from (f"line {number}: {name}: no such file" for name, file in zip(names, files) if not os.path.isfile(file))
-        there = [file for file in files if os.path.isfile(file)]
-        for word in re.findall(r"`(\w+)[^`]*`", cells[1]) if there else ():
-            if not any(is_defined(word, file) for file in there):
-                yield f"line {number}: `{word}` isn't defined in {' or '.join(names)}"
-
-
 def wrong_layers():
     rows = re.findall(r"^\| `(\w+)` \|[^|]*\|([^|]*)\|[^|]*\|$", read(os.path.join(TOP, "docs", "MAP.md")), re.M)
     place = {crate: at for at, (crate, _) in enumerate(rows)}
@@ -209,7 +184,6 @@ def main():
             wrong += [f"{name}: {said}" for said in wrong_examples(page)]
     wrong += [f"README.md: {said}" for said in wrong_front()]
     wrong += [f"docs/PROMISES.md: {said}" for said in wrong_promises()]
-    wrong += [f"docs/DEFINITIONS.md: {said}" for said in wrong_definitions()]
     wrong += [f"docs/MAP.md: {said}" for said in wrong_layers()]
     for said in wrong:
         print(said)

@@ -6,7 +6,7 @@ cd "$(dirname "$0")/.." || exit 1
 passed=0
 failed=0
 if command -v python3 >/dev/null 2>&1; then
-    for script in check_docs.py "edits.py --check" "calls.py --check" "clause_words.py --check" "word_index.py --check" check_documents.py; do
+    for script in check_docs.py "edits.py --check" check_documents.py; do
         # the words of an entry are the script's
         # shellcheck disable=SC2086
         if python3 tools/$script; then
@@ -15,8 +15,17 @@ if command -v python3 >/dev/null 2>&1; then
             failed=$((failed + 1))
         fi
     done
+    room=$(mktemp -d) || exit 1
+    if sh tools/reference.sh "$room" >"$room/said" 2>&1; then
+        echo "the reference can be made"
+        passed=$((passed + 1))
+    else
+        cat "$room/said"
+        failed=$((failed + 1))
+    fi
+    rm -rf "$room"
 else
-    echo "skipped: check_docs.py, edits.py, calls.py, clause_words.py, word_index.py, check_documents.py: there is no python3"
+    echo "skipped: check_docs.py, edits.py, check_documents.py, reference.sh: there is no python3"
 fi
 if command -v mandoc >/dev/null 2>&1; then
     # (what it says of its own list of manuals isn't about the page)

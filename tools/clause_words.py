@@ -1,8 +1,8 @@
 #!/usr/bin/env python3
-"""The words of the clauses of all public calls, with their definitions. usage: python3 tools/clause_words.py [--check]
+"""The words of the clauses of all public calls, with their definitions. usage: clause_words.py FOLDER
 
-With no word it writes docs/CLAUSE_WORDS.md anew; with --check it says whether that file is what the sources say. The
-status is 1 where it isn't, and where a word has no definition. The kit's words stand in tools/kit_words.tsv."""
+It writes FOLDER/CLAUSE_WORDS.md. `tools/reference.sh` calls it. The status is 1 where a word has no definition. The kit's words
+are in tools/kit_words.tsv."""
 import collections
 import functools
 import os
@@ -13,7 +13,6 @@ sys.dont_write_bytecode = True  # nothing is left beside the sources
 import calls
 
 TOP = calls.TOP
-PAGE = os.path.join(TOP, "docs", "CLAUSE_WORDS.md")
 KIT_WORDS = os.path.join(TOP, "tools", "kit_words.tsv")
 GHOST_USE = re.compile(r"^( *)ghost use ([\w.]+)(?:\.\{([^}]*)\}| as (\w+));", re.M)
 TOKEN = re.compile(r"(?<![\w.])([^\W\d]\w*)((?:\.\w+)*)")
@@ -394,19 +393,17 @@ def words_of(crate):
 
 HEAD = """# The words of the clauses
 
-From a call to what its clauses mean in two steps: [CALLS](CALLS.md) names the call and its file, where the clauses
-stand behind the head; here, under the name of the crate, is each word of them, with a link to its definition.
-[DEFINITIONS](DEFINITIONS.md) says the main ones in plain words.
+[CALLS](CALLS.md) names each public call and its file, which has its clauses. Here is each word of these clauses, under the name
+of the crate, with a link to its definition. The page is made from the sources by `sh tools/reference.sh`.
 
-`python3 tools/clause_words.py`, run at the top, reads this page off the sources; `sh tools/checks.sh` compares. A word
-stands here as it is spelled in a clause of a public call, in a ghost member of a public trait or type, or in a `Model`,
-which says what contracts see of a type. *What it is* tells
+A word is spelled as in a clause of a public call, in a ghost member of a public trait or type, or in a `Model`, which says what
+contracts see of a type. *What it is* gives
 
 - of an alias (`ghost use .. as ..`) the name at its definition;
 - of `K.received` and its like, and of a bare word such as `parts`, whose ghost member it is, and its type;
-- of a type in a call's head what contracts see in its place.
+- of a type in a call's head what contracts see instead of it.
 
-*What stands above it* is the comment at the definition; where there is none, the equation, if it is short.
+*Comment* is the comment above the definition; where there is none, the equation, if it is short.
 
 ## How a clause is written
 
@@ -443,9 +440,9 @@ def cell(text):
     return text.replace("|", "\\|")
 
 
-def link(definition):
+def link(definition, up):
     place = os.path.relpath(definition.file, os.path.join(TOP, "crates"))
-    return f"[{place}:{definition.line}](../crates/{place}#L{definition.line})"
+    return f"[{place}:{definition.line}]({up}/crates/{place}#L{definition.line})"
 
 
 def kit_rows(cited):
@@ -461,7 +458,7 @@ def kit_rows(cited):
             yield f"| `{cell(name)}` | | | `{path}` |"
 
 
-def section(crate, words):
+def section(crate, words, up):
     rows = []
     for (stands, definition), spelled in words.rows.items():
         spelling = sorted(spelled, key=lambda word: (word.lower(), word))
@@ -471,35 +468,32 @@ def section(crate, words):
     if not rows:
         yield from ("Its clauses have no words but the kit's.", "")
         return
-    yield from ("| Word | What it is | Definition | What stands above it |", "|---|---|---|---|")
+    yield from ("| Word | What it is | Definition | Comment |", "|---|---|---|---|")
     for _, spelling, stands, definition in rows:
         shown = ", ".join(f"`{word}`" for word in spelling)
-        yield f"| {shown} | {cell(stands)} | {link(definition)} | {cell(definition.said)} |"
+        yield f"| {shown} | {cell(stands)} | {link(definition, up)} | {cell(definition.said)} |"
     yield ""
 
 
-def page():
-    """The page, and the words that have no definition."""
+def page(up):
+    """The page, and the words that have no definition. `up` leads from its folder to the top of the checkout."""
     sections, missing, kit = [], set(), set()
     for crate in calls.crates():
         words = words_of(crate)
         missing |= words.missing
         kit |= words.kit
         if words.calls:
-            sections += section(crate, words)
+            sections += section(crate, words, up)
     return HEAD + "\n".join([*kit_rows(kit), "", *sections]), sorted(missing)
 
 
 def main():
-    text, missing = page()
+    if len(sys.argv) != 2:
+        sys.exit(__doc__)
+    text, missing = page(os.path.relpath(TOP, sys.argv[1]))
     for said in missing:
         print(said)
-    if "--check" in sys.argv[1:]:
-        same = os.path.isfile(PAGE) and read(PAGE) == text
-        told = "docs/CLAUSE_WORDS.md has every word" if same else "docs/CLAUSE_WORDS.md: run tools/clause_words.py"
-        print(told)
-        sys.exit(0 if same and not missing else 1)
-    with open(PAGE, "w", encoding="utf-8") as file:
+    with open(os.path.join(sys.argv[1], "CLAUSE_WORDS.md"), "w", encoding="utf-8") as file:
         file.write(text)
     sys.exit(1 if missing else 0)
 
