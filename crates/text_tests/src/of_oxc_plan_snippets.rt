@@ -1,5 +1,5 @@
 // The plans of snippets by example, and that memory suffices for them.
-ghost use Rattle.std.specs.Prelude.{◌≡◌, ◌+◌, ◌<◌, ◌≤◌, ◌↔◌, ◌^◌, All, IfOk, IfSome, IsTrue};
+ghost use Rattle.std.specs.Prelude.{◌≡◌, ◌<◌, ◌≤◌, ◌↔◌, All, IfOk, IfSome, IsTrue};
 ghost use Rattle.std.specs.Prelude.{length, map};
 ghost use Rattle.oxc_span.specs.Label.{label_end};
 ghost use Rattle.oxc_plan.specs.Plan.{snippet_view, snippets_of};

@@ -81,6 +81,9 @@ const LAST_BYTES: [(&[u8], usize, usize, Read); 3] = [
 ];
 
 fn reads_further(alloc: Global, row: &(&[u8], usize, usize, Read)) -> bool {
+    if row.0.len() > 100 {
+        return false;
+    }
     let mut scanner = SpanScanner::new(alloc, row.0, row.1, row.2);
     reads(&mut scanner, &row.3) == Ok(true)
 }

@@ -1,4 +1,4 @@
-ghost use Rattle.std.specs.Prelude.{◌≡◌, ◌<◌, ◌≤◌, ◌++◌, ◌⊎◌, ◌↔◌, IsTrue};
+ghost use Rattle.std.specs.Prelude.{◌≡◌, ◌<◌, ◌++◌, ◌⊎◌, ◌↔◌, IsTrue};
 ghost use Rattle.std.specs.Hash as fed;
 ghost use Rattle.std.specs.List.{fold};
 ghost use Rattle.std.specs.Ordering.{nat_cmp};
@@ -173,6 +173,9 @@ const MARKED: &str = "\u{feff}ab";
 
 // Whether the mark at the beginning of the text is no column.
 fn mark_is_no_column(alloc: Global) -> bool {
+    if !fits(MARKED) {
+        return false;
+    }
     let Ok(index) = LineIndex::from_source_text(alloc, MARKED) else {
         return false;
     };

@@ -141,6 +141,9 @@ const CRLF: &str = "a\r\nb";
 
 // Whether the place within the CRLF is near the CR.
 fn is_near_the_cr(alloc: Global) -> bool {
+    if !fits(CRLF) {
+        return false;
+    }
     let between = Place16 { line: 0, unit: 2 };
     match Utf16Index::new(alloc, CRLF) {
         Ok(index) => index.nearest(between) == TextSize::new(1),
@@ -150,6 +153,9 @@ fn is_near_the_cr(alloc: Global) -> bool {
 
 // Whether a location of the text has its place.
 fn comes_from_a_location(alloc: Global) -> bool {
+    if !fits(CRLF) {
+        return false;
+    }
     let two = OneIndexed::from_zero_indexed(1);
     let location = SourceLocation {
         row: two,
@@ -183,7 +189,11 @@ fn are_inside(index: &Utf16Index) -> bool {
 }
 
 fn has_insides(alloc: Global) -> bool {
-    match Utf16Index::new(alloc, "é漢😀") {
+    let text = "é漢😀";
+    if !fits(text) {
+        return false;
+    }
+    match Utf16Index::new(alloc, text) {
         Ok(index) => are_inside(&index),
         Err(_) => false,
     }

@@ -3,6 +3,7 @@ ghost use Rattle.std.specs.Str.{IsCharBoundary};
 ghost use Rattle.utf16_places.specs.Places.{utf16_place, PartsNoCrlf};
 ghost use Rattle.utf16_places.specs.Index.{IsIndexOf};
 
+use source_location::fits;
 use std::alloc::Global;
 use text_size::{TextRange, TextSize};
 use utf16_places::{Place16, Utf16Index};
@@ -39,7 +40,11 @@ fn goes_and_comes(index: &Utf16Index) -> bool {
 }
 
 fn range_comes_back(alloc: Global) -> bool {
-    match Utf16Index::new(alloc, "\u{feff}let 💣 = 1;\r\nlet y = 💣;\r\n") {
+    let text = "\u{feff}let 💣 = 1;\r\nlet y = 💣;\r\n";
+    if !fits(text) {
+        return false;
+    }
+    match Utf16Index::new(alloc, text) {
         Ok(index) => goes_and_comes(&index),
         Err(_) => false,
     }
