@@ -125,7 +125,7 @@ TWO_FAULTS = ('{"files":[{"name":"a","source":"ab"}],"reports":[{"file":0,"messa
               '"end":[1,99]}]},{"file":5,"message":"m"}]}')
 FILE_AND_LABEL = '{"files":[{"name":"a","source":"ab"}],"reports":[{"file":7,"message":"m","labels":[{"start":[9,9],"end":[9,9]}]}]}'
 
-# A source, the file of a report, its label, and why it is refused, though the report behind it names no file.
+# A source, the file of a report, its label, and why it is refused, though the next report names no file.
 FIRST_REFUSED = [
     ("ab", 0, '"start":[1,99],"end":[1,99]', NO_START),
     ("ab", 0, '"start":[1,3],"end":[1,1]', "report 0: label 0: end 0 before start 2"),
@@ -145,7 +145,7 @@ def reports_on(version, source, reports):
     return f'{{"version":{version},"files":[{{"name":"a","source":"{source}"}}],"reports":[{",".join(told)}]}}'
 
 
-# ---- where labels stand
+# ---- where labels are
 
 # A source, a label, its offset and length, and the line and the column of its offset.
 PLACED = [
