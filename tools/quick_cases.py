@@ -107,8 +107,9 @@ RUNS = [
     ("one-finding", PLAIN, LINE, 1, DRAWN + "1 error\n"),
     ("a-value-behind-its-option", ("--theme=none",), LINE, 1, DRAWN + "1 error\n"),
     ("colors", ("--theme", "unicode"), LINE, 1,
-     "\n  \x1b[38;2;225;80;80;1m×\x1b[0m \x1b[38;2;225;80;80;1mx: no such name\x1b[0m\n   ╭─[\x1b[38;2;92;157;255;1ma.c\x1b[0m:2:5]\n"
-     " \x1b[2m1\x1b[0m │ int x;\n \x1b[2m2\x1b[0m │ int totl;\n   · \x1b[38;2;246;87;248m    ────\x1b[0m\n   ╰────\n1 error\n"),
+     "\n  \x1b[38;2;225;80;80;1m×\x1b[0m \x1b[38;2;225;80;80;1mx: no such name\x1b[0m\n"
+     "   ╭─[\x1b[38;2;92;157;255;1ma.c\x1b[0m:2:5]\n \x1b[2m1\x1b[0m │ int x;\n \x1b[2m2\x1b[0m │ int totl;\n"
+     "   · \x1b[38;2;246;87;248m    ────\x1b[0m\n   ╰────\n1 error\n"),
     ("a-byte-order-mark", PLAIN, "\ufeff" + LINE, 1, DRAWN + "1 error\n"),
     ("bytes-that-are-no-text", PLAIN, b"\xff\xfe\n" + LINE.encode(), 1, "\ufffd\ufffd\n" + DRAWN + "1 error\n"),
     ("findings-alone", (*PLAIN, "--only-findings"), "make all\n" + LINE, 1, DRAWN + "1 error\n"),
@@ -121,14 +122,17 @@ RUNS = [
      "\n  ! oops\n   ,-[a.c:2:1]\n 1 | int x;\n 2 | int totl;\n   : ^^^^^^^^^\n   `----\n1 warning\n"),
     ("anywhere", (*PLAIN, "--root", "logs", "--anywhere"), "../" + LINE, 1, DRAWN.replace("a.c", "../a.c") + "1 error\n"),
     # names that lead out of the root are told, and nothing of their files is shown (a.c lies beside the folder logs)
-    ("a-name-that-leads-out", (*PLAIN, "--root", "logs"), "../" + LINE, 1, "\n  x x: no such name\n  note: at ../a.c:2:5 (not read: outside of the root)\n1 error\n"),
+    ("a-name-that-leads-out", (*PLAIN, "--root", "logs"), "../" + LINE, 1,
+     "\n  x x: no such name\n  note: at ../a.c:2:5 (not read: outside of the root)\n1 error\n"),
     ("a-name-that-leads-out-from-within", (*PLAIN, "--root", "logs"), "logs/../../" + LINE, 1,
      "\n  x x: no such name\n  note: at logs/../../a.c:2:5 (not read: outside of the root)\n1 error\n"),
-    ("an-absolute-name", PLAIN, "/etc/passwd:1:1: error: here\n", 1, "\n  x here\n  note: at /etc/passwd:1:1 (not read: outside of the root)\n1 error\n"),
+    ("an-absolute-name", PLAIN, "/etc/passwd:1:1: error: here\n", 1,
+     "\n  x here\n  note: at /etc/passwd:1:1 (not read: outside of the root)\n1 error\n"),
     # nothing of an input drives a terminal
     ("a-message-that-drives", PLAIN, f"a.c:2:5: error: here{HOSTILE}\n", 1, f"\n  x here{TAMED}\n" + SHOWN + "1 error\n"),
     ("a-message-that-drives-raw", (*PLAIN, "--raw"), f"a.c:2:5: error: here{HOSTILE}\n", 1, f"\n  x here{HOSTILE}\n" + SHOWN + "1 error\n"),
-    ("a-name-that-drives", (*PLAIN, "--width", "300"), f"gone{HOSTILE}.c:2:5: error: here\n", 1, f"\n  x here\n  note: at gone{TAMED}.c:2:5\n1 error\n"),
+    ("a-name-that-drives", (*PLAIN, "--width", "300"), f"gone{HOSTILE}.c:2:5: error: here\n", 1,
+     f"\n  x here\n  note: at gone{TAMED}.c:2:5\n1 error\n"),
     ("a-line-that-drives", (), f"make {HOSTILE} all\n", 0, f"make {TAMED} all\n"),
     ("a-line-that-drives-raw", ("--raw",), "make \x07\x1b7 all\n", 0, "make \x07\x1b7 all\n"),
     ("paint-without-colors", (), "\x1b[31mmake\x1b[0m all\n", 0, "make all\n"),
@@ -167,7 +171,8 @@ REFUSED = [
     ("json-of-gcc", (), '[{"kind": "warning", "locations": [], "column-origin": 1, "children": [], "message": "format"}]\n', 3, NO_FORM),
     ("another-version", (), '{"version": "2.0"}\n', 3, "version: wanted 2.1.0"),
     ("a-log-that-is-cut", (), '{"version": "2.1.0", "runs"', 3, "line 1, column 28: input is no JSON"),
-    ("a-fault", (), '{"version": "2.1.0", "runs": [{"tool": {"driver": {"name": "t"}}, "results": [{"level": "grave", "message": {"text": "m"}}]}]}', 3,
+    ("a-fault", (), '{"version": "2.1.0", "runs": [{"tool": {"driver": {"name": "t"}}, '
+     '"results": [{"level": "grave", "message": {"text": "m"}}]}]}', 3,
      "runs[0].results[0].level: wanted none, note, warning or error"),
     ("a-file-that-isnt-there", ("nowhere.log",), "", 4, "nowhere.log isn't there"),
     ("a-file-whose-name-drives", ("\x1b[31mred",), "", 4, "?[31mred isn't there"),
@@ -201,7 +206,8 @@ REPORTS = [
     ("json", ("--json",), ONE % (0, "Oops", "2, 1"), 0,
      '{"message": "Oops","severity": "error","filename": "a.js","labels": [{"span": {"offset": 4,"length": 3,"line": 2,"column": 1}}]}\n', ""),
     # (whoever draws what strangers wrote takes escapes out first)
-    ("a-message-that-drives", (), ONE % (0, "\\u001b[31mred", "2, 1"), 0, "\n  x \x1b[31mred\n   ,-[a.js:2:1]\n 1 | foo\n 2 | bar\n   : ^^^\n   `----\n", ""),
+    ("a-message-that-drives", (), ONE % (0, "\\u001b[31mred", "2, 1"), 0,
+     "\n  x \x1b[31mred\n   ,-[a.js:2:1]\n 1 | foo\n 2 | bar\n   : ^^^\n   `----\n", ""),
     ("no-document", (), '{"files": []}', 3, "", "report: input is no document\n"),
     ("no-json", (), "a.c:2:5: error: no such name\n", 3, "", "report: input is no document\n"),
     ("nothing", (), "", 3, "", "report: input is no document\n"),
@@ -221,8 +227,9 @@ def report_cases():
         name = os.path.basename(path)[:-4]
         yield Case("report", "example-" + name, (), read("examples", name + ".json"), 0, read("examples", name + ".txt"))
     shown = re.search(r"```text\n(\n  × eslint\(no-undef\).*?\n)```", read("README.md").decode(), re.S)[1]
-    given = ('{"files": [{"name": "cart.js", "source": "let total = 1;\\nprint(totl);\\n"}], "reports": [{"file": 0, "message": "`totl` isn\'t defined.",'
-             '"scope": "eslint", "number": "no-undef", "labels": [{"start": [2, 7], "end": [2, 11], "text": "not found"}], "help": "Did you mean `total`?"}]}')
+    given = ('{"files": [{"name": "cart.js", "source": "let total = 1;\\nprint(totl);\\n"}], "reports": [{"file": 0, '
+             '"message": "`totl` isn\'t defined.", "scope": "eslint", "number": "no-undef", "help": "Did you mean `total`?", '
+             '"labels": [{"start": [2, 7], "end": [2, 11], "text": "not found"}]}]}')
     yield Case("report", "of-the-front-page", ("--theme", "unicode_nocolor"), given.encode(), 0, shown.encode())
     for name, words, text, status, out, err in REPORTS:
         yield Case("report", name, words, text.encode(), status, out.encode(), err.encode())
@@ -231,10 +238,9 @@ def report_cases():
 # ---- the runs
 
 def data(folder):
-    """What lies beside each run of `girzohal`: the sources of the examples, of outputs and of logs below a folder each, and two more."""
+    """What lies beside each run of `girzohal`: two sources, and those of outputs and of logs, below a folder each."""
     hostile = os.path.join(folder, "hostile.c")
-    with open(hostile, "wb") as file:
-        file.write(f"int x;\nint {HOSTILE};\n".encode())
+    put(hostile, f"int x;\nint {HOSTILE};\n".encode())
     found = {"a.c": os.path.join(TOP, "tools", "quick", "src", "a.c"), "hostile.c": hostile}
     for sort in ("outputs", "logs"):
         for path in sorted(glob.glob(os.path.join(TOP, "examples", sort, "src", "*"))):
@@ -249,7 +255,9 @@ def put(path, text):
 
 
 def write(folder, cases):
-    """Writes the cases as `rt try --cases` wants them. It compares no error output: so a refusal has no file of what is written, and both are told."""
+    """Writes the cases as `rt try --cases` wants them.
+
+    It tells the error output only of a case that has no file of what is written: so a refusal has none."""
     for it in cases:
         path = os.path.join(folder, it.program, it.name)
         put(path, it.given)
@@ -260,7 +268,8 @@ def write(folder, cases):
 
 def fault(it, what):
     """Says what a case did that it shouldn't, with what drives a terminal spelled out."""
-    print(f"FAILED: {it.program} {' '.join(it.words)} ({it.name}): wanted status {it.status}; {what}".encode("unicode_escape").decode().replace("\\n", "\n"))
+    said = f"FAILED: {it.program} {' '.join(it.words)} ({it.name}): wanted status {it.status}; {what}"
+    print("".join(char if char.isprintable() or char == "\n" else ascii(char)[1:-1] for char in said))
     return False
 
 
@@ -286,7 +295,7 @@ class Unproved:
             for before, line, name in re.findall(r"((?:^(?!case=).*\n)*)^(case=(\S+) .*)\n", err, re.M):
                 self.told[program, name] = (before, line)
             if not any(it == program for it, _ in self.told):
-                print(f"{program} wasn't built:\n{err[-3000:]}")
+                print(f"{program} wasn't built, and none of its cases was run:\n{err[-3000:]}")
 
     @staticmethod
     def text(folder, program, sort):
@@ -294,6 +303,8 @@ class Unproved:
             return file.read().decode(errors="replace")
 
     def passes(self, it):
+        if not any(program == it.program for program, _ in self.told):
+            return False
         before, line = self.told.get((it.program, it.name), ("", "it wasn't run"))
         holds = " run=ended " in line and f" status={it.status} " in line
         if it.is_refusal():
