@@ -6,7 +6,8 @@ usage: quick_cases.py                      (builds both at a time by `rt try --c
        quick_cases.py --write FOLDER       (only writes the cases for `rt try --cases`: FOLDER/girzohal, FOLDER/report)
 
 A case is standard input, the arguments, the exit status, and what is written, byte for byte. Expected are the drawings of examples/, those
-that docs/GALLERY.md shows of real tools and of logs, README's, the files of tools/quick/, and the texts of the tables below.
+that docs/GALLERY.md shows of real tools and of logs, README's, the files of tools/quick/, the rows of report_rows.py and run_rows.py, and
+the texts of the tables below.
 `rt try` itself compares no exit status: it tells it, and this script compares it. Under `rt try` the error output is compared of refusals
 alone, and of the other cases only with programs that are built. The last line is `N passed, M failed`, behind which stands whether the build
 was unproved; the status is 0 where M is 0."""
@@ -18,6 +19,10 @@ import subprocess
 import sys
 import tempfile
 from typing import NamedTuple, Optional
+
+sys.dont_write_bytecode = True  # nothing is left beside the sources
+import report_rows  # noqa: E402
+import run_rows  # noqa: E402
 
 TOP = os.path.dirname(os.path.dirname(os.path.abspath(__file__)))
 PLAIN = ("--theme", "none")
@@ -191,6 +196,8 @@ def girzohal_cases():
         yield Case("girzohal", "wrong-word-" + name, words, b"", 2, b"", f"girzohal: {told}\n{MORE}".encode())
     for name, words, given, status, told in REFUSED:
         yield Case("girzohal", "refused-" + name, words, given.encode(), status, b"", f"girzohal: {told}\n".encode())
+    for at, (_, words, given, (status, out, err)) in enumerate(run_rows.rows()):
+        yield Case("girzohal", f"row-{at}", (*words, "--root", "rows"), given, status, out, err)
     version = read("VERSION").decode().strip()
     yield Case("girzohal", "version", ("--version",), b"", 0, f"girzohal {version}\n".encode())
     told = re.search(r'HELP: &str = "(.*?)";', read("crates", "girzohal", "src", "help.rt").decode(), re.S)[1]
@@ -233,18 +240,23 @@ def report_cases():
     yield Case("report", "of-the-front-page", ("--theme", "unicode_nocolor"), given.encode(), 0, shown.encode())
     for name, words, text, status, out, err in REPORTS:
         yield Case("report", name, words, text.encode(), status, out.encode(), err.encode())
+    for at, (_, status, words, given, out, err) in enumerate(report_rows.rows()):
+        yield Case("report", f"row-{at}", tuple(words), given, status, out, err)
 
 
 # ---- the runs
 
 def data(folder):
-    """What lies beside each run of `girzohal`: two sources, and those of outputs and of logs, below a folder each."""
+    """What lies beside each run of `girzohal`: two sources, and those of outputs, of logs and of rows, below a folder each."""
     hostile = os.path.join(folder, "hostile.c")
     put(hostile, f"int x;\nint {HOSTILE};\n".encode())
     found = {"a.c": os.path.join(TOP, "tools", "quick", "src", "a.c"), "hostile.c": hostile}
     for sort in ("outputs", "logs"):
         for path in sorted(glob.glob(os.path.join(TOP, "examples", sort, "src", "*"))):
             found[f"{sort}/{os.path.basename(path)}"] = path
+    for name, text in run_rows.FILES.items():
+        found[f"rows/{name}"] = os.path.join(folder, "rows", name)
+        put(found[f"rows/{name}"], text.encode())
     return found
 
 
