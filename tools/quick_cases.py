@@ -12,6 +12,7 @@ the texts of the tables below.
 alone, and of the other cases only with programs that are built. The last line is `N passed, M failed`, behind which stands whether the build
 was unproved; the status is 0 where M is 0."""
 import glob
+import json
 import os
 import re
 import shutil
@@ -146,6 +147,27 @@ RUNS = [
     ("a-source-that-drives", PLAIN, "hostile.c:2:5: error: here\n", 1,
      "\n  x here\n   ,-[hostile.c:2:5]\n 1 | int x;\n 2 | int ?]0;title??[2J\u00bf31m\n   :     ^\n 3 | \ufffd\ufffd;\n   `----\n1 error\n"),
 ]
+# 240 rows of 88 bytes and 85 characters, and the same as one row: more than what is counted by vectors at a time
+ROWS = 240 * "A line of the text, as long as lines are: größer als nötig, and no longer than that.\n"
+ROW = ROWS.replace("\n", " ")
+
+
+def counted(source, start, end):
+    """A document of one label by bytes."""
+    report = {"file": 0, "message": "m", "labels": [{"bytes": [start, end]}]}
+    return json.dumps({"version": 2, "files": [{"name": "long", "source": source}], "reports": [report]})
+
+
+def span_as_json(offset, length, line, column):
+    span = f'{{"offset": {offset},"length": {length},"line": {line},"column": {column}}}'
+    return f'{{"message": "m","severity": "error","filename": "long","labels": [{{"span": {span}}}]}}\n'
+
+
+RUNS += [
+    ("rows-are-counted", ("--to", "json"), counted(ROWS, 239 * 88 + 2, 239 * 88 + 6), 1, span_as_json(239 * 88 + 2, 4, 240, 3)),
+    ("characters-are-counted", ("--to", "problems"), counted(ROW, 240 * 88 - 5, 240 * 88 - 1), 1,
+     f"long:1:{240 * 85 - 4}:1:{240 * 85}: error: m\n"),
+]
 MORE = "girzohal: --help says what the words are\n"
 # a name, arguments, and what is told of them
 WRONG_WORDS = [
@@ -215,6 +237,7 @@ REPORTS = [
     # (whoever draws what strangers wrote takes escapes out first)
     ("a-message-that-drives", (), ONE % (0, "\\u001b[31mred", "2, 1"), 0,
      "\n  x \x1b[31mred\n   ,-[a.js:2:1]\n 1 | foo\n 2 | bar\n   : ^^^\n   `----\n", ""),
+    ("rows-are-counted", ("--json",), counted(ROWS, 239 * 88 + 2, 239 * 88 + 6), 0, span_as_json(239 * 88 + 2, 4, 240, 3), ""),
     ("no-document", (), '{"files": []}', 3, "", "report: input is no document\n"),
     ("no-json", (), "a.c:2:5: error: no such name\n", 3, "", "report: input is no document\n"),
     ("nothing", (), "", 3, "", "report: input is no document\n"),
