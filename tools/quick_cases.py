@@ -243,7 +243,7 @@ REPORTS = [
     ("nothing", (), "", 3, "", "report: input is no document\n"),
     ("an-unknown-file", (), ONE % (1, "m", "2, 1"), 1, "", "report: report 0: unknown file\n"),
     ("a-row-that-isnt-there", (), ONE % (0, "m", "3, 1"), 1, "", "report: report 0: label 0: start is no position\n"),
-    ("a-label-that-is-reversed", (), (ONE % (0, "m", "2, 4")).replace("[2, 4]}", "[2, 3]}"), 1, "", "report: report 0: label 0: end before start\n"),
+    ("a-label-that-is-reversed", (), (ONE % (0, "m", "2, 4")).replace("[2, 4]}", "[2, 3]}"), 1, "", "report: report 0: label 0: end 6 before start 7\n"),
     ("a-theme", ("--theme", "pink"), "", 2, "", "report: bad arguments\n"),
     ("a-number-with-a-zero", ("--width", "080"), "", 2, "", "report: bad arguments\n"),
     ("a-value-behind-=", ("--width=80",), "", 2, "", "report: bad arguments\n"),
