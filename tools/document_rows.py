@@ -1,7 +1,7 @@
 #!/usr/bin/env python3
 """Documents for the program `report`, and what it answers to each. `try_report.py` walks `ROWS`.
 
-A row is a name, the arguments, the input, the exit status, standard output (`None` where the row doesn't say), and standard
+A row is a name, the exit status, the arguments, the input, standard output (`None` where the row doesn't say), and standard
 error. What is wanted was worked out by hand, from docs/DOCUMENT.md and the table in crates/report/README.md."""
 
 EMPTY = '{"files":[],"reports":[]}'
@@ -24,7 +24,7 @@ def shown(text):
 
 def row(name, words, given, answer):
     status, out, err = answer
-    return name, words.split(), given.encode(), status, None if out is None else out.encode(), err.encode()
+    return name, status, words.split(), given.encode(), None if out is None else out.encode(), err.encode()
 
 
 # ---- inputs, and whether they are documents
