@@ -1,8 +1,9 @@
 #!/usr/bin/env python3
-"""Makes docs/GALLERY.md: what real tools printed, and what girzohal draws of it. usage: gallery.py PROGRAM
+"""Makes docs/GALLERY.md, and the drawings that tools/quick_cases.py expects. usage: gallery.py PROGRAM
 
-PROGRAM is crates/girzohal/out/girzohal after `rt run` there. Each output of examples/outputs is drawn with the sources beside it, and
-the tool that its name begins with; so is each log of examples/logs. What was printed in colors is made a picture (docs/gallery-*.svg)."""
+PROGRAM is crates/girzohal/out/girzohal after `rt run` there. Each output of examples/outputs is drawn with the sources beside it and
+the tool that its name begins with, and each log of examples/logs; read the changes in tools/quick before you commit them. The page
+shows four tools and a log, with pictures of what is drawn in colors (docs/gallery-*.svg)."""
 import os
 import re
 import subprocess
@@ -11,13 +12,11 @@ import sys
 TOP = os.path.dirname(os.path.dirname(os.path.abspath(__file__)))
 OUTPUTS, LOGS = os.path.join(TOP, "examples", "outputs"), os.path.join(TOP, "examples", "logs")
 TOOLS = ("clang", "gcc", "rustc", "flake8", "shellcheck", "pylint", "mypy")
-PRINTED, MOST, WIDTHS = 12, 4, (60, 200)
-HEAD = f"""# What tools print, and what is drawn of it
+SHOWN = ("clang", "gcc", "rustc", "shellcheck")
+PRINTED, MOST = 12, 4
+HEAD = """# Gallery
 
-Each output was printed by the real tool for the sources in `examples/outputs/src`; below it stands what the program draws of all of it
-there, with `--tool` where the tool is one whose columns are known. `tools/gallery.py` makes this page anew.
-
-Below: [outputs in colors](#in-colors), [at {WIDTHS[0]} and at {WIDTHS[1]} columns](#at-{WIDTHS[0]}-and-at-{WIDTHS[1]}-columns), [logs](#logs).
+What real tools printed for the sources in `examples/outputs/src`, and what `girzohal` draws of it. `tools/gallery.py` makes this page.
 """
 
 
@@ -46,61 +45,60 @@ class Gallery:
             file.write(made.stdout)
         self.say(f"![{what}]({name}.svg)")
 
-    # ---- its parts
+    # ---- the page
 
     def outputs(self):
-        for name in names(OUTPUTS, ".txt"):
-            if "-color" in name:
-                continue
+        for tool in SHOWN:
+            name = f"{tool}.txt"
             lines = read(OUTPUTS, name).rstrip("\n").split("\n")
-            self.say(f"## {name[:-4]}")
-            self.say("It printed:" if len(lines) <= PRINTED else f"It printed, in its first {PRINTED} lines of {len(lines)}:")
+            self.say(f"## {tool}")
+            self.say("It printed:" if len(lines) <= PRINTED else f"It printed (the first {PRINTED} lines of {len(lines)}):")
             self.block("\n".join(lines[:PRINTED]))
-            words = tool_words(name)
-            self.say(f"Of which {called([*words, f'../{name}'])} draws")
-            self.block(self.text(OUTPUTS, *words, f"../{name}"))
+            words = [*tool_words(name), f"../{name}"]
+            self.say(f"{called(words)} draws:")
+            self.block(self.text(OUTPUTS, *words))
 
     def colors(self):
-        self.say("## In colors\n\nAbove what the tool printed, below what is drawn of it.")
+        self.say("## In colors\n\nWhat the tool printed, and below it what is drawn.")
         for name in names(OUTPUTS, "-color.txt"):
             words, tool = [*tool_words(name), f"../{name}"], name.split("-")[0]
-            self.say(f"### {name[:-4]}\n\n{called(['--theme', 'unicode', *words])}:")
+            self.say(f"{called(['--theme', 'unicode', *words])}:")
             drawn = self.run(OUTPUTS, "--theme", "unicode", *words)[0]
             self.picture(f"gallery-{tool}", f"{tool} in its colors, and drawn", read(OUTPUTS, name) + "\n\x1b[2m" + "─" * 60 + "\x1b[0m\n" + drawn)
 
-    def widths(self):
-        self.say(f"## At {WIDTHS[0]} and at {WIDTHS[1]} columns\n\nMessages, notes and helps are filled; rows of source are never cut.")
-        for width in WIDTHS:
-            words = ["--tool", "rustc", "--width", str(width), "../rustc-short.txt"]
-            self.say(f"{called(words)} draws")
-            self.block(self.text(OUTPUTS, *words))
-            self.picture(f"gallery-{width}", f"the same in colors, {width} columns wide", self.run(OUTPUTS, "--theme", "unicode", *words)[0])
-
-    def logs(self):
-        self.say("## Logs\n\nThe logs of `examples/logs` (but `rules`, fifteen of one kind), most of which try one thing each, drawn in\n"
-                 f"`examples/logs/src` with `--most {MOST}`. What stands round a log goes to the error output, and is shown below it.")
-        refused = []
-        for name in names(LOGS, ".sarif"):
-            if name == "rules.sarif":
-                continue
-            drawn, aside = self.run(LOGS, "--theme", "unicode_nocolor", "--from", "sarif", "--most", str(MOST), f"../{name}")
-            if aside.startswith("girzohal: "):
-                refused.append((name[:-6], aside.strip()))
-                continue
-            self.say(f"### {name[:-6]}")
-            self.block(drawn if drawn else "(nothing)")
-            if aside.strip("\ufeff \n"):
-                self.say("and round it stood")
-                self.block(aside.strip("\n"))
-        self.say("### A log in colors")
+    def log(self):
+        self.say("## A log\n\nA SARIF log whose findings have several labels:")
         self.picture("gallery-log", "labels of a log in colors", self.run(LOGS, "--theme", "unicode", "--most", str(MOST), "../related.sarif")[0])
-        self.say("### Logs that are refused\n\n| Log | What is said |\n|---|---|\n" + "\n".join(f"| {name} | `{said}` |" for name, said in refused))
+
+    # ---- what the cases expect
+
+    def expected(self):
+        for name in names(OUTPUTS, ".txt"):
+            if "-color" not in name:
+                keep("outputs", name, self.text(OUTPUTS, *tool_words(name), f"../{name}"))
+        for width in ("60", "200"):
+            keep("outputs", f"rustc-short.{width}.txt", self.text(OUTPUTS, "--tool", "rustc", "--width", width, "../rustc-short.txt"))
+        refused = ""
+        for name in names(LOGS, ".sarif"):
+            if name == "rules.sarif":  # fifteen findings of one kind
+                continue
+            drawn, told = self.run(LOGS, "--theme", "unicode_nocolor", "--from", "sarif", "--most", str(MOST), f"../{name}")
+            if told.startswith("girzohal: "):
+                refused += f"{name[:-6]}\t{told.strip()}\n"
+            else:
+                keep("logs", f"{name[:-6]}.txt", drawn)
+        keep("logs", "refused.tsv", refused)
 
     def write(self):
-        for part in (self.outputs, self.colors, self.widths, self.logs):
+        for part in (self.expected, self.outputs, self.colors, self.log):
             part()
         with open(os.path.join(TOP, "docs", "GALLERY.md"), "w", encoding="utf-8") as file:
             file.write(self.page)
+
+
+def keep(folder, name, text):
+    with open(os.path.join(TOP, "tools", "quick", folder, name), "w", encoding="utf-8") as file:
+        file.write(text)
 
 
 def names(folder, ending):

@@ -5,9 +5,9 @@ usage: quick_cases.py                      (builds both at a time by `rt try --c
        quick_cases.py GIRZOHAL REPORT      (runs programs that are built: crates/girzohal/out/girzohal, crates/report/out/report)
        quick_cases.py --write FOLDER       (only writes the cases for `rt try --cases`: FOLDER/girzohal, FOLDER/report)
 
-A case is standard input, the arguments, the exit status, and what is written, byte for byte. Expected are the drawings of examples/, those
-that docs/GALLERY.md shows of real tools and of logs, README's, the files of tools/quick/, the rows of report_rows.py and run_rows.py, and
-the texts of the tables below.
+A case is standard input, the arguments, the exit status, and what is written, byte for byte. Expected are the drawings of examples/, the
+files of tools/quick/ (of real tools and of logs those that tools/gallery.py writes), README's drawing, the rows of report_rows.py and
+run_rows.py, and the texts of the tables below.
 `rt try` itself compares no exit status: it tells it, and this script compares it. Under `rt try` the error output is compared of refusals
 alone, and of the other cases only with programs that are built. The last line is `N passed, M failed`, behind which stands whether the build
 was unproved; the status is 0 where M is 0."""
@@ -22,6 +22,7 @@ import tempfile
 from typing import NamedTuple, Optional
 
 sys.dont_write_bytecode = True  # nothing is left beside the sources
+import gallery  # noqa: E402
 import report_rows  # noqa: E402
 import run_rows  # noqa: E402
 
@@ -62,26 +63,24 @@ def reached(drawn):
 # ---- girzohal
 
 def of_gallery():
-    """Each output of a real tool and each log, as docs/GALLERY.md shows its drawing, and each log that is refused."""
-    outputs, _, logs = read("docs", "GALLERY.md").decode().partition("\n## Logs\n")
+    """Each output of a real tool and each log of examples/ as it is drawn, and each log that is refused."""
     look = ("--theme", "unicode_nocolor")
-    shown = re.findall(r"`girzohal ([^`]*?)\.\./([\w.-]+)` draws\n\n```text\n(.*?)\n```", outputs, re.S)
-    for at, (words, file, text) in enumerate(shown):
-        drawn = (text + "\n").encode()
-        words = (*look, "--root", "outputs", *words.split())
-        yield Case("girzohal", f"output-{at:02}-{file[:-4]}", words, read("examples", "outputs", file), reached(drawn), drawn)
-        painted = file.replace(".txt", "-color.txt")
-        if os.path.isfile(os.path.join(TOP, "examples", "outputs", painted)):
-            # (without colors the same is drawn of the output in the tool's own)
-            yield Case("girzohal", f"output-{at:02}-{painted[:-4]}", words, read("examples", "outputs", painted), reached(drawn), drawn)
-    for name, text in re.findall(r"^### (\w+)\n\n```text\n(.*?)\n```", logs, re.S | re.M):
-        drawn = b"" if text == "(nothing)" else (text + "\n").encode()
-        words = (*look, "--root", "logs", "--from", "sarif", "--most", "4")
-        # (what stands round a log goes to the error output, as it is; the page shows it without its blank lines)
-        yield Case("girzohal", f"log-{name}", words, read("examples", "logs", name + ".sarif"), reached(drawn), drawn, None)
-    for name, said in re.findall(r"^\| (\w+) \| `(girzohal: .*)` \|$", logs, re.M):
-        words = (*look, "--root", "logs", "--from", "sarif")
-        yield Case("girzohal", f"log-{name}", words, read("examples", "logs", name + ".sarif"), 3, b"", (said + "\n").encode())
+    for name in sorted(os.listdir(os.path.join(TOP, "tools", "quick", "outputs"))):
+        output, _, width = name.removesuffix(".txt").partition(".")
+        words = (*look, "--root", "outputs", *gallery.tool_words(output), *(("--width", width) if width else ()))
+        drawn = read("tools", "quick", "outputs", name)
+        # (an output in the tool's own colors is drawn the same)
+        for file in (f"{output}.txt", f"{output}-color.txt"):
+            if os.path.isfile(os.path.join(TOP, "examples", "outputs", file)):
+                yield Case("girzohal", f"output-{file[:-4]}{width}", words, read("examples", "outputs", file), reached(drawn), drawn)
+    log_words = (*look, "--root", "logs", "--from", "sarif")
+    for name in sorted(glob.glob("*.txt", root_dir=os.path.join(TOP, "tools", "quick", "logs"))):
+        drawn, log = read("tools", "quick", "logs", name), name.replace(".txt", ".sarif")
+        # (the text around a log goes to standard error)
+        yield Case("girzohal", f"log-{name[:-4]}", (*log_words, "--most", "4"), read("examples", "logs", log), reached(drawn), drawn, None)
+    for row in read("tools", "quick", "logs", "refused.tsv").decode().splitlines():
+        name, said = row.split("\t")
+        yield Case("girzohal", f"log-{name}", log_words, read("examples", "logs", name + ".sarif"), 3, b"", (said + "\n").encode())
 
 
 def of_forms():
