@@ -151,7 +151,8 @@ fn coded(alloc: Global) -> Result<OxcDiagnostic, AllocError> {
 /// Appends a diagnostic, in the source.
 fn push(alloc: Global, errors: &mut Vec<Error>, it: OxcDiagnostic) -> Result<(), AllocError> {
     let named = source(alloc)?;
-    errors.push(Box::new(alloc, it.with_source_code(named))?)
+    errors.push(Box::new(alloc, it.with_source_code(named))?)?;
+    Ok(())
 }
 
 /// An error in a source, the same with a code, and one without a source.
