@@ -5,6 +5,8 @@
 #[cfg(test)]
 mod callers;
 #[cfg(test)]
+mod errors;
+#[cfg(test)]
 mod of_diagnostics;
 #[cfg(test)]
 mod of_oxc_protocol;

@@ -8,6 +8,7 @@ ghost use Rattle.oxc_protocol.specs.Severities.{rank};
 ghost use Rattle.oxc_protocol.specs.Views.{code_parts, inner_parts};
 ghost use Rattle.oxc_protocol.specs.declared.protocol.Severity.TheVariants.{Error, Warning};
 
+use crate::errors::{push_error, source};
 use crate::texts::{is_text, reads};
 use oxc_protocol::{
     Diagnostic, DiagnosticWithSource, Diagnostics, Error, LabeledSpan, NamedSource, OxcCode,
@@ -74,31 +75,33 @@ fn lines_of(alloc: Global, errors: &[Error]) -> Result<String, AllocError>
     Ok(lines)
 }
 
-fn owned(alloc: Global, text: Option<&str>) -> Result<Option<String>, AllocError> {
-    match text {
-        Some(text) => Ok(Some(String::from_str(alloc, text)?)),
-        None => Ok(None),
+/// A text, or none where it is `-`.
+fn owned(alloc: Global, text: &str) -> Result<Option<String>, AllocError> {
+    if text == "-" {
+        return Ok(None);
     }
+    Ok(Some(String::from_str(alloc, text)?))
 }
 
-fn code(alloc: Global, scope: Option<&str>, number: Option<&str>) -> Result<OxcCode, AllocError> {
+/// A code of a scope and a number, each of which may be `-`.
+fn code(alloc: Global, scope: &str, number: &str) -> Result<OxcCode, AllocError> {
     let scope = owned(alloc, scope)?;
     let number = owned(alloc, number)?;
     Ok(OxcCode { scope, number })
 }
 
-/// The number of a code in rising order, its scope, and its own number.
-type Ranked = (u8, Option<&'static str>, Option<&'static str>);
+/// The number of a code in rising order, its scope, and its own number, or `-` where there is none.
+type Ranked = (u8, &'static str, &'static str);
 
 const ASCENDING: [Ranked; 8] = [
-    (0, None, None),
-    (1, None, Some("9")),
-    (2, Some(""), None),
-    (3, Some("S"), None),
-    (4, Some("s"), None),
-    (5, Some("s"), Some("1")),
-    (6, Some("s"), Some("10")),
-    (7, Some("s"), Some("9")),
+    (0, "-", "-"),
+    (1, "-", "9"),
+    (2, "", "-"),
+    (3, "S", "-"),
+    (4, "s", "-"),
+    (5, "s", "1"),
+    (6, "s", "10"),
+    (7, "s", "9"),
 ];
 
 /// Whether a code is ordered to another as their rows are.
@@ -109,16 +112,21 @@ fn is_ordered(alloc: Global, first: &OxcCode, at: u8, row: &Ranked) -> bool {
     }
 }
 
-/// Whether the code of a row is ordered to those of all rows as the rows are.
-fn is_in_order(alloc: Global, row: &Ranked) -> bool {
-    let Ok(first) = code(alloc, row.1, row.2) else {
-        return false;
-    };
+/// Whether a code is ordered to those of all rows as its row is.
+fn is_ordered_to_all(alloc: Global, first: &OxcCode, at: u8) -> bool {
     let mut in_order = true;
     for other in &ASCENDING {
-        in_order = in_order && is_ordered(alloc, &first, row.0, other);
+        in_order = in_order && is_ordered(alloc, first, at, other);
     }
     in_order
+}
+
+/// The same of the code of a row.
+fn is_in_order(alloc: Global, row: &Ranked) -> bool {
+    match code(alloc, row.1, row.2) {
+        Ok(first) => is_ordered_to_all(alloc, &first, row.0),
+        Err(_) => false,
+    }
 }
 
 #[test]
@@ -176,14 +184,16 @@ fn has_texts(diagnostic: &dyn Diagnostic) -> bool {
         && reads(diagnostic.url(), "u")
 }
 
+fn has_all(diagnostic: &dyn Diagnostic) -> bool {
+    has_texts(diagnostic)
+        && has_three_labels(diagnostic)
+        && diagnostic.severity() == Some(Severity::Warning)
+}
+
 #[test]
 fn builders_set_their_part(rt: HostRuntime) {
     let are_set = match built(rt.alloc()) {
-        Ok(built) => {
-            has_texts(&built)
-                && has_three_labels(&built)
-                && built.severity() == Some(Severity::Warning)
-        }
+        Ok(built) => has_all(&built),
         Err(_) => false,
     };
     assert!(rt; are_set);
@@ -204,16 +214,21 @@ fn relabelled(alloc: Global, built: &OxcDiagnostic) -> Result<OxcDiagnostic, All
 
 fn is_relabelled(alloc: Global, built: &OxcDiagnostic) -> bool {
     match relabelled(alloc, built) {
-        Ok(copy) => has_one_label(&copy) && has_three_labels(built),
+        Ok(copy) => has_one_label(&copy),
         Err(_) => false,
     }
+}
+
+/// Whether a copy has the label that it is given, and what was copied has its own.
+fn is_kept(alloc: Global, built: &OxcDiagnostic) -> bool {
+    is_copied(alloc, built) && is_relabelled(alloc, built) && has_three_labels(built)
 }
 
 #[test]
 fn labels_are_set_anew_in_a_copy_alone(rt: HostRuntime) {
     let alloc = rt.alloc();
     let are_set = match built(alloc) {
-        Ok(built) => is_copied(alloc, &built) && is_relabelled(alloc, &built),
+        Ok(built) => is_kept(alloc, &built),
         Err(_) => false,
     };
     assert!(rt; are_set);
@@ -240,27 +255,17 @@ fn numbered(alloc: Global) -> Result<OxcDiagnostic, AllocError> {
 }
 
 /// Through the trait alone, as a renderer sees it.
-fn shown_code(alloc: Global, diagnostic: &dyn Diagnostic) -> Result<Option<String>, AllocError> {
-    diagnostic.code(alloc)
-}
-
-/// Whether a diagnostic shows a code.
-fn shows(alloc: Global, diagnostic: Result<OxcDiagnostic, AllocError>, wanted: &str) -> bool {
-    let Ok(diagnostic) = diagnostic else {
-        return false;
-    };
-    match shown_code(alloc, &diagnostic) {
-        Ok(shown) => reads(shown.as_deref(), wanted),
+fn shows(alloc: Global, diagnostic: &dyn Diagnostic, wanted: Option<&str>) -> bool {
+    match diagnostic.code(alloc) {
+        Ok(shown) => shown.as_deref() == wanted,
         Err(_) => false,
     }
 }
 
-fn shows_none(alloc: Global, diagnostic: Result<OxcDiagnostic, AllocError>) -> bool {
-    let Ok(diagnostic) = diagnostic else {
-        return false;
-    };
-    match shown_code(alloc, &diagnostic) {
-        Ok(shown) => shown.is_none(),
+/// Whether a diagnostic was made, and shows a code.
+fn has_code(alloc: Global, made: Result<OxcDiagnostic, AllocError>, wanted: Option<&str>) -> bool {
+    match made {
+        Ok(diagnostic) => shows(alloc, &diagnostic, wanted),
         Err(_) => false,
     }
 }
@@ -268,13 +273,13 @@ fn shows_none(alloc: Global, diagnostic: Result<OxcDiagnostic, AllocError>) -> b
 #[test]
 fn a_part_of_a_code_that_is_there_stays(rt: HostRuntime) {
     let alloc = rt.alloc();
-    assert!(rt; shows(alloc, coded(alloc), "s(1)"));
-    assert!(rt; shows(alloc, scoped_again(alloc), "s(1)"));
-    assert!(rt; shows(alloc, coded_again(alloc), "s(1)"));
+    let once = has_code(alloc, coded(alloc), Some("s(1)"));
+    let scoped = has_code(alloc, scoped_again(alloc), Some("s(1)"));
+    assert!(rt; once && scoped && has_code(alloc, coded_again(alloc), Some("s(1)")));
 }
 
 fn default_is_less(alloc: Global) -> bool {
-    match code(alloc, Some("s"), Some("1")) {
+    match code(alloc, "s", "1") {
         Ok(code) => OxcCode::default() < code,
         Err(_) => false,
     }
@@ -283,8 +288,9 @@ fn default_is_less(alloc: Global) -> bool {
 #[test]
 fn a_code_may_lack_parts(rt: HostRuntime) {
     let alloc = rt.alloc();
-    assert!(rt; shows_none(alloc, bare(alloc)) && shows(alloc, numbered(alloc), "1"));
-    assert!(rt; !OxcCode::default().is_some() && default_is_less(alloc));
+    let none = has_code(alloc, bare(alloc), None);
+    let number = has_code(alloc, numbered(alloc), Some("1"));
+    assert!(rt; none && number && !OxcCode::default().is_some() && default_is_less(alloc));
 }
 
 /// Whether a diagnostic's code is appended as wanted.
@@ -309,7 +315,7 @@ fn codes_are_gathered_in_one_text(rt: HostRuntime) {
     let mut text = String::new(alloc);
     let are_pushed = pushes(&mut text, bare(alloc), false)
         && pushes(&mut text, coded(alloc), true)
-        && is_pushed(&mut text, code(alloc, None, Some("9")));
+        && is_pushed(&mut text, code(alloc, "-", "9"));
     assert!(rt; are_pushed && text.as_str() == "s(1)9");
 }
 
@@ -365,8 +371,10 @@ fn are_four(alloc: Global, list: Result<Diagnostics, AllocError>) -> bool {
 #[test]
 fn lists_grow_and_copy(rt: HostRuntime) {
     let alloc = rt.alloc();
-    assert!(rt; has_count(list_of_one(alloc), 1) && has_count(list_of_two(alloc), 2));
-    assert!(rt; has_count(list_of_four(alloc), 4) && are_four(alloc, list_of_four(alloc)));
+    let grow = has_count(list_of_one(alloc), 1)
+        && has_count(list_of_two(alloc), 2)
+        && has_count(list_of_four(alloc), 4);
+    assert!(rt; grow && are_four(alloc, list_of_four(alloc)));
 }
 
 /// The messages of a list's errors.
@@ -419,12 +427,16 @@ fn is_c_and_d(list: &Diagnostics) -> bool {
     true
 }
 
-/// Whether each is an error once it was made one.
+/// Whether a diagnostic is an error once it was made one.
+fn becomes_error(diagnostic: OxcDiagnostic) -> bool {
+    diagnostic.with_severity(Severity::Error).severity() == Some(Severity::Error)
+}
+
 fn become_errors(list: Diagnostics) -> bool {
     let mut all = true;
     for diagnostic in list {
-        let grave = diagnostic.with_severity(Severity::Error).severity();
-        all = all && grave == Some(Severity::Error);
+        let grave = becomes_error(diagnostic);
+        all = all && grave;
     }
     all
 }
@@ -443,14 +455,8 @@ fn lists_are_walked_in_order(rt: HostRuntime) {
     assert!(rt; in_order);
 }
 
-fn source(alloc: Global) -> Result<NamedSource<TextSource>, AllocError> {
-    let text = String::from_str(alloc, "let a;")?;
-    let name = String::from_str(alloc, "a.js")?;
-    Ok(NamedSource::new(name, TextSource::new(text)))
-}
-
 fn sourced(alloc: Global) -> Result<DiagnosticWithSource<NamedSource<TextSource>>, AllocError> {
-    let named = source(alloc)?;
+    let named = source(alloc, "let a;")?;
     Ok(OxcDiagnostic::error(alloc, "b")?.with_source_code(named))
 }
 
@@ -464,8 +470,9 @@ fn has_source(diagnostic: &dyn Diagnostic) -> bool {
 /// An error without a source, and one with it.
 fn boxes(alloc: Global) -> Result<Vec<Error>, AllocError> {
     let mut errors: Vec<Error> = Vec::new(alloc);
-    errors.push(Box::new(alloc, OxcDiagnostic::error(alloc, "a")?)?)?;
-    errors.push(Box::new(alloc, sourced(alloc)?)?)?;
+    push_error(alloc, &mut errors, "a")?;
+    let with_source = sourced(alloc)?;
+    errors.push(Box::new(alloc, with_source)?)?;
     Ok(errors)
 }
 
@@ -476,15 +483,21 @@ fn are_shown(alloc: Global, errors: &[Error]) -> bool {
     }
 }
 
-#[test]
-fn a_box_shows_what_is_in_it(rt: HostRuntime) {
-    let is_shown = match sourced(rt.alloc()) {
+fn boxes_are_shown(alloc: Global) -> bool {
+    match boxes(alloc) {
+        Ok(errors) => are_shown(alloc, &errors),
+        Err(_) => false,
+    }
+}
+
+fn source_is_shown(alloc: Global) -> bool {
+    match sourced(alloc) {
         Ok(sourced) => has_source(&sourced),
         Err(_) => false,
-    };
-    let are_shown = match boxes(rt.alloc()) {
-        Ok(errors) => are_shown(rt.alloc(), &errors),
-        Err(_) => false,
-    };
-    assert!(rt; is_shown && are_shown);
+    }
+}
+
+#[test]
+fn a_box_shows_what_is_in_it(rt: HostRuntime) {
+    assert!(rt; source_is_shown(rt.alloc()) && boxes_are_shown(rt.alloc()));
 }

@@ -8,10 +8,11 @@ ghost use Rattle.oxc_protocol.specs.MessageLines.{unless_skip};
 ghost use Rattle.oxc_protocol.specs.Reporters.{texts_in};
 ghost use Rattle.oxc_protocol.specs.Source.{Fits};
 
-use crate::texts::{is_text, reads};
+use crate::errors::{push_error, source};
+use crate::texts::is_text;
 use oxc_protocol::{
-    DiagnosticReporter, DiagnosticResult, DiagnosticWithSource, Error, Info, InfoPosition,
-    LabeledSpan, NamedSource, OxcDiagnostic, Severity, TextSource,
+    Diagnostic, DiagnosticReporter, DiagnosticResult, DiagnosticWithSource, Error, Info,
+    InfoPosition, LabeledSpan, NamedSource, OxcDiagnostic, Severity, TextSource,
 };
 use std::alloc::{AllocError, Global};
 use std::cmp::Ordering;
@@ -85,12 +86,6 @@ fn no_result() -> DiagnosticResult
     DiagnosticResult::default()
 }
 
-/// Appends an error without a source.
-fn push_error(alloc: Global, errors: &mut Vec<Error>, message: &str) -> Result<(), AllocError> {
-    errors.push(Box::new(alloc, OxcDiagnostic::error(alloc, message)?)?)?;
-    Ok(())
-}
-
 fn three(alloc: Global) -> Result<Vec<Error>, AllocError> {
     let mut errors: Vec<Error> = Vec::new(alloc);
     push_error(alloc, &mut errors, "a")?;
@@ -125,7 +120,8 @@ fn texts_are_handed_on_in_order(rt: HostRuntime) {
 
 fn four(alloc: Global) -> Result<Vec<Error>, AllocError> {
     let mut errors: Vec<Error> = Vec::new(alloc);
-    errors.push(Box::new(alloc, sourced(alloc, "a", 0, 1)?)?)?;
+    let with_source = sourced(alloc, "a", 0, 1)?;
+    errors.push(Box::new(alloc, with_source)?)?;
     push_error(alloc, &mut errors, "skip")?;
     push_error(alloc, &mut errors, "b")?;
     push_error(alloc, &mut errors, "c")?;
@@ -168,16 +164,8 @@ fn a_text_that_is_not_kept_is_the_last(rt: HostRuntime) {
 #[test]
 fn a_result_keeps_its_numbers(rt: HostRuntime) {
     let counts = DiagnosticResult::new(1, 2, true);
-    assert!(rt;
-        counts.warnings_count() == 1 && counts.errors_count() == 2 && counts.max_warnings_exceeded()
-    );
-    assert!(rt; keeps_fallback());
-}
-
-fn source(alloc: Global) -> Result<NamedSource<TextSource>, AllocError> {
-    let text = String::from_str(alloc, "foo\nbar\nbaz")?;
-    let name = String::from_str(alloc, "a.js")?;
-    Ok(NamedSource::new(name, TextSource::new(text)))
+    let counted = counts.warnings_count() == 1 && counts.errors_count() == 2;
+    assert!(rt; counted && counts.max_warnings_exceeded() && keeps_fallback());
 }
 
 /// An error with one label.
@@ -201,18 +189,22 @@ fn sourced(
 ) -> Result<DiagnosticWithSource<NamedSource<TextSource>>, AllocError>
     requires { offset + len < 2 ^ 32 }
 {
-    let named = source(alloc)?;
+    let named = source(alloc, "foo\nbar\nbaz")?;
     Ok(labelled(alloc, message, offset, len)?.with_source_code(named))
 }
 
-/// What is told of a label of a text.
-fn told(alloc: Global, text: &str, offset: u32, len: u32) -> Result<Info, AllocError>
+/// An error in a text with one label.
+fn placed(
+    alloc: Global,
+    text: &str,
+    offset: u32,
+    len: u32,
+) -> Result<DiagnosticWithSource<TextSource>, AllocError>
     requires short { Fits text.now }
     requires in_range { offset + len < 2 ^ 32 }
 {
     let source = TextSource::new(String::from_str(alloc, text)?);
-    let diagnostic = labelled(alloc, "m", offset, len)?.with_source_code(source);
-    Info::new(alloc, &diagnostic)
+    Ok(labelled(alloc, "m", offset, len)?.with_source_code(source))
 }
 
 /// Where something starts or ends: the row and the column.
@@ -237,14 +229,22 @@ const PLACES: [Place; 6] = [
     ("ab", 1, 2, (0, 0), (0, 0)),
 ];
 
+/// Whether a diagnostic is told to be there.
+fn is_told_at(alloc: Global, diagnostic: &dyn Diagnostic, start: At, end: At) -> bool {
+    match Info::new(alloc, diagnostic) {
+        Ok(info) => is_at(&info, start, end),
+        Err(_) => false,
+    }
+}
+
 /// Whether a label is told to be where the row says.
 fn is_told(alloc: Global, row: &Place) -> bool {
     let (text, offset, len, start, end) = *row;
     if text.len() > 99 || offset > 99 || len > 99 {
         return false;
     }
-    match told(alloc, text, offset, len) {
-        Ok(info) => is_at(&info, start, end),
+    match placed(alloc, text, offset, len) {
+        Ok(diagnostic) => is_told_at(alloc, &diagnostic, start, end),
         Err(_) => false,
     }
 }
@@ -256,58 +256,63 @@ fn positions_are_rows_and_byte_columns_from_1(rt: HostRuntime) {
     }
 }
 
-/// What is told of an error in `a.js`, with one label.
-fn told_oops(alloc: Global, offset: u32, len: u32) -> Result<Info, AllocError>
+/// Where a diagnostic starts and ends, the name of its file, its message, severity and rule.
+type Told = (
+    At,
+    At,
+    &'static str,
+    &'static str,
+    Severity,
+    Option<&'static str>,
+);
+
+const PLACED: Told = ((2, 1), (2, 4), "a.js", "Oops", Severity::Error, None);
+
+const LOST: Told = ((0, 0), (0, 0), "a.js", "", Severity::Warning, None);
+
+const BARE: Told = ((0, 0), (0, 0), "", "", Severity::Warning, Some("s(1)"));
+
+fn is_info(info: &Info, wanted: &Told) -> bool {
+    is_at(info, wanted.0, wanted.1)
+        && info.filename.as_str() == wanted.2
+        && info.message.as_str() == wanted.3
+        && info.severity == wanted.4
+        && info.rule_id.as_deref() == wanted.5
+}
+
+/// Whether this is told of a diagnostic.
+fn tells(alloc: Global, diagnostic: &dyn Diagnostic, wanted: &Told) -> bool {
+    match Info::new(alloc, diagnostic) {
+        Ok(info) => is_info(&info, wanted),
+        Err(_) => false,
+    }
+}
+
+/// Whether this is told of an error in `a.js` with one label.
+fn oops_tells(alloc: Global, offset: u32, len: u32, wanted: &Told) -> bool
     requires { offset + len < 2 ^ 32 }
 {
-    let oops = sourced(alloc, "Oops", offset, len)?;
-    Info::new(alloc, &oops)
+    match sourced(alloc, "Oops", offset, len) {
+        Ok(oops) => tells(alloc, &oops, wanted),
+        Err(_) => false,
+    }
 }
 
-/// What is told of an error with a code and without a source.
-fn told_coded(alloc: Global) -> Result<Info, AllocError> {
-    let coded = OxcDiagnostic::error(alloc, "m")?.with_error_code(alloc, "s", "1")?;
-    Info::new(alloc, &coded)
+/// An error with a code and without a source.
+fn coded(alloc: Global) -> Result<OxcDiagnostic, AllocError> {
+    OxcDiagnostic::error(alloc, "m")?.with_error_code(alloc, "s", "1")
 }
 
-fn says(info: &Info, filename: &str, message: &str, severity: Severity) -> bool {
-    info.filename.as_str() == filename
-        && info.message.as_str() == message
-        && info.severity == severity
-}
-
-fn is_placed_oops(info: &Info) -> bool {
-    is_at(info, (2, 1), (2, 4))
-        && says(info, "a.js", "Oops", Severity::Error)
-        && info.rule_id.is_none()
-}
-
-fn is_lost_oops(info: &Info) -> bool {
-    is_at(info, (0, 0), (0, 0))
-        && says(info, "a.js", "", Severity::Warning)
-        && info.rule_id.is_none()
-}
-
-fn is_lost_code(info: &Info) -> bool {
-    is_at(info, (0, 0), (0, 0))
-        && says(info, "", "", Severity::Warning)
-        && reads(info.rule_id.as_deref(), "s(1)")
+fn coded_tells(alloc: Global, wanted: &Told) -> bool {
+    match coded(alloc) {
+        Ok(coded) => tells(alloc, &coded, wanted),
+        Err(_) => false,
+    }
 }
 
 #[test]
 fn without_a_position_it_is_a_warning_with_no_message(rt: HostRuntime) {
     let alloc = rt.alloc();
-    let is_placed = match told_oops(alloc, 4, 3) {
-        Ok(info) => is_placed_oops(&info),
-        Err(_) => false,
-    };
-    let is_lost = match told_oops(alloc, 9, 3) {
-        Ok(info) => is_lost_oops(&info),
-        Err(_) => false,
-    };
-    let is_bare = match told_coded(alloc) {
-        Ok(info) => is_lost_code(&info),
-        Err(_) => false,
-    };
-    assert!(rt; is_placed && is_lost && is_bare);
+    let both = oops_tells(alloc, 4, 3, &PLACED) && oops_tells(alloc, 9, 3, &LOST);
+    assert!(rt; both && coded_tells(alloc, &BARE));
 }

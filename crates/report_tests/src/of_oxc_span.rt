@@ -15,8 +15,8 @@ fn is_same_span(a: Span, b: Span) -> bool
 #[test]
 fn spans_by_their_ends_and_by_their_size(rt: HostRuntime) {
     let span = Span::new(2, 5);
-    assert!(rt; span == Span::sized(2, 3) && span.size() == 3);
-    assert!(rt; Span::sized(u32::MAX, 0).size() == 0);
+    let sized = span == Span::sized(2, 3) && span.size() == 3;
+    assert!(rt; sized && Span::sized(u32::MAX, 0).size() == 0);
 }
 
 /// Start and end of a span, and whether 2..5 contains it.
@@ -47,7 +47,7 @@ fn containment_includes_both_ends(rt: HostRuntime) {
 fn a_label_within_limits_has_its_span(rt: HostRuntime) {
     let label = LabeledSpan::new(None, 4, 3);
     let inside = span_within(&label, Span::new(4, 7)) == Some(Span::new(4, 7));
-    assert!(rt; inside && span_within(&label, Span::new(4, 6)) == None);
+    assert!(rt; inside && span_within(&label, Span::new(4, 6)).is_none());
 }
 
 /// A label that says `here`.
@@ -73,14 +73,21 @@ fn is_here(label: &LabeledSpan) -> bool {
         && !label.primary()
 }
 
-#[test]
-fn labels_tell_what_they_were_made_of(rt: HostRuntime) {
-    let tells = match here(rt.alloc(), 4, 3) {
+fn here_tells(alloc: Global) -> bool {
+    match here(alloc, 4, 3) {
         Ok(label) => is_here(&label),
         Err(_) => false,
-    };
-    let main = LabeledSpan::primary_at(None, 4, 3);
-    assert!(rt; tells && main.primary() && main.label().is_none());
+    }
+}
+
+/// Whether a label is primary, and has no text.
+fn main_tells(label: &LabeledSpan) -> bool {
+    label.primary() && label.label().is_none()
+}
+
+#[test]
+fn labels_tell_what_they_were_made_of(rt: HostRuntime) {
+    assert!(rt; here_tells(rt.alloc()) && main_tells(&LabeledSpan::primary_at(None, 4, 3)));
 }
 
 /// Whether a label is equal to its copy.
@@ -108,11 +115,18 @@ fn is_itself(alloc: Global, label: &LabeledSpan) -> bool {
         && is_other(label, primary_here(alloc))
 }
 
+fn here_is_itself(alloc: Global) -> bool {
+    match here(alloc, 4, 3) {
+        Ok(label) => is_itself(alloc, &label),
+        Err(_) => false,
+    }
+}
+
+fn is_default(label: &LabeledSpan) -> bool {
+    LabeledSpan::default() == *label
+}
+
 #[test]
 fn labels_are_equal_by_all_their_parts(rt: HostRuntime) {
-    let alone = match here(rt.alloc(), 4, 3) {
-        Ok(label) => is_itself(rt.alloc(), &label),
-        Err(_) => false,
-    };
-    assert!(rt; alone && LabeledSpan::default() == LabeledSpan::new(None, 0, 0));
+    assert!(rt; here_is_itself(rt.alloc()) && is_default(&LabeledSpan::new(None, 0, 0)));
 }
