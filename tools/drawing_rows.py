@@ -85,7 +85,8 @@ HERE_AS_JSON = ('{"message": "Oops","severity": "error","filename": "a.js","labe
                 '{"label": "here","span": {"offset": 4,"length": 3,"line": 2,"column": 1}}]}\n')
 
 # The styles of the theme `unicode`, and the end of each.
-RED, BLUE, PINK, DIM, END = "\x1b[38;2;225;80;80;1m", "\x1b[38;2;92;157;255;1m", "\x1b[38;2;246;87;248m", "\x1b[2m", "\x1b[0m"
+RED, YELLOW, BLUE = "\x1b[38;2;225;80;80;1m", "\x1b[38;2;244;191;117;1m", "\x1b[38;2;92;157;255;1m"
+PINK, DIM, END = "\x1b[38;2;246;87;248m", "\x1b[2m", "\x1b[0m"
 IN_COLORS = f"""
   {RED}×{END} {RED}Oops{END}
    ╭─[{BLUE}a.js{END}:2:1]
@@ -107,6 +108,39 @@ BLOCK_IN_COLORS = f"""
    ╰────
 """
 
+AFTER_A_TAB = document("t", "\\tlet x", '"message":"m","labels":[{"bytes":[5,6]}]')
+BY_FOUR = """
+  x m
+   ,-[t:1:6]
+ 1 |     let x
+   :         ^
+   `----
+"""
+BY_TWO = """
+  x m
+   ,-[t:1:6]
+ 1 |   let x
+   :       ^
+   `----
+"""
+
+# Messages as an input has them, and as `--json` writes them.
+ESCAPED = [
+    ('a\\"b\\\\\\u0001', 'a\\"b\\\\\\u0001'),
+    ("\\r\\n\\t\\b\\f\\u001f\\u007f\\/日", "\\r\\n\\t\\b\\f\\u001f\x7f/日"),
+]
+
+
+def as_json(message):
+    """A report without labels, as `--json` writes it."""
+    return f'{{"message": "{message}","severity": "error","filename": "a","labels": []}}\n'
+
+
+ALL_PARTS = document("a", "abcdefghijk", '"labels":[{"bytes":[7,7]},{"bytes":[2,11],"primary":true}],"note":"o","help":"h","url":"u",'
+                     '"number":"n","scope":"s","severity":"advice","message":"m"')
+IN_THEIR_ORDER = ('{"message": "m","code": "s(n)","severity": "advice","url": "u","help": "h","note": "o","filename": "a","labels": ['
+                  '{"span": {"offset": 7,"length": 0,"line": 1,"column": 8}},{"span": {"offset": 2,"length": 9,"line": 1,"column": 3}}]}\n')
+
 ROWS = [
     row("a report has title, snippet and help", "", APP, shown(WARNING)),
     row("the first page of oxc_handlers", "--width 36", FIRST, shown(FIRST_PAGE)),
@@ -116,4 +150,12 @@ ROWS = [
     row("colors at a mark", "--theme unicode", HERE, shown(IN_COLORS)),
     row("colors at a gutter", "--theme unicode", A_BLOCK, shown(BLOCK_IN_COLORS)),
     row("a label has its line and its column", "--json", HERE, shown(HERE_AS_JSON)),
+    row("tab stops", "", AFTER_A_TAB, shown(BY_FOUR)),
+    row("tab stops at multiples of two", "--tabs 2", AFTER_A_TAB, shown(BY_TWO)),
+    row("a width of nothing", "--width 0", document("a", "ab", '"message":"ab"'), shown("\n  x a\n  | b\n")),
+    row("a warning in its style", "--theme unicode", document("a", "", '"message":"w","severity":"warning"'),
+        shown(f"\n  {YELLOW}⚠{END} {YELLOW}w{END}\n")),
+    *(row(f"an escaped text: {given}", "--json", document("a", "", f'"message":"{given}"'), shown(as_json(written)))
+      for given, written in ESCAPED),
+    row("all parts in their order", "--json", ALL_PARTS, shown(IN_THEIR_ORDER)),
 ]

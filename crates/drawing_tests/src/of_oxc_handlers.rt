@@ -37,12 +37,12 @@ fn for_terminal(alloc: Global, view: &DiagnosticView<'_>) -> Result<String, Rend
 }
 
 /// What is drawn of a message, and labels in a source without a name.
-fn drawing(
+fn drawing<'a>(
     alloc: Global,
     handler: &GraphicalReportHandler,
-    message: &str,
-    source: &[u8],
-    labels: &[LabeledSpan],
+    message: &'a str,
+    source: &'a [u8],
+    labels: &'a [LabeledSpan],
 ) -> Result<String, RenderError>
     requires { length source.now < 4294967295 }
 {
@@ -153,7 +153,7 @@ fn a_scanner_that_reads_the_source_is_used_again(rt: HostRuntime) {
 }
 
 /// Whether labels in the three rows are drawn behind a text, by a scanner of that source.
-fn are_pushed(alloc: Global, labels: &[LabeledSpan]) -> bool {
+fn are_pushed(alloc: Global, labels: &[LabeledSpan]) -> Result<bool, AllocError> {
     let view = DiagnosticView {
         message: "Oops",
         code: None,
@@ -165,22 +165,20 @@ fn are_pushed(alloc: Global, labels: &[LabeledSpan]) -> bool {
     };
     let mut scanner = SpanScanner::new(alloc, ROWS, 1, 1);
     let Ok(_) = scanner.text() else {
-        return false;
+        return Ok(false);
     };
     if !all_within(labels, ROWS.len()) {
-        return false;
+        return Ok(false);
     }
-    let Ok(mut text) = String::from_str(alloc, "first") else {
-        return false;
-    };
-    let pushed = plain().push_view_with_scanner(alloc, &mut text, &view, &mut scanner);
-    pushed.is_ok() && text.as_str().strip_prefix("first") == Some(MARKED)
+    let mut text = String::from_str(alloc, "first")?;
+    plain().push_view_with_scanner(alloc, &mut text, &view, &mut scanner)?;
+    Ok(text.as_str().strip_prefix("first") == Some(MARKED))
 }
 
 #[test]
 fn a_report_is_drawn_behind_a_text(rt: HostRuntime) {
     let drawn = match label(rt.alloc(), 4, 3, "here") {
-        Ok(here) => are_pushed(rt.alloc(), &[here]),
+        Ok(here) => matches!(are_pushed(rt.alloc(), &[here]), Ok(true)),
         Err(_) => false,
     };
     assert!(rt; drawn);
@@ -222,7 +220,7 @@ fn a_warning_stands_in_its_style(rt: HostRuntime) {
 
 const TABBED: &[u8] = b"\tlet x";
 
-const BY_FOUR: &str = "
+pub(crate) const BY_FOUR: &str = "
   x m
    ,----
  1 |     let x
@@ -300,10 +298,10 @@ const SAID: [(RenderError, &str); 4] = [
     (RenderError::OutOfMemory, "out of memory"),
 ];
 
-/// Whether an error is shown so.
-fn is_shown(alloc: Global, error: &RenderError, text: &str) -> bool {
-    match format!(in alloc; "{error}") {
-        Ok(shown) => shown.as_str() == text,
+/// Whether a text was made, and reads so.
+pub(crate) fn is_text(text: Result<String, AllocError>, wanted: &str) -> bool {
+    match text {
+        Ok(text) => text.as_str() == wanted,
         Err(_) => false,
     }
 }
@@ -311,6 +309,6 @@ fn is_shown(alloc: Global, error: &RenderError, text: &str) -> bool {
 #[test]
 fn errors_have_texts(rt: HostRuntime) {
     for (error, text) in &SAID {
-        assert!(rt; is_shown(rt.alloc(), error, text), "{text}");
+        assert!(rt; is_text(format!(in rt.alloc(); "{error}"), text), "{text}");
     }
 }

@@ -3,8 +3,10 @@ ghost use Rattle.std.specs.Prelude.{◌≡◌, ◌++◌, IfOk, codes, string_byt
 ghost use Rattle.oxc_handlers.specs.Report.{view_parts};
 ghost use Rattle.oxc_handlers.specs.JsonText.{json_of};
 
+use crate::of_oxc_handlers::is_text;
+use crate::of_oxc_handlers_reports::with_source;
 use oxc_handlers::{DiagnosticView, JSONReportHandler, push_json};
-use oxc_protocol::{Diagnostic, LabeledSpan, MemorySink, OxcDiagnostic, Severity, TextSource};
+use oxc_protocol::{Diagnostic, LabeledSpan, MemorySink, OxcDiagnostic, Severity};
 use std::alloc::{AllocError, Global};
 
 /// Whether the handler sends exactly a text.
@@ -41,11 +43,7 @@ fn a_view_stands_on_a_line_of_its_own(rt: HostRuntime) {
         source: None,
         labels: &[],
     };
-    let is_line = match json_line(rt.alloc(), &view) {
-        Ok(line) => line.as_str() == ON_A_LINE,
-        Err(_) => false,
-    };
-    assert!(rt; is_line);
+    assert!(rt; is_text(json_line(rt.alloc(), &view), ON_A_LINE));
 }
 
 /// Messages, and their reports as JSON.
@@ -60,9 +58,9 @@ const ESCAPED: [(&str, &str); 2] = [
     ),
 ];
 
-/// Whether a message alone is sent as a text.
-fn is_sent(alloc: Global, message: &str, text: &str) -> bool {
-    match OxcDiagnostic::error(alloc, message) {
+/// Whether a diagnostic was made, and is sent as a text.
+fn is_sent(alloc: Global, made: Result<OxcDiagnostic, AllocError>, text: &str) -> bool {
+    match made {
         Ok(diagnostic) => gives(alloc, &diagnostic, text),
         Err(_) => false,
     }
@@ -71,7 +69,8 @@ fn is_sent(alloc: Global, message: &str, text: &str) -> bool {
 #[test]
 fn texts_are_escaped(rt: HostRuntime) {
     for (message, text) in &ESCAPED {
-        assert!(rt; is_sent(rt.alloc(), message, text), "{text}");
+        let made = OxcDiagnostic::error(rt.alloc(), message);
+        assert!(rt; is_sent(rt.alloc(), made, text), "{text}");
     }
 }
 
@@ -81,16 +80,16 @@ const WITHOUT_A_LINE: &str = concat!(
 );
 
 /// Whether a label past its source is sent without a line.
-fn is_without_a_line(alloc: Global) -> Result<bool, AllocError> {
-    let diagnostic = OxcDiagnostic::error(alloc, "m")?
-        .with_label(alloc, LabeledSpan::new(None, 5, 1))?
-        .with_source_code(TextSource::new(String::from_str(alloc, "ab")?));
-    Ok(gives(alloc, &diagnostic, WITHOUT_A_LINE))
+fn is_without_a_line(alloc: Global) -> bool {
+    match with_source(alloc, "m", "ab", 5, 1) {
+        Ok(diagnostic) => gives(alloc, &diagnostic, WITHOUT_A_LINE),
+        Err(_) => false,
+    }
 }
 
 #[test]
 fn a_label_past_the_source_has_no_line(rt: HostRuntime) {
-    assert!(rt; matches!(is_without_a_line(rt.alloc()), Ok(true)));
+    assert!(rt; is_without_a_line(rt.alloc()));
 }
 
 const ALL_PARTS: &str = concat!(
@@ -114,9 +113,5 @@ fn with_all_parts(alloc: Global) -> Result<OxcDiagnostic, AllocError> {
 
 #[test]
 fn all_parts_come_in_their_order(rt: HostRuntime) {
-    let come = match with_all_parts(rt.alloc()) {
-        Ok(diagnostic) => gives(rt.alloc(), &diagnostic, ALL_PARTS),
-        Err(_) => false,
-    };
-    assert!(rt; come);
+    assert!(rt; is_sent(rt.alloc(), with_all_parts(rt.alloc()), ALL_PARTS));
 }

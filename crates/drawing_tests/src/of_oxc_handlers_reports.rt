@@ -1,13 +1,14 @@
 // Diagnostics in boxes by example, and that memory suffices for them. What is expected was worked
 // out by hand.
-ghost use Rattle.std.specs.Prelude.{◌+◌, ◌^◌, ◌<◌};
+ghost use Rattle.std.specs.Prelude.{◌+◌, ◌^◌, ◌<◌, length};
 
-use crate::of_oxc_handlers::is_drawn;
+use crate::of_oxc_handlers::{BY_FOUR, is_drawn};
 use oxc_handlers::{
     GraphicalReportHandler, GraphicalTheme, Keep, RenderError, render, render_with_source_code,
 };
 use oxc_protocol::{
-    Diagnostic, Error, LabeledSpan, MemorySink, NamedSource, OxcDiagnostic, TextSource,
+    Diagnostic, DiagnosticWithSource, Error, LabeledSpan, MemorySink, NamedSource, OxcDiagnostic,
+    TextSource,
 };
 use std::alloc::{AllocError, Global};
 
@@ -123,12 +124,26 @@ fn boxed(alloc: Global) -> Result<Error, AllocError> {
     Ok(Box::new(alloc, error.with_source_code(rows(alloc)?))?)
 }
 
+/// An error with a label in a source without a name.
+pub(crate) fn with_source(
+    alloc: Global,
+    message: &str,
+    text: &str,
+    start: u32,
+    len: u32,
+) -> Result<DiagnosticWithSource<TextSource>, AllocError>
+    requires fits { length text.now < 4294967295 }
+    requires label { start + len < 2 ^ 32 }
+{
+    let source = TextSource::new(String::from_str(alloc, text)?);
+    let label = LabeledSpan::new(None, start, len);
+    let error = OxcDiagnostic::error(alloc, message)?.with_label(alloc, label)?;
+    Ok(error.with_source_code(source))
+}
+
 /// Another error with another source, in a box.
 fn between(alloc: Global) -> Result<Error, AllocError> {
-    let label = LabeledSpan::new(None, 1, 1);
-    let error = OxcDiagnostic::error(alloc, "b")?.with_label(alloc, label)?;
-    let source = TextSource::new(String::from_str(alloc, "\tx")?);
-    Ok(Box::new(alloc, error.with_source_code(source))?)
+    Ok(Box::new(alloc, with_source(alloc, "b", "\tx", 1, 1)?)?)
 }
 
 /// The error twice, and the other one between where that is wanted.
@@ -165,34 +180,51 @@ fn another_source_between_takes_nothing_from_the_others(rt: HostRuntime) {
     assert!(rt; sent);
 }
 
-/// What comes of sending a diagnostic with a label of so many bytes at the end of its text.
-fn answer_to(alloc: Global, len: u32) -> Result<(), RenderError>
-    requires { 5 + len < 2 ^ 32 }
-{
-    let source = TextSource::new(String::from_str(alloc, "\tlet x")?);
-    let error = OxcDiagnostic::error(alloc, "m")?
-        .with_label(alloc, LabeledSpan::new(None, 5, len))?
-        .with_source_code(source);
-    let mut sink = MemorySink::new(alloc, 1000, 7, Vec::new(alloc))?;
-    plain().render_report(alloc, &mut sink, &error)
+/// Whether the answer to sending a diagnostic is the one that is wanted, and a text was sent.
+fn is_sent(
+    alloc: Global,
+    diagnostic: &dyn Diagnostic,
+    wanted: Result<(), RenderError>,
+    text: &str,
+) -> bool {
+    let Ok(mut sink) = MemorySink::new(alloc, 1000, 7, Vec::new(alloc)) else {
+        return false;
+    };
+    plain().render_report(alloc, &mut sink, diagnostic) == wanted
+        && sink.received() == text.as_bytes()
 }
+
+/// The same for a label of so many bytes that begins at the last byte of its source.
+fn is_label_sent(alloc: Global, len: u32, wanted: Result<(), RenderError>, text: &str) -> bool
+    requires { len < 10 }
+{
+    match with_source(alloc, "m", "\tlet x", 5, len) {
+        Ok(error) => is_sent(alloc, &error, wanted, text),
+        Err(_) => false,
+    }
+}
+
+const OUTSIDE: RenderError = RenderError::LabelOutside {
+    report: 0,
+    label: 0,
+};
 
 #[test]
 fn what_can_t_be_drawn_is_not_sent(rt: HostRuntime) {
-    let outside = RenderError::LabelOutside {
-        report: 0,
-        label: 0,
-    };
-    assert!(rt; answer_to(rt.alloc(), 4) == Err(outside));
-    assert!(rt; answer_to(rt.alloc(), 1) == Ok(()));
+    assert!(rt; is_label_sent(rt.alloc(), 4, Err(OUTSIDE), ""));
+    assert!(rt; is_label_sent(rt.alloc(), 1, Ok(()), BY_FOUR));
 }
 
+const ALONE: &str = "\n  x m\n";
+
 /// Whether the report of a message alone is sent, and rendered.
-fn is_sent_and_rendered(alloc: Global) -> Result<bool, RenderError> {
-    let error = OxcDiagnostic::error(alloc, "m")?;
-    let mut sink = MemorySink::new(alloc, 1000, 7, Vec::new(alloc))?;
-    plain().render_report(alloc, &mut sink, &error)?;
-    Ok(sink.received() == "\n  x m\n".as_bytes() && is_drawn(render(alloc, &error), "\n  x m\n"))
+fn is_sent_and_rendered(alloc: Global) -> bool {
+    match OxcDiagnostic::error(alloc, "m") {
+        Ok(error) => {
+            is_sent(alloc, &error, Ok(()), ALONE) && is_drawn(render(alloc, &error), ALONE)
+        }
+        Err(_) => false,
+    }
 }
 
 /// The error as it is rendered with its source.
@@ -202,6 +234,5 @@ fn with_its_source(alloc: Global) -> Result<String, RenderError> {
 
 #[test]
 fn a_diagnostic_is_sent_or_rendered(rt: HostRuntime) {
-    assert!(rt; matches!(is_sent_and_rendered(rt.alloc()), Ok(true)));
-    assert!(rt; is_drawn(with_its_source(rt.alloc()), ONCE));
+    assert!(rt; is_sent_and_rendered(rt.alloc()) && is_drawn(with_its_source(rt.alloc()), ONCE));
 }

@@ -6,6 +6,7 @@ ghost use Rattle.report_reader.specs.ReadsBack.{IsReadable};
 ghost use Rattle.report_reader.specs.Seen.{Report, report_model};
 ghost use Rattle.report_reader.specs.SeenOf.{seen_of};
 
+use crate::of_oxc_handlers::is_text;
 use oxc_handlers::{DiagnosticView, GraphicalReportHandler, GraphicalTheme, RenderError};
 use oxc_plan::TabWidth;
 use oxc_protocol::Severity;
@@ -83,10 +84,7 @@ fn is_read_and_shown(alloc: Global) -> bool {
     let Ok(Some(seen)) = read_report(alloc, LABELED) else {
         return false;
     };
-    match show_report(alloc, &seen) {
-        Ok(shown) => is_labeled(&seen) && shown.as_str() == LABELED,
-        Err(_) => false,
-    }
+    is_labeled(&seen) && is_text(show_report(alloc, &seen), LABELED)
 }
 
 #[test]
