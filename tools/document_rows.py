@@ -171,6 +171,18 @@ def as_json(offset, length, line, column):
     return f'{{"message": "m","severity": "error","filename": "a","labels": [{{"span": {span}}}]}}\n'
 
 
+# ---- all that a report of a document says; of two messages the last one counts
+
+ALL_SAID = ('{"version":2,"files":[{"name":"a","source":"é"}],"reports":[{"file":0,"message":"x","message":"m","severity":"warning",'
+            '"scope":"s","number":"1","help":"h","note":"n","url":"u","labels":[{"bytes":[0,2],"text":"t","primary":true}]}]}')
+ALL_DRAWN = "\n  ! s(1): m\n   ,-[a:1:1]\n 1 | é\n   : |\n   : `-- t\n   `----\n  help: h\n  note: n\n"
+ALL_AS_JSON = ('{"message": "m","code": "s(1)","severity": "warning","url": "u","help": "h","note": "n","filename": "a",'
+               '"labels": [{"label": "t","span": {"offset": 0,"length": 2,"line": 1,"column": 1}}]}\n')
+# (the second label is primary, so the head of the snippet is its place)
+PRIMARY = one_report(',"version":2', ',"labels":[{"bytes":[0,1]},{"bytes":[2,3],"primary":true}]')
+HEAD_AT_PRIMARY = "\n  x m\n   ,-[a.js:1:3]\n 1 | foo\n   : ^ ^\n 2 | bar\n   `----\n"
+
+
 # ---- two reports on one file, the later row first
 
 BOTH = reports_on(2, "ab\\ncd", [(0, ['"bytes":[3,4]']), (0, ['"bytes":[0,1]'])])
@@ -191,6 +203,9 @@ ROWS = [
       for source, label, *place in PLACED),
     *(row(f"no label is primary unless it says so: {first}", "", reports_on(2, "ab", [(0, [first, second])]), shown(HEAD_OF_SECOND))
       for first, second in NOT_PRIMARY),
+    row("what a document says is drawn", "", ALL_SAID, shown(ALL_DRAWN)),
+    row("what a document says, as JSON", "--json", ALL_SAID, shown(ALL_AS_JSON)),
+    row("a primary label", "", PRIMARY, shown(HEAD_AT_PRIMARY)),
     row("no report on a file", "", reports_on(1, "", []), shown("")),
     row("two reports on a file, drawn", "", BOTH, shown(LATER + FORMER)),
     row("two reports on a file, as JSON", "--json", BOTH, shown(as_json(3, 1, 2, 1) + as_json(0, 1, 1, 1))),

@@ -2,67 +2,8 @@
 ghost use Rattle.std.specs.Prelude.{◌≤◌};
 
 use crate::of_codespan::is_text;
-use documents::{Document, generate, read_document, write_document};
-use oxc_protocol::{OxcDiagnosticInner, Severity};
-use render_files::{LabelPlace, PlaceLabel};
+use documents::{generate, read_document, write_document};
 use std::alloc::Global;
-
-fn reads(text: &Option<String>, wanted: &str) -> bool {
-    match text {
-        Some(text) => text.as_str() == wanted,
-        None => false,
-    }
-}
-
-// Whether a report says what the input below says of it.
-fn says_its_parts(said: &OxcDiagnosticInner) -> bool {
-    said.message.as_str() == "m"
-        && said.severity == Severity::Warning
-        && reads(&said.code.scope, "s")
-        && reads(&said.code.number, "1")
-        && reads(&said.help, "h")
-        && reads(&said.note, "n")
-        && reads(&said.url, "u")
-}
-
-// Whether its label stands where the input below says, and says the same.
-fn is_its_label(label: &PlaceLabel) -> bool {
-    label.place == (LabelPlace::Bytes { start: 0, end: 2 })
-        && reads(&label.text, "t")
-        && label.primary
-}
-
-// Whether the document says what each part of the input below says.
-fn says_all(document: &Document) -> bool {
-    let [report] = document.reports.as_slice() else {
-        return false;
-    };
-    let [label] = report.labels.as_slice() else {
-        return false;
-    };
-    document.files.contains(report.file)
-        && document.files.name(report.file) == "a"
-        && document.files.source(report.file).as_str() == "é"
-        && says_its_parts(report.diagnostic.inner())
-        && is_its_label(label)
-}
-
-const SAYS: &str = concat!(
-    "{\"version\":2,\"files\":[{\"name\":\"a\",\"source\":\"é\"}],",
-    "\"reports\":[{\"file\":0,\"message\":\"x\",\"message\":\"m\",",
-    "\"severity\":\"warning\",\"scope\":\"s\",\"number\":\"1\",\"help\":\"h\",",
-    "\"note\":\"n\",\"url\":\"u\",\"labels\":[{\"bytes\":[0,2],\"text\":\"t\",",
-    "\"primary\":true}]}]}",
-);
-
-#[test]
-fn a_document_says_what_stands_in_it(rt: HostRuntime) {
-    let says = match read_document(rt.alloc(), SAYS.as_bytes()) {
-        Ok(Some(document)) => says_all(&document),
-        _ => false,
-    };
-    assert!(rt; says);
-}
 
 const ONE_MADE: &str = concat!(
     "{\"files\":[{\"name\":\"gen\",\"source\":\"r1\\n\"}],",
