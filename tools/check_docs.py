@@ -3,7 +3,7 @@
 
 - Each link of a .md file leads to a file that is there, and to a heading of it where it names one.
 - docs/MAP.md has a row for each crate of crates.txt, and no row stands on one below it.
-- Each row of docs/PROMISES.md names a file, a call in it, clauses of that call, and definitions that stand in specs/.
+- Each row of docs/PROMISES.md names a call, clauses of it, and the file that has it.
 - Each function under "A caller" or "How it is called" on a page of a crate stands in that crate's sources, but for layout,
   and so is proved. (An example under another heading, as "How a call looks", shows just that.) So does each function of
   README.md stand in some crate's.
@@ -128,36 +128,27 @@ def clauses_of(text, call):
 
 
 def wrong_promises():
-    crate, path = None, os.path.join(TOP, "docs", "PROMISES.md")
-    if not os.path.isfile(path):
-        return
+    path = os.path.join(TOP, "docs", "PROMISES.md")
     for line in read(path).split("\n"):
-        heading = re.match(r"## `(\w+)`", line)
-        crate = heading.group(1) if heading else crate
         cells = [cell.strip() for cell in line.strip("|").split("|")]
-        if not line.startswith("| ") or crate is None or len(cells) != 4 or cells[0] in ("Promise", "---"):
+        if not line.startswith("| ") or len(cells) != 3 or cells[0] == "Promise":
             continue
-        root = os.path.join(TOP, "crates", crate)
-        names = re.findall(r"`([^`]+)`", cells[2])
-        file = os.path.join(root, "src", names[0])
+        crate, _, name = cells[2].strip("`").partition("/")
+        file = os.path.join(TOP, "crates", crate, "src", name)
         if not os.path.isfile(file):
-            yield f"{crate}: {names[0]}: no such file"
+            yield f"{cells[2]}: no such file"
             continue
         text = read(file)
-        # (a call may be written with its type, `Type::call`; its clauses stand behind a colon and a blank)
+        # (a call may be written with its type, `Type::call`; its clauses are after a colon and a blank)
         calls, _, clauses = cells[1].partition(": ")
         for call in re.findall(r"`(?:\w+::)*(\w+)`", calls):
             stated = clauses_of(text, call)
             if stated is None:
-                yield f"{crate}: {names[0]} has no call `{call}`"
+                yield f"{cells[2]} has no call `{call}`"
                 continue
             for clause in re.findall(r"`(\w+)`", clauses):
                 if clause not in stated:
-                    yield f"{crate}: `{call}` in {names[0]} has no clause `{clause}`"
-        specs = "\n".join(read(spec) for spec in glob.glob(os.path.join(TOP, "crates", "*", "specs", "**", "*.antt"), recursive=True))
-        for word in re.findall(r"`([^`]+)`", cells[3]):
-            if not re.search(rf"(?:^|\s|pub ){re.escape(word)}(?=[\s:({{])", specs):
-                yield f"{crate}: no definition `{word}` in specs/"
+                    yield f"{cells[2]}: `{call}` has no clause `{clause}`"
 
 
 def wrong_layers():
