@@ -43,8 +43,8 @@ use Rattle.text_size.proofs.range.TextRange.TheLaws.{lowers, the_row_laws}
 use Rattle.text_tests.specs.contracts.of_text_size.scribble_in as f
 use Rattle.text_tests.proofs.of_text_size.scribble_in.Statement.{statement}
 use Rattle.text_tests.proofs.of_text_size.scribble_in.Code as code
-use Rattle.text_size.specs.contracts.range.slice_mut as g
-use Rattle.text_size.proofs.range.slice_mut.Met.{met as slice_mut_met}
+use Rattle.text_size.specs.contracts.slice_mut as g
+use Rattle.text_size.proofs.slice_mut.Met.{met as slice_mut_met}
 use Rattle.text_tests.specs.contracts.of_text_size.scribble as h
 use Rattle.text_tests.proofs.of_text_size.scribble.Met.{met as scribble_met}
 
@@ -93,7 +93,7 @@ scribble_in_spec 𝓤 𝓛 𝓜 𝓡 wired =
     let z : G.Ghost = (((α ∷ [], tt), (full_share, tt), tt, (loan, a.1), (mut_slice_vals loan, y.0.4.1)), tt) in
     move ! (0 ∷ 4 ∷ []) $ join ! $ move ! (2 ∷ 3 ∷ []) $ join ! $ join ! $
     use0 𝓛 (raw (fact 𝓤 (j ≤ length xs))) (fact_i 𝓤 _ (emp 𝓤) within) $ move ! (1 ∷ 0 ∷ []) $ use2 𝓛 (raw (G.pre z)) (id⊢ 𝓤 _) $
-    calls_at ! (framed 𝓤 𝓛.H 𝓜 𝓣) G (slice_mut_met 𝓤 𝓛 𝓜 𝓡 (code.calls-text_size::range::slice_mut 𝓡.env wired)) z
+    calls_at ! (framed 𝓤 𝓛.H 𝓜 𝓣) G (slice_mut_met 𝓤 𝓛 𝓜 𝓡 (code.calls-text_size::slice_mut 𝓡.env wired)) z
     (and_then ! (get ! refl) (and_then ! (get ! refl) (no_more !))) (λ v.
     use1 𝓛 (later (some (λ (r : MutBor (List ℕ)). ((‵ (flft (α ∷ []) full_share) ⊛ ‵ ftrue) ⊛ ‵ ((MutSlice (named 0) (α ∷ []) u8).own_val r (v ∷ []))) ⊛
     some (λ (us : Unit {0} × (Unit {0} × Unit {0})). ‵ (lasts g.ended z.0.0 z.0.3 us) ⊛ (‵ (follows (Array u8 0) (Array u8 0) δ r.ghost_name (λ ws. take i xs ++ (ws ++ drop_list j xs))) ⊛
