@@ -68,7 +68,7 @@ DETAILS = ["symbol:   variable sume", "location: class Cart", "at Cart.java:3"]
 COMING = "a.c:1:2: error: x\n  y\n\nz\na.c:2:3: error: x\na.js\n  3:5  error  x  no-undef\nw"
 COME = ("a.c:1:2:0:0: error: x\na.c:2:3:0:0: error: x\na.js:3:5:0:0: error[no-undef]: x\n", "\nz\nw\n")
 # The same as a drawing, which is written as lines come: each piece where its lines stood.
-DRAWN = ("\n  x x\n  note: y\n        at a.c:1:2\n" "\n" "z\n" "\n  x x\n  note: at a.c:2:3\n" "\n  x no-undef: x\n  note: at a.js:3:5\n" "w\n" "3 errors\n")
+DRAWN = ("\n  x x\n  note: y\n           at a.c:1:2\n" "\n" "z\n" "\n  x x\n  note: at a.c:2:3\n" "\n  x no-undef: x\n  note: at a.js:3:5\n" "w\n" "3 errors\n")
 
 # A row in which a tab, an accented letter of two bytes, and a letter of four bytes and two units of UTF-16 stand.
 ROW = "\t\u00e9\U0001d54f b"
