@@ -23,7 +23,6 @@ def shown(text):
 
 
 def row(name, words, given, answer):
-    """A row of these words, which have blanks between them."""
     status, out, err = answer
     return name, status, words.split(), given.encode(), None if out is None else out.encode(), err.encode()
 

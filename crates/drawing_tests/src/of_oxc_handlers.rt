@@ -9,6 +9,7 @@ ghost use Rattle.oxc_handlers.specs.Theme.{unicode_theme};
 
 use crate::callers::all_within;
 use oxc_handlers::{DiagnosticView, GraphicalReportHandler, GraphicalTheme, RenderError};
+use oxc_plan::TabWidth;
 use oxc_protocol::{LabeledSpan, SourceRef};
 use oxc_windows::SpanScanner;
 use std::alloc::{AllocError, Global};
@@ -217,6 +218,39 @@ fn a_warning_stands_in_its_style(rt: HostRuntime) {
     assert!(rt; is_styled(rt.alloc()));
 }
 
+const TABBED: &[u8] = b"\tlet x";
+
+pub(crate) const BY_FOUR: &str = "
+  x m
+   ,----
+ 1 |     let x
+   :         ^
+   `----
+";
+
+const BY_TWO: &str = "
+  x m
+   ,----
+ 1 |   let x
+   :       ^
+   `----
+";
+
+/// Whether tab stops are as far apart as the handler says.
+fn are_tabs_drawn(alloc: Global) -> bool {
+    let two = plain().with_tabs(TabWidth::new(2).unwrap_or_default());
+    let labels = [LabeledSpan::new(None, 5, 1)];
+    is_drawn(drawing(alloc, &plain(), "m", TABBED, &labels), BY_FOUR)
+        && is_drawn(drawing(alloc, &two, "m", TABBED, &labels), BY_TWO)
+}
+
+#[test]
+fn tabs_and_the_width_are_those_of_the_handler(rt: HostRuntime) {
+    assert!(rt; are_tabs_drawn(rt.alloc()));
+    let narrow = drawing(rt.alloc(), &plain().with_width(0), "ab", b"ab", &[]);
+    assert!(rt; is_drawn(narrow, "\n  x a\n  | b\n"));
+}
+
 const OUTSIDE: RenderError = RenderError::LabelOutside {
     report: 0,
     label: 1,
@@ -230,7 +264,7 @@ const NO_TEXT: RenderError = RenderError::NotUtf8 {
 /// Whether a label outside is refused, and a label in a source that is no text.
 fn are_refused(alloc: Global) -> bool {
     let labels = [LabeledSpan::new(None, 0, 1), LabeledSpan::new(None, 5, 4)];
-    is_refused(drawing(alloc, &plain(), "m", b"\tlet x", &labels), OUTSIDE)
+    is_refused(drawing(alloc, &plain(), "m", TABBED, &labels), OUTSIDE)
         && is_refused(
             drawing(alloc, &plain(), "m", b"a\xFF", &labels[..1]),
             NO_TEXT,

@@ -6,7 +6,7 @@ ghost use Rattle.oxc_handlers.specs.JsonText.{json_of};
 use crate::of_oxc_handlers::is_text;
 use crate::of_oxc_handlers_reports::with_source;
 use oxc_handlers::{DiagnosticView, JSONReportHandler, push_json};
-use oxc_protocol::{Diagnostic, MemorySink};
+use oxc_protocol::{Diagnostic, LabeledSpan, MemorySink, OxcDiagnostic, Severity};
 use std::alloc::{AllocError, Global};
 
 /// Whether the handler sends exactly a text.
@@ -46,6 +46,34 @@ fn a_view_stands_on_a_line_of_its_own(rt: HostRuntime) {
     assert!(rt; is_text(json_line(rt.alloc(), &view), ON_A_LINE));
 }
 
+/// Messages, and their reports as JSON.
+const ESCAPED: [(&str, &str); 2] = [
+    (
+        "a\"b\\\u{1}",
+        "{\"message\": \"a\\\"b\\\\\\u0001\",\"severity\": \"error\",\"labels\": []}",
+    ),
+    (
+        "\r\n\t\u{8}\u{c}\u{1f}\u{7f}/日",
+        "{\"message\": \"\\r\\n\\t\\b\\f\\u001f\u{7f}/日\",\"severity\": \"error\",\"labels\": []}",
+    ),
+];
+
+/// Whether a diagnostic was made, and is sent as a text.
+fn is_sent(alloc: Global, made: Result<OxcDiagnostic, AllocError>, text: &str) -> bool {
+    match made {
+        Ok(diagnostic) => gives(alloc, &diagnostic, text),
+        Err(_) => false,
+    }
+}
+
+#[test]
+fn texts_are_escaped(rt: HostRuntime) {
+    for (message, text) in &ESCAPED {
+        let made = OxcDiagnostic::error(rt.alloc(), message);
+        assert!(rt; is_sent(rt.alloc(), made, text), "{text}");
+    }
+}
+
 const WITHOUT_A_LINE: &str = concat!(
     "{\"message\": \"m\",\"severity\": \"error\",\"filename\": \"\",\"labels\": [",
     "{\"span\": {\"offset\": 5,\"length\": 1,\"line\": null,\"column\": null}}]}",
@@ -62,4 +90,28 @@ fn is_without_a_line(alloc: Global) -> bool {
 #[test]
 fn a_label_past_the_source_has_no_line(rt: HostRuntime) {
     assert!(rt; is_without_a_line(rt.alloc()));
+}
+
+const ALL_PARTS: &str = concat!(
+    "{\"message\": \"m\",\"code\": \"s(n)\",\"severity\": \"advice\",",
+    "\"url\": \"u\",\"help\": \"h\",\"note\": \"o\",\"labels\": [",
+    "{\"span\": {\"offset\": 7,\"length\": 0,\"line\": null,\"column\": null}},",
+    "{\"span\": {\"offset\": 2,\"length\": 9,\"line\": null,\"column\": null}}]}",
+);
+
+/// A diagnostic with all its parts, in another order.
+fn with_all_parts(alloc: Global) -> Result<OxcDiagnostic, AllocError> {
+    OxcDiagnostic::error(alloc, "m")?
+        .with_severity(Severity::Advice)
+        .with_error_code(alloc, "s", "n")?
+        .with_url(alloc, "u")?
+        .with_help(alloc, "h")?
+        .with_note(alloc, "o")?
+        .and_label(LabeledSpan::new(None, 7, 0))?
+        .and_label(LabeledSpan::primary_at(None, 2, 9))
+}
+
+#[test]
+fn all_parts_come_in_their_order(rt: HostRuntime) {
+    assert!(rt; is_sent(rt.alloc(), with_all_parts(rt.alloc()), ALL_PARTS));
 }
