@@ -1,4 +1,4 @@
-//! The bars beside a row, and the labels whose bars end there with a text.
+//! The bars beside a row, and the labels whose bars end in the row and that have a text.
 ghost use Rattle.std.specs.Prelude.{◌≡◌, ◌+◌, ◌^◌, ◌<◌, IfOk, map, filter};
 ghost use Rattle.oxc_plan.specs.Plan.{bar_kind, bar_of, ends_with_text, ordered_at, ordered_view};
 ghost use Rattle.oxc_plan.specs.Rows.{row_view};
@@ -8,7 +8,7 @@ use crate::rows::Row;
 use oxc_span::Span;
 use std::alloc::{AllocError, Global};
 
-/// How a bar stands beside a row: its label passes, starts there, or ends there.
+/// How a bar is drawn beside a row: its label passes, starts there, or ends there.
 #[derive(Clone, Copy, Debug, PartialEq, Eq)]
 pub enum BarKind {
     /// The label begins above the row and goes on below it.
@@ -19,16 +19,16 @@ pub enum BarKind {
     Ends,
 }
 
-/// The bar of a label over several rows, beside one of them.
+/// The bar of a multi-row label, beside one of its rows.
 #[derive(Clone, Copy, Debug, PartialEq, Eq)]
 pub struct Bar {
-    /// The place of the label in label order.
+    /// The index of the label in label order.
     pub label: usize,
-    /// How the bar stands there.
+    /// How the bar is drawn there.
     pub kind: BarKind,
 }
 
-/// How the bar of a label stands beside a row.
+/// How the bar of a label is drawn beside a row.
 fn bar_kind(row: &Row<'_>, span: Span) -> BarKind
     requires { row.now.offset + row.now.length < 2 ^ 32 }
     ensures { result ≡ bar_kind (row_view row.now) span }
@@ -42,7 +42,7 @@ fn bar_kind(row: &Row<'_>, span: Span) -> BarKind
     }
 }
 
-/// The bar of the label at a place of label order.
+/// The bar of the label at an index in label order.
 fn bar_of(row: &Row<'_>, labels: &[OrderedLabel<'_>], at: usize) -> Bar
     requires { row.now.offset + row.now.length < 2 ^ 32 }
     ensures { result ≡ bar_of (row_view row.now) (map ordered_view labels.now) at }
@@ -53,7 +53,7 @@ fn bar_of(row: &Row<'_>, labels: &[OrderedLabel<'_>], at: usize) -> Bar
     }
 }
 
-/// The bars of the labels at places of label order.
+/// The bars of the labels at indices in label order.
 pub fn bars_at(
     alloc: Global,
     row: &Row<'_>,
@@ -81,7 +81,7 @@ fn ends_with_text(row: &Row<'_>, label: OrderedLabel<'_>) -> bool
         && label.text.is_some()
 }
 
-/// Those of the labels at places of label order whose bars end in a row, and that have a text.
+/// Those of the labels at indices in label order whose bars end in a row, and that have a text.
 pub fn ends_at(
     alloc: Global,
     row: &Row<'_>,

@@ -1,4 +1,4 @@
-//! Columns: how many a text takes when it is drawn, and in which one an offset of a row stands.
+//! Columns: how many columns a drawn text takes, and the column of an offset in a row.
 ghost use Rattle.std.specs.Prelude.{◌≡◌, ◌↔◌, ◌==◌, ◌||◌, ◌+◌, ◌*◌, ◌^◌, ◌<◌, ◌≤◌, if◌then◌else◌};
 ghost use Rattle.std.specs.Prelude.{All, IfSome, IsSome, IsTrue, false, true, fold, length, take};
 ghost use Rattle.std.specs.Str.{IsAscii, IsCharBoundary};
@@ -13,11 +13,11 @@ use memchr::memchr2;
 use unicode_segmentation::UnicodeSegmentation;
 use unicode_width::UnicodeWidthStr;
 
-/// The column of an offset of the source in a row, from 0, as the start of a mark or as its end.
+/// The column, from 0, of a source offset in a row, as the start of a mark or as its end.
 ///
-/// It is the number of columns of the row's text before the offset, measured alone. Inside a
-/// character a start goes down to the character's first byte and an end goes up past its last. Past
-/// the row's text it is one more than the columns of the whole text.
+/// It is the width of the row's text before the offset, measured alone. Inside a character, a start
+/// moves down to the character's first byte, and an end moves up past its last. Past the row's
+/// text, the column is one more than the width of the whole text.
 pub fn column_of(row: &Row<'_>, offset: usize, at_start: bool, tabs: TabWidth) -> usize
     requires from { row.now.offset ≤ offset }
     requires fits { length row.now.text.now < 4294967295 }
@@ -26,9 +26,9 @@ pub fn column_of(row: &Row<'_>, offset: usize, at_start: bool, tabs: TabWidth) -
     column_in(row.text, offset - row.offset, at_start, tabs)
 }
 
-/// The law that in a row of ASCII the drawn text before an offset, escapes aside, has as many
-/// characters as the offset's column, for any distance of the tab stops. It does nothing: a caller
-/// calls it to know the law.
+/// The law that in an ASCII row the drawn text before an offset, without escapes, has as many
+/// characters as the offset's column, for any tab width. It does nothing; a caller calls it to use
+/// the law.
 pub fn columns_as_drawn(_row: &Row<'_>, _tab: usize)
     ensures { HasColumnsAsDrawn _tab (row_view _row.now) }
 {}
@@ -45,8 +45,7 @@ fn column_in(text: &str, offset: usize, at_start: bool, tabs: TabWidth) -> usize
     text_width(&text[..boundary_near(text, offset, at_start)], tabs)
 }
 
-/// The columns of two offsets in a text, that of a start and that of an end, where all before the
-/// end is of ASCII.
+/// The columns of two offsets in a text, a start and an end, if everything before the end is ASCII.
 pub fn ascii_columns(text: &str, start: usize, end: usize, tabs: TabWidth) -> Option<(usize, usize)>
     requires ordered { start ≤ end }
     requires fits { length text.now < 2 ^ 32 }
@@ -71,7 +70,7 @@ pub fn ascii_columns(text: &str, start: usize, end: usize, tabs: TabWidth) -> Op
     ))
 }
 
-/// Whether all bytes are characters of ASCII that take a column each.
+/// Whether all bytes are printable ASCII characters, which take one column each.
 fn is_printable(bytes: &[u8]) -> bool
     ensures { IsTrue result ↔ All (λ byte. (0x20 ≤ byte) × (byte ≤ 0x7E)) bytes.now }
 {
@@ -83,7 +82,7 @@ fn is_printable(bytes: &[u8]) -> bool
     true
 }
 
-/// The boundary of a text next to an offset: below it for a start, and above it for an end.
+/// The character boundary next to an offset: at or below it for a start, at or above it for an end.
 pub fn boundary_near(text: &str, offset: usize, at_start: bool) -> usize
     requires { offset ≤ length text.now }
     ensures exact { result
@@ -110,7 +109,7 @@ pub fn text_width(text: &str, tabs: TabWidth) -> usize
     width_by_clusters(text, tabs)
 }
 
-/// The columns that a text takes, cluster by cluster.
+/// The columns that a text takes, measured cluster by cluster.
 fn width_by_clusters(text: &str, tabs: TabWidth) -> usize
     requires fits { length text.now < 2 ^ 32 }
     ensures exact { result ≡ text_width tabs text.now }
@@ -123,22 +122,22 @@ fn width_by_clusters(text: &str, tabs: TabWidth) -> usize
     pen.column
 }
 
-/// Where the drawing of a text stands.
+/// The state while a text is drawn.
 #[derive(Clone, Copy, Debug, PartialEq, Eq)]
 pub struct Pen {
-    /// The columns that are taken.
+    /// The columns taken so far.
     pub column: usize,
-    /// Whether an escape is unfinished.
+    /// Whether an escape is open.
     pub in_escape: bool,
 }
 
-/// Where the drawing of a text begins.
+/// The state before a text.
 pub const AT_MARGIN: Pen = Pen {
     column: 0,
     in_escape: false,
 };
 
-/// The pen after the bytes of a text of ASCII.
+/// The pen after the bytes of an ASCII text.
 pub fn pen_over(mut pen: Pen, bytes: &[u8], tabs: TabWidth) -> Pen
     requires room { pen.column + 17 * length bytes.now < 2 ^ 64 }
     ensures exact { result ≡ pen_after tabs pen bytes.now }
@@ -156,7 +155,7 @@ pub fn pen_over(mut pen: Pen, bytes: &[u8], tabs: TabWidth) -> Pen
     pen
 }
 
-/// Whether each of the bytes moves the pen by one: none is a tab, and none begins an escape.
+/// Whether each byte moves the pen by one column: none is a tab, and none begins an escape.
 fn is_plain(bytes: &[u8]) -> bool
     ensures { IsTrue result → All (λ byte. (byte == 0x09 || byte == 0x1B) ≡ false) bytes.now }
 {
@@ -180,7 +179,8 @@ pub fn over_cluster(mut pen: Pen, cluster: &str, tabs: TabWidth) -> Pen
     pen
 }
 
-/// The pen after a character, which leads its cluster with so many columns.
+/// The pen after a character. `lead` is the width of the cluster if the character is its first,
+/// else 0.
 pub fn moved_over(pen: Pen, lead: usize, c: char, tabs: TabWidth) -> Pen
     requires room { pen.column + lead + 16 < 2 ^ 64 }
     ensures exact { result ≡ moved tabs pen (lead, c) }
@@ -196,7 +196,7 @@ pub fn moved_over(pen: Pen, lead: usize, c: char, tabs: TabWidth) -> Pen
     }
 }
 
-/// How far a character moves the pen.
+/// The columns by which a character moves the pen.
 fn advance_of(pen: Pen, lead: usize, c: char, tabs: TabWidth) -> usize
     ensures exact { result ≡ advance_of tabs pen.in_escape pen.column lead c }
     ensures bound { result ≤ lead + 16 }

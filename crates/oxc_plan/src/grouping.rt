@@ -17,16 +17,16 @@ use oxc_windows::{LineBreak, SpanContents, SpanScanner};
 use std::alloc::{AllocError, Global};
 use std::ops::Range;
 
-/// The labels that share a snippet, as ranges of places in label order.
+/// The labels that share a snippet, as ranges of indices in label order.
 ///
-/// A group begins with one label. The next label in order joins while its window begins no later
-/// than the row that the first row and the line count of the group's window together give. A
+/// A group begins with one label. The next label in order joins if its window begins no later than
+/// the row whose number is the first row of the group's window plus the window's line count. A
 /// group's window goes from its first start to its largest end. The scanner reads one row of
 /// context before and one after, and every label ends within its input.
 ///
 /// # Errors
 ///
-/// Want of memory.
+/// Out of memory.
 pub fn groups<'a>(
     alloc: Global,
     scanner: &mut SpanScanner<'a>,
@@ -49,8 +49,8 @@ pub fn groups<'a>(
     Ok(found)
 }
 
-/// The law that spans in label order have one division into groups, over a source of that length
-/// with these breaks. It does nothing: a caller calls it to know the law.
+/// The law that spans in label order are divided into groups in exactly one way, for a source of
+/// that length with these breaks. It does nothing; a caller calls it to use the law.
 pub fn one_grouping(_len: usize, _breaks: &[LineBreak], _spans: &[Span])
     ensures { HasOneGrouping _len _breaks.now _spans.now }
 {}
@@ -84,16 +84,16 @@ fn groups_of_spans<'a>(
 /// A group of spans in label order, and what the scanner read for it.
 #[derive(Drop)]
 pub struct GroupRead<'a> {
-    /// The places of its spans.
+    /// The indices of its spans.
     pub places: Range<usize>,
     /// What they span together: from the first start to the largest end.
     pub span: Span,
-    /// The window round that.
+    /// The window around that span.
     pub contents: SpanContents<'a>,
 }
 
 impl<'a> GroupRead<'a> {
-    /// Joins the next span to the group. It is read anew only where it grows.
+    /// Adds the next span to the group. The window is read again only if the group's span grows.
     fn join_next(&mut self, scanner: &mut SpanScanner<'a>, spans: &[Span]) -> Result<(), AllocError>
         requires round { ReadsRound scanner.old }
         requires within { LieWithin (length scanner.old.input) spans.now }

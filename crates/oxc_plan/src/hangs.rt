@@ -13,13 +13,13 @@ use std::alloc::{AllocError, Global};
 /// A text that hangs below a row, and the label at whose bar it hangs.
 #[derive(Clone, Copy, Debug, PartialEq, Eq)]
 pub struct Hang {
-    /// The place in label order of the label whose text it is.
+    /// The index in label order of the label whose text it is.
     pub label: usize,
-    /// The place in label order of the label at whose bar it hangs.
+    /// The index in label order of the label at whose bar it hangs.
     pub at: usize,
 }
 
-/// Whether two texts that may be missing are equal.
+/// Whether two optional texts are equal.
 fn same_text(a: Option<&str>, b: Option<&str>) -> bool
     ensures { result ≡ text_eq (option_copied a.entry) (option_copied b.entry) }
 {
@@ -37,7 +37,7 @@ fn is_like(a: OrderedLabel<'_>, b: OrderedLabel<'_>) -> bool
     a.span.start == b.span.start && a.span.end == b.span.end && same_text(a.text, b.text)
 }
 
-/// The first of these places whose label is equal in text and span to that at a place.
+/// The first of these indices whose label has the same text and span as the label at `at`.
 fn first_like(labels: &[OrderedLabel<'_>], places: &[usize], at: usize) -> Option<usize>
     ensures { let ordered = map ordered_view labels.now in
         result ≡ find (λ k. is_like (ordered_at ordered k) (ordered_at ordered at)) places.now }
@@ -49,7 +49,7 @@ fn first_like(labels: &[OrderedLabel<'_>], places: &[usize], at: usize) -> Optio
         .find(|other| is_like(ordered_at(labels, *other), label))
 }
 
-/// The text of the label at a place of label order, if it has one, and where it hangs.
+/// The text of the label at an index in label order, if it has one, and where it hangs.
 fn hang_of(labels: &[OrderedLabel<'_>], places: &[usize], at: usize) -> Option<Hang>
     ensures { result ≡ hang_of (map ordered_view labels.now) places.now at }
 {
@@ -63,7 +63,7 @@ fn hang_of(labels: &[OrderedLabel<'_>], places: &[usize], at: usize) -> Option<H
     }
 }
 
-/// The texts of the labels at places of label order.
+/// The texts of the labels at indices in label order.
 pub fn hangs_at(
     alloc: Global,
     labels: &[OrderedLabel<'_>],
@@ -85,7 +85,7 @@ pub fn hangs_at(
     Ok(hangs)
 }
 
-/// The text of the label at a place of label order, where no other label lies within the row.
+/// The text of the label at an index in label order, if no other label lies within the row.
 pub fn hang_alone(
     alloc: Global,
     labels: &[OrderedLabel<'_>],
@@ -100,8 +100,8 @@ pub fn hang_alone(
     Vec::from_slice(alloc, &[Hang { label: at, at }])
 }
 
-/// Where the places begin whose labels start with that of place `i`, given where those of the place
-/// before begin. Only such labels can be equal.
+/// The first of the places whose labels start where the label of place `i` starts; `run` is the
+/// same for the place before. Only such labels can be equal.
 fn run_at(labels: &[OrderedLabel<'_>], places: &[usize], run: usize, i: usize) -> usize
     requires from { run ≤ i }
     requires within { i < length places.now }

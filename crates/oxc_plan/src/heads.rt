@@ -69,7 +69,7 @@ pub fn place_in<'a>(
     (row, settled(bytes, begin, offset).saturating_sub(start))
 }
 
-/// Whether the byte at a place is the last one of a break.
+/// Whether the byte at an index is the last byte of a break.
 fn ends_break(bytes: &[u8], at: usize) -> bool
     requires { at < length bytes.now }
     ensures { result ≡ ends_break bytes.now at }
@@ -77,7 +77,7 @@ fn ends_break(bytes: &[u8], at: usize) -> bool
     bytes[at] == b'\n' || bytes[at] == b'\r' && bytes.get(at + 1) != Some(&b'\n')
 }
 
-/// An offset in bytes that begin at one, where the LF of a CRLF counts as its CR.
+/// An offset in bytes that begin at `begin`; the LF of a CRLF counts as its CR.
 fn settled(bytes: &[u8], begin: usize, offset: usize) -> usize
     requires from { begin ≤ offset }
     requires upto { offset ≤ begin + length bytes.now }

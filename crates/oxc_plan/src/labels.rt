@@ -7,7 +7,8 @@ ghost use Rattle.oxc_plan.specs.Plan.{ordered_at, ordered_label, ordered_view};
 use oxc_span::{LabeledSpan, Span};
 use std::alloc::{AllocError, Global};
 
-/// A label that is handed on in label order.
+/// A label of a list in label order. It is `pub` only because the definitions name it; no public
+/// call takes or returns one.
 #[derive(Clone, Copy, Debug)]
 pub struct OrderedLabel<'a> {
     /// Its bytes.
@@ -18,14 +19,14 @@ pub struct OrderedLabel<'a> {
     pub is_primary: bool,
 }
 
-/// What stands for a label past the last.
+/// The label that is returned for an index past the last.
 const NO_LABEL: OrderedLabel<'static> = OrderedLabel {
     span: Span { start: 0, end: 0 },
     text: None,
     is_primary: false,
 };
 
-/// The labels at places, as they are handed on.
+/// The labels at these indices.
 pub fn labels_at<'a>(
     alloc: Global,
     labels: &'a [LabeledSpan],
@@ -41,7 +42,7 @@ pub fn labels_at<'a>(
     Ok(found)
 }
 
-/// The label at a place, as it is handed on.
+/// The label at an index.
 pub fn ordered_label<'a>(labels: &'a [LabeledSpan], at: usize) -> OrderedLabel<'a>
     ensures { ordered_view result ≡ ordered_label (label_at labels.now at) }
 {
@@ -63,7 +64,7 @@ pub fn spans_of(alloc: Global, labels: &[OrderedLabel<'_>]) -> Result<Vec<Span>,
     Ok(spans)
 }
 
-/// The label at a place of label order.
+/// The label at an index in label order.
 pub fn ordered_at<'a>(labels: &[OrderedLabel<'a>], at: usize) -> OrderedLabel<'a>
     ensures { ordered_view result ≡ ordered_at (map ordered_view labels.now) at }
 {
@@ -73,7 +74,7 @@ pub fn ordered_at<'a>(labels: &[OrderedLabel<'a>], at: usize) -> OrderedLabel<'a
     }
 }
 
-/// The span at a place of label order, and an empty one at 0 past the last.
+/// The span at an index in label order; past the last, an empty span at 0.
 pub fn span_at(spans: &[Span], at: usize) -> Span
     requires ordered { All (λ span. span.start ≤ span.end) spans.now }
     ensures value { result ≡ span_at spans.now at }

@@ -1,20 +1,20 @@
 //! What a drawing shows of a source: which labels share a snippet, and the rows of each snippet.
 //!
-//! Labels go by the order of their starts ([`label_order`]). [`groups`] tells which of them share a
-//! snippet, and [`rows_of`] gives the rows of what a scanner read for one. [`column_of`] tells in
-//! which column an offset of a row stands when the row is drawn, and [`MarkCells`] which cells
-//! under a row a label marks. [`plan_snippets`] puts all this together: what a report's snippets
-//! mean before a character is drawn. Offsets and lengths count bytes.
+//! Labels are ordered by their starts ([`label_order`]). [`groups`] gives those that share a
+//! snippet, and [`rows_of`] the rows of what a scanner read for one. [`column_of`] gives the column
+//! of an offset in a drawn row, and [`MarkCells`] the cells under a row that a label marks.
+//! [`plan_snippets`] does all of this: it gives the plan of a report's snippets, before a character
+//! is drawn. Offsets and lengths count bytes.
 //!
-//! The modules, in the order in which labels go through them:
+//! The modules, in the order in which labels pass through them:
 //! - `order`: the label order
 //! - `labels`: labels and their spans in that order
-//! - `reading`: what the scanner reads round a span
+//! - `reading`: what the scanner reads around a span
 //! - `grouping`: which labels share a snippet, and what is read for them
 //! - `heads`: where a snippet's head points
-//! - `rows`: the rows of what was read, cut off one by one
+//! - `rows`: the rows of what was read, split off one by one
 //! - `sweep`: the labels that are open at a row
-//! - `tabs`, `columns`, `measuring`: in which columns places of a row stand
+//! - `tabs`, `columns`, `measuring`: the columns of offsets in a row
 //! - `marks`: which labels meet a row, and the cells in which they are marked
 //! - `bars`: the bars beside a row, and the texts at their ends
 //! - `hangs`: the texts that hang below a row

@@ -20,7 +20,7 @@ use std::alloc::{AllocError, Global};
 /// The mark of a one-row label: its cells under the row, from 0, and the cell of its bar.
 #[derive(Clone, Copy, Debug, PartialEq, Eq)]
 pub struct MarkCells {
-    /// The label, by its place in label order.
+    /// The label, by its index in label order.
     pub label: usize,
     /// The first cell.
     pub start: usize,
@@ -33,7 +33,7 @@ pub struct MarkCells {
 /// The cells that a one-row label takes, before the marks are placed.
 #[derive(Clone, Copy, Debug, PartialEq, Eq)]
 pub struct LabelCells {
-    /// The label, by its place in label order.
+    /// The label, by its index in label order.
     pub label: usize,
     /// The first cell.
     pub start: usize,
@@ -42,14 +42,14 @@ pub struct LabelCells {
 }
 
 /// The law that one-row labels whose cells do not overlap are marked in exactly their cells, and
-/// that each mark ends by the column of its label's end. It does nothing: a caller calls it to know
-/// the law.
+/// the law that a mark ends at its label's end, or one cell after its start if that is later or the
+/// label is empty. It does nothing; a caller calls it to use the law.
 pub fn exact_marks(_row: &Row<'_>, _spans: &[Span], _tab: usize)
     ensures exact { HasExactMarks _tab (row_view _row.now) _spans.now }
     ensures ends { HasEndsByColumns _tab (row_view _row.now) }
 {}
 
-/// The placed marks of a row's labels at these places of spans in label order.
+/// The marks of the row's labels at these indices in label order, placed.
 pub fn placed(
     alloc: Global,
     row: &Row<'_>,
@@ -73,7 +73,7 @@ pub fn placed(
     }
 }
 
-/// The placed mark of a row's only label, which stands at this place of spans in label order.
+/// The mark of a row's only label, at this index in label order, placed.
 fn placed_alone(
     alloc: Global,
     row: &Row<'_>,
@@ -95,8 +95,7 @@ fn placed_alone(
     }
 }
 
-/// The placed marks of a row's labels at these places of spans, by measuring the row's text once
-/// for all of them.
+/// The same as [`placed`], where the row's text is measured once for all labels.
 fn placed_by_measure(
     alloc: Global,
     row: &Row<'_>,
@@ -118,7 +117,7 @@ fn placed_by_measure(
     placed_in_turn(alloc, row, &text, spans, places, tabs)
 }
 
-/// The placed marks of labels, one after another, in a row whose text was measured.
+/// The marks of labels, placed one after another in a row whose text was measured.
 fn placed_in_turn(
     alloc: Global,
     row: &Row<'_>,
@@ -148,8 +147,8 @@ fn placed_in_turn(
     Ok(marks)
 }
 
-/// Where the labels of a row at these places start and end in its text, each moved between two
-/// characters.
+/// Where the labels of a row at these indices start and end in its text, each moved to a character
+/// boundary.
 fn ends_of(
     alloc: Global,
     row: &Row<'_>,
@@ -171,8 +170,8 @@ fn ends_of(
     Ok(ends)
 }
 
-/// An offset of the source as one in a row's text, at most the text's end, moved between two
-/// characters.
+/// An offset of the source as one in a row's text, at most the text's end, moved to a character
+/// boundary.
 fn end_in(row: &Row<'_>, offset: usize, at_start: bool) -> usize
     requires { row.now.offset ≤ offset }
     ensures { IsCharBoundary row.now.text.now result }
@@ -181,7 +180,7 @@ fn end_in(row: &Row<'_>, offset: usize, at_start: bool) -> usize
     boundary_near(row.text, within, at_start)
 }
 
-/// The mark of a label, after the marks that end before this cell.
+/// The mark of a label, where the marks before it end at cell `before` or earlier.
 fn mark_after(before: usize, cells: LabelCells) -> MarkCells
     requires before { before < 2 ^ 62 }
     requires start { cells.start < 2 ^ 62 }
@@ -220,7 +219,7 @@ fn cells_of(
     cells_between(label, span, first, past)
 }
 
-/// The cells of a one-row label, where the row's text is of ASCII up to the label's end.
+/// The cells of a one-row label, if the row's text is ASCII up to the label's end.
 fn ascii_cells(row: &Row<'_>, label: usize, span: Span, tabs: TabWidth) -> Option<LabelCells>
     requires from { row.now.offset ≤ span.start }
     requires ordered { span.start ≤ span.end }
@@ -235,8 +234,8 @@ fn ascii_cells(row: &Row<'_>, label: usize, span: Span, tabs: TabWidth) -> Optio
     Some(cells_between(label, span, first, past))
 }
 
-/// The cells of a label from the column of its start to before that of its end: one at least, and
-/// one for an empty one.
+/// The cells of a label, from its start's column to before its end's: at least one, and exactly one
+/// for an empty label.
 fn cells_between(label: usize, span: Span, first: usize, past: usize) -> LabelCells
     requires { first < 2 ^ 62 }
     ensures { result ≡ cells_between label span first past }
@@ -253,7 +252,7 @@ fn cells_between(label: usize, span: Span, first: usize, past: usize) -> LabelCe
     }
 }
 
-/// One past the last byte that counts as a label's.
+/// One past the last byte that counts as a label's; an empty label has the byte at its offset.
 pub fn label_past(span: Span) -> usize
     requires { span.start ≤ span.end }
     ensures value { result ≡ label_past span }
@@ -261,8 +260,8 @@ pub fn label_past(span: Span) -> usize
     (span.end as usize).max(span.start as usize + 1)
 }
 
-/// Whether a label meets a row: they have a byte in common, where an empty label counts as the byte
-/// at its place.
+/// Whether a label meets a row: they have a byte in common. An empty label counts as the byte at
+/// its offset.
 pub fn meets(row: &Row<'_>, span: Span) -> bool
     requires ordered { span.start ≤ span.end }
     requires range { row.now.offset + row.now.length < 2 ^ 64 }

@@ -1,4 +1,4 @@
-//! The columns of many places of a text, in one pass over it.
+//! The columns of many offsets in a text, in one pass over it.
 ghost use Rattle.std.specs.Prelude.{◌≡◌, ℕ, List, [], ◌∷◌, ◌+◌, ◌*◌, ◌^◌, ◌<◌, ◌≤◌, IfOk, OnOk};
 ghost use Rattle.std.specs.Prelude.{All, length, take};
 ghost use Rattle.std.specs.List.Sorted.{IsNonDecreasingBy};
@@ -13,18 +13,18 @@ use crate::tabs::TabWidth;
 use std::alloc::{AllocError, Global};
 use unicode_segmentation::UnicodeSegmentation;
 
-/// What was measured of a text: places, and the columns of the text before each.
+/// A text that was measured: offsets, and the column of each.
 #[derive(Debug, Drop)]
 pub struct MeasuredText<'a> {
     /// The text.
     pub text: &'a str,
-    /// The places, ascending, each between two characters.
+    /// The offsets, ascending, each at a character boundary.
     pub places: Vec<usize>,
-    /// The columns before them.
+    /// Their columns.
     pub columns: Vec<usize>,
 }
 
-/// Measures a text up to each of these places, which lie between its characters.
+/// Measures a text up to each of these offsets, which are character boundaries.
 pub fn measure<'a>(
     alloc: Global,
     text: &'a str,
@@ -45,8 +45,8 @@ pub fn measure<'a>(
     })
 }
 
-/// The column of a place in a text that was measured. Before a place that was not asked for it is
-/// measured here.
+/// The column of an offset in a text that was measured. If the offset isn't among the measured
+/// ones, it is measured here, so the result doesn't depend on the search.
 #[tactic(auto, unfolding(crate::specs::Columns::column_in))]
 pub fn column_known(
     measured: &MeasuredText<'_>,
@@ -70,7 +70,7 @@ pub fn column_known(
     )
 }
 
-/// The columns of a text before a place between two characters.
+/// The width of a text before a character boundary.
 fn width_before(measured: &MeasuredText<'_>, at: usize, tabs: TabWidth) -> usize
     requires fits { length measured.now.text.now < 2 ^ 32 }
     requires known { HoldsColumns tabs measured.now }
@@ -84,7 +84,7 @@ fn width_before(measured: &MeasuredText<'_>, at: usize, tabs: TabWidth) -> usize
     }
 }
 
-/// The columns of a text before places that ascend and lie between its characters, in their order.
+/// The width of a text before each of these character boundaries, which ascend.
 fn columns_before(
     alloc: Global,
     text: &str,
@@ -103,7 +103,7 @@ fn columns_before(
     }
 }
 
-/// The same, of a text of ASCII.
+/// The same for an ASCII text.
 fn columns_by_bytes(
     alloc: Global,
     text: &str,
@@ -154,7 +154,7 @@ fn columns_by_clusters(
     Ok(columns)
 }
 
-/// Adds the columns before the next places, those that lie in a cluster of a text.
+/// Adds the columns of the next offsets, those that lie in a cluster of the text.
 fn push_within(
     columns: &mut Vec<usize>,
     text: &str,
@@ -181,7 +181,7 @@ fn push_within(
     Ok(())
 }
 
-/// Adds the columns before the places at the end of a text.
+/// Adds the columns of the offsets at the end of a text.
 fn push_at_end(
     columns: &mut Vec<usize>,
     text: &str,

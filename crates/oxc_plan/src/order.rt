@@ -7,11 +7,11 @@ ghost use Rattle.oxc_plan.specs.Order.{spans_in_order, start_at};
 use oxc_span::{LabeledSpan, Span};
 use std::alloc::{AllocError, Global};
 
-/// The places of labels in label order: by start, equal starts as given.
+/// The indices of labels in label order: by start; labels with equal starts keep their order.
 ///
 /// # Errors
 ///
-/// Want of memory.
+/// Out of memory.
 pub fn label_order(alloc: Global, labels: &[LabeledSpan]) -> Result<Vec<usize>, AllocError>
     ensures order { IfOk result (λ order. IsLabelOrder labels.now order.items) }
     ensures value { IfOk result (λ order. order.items ≡ label_order labels.now) }
@@ -23,7 +23,8 @@ pub fn label_order(alloc: Global, labels: &[LabeledSpan]) -> Result<Vec<usize>, 
     Ok(order)
 }
 
-/// The law that labels have one label order. It does nothing: a caller calls it to know the law.
+/// The law that labels have exactly one label order. It does nothing; a caller calls it to use the
+/// law.
 pub fn one_label_order(_labels: &[LabeledSpan])
     ensures { HasOneOrder _labels.now }
 {}
@@ -38,7 +39,7 @@ pub fn spans_in_order(alloc: Global, labels: &[LabeledSpan]) -> Result<Vec<Span>
     Ok(spans)
 }
 
-/// The spans of the labels at these places.
+/// The spans of the labels at these indices.
 fn spans_at(alloc: Global, labels: &[LabeledSpan], order: &[usize]) -> Result<Vec<Span>, AllocError>
     ensures { IfOk result (λ spans. spans.items
         ≡ map (λ at. span_of (label_at labels.now at)) order.now) }
@@ -47,7 +48,7 @@ fn spans_at(alloc: Global, labels: &[LabeledSpan], order: &[usize]) -> Result<Ve
     Ok(spans)
 }
 
-/// The span of the label at a place, and an empty one at 0 past the last.
+/// The span of the label at an index; past the last, an empty span at 0.
 fn span_at(labels: &[LabeledSpan], at: usize) -> Span
     ensures { result ≡ span_of (label_at labels.now at) }
 {
@@ -57,7 +58,7 @@ fn span_at(labels: &[LabeledSpan], at: usize) -> Span
     }
 }
 
-/// The places of so many labels, as given.
+/// The indices of `count` labels, in the given order.
 fn given_order(alloc: Global, count: usize) -> Result<Vec<usize>, AllocError>
     ensures { IfOk result (λ order. order.items ≡ range_with_len 0 count) }
 {
@@ -68,7 +69,7 @@ fn given_order(alloc: Global, count: usize) -> Result<Vec<usize>, AllocError>
     Ok(order)
 }
 
-/// Where the label at a place starts, and 0 past the last.
+/// Where the label at an index starts; past the last, 0.
 fn start_at(labels: &[LabeledSpan], at: usize) -> u32
     ensures { result ≡ start_at labels.now at }
 {

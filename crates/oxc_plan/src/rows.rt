@@ -18,21 +18,21 @@ pub struct Row<'a> {
     pub number: usize,
     /// The offset of its first byte in the source.
     pub offset: usize,
-    /// The number of its bytes, its LF with them.
+    /// The number of its bytes, including its LF.
     pub length: usize,
     /// Its text, without its LF and one CR before it.
     pub text: &'a str,
 }
 
-/// The rows of contents that are UTF-8: the pieces after each LF, with their true offsets, lengths
-/// and texts.
+/// The rows of contents that are UTF-8. A row ends after each LF; offsets, lengths and texts are
+/// those of the source.
 ///
-/// Rows are numbered from the row in which the contents begin, one after another. A last piece that
-/// ends in a CR, with no LF, keeps the CR in its text, and its number is one less.
+/// Rows are numbered from the row in which the contents begin, one after another. If the last row
+/// ends in a CR without an LF, its text keeps the CR, and its number is one less.
 ///
 /// # Errors
 ///
-/// Want of memory.
+/// Out of memory.
 pub fn rows_of<'a>(alloc: Global, contents: &SpanContents<'a>) -> Result<Vec<Row<'a>>, AllocError>
     requires text { IsUtf8 contents.now.bytes }
     requires measured { IsMeasured contents.now }
@@ -47,20 +47,20 @@ pub fn rows_of<'a>(alloc: Global, contents: &SpanContents<'a>) -> Result<Vec<Row
     Ok(rows)
 }
 
-/// The rows of a text that are not cut off yet.
+/// The rows of a text that are not split off yet.
 #[derive(Drop)]
 pub struct RowsAhead<'a> {
     /// The text from the next row on.
     pub text: &'a str,
-    /// The offset at which it begins.
+    /// The offset at which that text begins.
     pub offset: usize,
-    /// How many rows stand above it.
+    /// The number of rows above it.
     pub above: usize,
     ghost short: { offset + length text.now < 2 ^ 32 },
     ghost few: { above + length text.now < 2 ^ 33 },
 }
 
-/// The rows of contents that are UTF-8, none cut off.
+/// The rows of contents that are UTF-8, none split off yet.
 pub fn rows_ahead<'a>(contents: &SpanContents<'a>) -> RowsAhead<'a>
     requires text { IsUtf8 contents.now.bytes }
     requires measured { IsMeasured contents.now }
@@ -70,7 +70,7 @@ pub fn rows_ahead<'a>(contents: &SpanContents<'a>) -> RowsAhead<'a>
     ensures above { result.above ≡ contents.now.line }
 {
     let span = *contents.span();
-    // contents are asked to be UTF-8, so they are not checked again
+    // the condition says that the contents are UTF-8, so they aren't checked again
     let text = unsafe { from_utf8_unchecked(contents.bytes()) };
     RowsAhead {
         text,
@@ -80,7 +80,7 @@ pub fn rows_ahead<'a>(contents: &SpanContents<'a>) -> RowsAhead<'a>
 }
 
 impl<'a> RowsAhead<'a> {
-    /// Cuts the next row off, if there is one.
+    /// Splits off the next row, if there is one.
     pub fn cut(&mut self) -> Option<Row<'a>>
         ensures next { MatchOption result (self.old.text.now ≡ [])
             (λ row. rows_from self.old.above self.old.offset self.old.text.now
@@ -105,7 +105,7 @@ impl<'a> RowsAhead<'a> {
     }
 }
 
-/// The row of a piece, below so many rows.
+/// The row of a piece, below `above` rows.
 fn row_of_piece<'a>(piece: &'a str, offset: usize, above: usize) -> Row<'a>
     requires { above < 2 ^ 63 }
     ensures { row_view result ≡ row_of_piece above offset piece.now }
@@ -123,7 +123,7 @@ fn row_of_piece<'a>(piece: &'a str, offset: usize, above: usize) -> Row<'a>
     }
 }
 
-/// A piece without its LF and one CR before it.
+/// The text of a piece: without its LF, and without one CR before it.
 #[tactic(auto, unfolding(crate::specs::Rows::row_text))]
 fn text_of<'a>(piece: &'a str) -> &'a str
     ensures { result.now ≡ row_text piece.now }
@@ -150,7 +150,7 @@ fn first_piece<'a>(text: &'a str) -> &'a str
     &text[..piece_len(text)]
 }
 
-/// How long the first piece is, its LF with it.
+/// The length of the first piece, including its LF.
 fn piece_len(text: &str) -> usize
     requires { 0 < length text.now }
     ensures exact { result ≡ first_len text.now }

@@ -1,4 +1,4 @@
-//! The snippets of a report: what they mean before a character is drawn.
+//! The plans of a report's snippets, made before a character is drawn.
 ghost use Rattle.std.specs.Prelude.{[], ◌∷◌, ◌≡◌, ℕ, ◌+◌, ◌^◌, ◌<◌, ◌≤◌, IfOk, OnOk, Some};
 ghost use Rattle.std.specs.Prelude.{length, map, filter, All};
 ghost use Rattle.std.specs.List.Sorted.{IsNonDecreasingBy};
@@ -35,7 +35,7 @@ use oxc_windows::{SpanContents, SpanScanner};
 use std::alloc::{AllocError, Global};
 use std::ops::Range;
 
-/// What is drawn beside and below a row.
+/// A row, and what is drawn beside and below it.
 #[derive(Debug, Drop)]
 pub struct RowPlan<'a> {
     /// The row itself.
@@ -46,7 +46,7 @@ pub struct RowPlan<'a> {
     pub marks: Vec<MarkCells>,
     /// The texts of these labels, in label order.
     pub hangs: Vec<Hang>,
-    /// The labels with a text whose bars end in the row, by their places in label order.
+    /// The labels with a text whose bars end in the row, by their indices in label order.
     pub ends: Vec<usize>,
 }
 
@@ -57,26 +57,28 @@ pub struct SnippetPlan<'a> {
     pub head_line: usize,
     /// The byte column at which the head points, from 1.
     pub head_column: usize,
-    /// The most bars that stand beside one row.
+    /// The most bars that are drawn beside one row.
     pub gutter: usize,
     /// The rows, from the first to the last.
     pub rows: Vec<RowPlan<'a>>,
 }
 
-/// How many rows a snippet mostly has: a row or two with labels, and one of context on each side.
+/// The capacity of a new list of rows: a snippet mostly has one or two rows with labels, and one of
+/// context on each side. (The number of breaks isn't used for it: a drawn row ends at LF only, so a
+/// text of CRs has many breaks and one row.)
 const USUAL_ROWS: usize = 4;
 
-/// The snippets of labels of a source, as they are drawn.
+/// The plans of the snippets of a source's labels.
 ///
-/// Labels that share a snippet are those of [`groups`]. A snippet's head is the place of its first
-/// primary label in label order, else of its first label. Its rows are those of the group's window.
-/// Beside each stand the bars of all labels that meet it and other rows, and below it the marks and
-/// texts of those that lie within it. The scanner reads one row of context before and one after,
-/// every label ends within its input, and the input is UTF-8.
+/// [`groups`] says which labels share a snippet. A snippet's head points to its first primary label
+/// in label order, else to its first label. Its rows are those of the group's window. Beside each
+/// row are the bars of all labels that meet it and other rows, and below it the marks and texts of
+/// those that lie within it. The scanner reads one row of context before and one after, every label
+/// ends within its input, and the input is UTF-8.
 ///
 /// # Errors
 ///
-/// Want of memory.
+/// Out of memory.
 pub fn plan_snippets<'a>(
     alloc: Global,
     scanner: &mut SpanScanner<'a>,
@@ -103,11 +105,11 @@ pub fn plan_snippets<'a>(
     plan_snippets_in_order(alloc, scanner, labels, &order, tabs)
 }
 
-/// The same, where the places of the labels in label order are at hand.
+/// The same for a caller that has already made the label order.
 ///
 /// # Errors
 ///
-/// Want of memory.
+/// Out of memory.
 pub fn plan_snippets_in_order<'a>(
     alloc: Global,
     scanner: &mut SpanScanner<'a>,
@@ -140,7 +142,7 @@ pub fn plan_snippets_in_order<'a>(
     Ok(plans)
 }
 
-/// The snippets of labels, which stand in label order, and whose spans are at hand.
+/// The snippets of labels in label order, with their spans.
 fn plan_groups<'a>(
     alloc: Global,
     scanner: &mut SpanScanner<'a>,
@@ -170,7 +172,7 @@ fn plan_groups<'a>(
     Ok(plans)
 }
 
-/// The snippet of a group of labels, which stand in label order.
+/// The snippet of a group of labels in label order.
 fn plan_snippet<'a>(
     alloc: Global,
     scanner: &SpanScanner<'a>,
@@ -219,7 +221,7 @@ fn plan_rows<'a>(
     plan_rows_of_many(alloc, contents, labels, spans, group, tabs)
 }
 
-/// The plans of the rows of a group of one label, which is tried against each of them.
+/// The plans of the rows of a group of one label, which is tested against each row.
 fn plan_rows_of_one<'a>(
     alloc: Global,
     contents: &SpanContents<'a>,
@@ -241,8 +243,8 @@ fn plan_rows_of_one<'a>(
     Ok(plans)
 }
 
-/// The plans of the rows of a group of labels. A label stays open from the row in which it starts
-/// to the last one that it meets, and only open labels are tried.
+/// The plans of the rows of a group of labels. A label is open from the row in which it starts to
+/// the last row that it meets, and only open labels are tested.
 fn plan_rows_of_many<'a>(
     alloc: Global,
     contents: &SpanContents<'a>,
@@ -267,7 +269,8 @@ fn plan_rows_of_many<'a>(
     Ok(plans)
 }
 
-/// The plan of a row, given places of labels in order among which are all that meet it.
+/// The plan of a row. `active` holds indices in order, among them those of all labels that meet the
+/// row.
 fn plan_row<'a>(
     alloc: Global,
     row: &Row<'a>,
@@ -305,7 +308,7 @@ fn bare_row<'a>(alloc: Global, row: &Row<'a>) -> RowPlan<'a>
     }
 }
 
-/// The plan of a row that no label meets but the one at this place of label order, if that does.
+/// The plan of a row that at most the label at this index in label order meets.
 fn plan_alone<'a>(
     alloc: Global,
     row: &Row<'a>,
@@ -332,7 +335,7 @@ fn plan_alone<'a>(
     }
 }
 
-/// The plan of a row that only the label at this place of label order meets, which lies within it.
+/// The plan of a row that only the label at this index in label order meets, and that contains it.
 fn plan_within<'a>(
     alloc: Global,
     row: &Row<'a>,
@@ -358,8 +361,8 @@ fn plan_within<'a>(
     })
 }
 
-/// The plan of a row that only the label at this place of label order meets, which goes on above or
-/// below it.
+/// The plan of a row that only the label at this index in label order meets, where the label also
+/// meets other rows.
 fn plan_across<'a>(
     alloc: Global,
     row: &Row<'a>,
@@ -381,8 +384,7 @@ fn plan_across<'a>(
     })
 }
 
-/// The plan of a row, given places of labels in order among which are all that meet it, by testing
-/// each of them.
+/// The same as [`plan_row`], by testing each of these labels.
 fn plan_active<'a>(
     alloc: Global,
     row: &Row<'a>,
@@ -405,8 +407,7 @@ fn plan_active<'a>(
     plan_at(alloc, row, labels, spans, &within, &across, tabs)
 }
 
-/// The plan of a row, given the places of the labels within it and of those that meet it and
-/// others.
+/// The plan of a row, given the indices of its one-row labels and of its multi-row labels.
 fn plan_at<'a>(
     alloc: Global,
     row: &Row<'a>,
@@ -439,7 +440,7 @@ fn plan_at<'a>(
     })
 }
 
-/// Those of some places whose labels meet a row and lie within it.
+/// Those of these indices whose labels are one-row labels of the row.
 fn one_row_of(
     alloc: Global,
     row: &Row<'_>,
@@ -461,7 +462,7 @@ fn one_row_of(
     Ok(places)
 }
 
-/// Those of some places whose labels meet a row and others.
+/// Those of these indices whose labels are multi-row labels of the row.
 fn multi_row_of(
     alloc: Global,
     row: &Row<'_>,
@@ -483,7 +484,7 @@ fn multi_row_of(
     Ok(places)
 }
 
-/// The most bars that stand beside one row.
+/// The most bars that are drawn beside one row.
 fn gutter_of(rows: &[RowPlan<'_>]) -> usize
     ensures { result ≡ gutter_of (map row_plan_view rows.now) }
 {

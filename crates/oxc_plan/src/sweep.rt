@@ -1,4 +1,4 @@
-//! The open labels of a group, while its rows are gone through from the first to the last.
+//! The open labels of a group, while its rows are planned from the first to the last.
 ghost use Rattle.std.specs.Prelude.{◌≡◌, ◌-◌, ◌<◌, ◌≤◌, ◌++◌, IfOk, length, filter, All};
 ghost use Rattle.std.specs.List.{range_with_len};
 ghost use Rattle.oxc_plan.specs.Groups.{span_at};
@@ -9,7 +9,7 @@ use crate::marks::label_past;
 use oxc_span::Span;
 use std::alloc::AllocError;
 
-/// Takes out the labels that end before an offset.
+/// Removes the labels that end before an offset.
 pub fn close_before(active: &mut Vec<usize>, spans: &[Span], offset: usize)
     requires { All (λ span. span.start ≤ span.end) spans.now }
     ensures { active.new.items ≡ filter (is_open spans.now offset) active.old.items }
@@ -17,8 +17,8 @@ pub fn close_before(active: &mut Vec<usize>, spans: &[Span], offset: usize)
     active.retain(|at| offset < label_past(span_at(spans, *at)));
 }
 
-/// Puts in the labels from one place on, up to before another, that start before an offset. Gives
-/// the place of the first that does not.
+/// Adds the labels from index `next` on, before index `past`, while they start before an offset.
+/// Returns the index of the first that isn't added.
 pub fn open_before(
     active: &mut Vec<usize>,
     spans: &[Span],

@@ -1,10 +1,10 @@
-//! The distance of the tab stops.
+//! The tab width.
 ghost use Rattle.std.specs.Prelude.{◌≡◌, ℕ, ◌≤◌, SomeIff};
 
 use std::marker::Model;
 
-/// How many columns the tab stops are apart: from 1 to 16, and 4 by default. Contracts see it as
-/// that number.
+/// The distance between tab stops, in columns: from 1 to 16, 4 by default. Contracts see it as that
+/// number.
 #[derive(Clone, Copy, Debug, PartialEq, Eq)]
 pub struct TabWidth {
     width: usize,
@@ -21,7 +21,7 @@ impl Model for TabWidth {
 }
 
 impl TabWidth {
-    /// Tab stops that are so many columns apart; `None` exactly outside 1 to 16.
+    /// A tab width of this many columns; `None` exactly if `width` is not from 1 to 16.
     pub fn new(width: usize) -> Option<TabWidth>
         ensures { SomeIff result ((1 ≤ width) × (width ≤ 16)) width }
     {
