@@ -1,4 +1,4 @@
-//! What stands to the left of a source text: row numbers, and the bars of labels over several rows.
+//! What is drawn to the left of a source text: row numbers, and the bars of multi-row labels.
 ghost use Rattle.std.specs.Prelude.{◌≡◌, ◌+◌, ◌-◌, ◌≤◌, ◌<◌, ◌^◌, OnOk, length};
 ghost use Rattle.textwrap.specs.Appends.{Appends};
 ghost use Rattle.oxc_handlers.specs.Gutters.{bar_piece, below_from, corner, ending, ends, gutter};
@@ -12,7 +12,7 @@ use itoa::Buffer;
 use oxc_plan::{Bar, BarKind};
 use std::alloc::AllocError;
 
-/// Appends what stands before a row: its number, and a bar.
+/// Appends what is drawn before a row: its number, and a bar.
 #[tactic(auto, unfolding(crate::specs::RowLines::row_front))]
 pub(crate) fn write_linum(
     out: &mut String,
@@ -29,7 +29,7 @@ pub(crate) fn write_linum(
     Ok(())
 }
 
-/// Appends the number of a row, to the right.
+/// Appends the number of a row, aligned to the right.
 #[tactic(auto, unfolding(crate::specs::RowLines::padded, crate::specs::Theme::styled))]
 fn write_padded(out: &mut String, setting: &Setting<'_>, linum: usize) -> Result<(), AllocError>
     ensures { OnOk result (Appends out.old out.new (padded setting.now linum)) }
@@ -44,7 +44,7 @@ fn write_padded(out: &mut String, setting: &Setting<'_>, linum: usize) -> Result
     Ok(())
 }
 
-/// Appends what stands before a line that is no row.
+/// Appends what is drawn before a line that isn't a row.
 #[tactic(auto, unfolding(crate::specs::RowLines::other_front))]
 pub(crate) fn write_no_linum(out: &mut String, setting: &Setting<'_>) -> Result<(), AllocError>
     requires { setting.now.digits < 2 ^ 62 }
@@ -82,8 +82,8 @@ pub(crate) fn render_line_gutter(
     write_spaces(out, setting.gutter + 3 - place)
 }
 
-/// Appends the gutter of a line under a row: the bars that go on, up to the first label that ends
-/// in the row.
+/// Appends the gutter of a line under a row: the bars that continue, up to the first label that
+/// ends in the row.
 #[tactic(auto, using(crate::proofs::GuttersLemmas::under_gutter))]
 pub(crate) fn render_highlight_gutter(
     out: &mut String,
@@ -153,7 +153,7 @@ fn corner_of(setting: &Setting<'_>, bar: Bar) -> char
     }
 }
 
-/// Appends what is drawn from a corner on.
+/// Appends what is drawn from a corner to the row's text.
 #[tactic(auto, unfolding(crate::specs::Gutters::turn))]
 fn write_turn(
     out: &mut String,

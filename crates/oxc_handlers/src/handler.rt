@@ -5,8 +5,7 @@ use crate::theme::GraphicalTheme;
 use oxc_plan::TabWidth;
 use std::marker::Model;
 
-/// Draws reports by a theme, filled to a width, where tabs stop at multiples of a number of
-/// columns.
+/// Draws reports with a theme, a width to which texts are filled, and a tab width.
 #[derive(Clone, Copy, Debug)]
 pub struct GraphicalReportHandler {
     pub(crate) termwidth: usize,
@@ -33,7 +32,7 @@ impl Model for GraphicalReportHandler {
 }
 
 impl GraphicalReportHandler {
-    /// A handler with this theme. It fills to 200 columns, and its tabs stop at multiples of 4.
+    /// A handler with this theme. It fills to 200 columns, and its tab width is 4.
     pub fn new_themed(theme: GraphicalTheme) -> Self
         ensures { result ≡ record { theme = theme; width = 200; tab = 4 } }
     {
@@ -51,7 +50,7 @@ impl GraphicalReportHandler {
         GraphicalReportHandler { theme, ..self }
     }
 
-    /// The same handler with another width to which titles, helps and notes are filled, in columns.
+    /// The same handler with another width, in columns, to which titles, help and notes are filled.
     pub fn with_width(self, width: usize) -> Self
         ensures { result ≡ record { theme = self.theme; width = width; tab = self.tab } }
     {
@@ -61,7 +60,7 @@ impl GraphicalReportHandler {
         }
     }
 
-    /// The same handler with another distance of the tab stops.
+    /// The same handler with another tab width.
     pub fn with_tabs(self, tabs: TabWidth) -> Self
         ensures { result ≡ record { theme = self.theme; width = self.width; tab = tabs } }
     {

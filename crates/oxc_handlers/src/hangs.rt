@@ -1,4 +1,4 @@
-//! The texts that hang below the marks of a row, each behind the bars of the labels before it.
+//! The texts that hang below the marks of a row, each after the bars of the labels before it.
 ghost use Rattle.std.specs.Prelude.{◌≡◌, ◌≤◌, OnOk, true};
 ghost use Rattle.std.specs.List.{flat_map};
 ghost use Rattle.textwrap.specs.Appends.{Appends};
@@ -16,7 +16,7 @@ use crate::text_lines::{LabelRenderMode, first_line, first_mode};
 use oxc_plan::{Hang, MarkCells, RowPlan};
 use std::alloc::AllocError;
 
-/// Appends the texts that hang at the marks of a row, the last label's first.
+/// Appends the texts that hang at the marks of a row, the last label's text first.
 #[tactic(auto, using(crate::proofs::LinesLemmas::back_all))]
 pub(crate) fn write_hangs(
     out: &mut String,
@@ -160,7 +160,7 @@ fn write_hung_bar(
     write_bar(out, setting, m.label)
 }
 
-/// Appends a line of the text of a label, behind the bars.
+/// Appends a line of a label's text, after the bars.
 #[tactic(auto, unfolding(crate::specs::Hangs::hung, crate::specs::Theme::styled))]
 fn write_hung(
     out: &mut String,
@@ -180,7 +180,7 @@ fn write_hung(
     Ok(())
 }
 
-/// Appends what ties a text to its bar.
+/// Appends the characters that connect a text to its bar.
 #[tactic(auto, unfolding(crate::specs::Hangs::connector))]
 fn write_connector(
     out: &mut String,

@@ -50,15 +50,14 @@ impl JSONReportHandler {
         JSONReportHandler
     }
 
-    /// Sends a diagnostic to the sink as one JSON object, with no line break behind it.
+    /// Writes a diagnostic to the sink as one JSON object, without a line break after it.
     ///
-    /// The whole text is built before its first byte goes out. No diagnostic is refused: a label
-    /// that ends past its source has no line and no column.
+    /// The whole text is built before its first byte is written. Every diagnostic is written: a
+    /// label that ends past its source has no line and no column.
     ///
     /// # Errors
     ///
-    /// `OutOfMemory`, and nothing was written; `SinkFault`, and the sink took a first part of the
-    /// text.
+    /// `OutOfMemory`: nothing was written. `SinkFault`: the sink took a first part of the text.
     pub fn render_report<K: Sink>(
         &self,
         alloc: Global,
@@ -92,14 +91,14 @@ fn json_text(alloc: Global, diagnostic: &dyn Diagnostic) -> Result<String, Alloc
     Ok(text)
 }
 
-/// Appends a report as one JSON object, with no line break behind it.
+/// Appends a report as one JSON object, without a line break after it.
 ///
-/// A view has no url, so that comes beside it. What is appended is read back, as JSON, as the value
-/// that is meant.
+/// A view has no URL, so it is an argument. `serde_json` reads the appended text as the value that
+/// is meant.
 ///
 /// # Errors
 ///
-/// Want of memory.
+/// Out of memory.
 pub fn push_json(
     out: &mut String,
     alloc: Global,
@@ -114,15 +113,15 @@ pub fn push_json(
     push_json_with_scanner(out, view, url, &mut scanner)
 }
 
-/// Appends what [`push_json`] does, with the places of labels by a scanner that the caller keeps
-/// for many reports on one source.
+/// Appends what [`push_json`] does, but finds the locations of labels by a scanner that the caller
+/// keeps for many reports on one source.
 ///
-/// The scanner reads the view's source, with no rows of context round a span; where the view has no
-/// source, there is none. It is left fit for the next report, whatever the answer.
+/// The scanner reads the view's source, without rows of context; for a view without a source it is
+/// `None`. It can be used for the next report, also after an error.
 ///
 /// # Errors
 ///
-/// Want of memory.
+/// Out of memory.
 pub fn push_json_with_scanner<'a>(
     out: &mut String,
     view: &DiagnosticView<'_>,
@@ -143,7 +142,7 @@ pub fn push_json_with_scanner<'a>(
     answer
 }
 
-/// A scanner that finds the places of labels in a source. It takes no memory.
+/// A scanner that finds the locations of labels in a source. It allocates no memory.
 fn scanner_of<'a>(alloc: Global, source: Option<SourceRef<'a>>) -> Option<SpanScanner<'a>>
     ensures source { read_bytes result ≡ source_bytes (ref_views source.entry) }
     ensures alone { ReadsRowsAlone result }
@@ -154,7 +153,7 @@ fn scanner_of<'a>(alloc: Global, source: Option<SourceRef<'a>>) -> Option<SpanSc
     }
 }
 
-/// Appends a report whose labels have these places.
+/// Appends a report whose labels have these locations.
 #[tactic(auto, unfolding(crate::specs::JsonText::json_of))]
 fn push_report(
     out: &mut String,
@@ -192,7 +191,7 @@ fn push_details(
     push_optional(out, "filename", file_name(view.source))
 }
 
-/// The word for a severity.
+/// The name of a severity.
 fn severity_name(severity: Option<Severity>) -> &'static str
     ensures { result.now ≡ word_for severity }
 {
@@ -203,7 +202,7 @@ fn severity_name(severity: Option<Severity>) -> &'static str
     }
 }
 
-/// A source's name, which is empty where the source has none.
+/// A source's name; empty if the source has none.
 fn file_name(source: Option<SourceRef<'_>>) -> Option<&str>
     ensures { option_copied result ≡ file_name (ref_views source.entry) }
 {

@@ -1,5 +1,5 @@
-//! What stands under a row: its marks, the texts that hang at them, and the texts of the labels
-//! that end there.
+//! What is drawn under a row: its marks, the texts that hang at them, and the texts of the
+//! multi-row labels that end there.
 ghost use Rattle.std.specs.Prelude.{◌≡◌, ◌++◌, OnOk};
 ghost use Rattle.std.specs.List.{flat_map};
 ghost use Rattle.textwrap.specs.Appends.{Appends};
@@ -31,7 +31,7 @@ pub(crate) fn render_single_line_highlights(
     write_hangs(out, setting, row)
 }
 
-/// Appends the line of the marks under a row, if it has some.
+/// Appends the mark line under a row, if it has marks.
 #[tactic(auto, unfolding(crate::specs::RowLines::marks_line))]
 fn write_mark_line(
     out: &mut String,
@@ -51,7 +51,7 @@ fn write_mark_line(
     out.push('\n')
 }
 
-/// Appends the texts of the labels over several rows that end in a row.
+/// Appends the texts of the multi-row labels that end in a row.
 pub(crate) fn render_multi_line_ends(
     out: &mut String,
     setting: &Setting<'_>,
@@ -133,7 +133,7 @@ fn render_multi_line_end_single(
     out.push('\n')
 }
 
-/// What ties the text of a label to the gutter in which it ends.
+/// The characters that connect a label's text to the gutter in which it ends.
 #[tactic(auto, unfolding(crate::specs::RowLines::end_connector))]
 fn connector_of(setting: &Setting<'_>, mode: LabelRenderMode) -> char
     ensures { result ≡ end_connector setting.now mode }

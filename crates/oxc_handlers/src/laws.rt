@@ -1,5 +1,5 @@
-//! Laws of drawn snippets: what the definitions mean. Each function does nothing: a caller calls it
-//! to know its law.
+//! Laws of drawn snippets: what the definitions mean. Each function does nothing; a caller calls it
+//! to use its law.
 ghost use Rattle.std.specs.Option.{option_copied};
 ghost use Rattle.oxc_plan.specs.Plan.{in_order, snippet_view};
 ghost use Rattle.oxc_plan.specs.Rows.{row_view};
@@ -11,11 +11,10 @@ use crate::theme::GraphicalTheme;
 use oxc_plan::{Bar, MarkCells, Row, SnippetPlan};
 use oxc_span::LabeledSpan;
 
-/// The law that colors are all that the theme of colors adds: a snippet drawn under
-/// [`GraphicalTheme::unicode`](crate::GraphicalTheme::unicode), with each ESC up to the next `m`
-/// taken out, is the one drawn under
-/// [`GraphicalTheme::unicode_nocolor`](crate::GraphicalTheme::unicode_nocolor), where no text of a
-/// label, no name and no row holds ESC.
+/// The law that the theme with colors adds only colors. If no label text, no name and no row holds
+/// ESC, a snippet drawn with [`GraphicalTheme::unicode`](crate::GraphicalTheme::unicode), without
+/// each ESC up to the next `m`, is the one drawn with
+/// [`GraphicalTheme::unicode_nocolor`](crate::GraphicalTheme::unicode_nocolor).
 pub fn colors_only(
     _tab: usize,
     _labels: &[LabeledSpan],
@@ -26,9 +25,9 @@ pub fn colors_only(
         (option_copied _name.entry) (snippet_view _snippet.now) }
 {}
 
-/// The law that a gutter without styles has one character for each of its places: a bar before the
-/// first label that starts or ends, its corner, a line up to the gutter's width, an arrow, and a
-/// space.
+/// The law that a gutter without styles has one character for each of its cells: the bars before
+/// the first label that starts or ends, its corner, a line up to the gutter's width, an arrow, and
+/// a space.
 pub fn gutter_by_places(
     _theme: &GraphicalTheme,
     _labels: &[LabeledSpan],
@@ -39,8 +38,8 @@ pub fn gutter_by_places(
 {}
 
 /// The law that the gutter of a line under a row, without styles, has one character for each of its
-/// places, whichever line of a text stands beside it: a bar before the first label that ends in the
-/// row, and from its place on its corner and a line, or spaces beside a later line of its text.
+/// cells, for each line of a text beside it: the bars before the first label that ends in the row,
+/// then that label's corner and a line, or spaces beside a later line of its text.
 pub fn gutter_under_by_places(
     _theme: &GraphicalTheme,
     _labels: &[LabeledSpan],
@@ -50,9 +49,8 @@ pub fn gutter_under_by_places(
     ensures { HasPlacesUnder (drawn_by_theme _theme.now (in_order _labels.now) _width) _bars.now }
 {}
 
-/// The law that of a row of ASCII the text that is drawn before an offset, escapes aside, has as
-/// many characters as the offset's column, for any distance of the tab stops, and that the drawn
-/// row begins with it.
+/// The law that in an ASCII row the text drawn before an offset, without escapes, has as many
+/// characters as the offset's column, for any tab width, and that the drawn row begins with it.
 pub fn columns_as_shown(_row: &Row<'_>, _tab: usize)
     ensures { HasColumnsAsShown _tab (row_view _row.now) }
 {}

@@ -13,8 +13,8 @@ use std::alloc::AllocError;
 use unicode_segmentation::UnicodeSegmentation;
 use unicode_width::UnicodeWidthStr;
 
-/// Appends the text of a row: each tab as its advance in spaces, and as nothing in an escape, all
-/// else as it is.
+/// Appends the text of a row. A tab becomes spaces up to the next tab stop, or nothing within an
+/// escape; everything else is unchanged.
 pub(crate) fn render_line_text(
     out: &mut String,
     text: &str,
@@ -30,14 +30,15 @@ pub(crate) fn render_line_text(
     }
 }
 
-/// Whether a text is of ASCII and no escape begins in it.
+/// Whether a text is ASCII and no escape begins in it.
 fn is_ascii_without_escapes(text: &str) -> bool
     ensures { IsTrue result ↔ IsAsciiWithoutEscapes text.now }
 {
     text.is_ascii() && memchr(0x1B, text.as_bytes()).is_none()
 }
 
-/// Appends the text of a row of ASCII without escapes, tab by tab: clusters do not matter there.
+/// Appends the text of an ASCII row without escapes, slice by slice between its tabs. (Clusters
+/// don't matter in such a row: `walked_ascii` of `oxc_plan`.)
 fn write_between_tabs(out: &mut String, text: &str, tabs: TabWidth) -> Result<(), AllocError>
     requires fits { length text.now < 2 ^ 32 }
     requires ascii { IsAsciiWithoutEscapes text.now }
@@ -72,7 +73,7 @@ fn write_clusters(out: &mut String, text: &str, tabs: TabWidth) -> Result<(), Al
     Ok(())
 }
 
-/// Appends the characters of a cluster, and answers the pen behind them.
+/// Appends the characters of a cluster, and returns the pen after them.
 fn write_cluster(
     out: &mut String,
     pen: Pen,

@@ -48,7 +48,7 @@ fn write_mark(
     Ok(())
 }
 
-/// What stands at the bar of a label.
+/// The character at the bar of a label.
 #[tactic(auto, unfolding(crate::specs::Marks::marker))]
 fn marker_of(setting: &Setting<'_>, label: usize) -> char
     ensures { result ≡ marker setting.now label }

@@ -13,8 +13,7 @@ use crate::view::{DiagnosticView, RenderError};
 use oxc_protocol::{Diagnostic, OxcDiagnostic, SourceCode, SourceRef};
 use std::alloc::Global;
 
-/// The handler of texts: ASCII without colors, filled to 80 columns, with tab stops at multiples of
-/// 4.
+/// The handler of texts: ASCII without colors, filled to 80 columns, with tab width 4.
 fn plain_handler() -> GraphicalReportHandler
     ensures { result ≡ plain_handler }
 {
@@ -53,7 +52,7 @@ pub fn render_with_source_code<T: SourceCode>(
     render_source(alloc, &diagnostic, &code, &source)
 }
 
-/// The report of a diagnostic with a source that is borrowed, whose code is at hand.
+/// The report of a diagnostic with a borrowed source; `code` is its code.
 fn render_source<'a>(
     alloc: Global,
     diagnostic: &'a OxcDiagnostic,
@@ -70,7 +69,7 @@ fn render_source<'a>(
     plain_handler().render_view(alloc, &view, &mut scanner)
 }
 
-/// What is drawn of a diagnostic with a source, whose code is at hand.
+/// What is drawn of a diagnostic with a source; `code` is its code.
 fn view_with<'a>(
     diagnostic: &'a OxcDiagnostic,
     code: &'a Option<String>,

@@ -37,16 +37,16 @@ use textwrap::{Options, fill_onto, fits_on_line};
 impl GraphicalReportHandler {
     /// The report of a view: an LF, the title, the snippets, help and note.
     ///
-    /// A scanner that is handed in reads one row of context before a span and one after. It is used
-    /// again where it reads the view's source, and replaced by one that does so else. A view
-    /// without labels or without a source has no snippets, and leaves the scanner as it is.
+    /// A scanner that is passed in reads one row of context before a span and one after. It is used
+    /// again if it reads the view's source, else replaced by one that does. A view without labels
+    /// or without a source has no snippets, and leaves the scanner unchanged.
     ///
     /// # Errors
     ///
-    /// [`RenderError::LabelOutside`] exactly where a label ends past the source: the first of them,
-    /// as given; the scanner is as it was. [`RenderError::NotUtf8`] exactly where no label does,
-    /// there is a label, and the source is no UTF-8. Both are judged before anything is drawn, and
-    /// name the report 0. [`RenderError::OutOfMemory`] at any time.
+    /// [`RenderError::LabelOutside`] exactly if a label ends past the source: the first such label,
+    /// as given; the scanner is unchanged. [`RenderError::NotUtf8`] exactly if no label does, there
+    /// is a label, and the source isn't UTF-8. Both are checked before anything is drawn, and give
+    /// the report's index as 0. [`RenderError::OutOfMemory`] at any time.
     pub fn render_view<'a>(
         &self,
         alloc: Global,
@@ -79,7 +79,7 @@ impl GraphicalReportHandler {
         answer
     }
 
-    /// The report of a view, all of whose labels end within its source, if that is a text.
+    /// The report of a view, all of whose labels end within its source, if the source is UTF-8.
     fn render_text<'a>(
         &self,
         alloc: Global,
@@ -111,12 +111,12 @@ impl GraphicalReportHandler {
     }
 
     /// The report of a view, as [`render_view`](GraphicalReportHandler::render_view) gives it,
-    /// without its tests: the scanner reads the view's source, with one row of context before a
-    /// span and one after, that source is UTF-8, and every label ends within it.
+    /// without its checks: the scanner reads the view's source, with one row of context before a
+    /// span and one after; the source is UTF-8; and every label ends within it.
     ///
     /// # Errors
     ///
-    /// Want of memory.
+    /// Out of memory.
     pub fn render_view_with_scanner<'a>(
         &self,
         alloc: Global,
@@ -142,7 +142,7 @@ impl GraphicalReportHandler {
     ///
     /// # Errors
     ///
-    /// Want of memory.
+    /// Out of memory.
     pub fn push_view_with_scanner<'a>(
         &self,
         alloc: Global,
@@ -166,8 +166,8 @@ impl GraphicalReportHandler {
         self.push_in_order(alloc, out, view, &order, scanner)
     }
 
-    /// The same, where the places of the labels in label order are at hand: that order is made once
-    /// for a report, and both planned and drawn by.
+    /// The same with the label order, which is made once for a report and used by the plan and the
+    /// drawing.
     fn push_in_order<'a>(
         &self,
         alloc: Global,
@@ -194,7 +194,7 @@ impl GraphicalReportHandler {
         self.push_planned(alloc, out, view, order, &snippets)
     }
 
-    /// The report of a view, whose snippets are given.
+    /// The report of a view with these snippets.
     pub(crate) fn render_planned(
         &self,
         alloc: Global,
@@ -214,7 +214,7 @@ impl GraphicalReportHandler {
         Ok(out)
     }
 
-    /// Appends the report of a view, whose label order and snippets are given.
+    /// Appends the report of a view with this label order and these snippets.
     #[tactic(auto, unfolding(crate::specs::Report::drawn))]
     fn push_planned(
         &self,
@@ -328,7 +328,7 @@ impl GraphicalReportHandler {
         self.render_footer(alloc, out, style, "  note: ", "           ", view.note)
     }
 
-    /// Appends a text behind its heading, if there is one.
+    /// Appends a text after its heading, if there is one.
     #[tactic(auto, unfolding(crate::specs::Report::footer))]
     fn render_footer(
         &self,
@@ -354,8 +354,8 @@ impl GraphicalReportHandler {
     }
 }
 
-/// Whether a view can be drawn, by a scanner that is used again or replaced as in
-/// [`render_view`](GraphicalReportHandler::render_view). It takes no memory.
+/// Whether a view can be drawn; the scanner is used again or replaced as in
+/// [`render_view`](GraphicalReportHandler::render_view). It allocates no memory.
 pub(crate) fn judge<'a>(
     alloc: Global,
     view: &DiagnosticView<'a>,
@@ -386,7 +386,7 @@ pub(crate) fn judge<'a>(
     }
 }
 
-/// The place of the first label that ends past a source of so many bytes.
+/// The index of the first label that ends past a source of `len` bytes.
 pub(crate) fn first_outside(labels: &[LabeledSpan], len: usize) -> Option<usize>
     ensures { result ≡ first_outside len labels.now }
 {
@@ -395,7 +395,7 @@ pub(crate) fn first_outside(labels: &[LabeledSpan], len: usize) -> Option<usize>
         .position(|label| label.span().end as usize > len)
 }
 
-/// A scanner of a source: the one at hand, where it reads that source, or else a new one.
+/// A scanner of a source: the one that is held, if it reads that source, else a new one.
 fn reader_of<'a>(alloc: Global, held: Option<SpanScanner<'a>>, source: &'a [u8]) -> SpanScanner<'a>
     requires fits { length source.now < 4294967295 }
     requires round { ReadsRoundIfThere held }
@@ -408,7 +408,7 @@ fn reader_of<'a>(alloc: Global, held: Option<SpanScanner<'a>>, source: &'a [u8])
     }
 }
 
-/// How grave a view's diagnostic is: an error where nothing is said.
+/// The severity of a view's diagnostic: an error if it has none.
 #[tactic(auto, unfolding(crate::specs::Report::severity_in))]
 fn severity_of(view: &DiagnosticView<'_>) -> Severity
     ensures { result ≡ severity_in (view_parts view.now) }
@@ -451,7 +451,7 @@ fn icon_of(theme: &GraphicalTheme, severity: Severity) -> char
     }
 }
 
-/// Appends the title of a report and an LF, where it is seen to be one line, and else nothing. Says
+/// Appends the title of a report and an LF if it surely fits on one line, else nothing. Returns
 /// whether it did.
 fn write_short_title(
     out: &mut String,
@@ -477,8 +477,8 @@ fn write_short_title(
     Ok(false)
 }
 
-/// Whether what stands in a text behind a place is seen to fit on a line, whose indent stands
-/// before it from another place on.
+/// Whether the text from `behind` on surely fits on a line whose indent is the bytes from `start`
+/// to `behind`.
 fn fits_behind(text: &str, start: usize, behind: usize, width: usize) -> bool
     requires order { start ≤ behind }
     requires boundary { IsCharBoundary text.now behind }
@@ -487,7 +487,7 @@ fn fits_behind(text: &str, start: usize, behind: usize, width: usize) -> bool
     fits_on_line(&text[behind..], width.saturating_sub(behind - start))
 }
 
-/// Appends what stands before a line of the title.
+/// Appends the indent of a line of the title.
 #[tactic(auto, unfolding(crate::specs::Report::title_indent, crate::specs::Theme::styled))]
 fn write_title_indent(
     out: &mut String,
@@ -525,7 +525,7 @@ fn write_title_text(
     Ok(())
 }
 
-/// Appends a code, if there is one, and what parts it from the message.
+/// Appends a code, if there is one, and the separator before the message.
 fn write_code(out: &mut String, code: Option<&str>) -> Result<(), AllocError>
     ensures { OnOk result (Appends out.old out.new (code_part (option_copied code.entry))) }
 {

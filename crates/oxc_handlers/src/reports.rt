@@ -1,4 +1,4 @@
-//! Diagnostics that are drawn by the trait [`Diagnostic`] alone, and lists of them.
+//! Draws diagnostics known only by the trait [`Diagnostic`], and lists of them.
 ghost use Rattle.std.specs.Prelude.{◌≡◌, [], ℕ, Bool, List, All, Ok, IfErr, IfOk, IsOk, OnErr};
 ghost use Rattle.std.specs.Prelude.{OnOk, map, string_bytes};
 ghost use Rattle.textwrap.specs.Appends.{Appends};
@@ -18,23 +18,24 @@ use oxc_protocol::{Diagnostic, Error, Sink, write_all};
 use oxc_windows::SpanScanner;
 use std::alloc::{AllocError, Global};
 
-/// What is asked of each text that is handed on, as a closure would be.
+/// Receives each text, as a closure would. (A trait, since the bound on a closure can't name a
+/// `dyn`.)
 pub trait Keep {
     ghost keeps: { Self → Parts → List ℕ → Bool → Self → Type 0 };
 
-    /// Takes the text of a diagnostic, and answers whether more are wanted.
+    /// Takes the text of a diagnostic, and returns whether more are wanted.
     fn keep(&mut self, diagnostic: &dyn Diagnostic, text: &str) -> bool
         ensures { keeps self.old (parts diagnostic.now) text.now result self.new };
 }
 
 impl GraphicalReportHandler {
-    /// Sends the report of a diagnostic to a sink. The whole text is built before its first byte
-    /// goes out.
+    /// Writes the report of a diagnostic to a sink. The whole text is built before its first byte
+    /// is written.
     ///
     /// # Errors
     ///
-    /// Those of [`render_view`](GraphicalReportHandler::render_view), and nothing was written; or
-    /// [`RenderError::SinkFault`], and the sink took a first part of the text.
+    /// Those of [`render_view`](GraphicalReportHandler::render_view): nothing was written.
+    /// [`RenderError::SinkFault`]: the sink took a first part of the text.
     pub fn render_report<K: Sink>(
         &self,
         alloc: Global,
@@ -51,14 +52,15 @@ impl GraphicalReportHandler {
         Ok(())
     }
 
-    /// Sends the reports of diagnostics to a sink, one after another, by one scanner for all that
-    /// have the same source. The whole text is built before its first byte goes out.
+    /// Writes the reports of diagnostics to a sink, one after another, with one scanner for
+    /// consecutive diagnostics of the same source. The whole text is built before its first byte is
+    /// written.
     ///
     /// # Errors
     ///
     /// Those of [`render_view`](GraphicalReportHandler::render_view) for the first diagnostic that
-    /// can't be drawn, with its place in the list, and nothing was written; or
-    /// [`RenderError::SinkFault`], and the sink took a first part of the text.
+    /// can't be drawn, with its index in the list: nothing was written. [`RenderError::SinkFault`]:
+    /// the sink took a first part of the text.
     pub fn render_reports<K: Sink>(
         &self,
         alloc: Global,
@@ -79,16 +81,16 @@ impl GraphicalReportHandler {
         Ok(())
     }
 
-    /// Hands the reports of diagnostics on in order, each as a text of its own, and stops after the
-    /// first that is not kept; answers how many it handed on. One scanner serves all that have the
-    /// same source.
+    /// Passes the reports of diagnostics to `keep` in order, each as one text, and stops after the
+    /// first for which `keep` returns false; returns how many it passed. Consecutive diagnostics of
+    /// the same source share a scanner.
     ///
     /// # Errors
     ///
     /// Those of [`render_view`](GraphicalReportHandler::render_view) for the first diagnostic of
-    /// the whole list that can't be drawn, with its place in the list, and nothing was handed on;
-    /// or [`RenderError::OutOfMemory`], and a first part of the texts was handed on, all of which
-    /// were kept.
+    /// the whole list that can't be drawn, with its index in the list: nothing was passed on.
+    /// [`RenderError::OutOfMemory`]: a first part of the texts was passed on, and all of these were
+    /// kept.
     pub fn render_reports_until<K: Keep>(
         &self,
         alloc: Global,
@@ -113,7 +115,7 @@ impl GraphicalReportHandler {
         Ok(count)
     }
 
-    /// Hands on the texts of diagnostics that can be drawn, whose codes are at hand.
+    /// Passes on the texts of diagnostics that can be drawn, with these codes.
     fn hand_on<'a, K: Keep>(
         &self,
         alloc: Global,
@@ -141,7 +143,7 @@ impl GraphicalReportHandler {
         Ok(count)
     }
 
-    /// Hands on the text of a diagnostic that can be drawn, whose code is at hand.
+    /// Passes on the text of a diagnostic that can be drawn, with this code.
     fn hand_one<'a, K: Keep>(
         &self,
         alloc: Global,
@@ -193,7 +195,7 @@ impl GraphicalReportHandler {
         Ok(out)
     }
 
-    /// Appends the texts of diagnostics, whose codes are at hand.
+    /// Appends the texts of diagnostics with these codes.
     fn write_texts<'a>(
         &self,
         alloc: Global,
@@ -219,7 +221,7 @@ impl GraphicalReportHandler {
         Ok(())
     }
 
-    /// Appends the text of a diagnostic, whose code is at hand.
+    /// Appends the text of a diagnostic with this code.
     fn write_text<'a>(
         &self,
         alloc: Global,
@@ -243,7 +245,8 @@ impl GraphicalReportHandler {
     }
 }
 
-/// Whether diagnostics can be drawn, whose codes are at hand.
+/// Whether diagnostics with these codes can be drawn. (The whole list is checked before the first
+/// text is passed on.)
 fn judge_all<'a>(
     alloc: Global,
     diagnostics: &'a [Error],
@@ -265,7 +268,7 @@ fn judge_all<'a>(
     Ok(())
 }
 
-/// Whether a diagnostic in a box can be drawn, whose code is at hand.
+/// Whether a boxed diagnostic with this code can be drawn.
 fn judge_box<'a>(
     alloc: Global,
     diagnostic: &'a Error,
@@ -281,7 +284,7 @@ fn judge_box<'a>(
     judge(alloc, &view, scanner)
 }
 
-/// What is drawn of a diagnostic in a box, whose code is at hand.
+/// What is drawn of a boxed diagnostic with this code.
 fn view_of_box<'a>(diagnostic: &'a Error, code: &'a Option<String>) -> DiagnosticView<'a>
     requires { text_bytes code.now ≡ (parts diagnostic.now).code }
     ensures { view_parts result ≡ without_url (parts diagnostic.now) }
@@ -289,21 +292,22 @@ fn view_of_box<'a>(diagnostic: &'a Error, code: &'a Option<String>) -> Diagnosti
     DiagnosticView::of(&**diagnostic, code.as_deref())
 }
 
-/// Hands on the text of a diagnostic in a box.
+/// Passes on the text of a boxed diagnostic.
 fn ask<K: Keep>(keep: &mut K, diagnostic: &Error, text: &str) -> bool
     ensures { K.keeps keep.old (parts diagnostic.now) text.now result keep.new }
 {
     keep.keep(&**diagnostic, text)
 }
 
-/// The code of a diagnostic in a box.
+/// The code of a boxed diagnostic.
 fn code_of(alloc: Global, diagnostic: &Error) -> Result<Option<String>, AllocError>
     ensures { IfOk result (λ code. text_bytes code ≡ (parts diagnostic.now).code) }
 {
     diagnostic.code(alloc)
 }
 
-/// The codes of diagnostics.
+/// The codes of diagnostics. They are made before the first text, since views and the scanner share
+/// a lifetime.
 fn codes_of(alloc: Global, diagnostics: &[Error]) -> Result<Vec<Option<String>>, AllocError>
     ensures { IfOk result (λ codes.
         map text_bytes codes.items ≡ map (λ e. (parts e).code) diagnostics.now) }

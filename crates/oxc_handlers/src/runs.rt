@@ -1,4 +1,4 @@
-//! Runs of one character, and numbers, behind a text.
+//! Appends runs of one character, and numbers.
 ghost use Rattle.std.specs.Prelude.{◌≡◌, ◌≤◌, IfSome, OnOk, encode_utf8, decimal};
 ghost use Rattle.textwrap.specs.Appends.{Appends};
 ghost use Rattle.oxc_handlers.specs.Cells.{repeated};
@@ -8,10 +8,10 @@ use crate::theme::Style;
 use itoa::Buffer;
 use std::alloc::AllocError;
 
-/// How many characters a block has.
+/// The number of characters in a block.
 const BLOCK: usize = 128;
 
-/// Appends a character some times over.
+/// Appends a character `count` times.
 pub(crate) fn write_repeated_char(out: &mut String, c: char, count: usize) -> Result<(), AllocError>
     ensures { OnOk result (Appends out.old out.new (repeated count (encode_utf8 c))) }
 {
@@ -30,7 +30,7 @@ const SPACES: &str = "\
     \x20                                                               \
     \x20                                                               ";
 
-/// Appends so many spaces.
+/// Appends `count` spaces.
 pub(crate) fn write_spaces(out: &mut String, count: usize) -> Result<(), AllocError>
     ensures { OnOk result (Appends out.old out.new (repeated count (encode_utf8 0x20))) }
 {
@@ -41,7 +41,7 @@ pub(crate) fn write_spaces(out: &mut String, count: usize) -> Result<(), AllocEr
     write_blocks(out, ' ', SPACES, count)
 }
 
-/// Appends a character some times over, in blocks where there is one of it.
+/// Appends a character `count` times, in blocks if there is a block of it.
 fn write_run(out: &mut String, c: char, count: usize) -> Result<(), AllocError>
     ensures { OnOk result (Appends out.old out.new (repeated count (encode_utf8 c))) }
 {
@@ -69,7 +69,7 @@ fn block_of(c: char) -> Option<&'static str>
     }
 }
 
-/// Appends a character some times over, in blocks as far as they go.
+/// Appends a character `count` times, in whole blocks and a part of one.
 #[tactic(auto, using(crate::proofs::CellsLemmas::blocks_one_by_one))]
 fn write_blocks(out: &mut String, c: char, block: &str, count: usize) -> Result<(), AllocError>
     requires { block.now ≡ repeated BLOCK (encode_utf8 c) }
@@ -82,7 +82,7 @@ fn write_blocks(out: &mut String, c: char, block: &str, count: usize) -> Result<
     Ok(())
 }
 
-/// The first so many characters of a block.
+/// The first `count` characters of a block.
 fn front_of(block: &str, c: char, count: usize) -> &str
     requires block { block.now ≡ repeated BLOCK (encode_utf8 c) }
     requires few { count ≤ BLOCK }
@@ -91,7 +91,7 @@ fn front_of(block: &str, c: char, count: usize) -> &str
     &block[..count * c.len_utf8()]
 }
 
-/// Appends a character some times over, one by one.
+/// Appends a character `count` times, one by one.
 #[tactic(auto, using(crate::proofs::CellsLemmas::chars_one_by_one))]
 fn write_chars(out: &mut String, c: char, count: usize) -> Result<(), AllocError>
     ensures { OnOk result (Appends out.old out.new (repeated count (encode_utf8 c))) }
@@ -102,7 +102,7 @@ fn write_chars(out: &mut String, c: char, count: usize) -> Result<(), AllocError
     Ok(())
 }
 
-/// Appends a character some times over, in a style.
+/// Appends a character `count` times, in a style.
 #[tactic(auto, unfolding(crate::specs::Theme::styled))]
 pub(crate) fn write_styled_run(
     out: &mut String,

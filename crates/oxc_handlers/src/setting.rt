@@ -1,4 +1,4 @@
-//! What the lines of a snippet are drawn by.
+//! What the lines of a snippet depend on.
 ghost use Rattle.std.specs.Prelude.{◌≡◌};
 ghost use Rattle.std.specs.Option.{option_copied};
 ghost use Rattle.oxc_plan.specs.Order.{label_order};
@@ -10,19 +10,19 @@ use oxc_plan::TabWidth;
 use oxc_protocol::LabeledSpan;
 use std::marker::Model;
 
-/// What the lines of a snippet are drawn by. Labels are named by their places in label order.
+/// What the lines of a snippet depend on. Labels are named by their indices in label order.
 #[derive(Drop)]
 pub(crate) struct Setting<'a> {
     pub(crate) theme: GraphicalTheme,
     /// The report's labels, as given.
     pub(crate) labels: &'a [LabeledSpan],
-    /// Their places in label order.
+    /// The label order.
     pub(crate) order: &'a [usize],
-    /// The distance of the tab stops.
+    /// The tab width.
     pub(crate) tabs: TabWidth,
-    /// The most bars that stand beside one row.
+    /// The most bars beside one row.
     pub(crate) gutter: usize,
-    /// The digits of the row numbers.
+    /// The number of digits of the row numbers.
     pub(crate) digits: usize,
 }
 
@@ -37,8 +37,8 @@ impl<'a> Model for Setting<'a> {
 }
 
 impl<'a> Setting<'a> {
-    /// The setting of a report, of whose labels the places in label order are given. What depends
-    /// on a snippet is still to be set: there are no bars, and numbers of one digit.
+    /// The setting of a report with these labels and their label order. What depends on a snippet
+    /// isn't set yet: there are no bars, and numbers have one digit.
     pub(crate) fn new(
         theme: GraphicalTheme,
         labels: &'a [LabeledSpan],

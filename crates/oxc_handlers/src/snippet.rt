@@ -17,8 +17,8 @@ use itoa::Buffer;
 use oxc_plan::{RowPlan, SnippetPlan};
 use std::alloc::AllocError;
 
-/// Appends snippets one after another. Of the setting, what depends on the snippet is made anew for
-/// each.
+/// Appends snippets one after another. The parts of the setting that depend on the snippet are set
+/// for each.
 pub(crate) fn render_snippets(
     out: &mut String,
     setting: &Setting<'_>,
@@ -59,7 +59,7 @@ fn render_snippet(
     write_close(out, &setting)
 }
 
-/// The digits of the last row's number, and 1 where there is no row.
+/// The number of digits of the last row's number; 1 without rows.
 #[tactic(auto, unfolding(crate::specs::Snippet::number_width), using(crate::proofs::SettingLemmas::get_map))]
 fn width_of_numbers(rows: &[RowPlan<'_>]) -> usize
     ensures exact { result ≡ number_width (map row_plan_view rows.now) }

@@ -3,10 +3,10 @@ ghost use Rattle.std.specs.Prelude.{◌≡◌, ◌<◌, ◌∷◌, [], IfSome, l
 ghost use Rattle.std.specs.Option.{option_copied, option_map_or};
 ghost use Rattle.oxc_handlers.specs.RowLines.{first_mode, lines_of};
 
-/// How a line of the text of a label is drawn.
+/// How a line of a label's text is drawn.
 #[derive(Clone, Copy, Debug, PartialEq, Eq)]
 pub(crate) enum LabelRenderMode {
-    /// The text has this line alone.
+    /// The text has only this line.
     SingleLine,
     /// It is the first of several lines.
     BlockFirst,
@@ -24,7 +24,7 @@ pub(crate) fn first_mode(text: &str) -> LabelRenderMode
     }
 }
 
-/// The first line of a text, and what stands behind its LF.
+/// The first line of a text, and the text after its LF.
 pub(crate) fn first_line(text: &str) -> (&str, Option<&str>)
     ensures lines { lines_of text.now ≡ result.0.now ∷ option_map_or lines_of
         (option_copied result.1) [] }

@@ -7,7 +7,7 @@ ghost use Rattle.oxc_handlers.specs.Theme.{unicode_nocolor_theme, unicode_theme}
 
 use std::alloc::AllocError;
 
-/// What reports are drawn by: characters, and styles of which each is plain or an escape sequence.
+/// The characters and styles of a drawing; each style is plain or an escape sequence.
 ///
 /// A theme is one of the three that its constructors make.
 #[derive(Clone, Copy, Debug, PartialEq, Eq)]
@@ -17,7 +17,7 @@ pub struct GraphicalTheme {
 }
 
 impl GraphicalTheme {
-    /// Box characters, and colors by escape sequences.
+    /// Box-drawing characters, and colors by escape sequences.
     pub fn unicode() -> Self
         ensures { result ≡ unicode_theme }
     {
@@ -27,7 +27,7 @@ impl GraphicalTheme {
         }
     }
 
-    /// Box characters without escape sequences.
+    /// Box-drawing characters without escape sequences.
     pub fn unicode_nocolor() -> Self
         ensures { result ≡ unicode_nocolor_theme }
     {
@@ -51,7 +51,7 @@ impl GraphicalTheme {
     ///
     /// # Errors
     ///
-    /// Want of memory. The text is as it was then.
+    /// Out of memory; the text is unchanged.
     #[tactic(auto, unfolding(crate::specs::Theme::styled))]
     pub fn write_warning(&self, out: &mut String, value: &str) -> Result<(), AllocError>
         ensures ok { OnOk result
@@ -67,10 +67,10 @@ impl GraphicalTheme {
     }
 }
 
-/// How a text is set off from those round it.
+/// The style of a text.
 #[derive(Clone, Copy, Debug, PartialEq, Eq)]
 pub(crate) enum Style {
-    /// Not at all.
+    /// No style.
     Plain,
     Error,
     Warning,
@@ -83,7 +83,7 @@ pub(crate) enum Style {
 }
 
 impl Style {
-    /// What stands before a text in this style.
+    /// What is written before a text in this style.
     pub(crate) fn prefix(self) -> &'static str
         ensures { result.now ≡ prefix_of self }
     {
@@ -100,7 +100,7 @@ impl Style {
         }
     }
 
-    /// What stands behind it.
+    /// What is written after it.
     pub(crate) fn reset(self) -> &'static str
         ensures { result.now ≡ reset_of self }
     {

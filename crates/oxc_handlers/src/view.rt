@@ -1,4 +1,4 @@
-//! What is drawn, and why it was not.
+//! What is drawn, and the errors.
 ghost use Rattle.std.specs.Prelude.{◌≡◌};
 ghost use Rattle.oxc_handlers.specs.Refusals.{error_at};
 
@@ -13,7 +13,7 @@ pub struct DiagnosticView<'a> {
     pub message: &'a str,
     /// A code by which this kind of diagnostic can be looked up.
     pub code: Option<&'a str>,
-    /// How grave it is. Where it is missing, the diagnostic is drawn as an error.
+    /// Its severity. Without one, the diagnostic is drawn as an error.
     pub severity: Option<Severity>,
     /// What the reader can do about it.
     pub help: Option<&'a str>,
@@ -21,7 +21,7 @@ pub struct DiagnosticView<'a> {
     pub note: Option<&'a str>,
     /// The source that the labels point into.
     pub source: Option<SourceRef<'a>>,
-    /// The places that it points to, in the order in which they were given.
+    /// The locations that it points to, in the given order.
     pub labels: &'a [LabeledSpan],
 }
 
@@ -29,7 +29,7 @@ impl<'a> DiagnosticView<'a> {
     ghost use Rattle.std.specs.Option.{option_copied};
     ghost use Rattle.oxc_handlers.specs.Report.{view_parts, without_url};
 
-    /// What is drawn of a diagnostic, whose code is at hand as a text.
+    /// What is drawn of a diagnostic; `code` is its code as a text.
     pub fn of(diagnostic: &'a dyn Diagnostic, code: Option<&'a str>) -> Self
         requires { option_copied code ≡ (parts diagnostic.now).code }
         ensures { view_parts result ≡ without_url (parts diagnostic.now) }
@@ -52,29 +52,29 @@ pub enum RenderError {
     /// A label ends past its source.
     #[error("report {report}: label {label} is outside")]
     LabelOutside {
-        /// The report's place in the list, from 0.
+        /// The report's index in the list, from 0.
         report: usize,
-        /// The label's place in the report, as given, from 0.
+        /// The label's index in the report, as given, from 0.
         label: usize,
     },
-    /// Labels point into a source that is no text.
+    /// Labels point into a source that isn't UTF-8.
     #[error("report {report}: source is no UTF-8 after {valid_up_to} bytes")]
     NotUtf8 {
-        /// The report's place in the list, from 0.
+        /// The report's index in the list, from 0.
         report: usize,
-        /// The number of bytes of the source's longest beginning that is UTF-8.
+        /// The length in bytes of the longest prefix of the source that is UTF-8.
         valid_up_to: usize,
     },
     /// The sink failed.
     #[error("output failed")]
     SinkFault,
-    /// There was no memory left.
+    /// Out of memory.
     #[error("out of memory")]
     OutOfMemory,
 }
 
 impl RenderError {
-    /// The same error of the report at another place.
+    /// The same error for the report at another index.
     pub(crate) fn at(self, place: usize) -> RenderError
         ensures { result ≡ error_at place self }
     {

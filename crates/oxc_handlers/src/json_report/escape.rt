@@ -8,8 +8,8 @@ ghost use Rattle.oxc_handlers.specs.JsonEscape.{IsFirstEscape, needs_escape as i
 
 use std::alloc::AllocError;
 
-/// Appends a text as it stands inside a JSON string. Runs without an escape are appended as they
-/// are.
+/// Appends a text as it is written inside a JSON string. Runs without an escape are appended as one
+/// slice.
 pub fn push_escaped(out: &mut String, text: &str) -> Result<(), AllocError>
     ensures { OnOk result (Appends out.old out.new (escape text.now)) }
 {
@@ -22,12 +22,13 @@ pub fn push_escaped(out: &mut String, text: &str) -> Result<(), AllocError>
     out.push_str(rest)
 }
 
-/// The law that an escaped text is unescaped to itself.
+/// The law that unescaping an escaped text gives the text. The function does nothing.
 pub fn escaped_text_comes_back(_text: &str)
     ensures { ComesBack _text.now }
 {}
 
-// The place of the first byte that needs an escape, and what a text is up to it and behind it.
+// The index of the first byte that needs an escape, with what is known of the text before and after
+// it.
 #[tactic(auto, using(crate::proofs::JsonEscapeLemmas::first_escape))]
 fn first_escaped(text: &str) -> Option<usize>
     ensures { IsFirstEscape text.now result }
@@ -65,7 +66,7 @@ fn push_escape(out: &mut String, byte: u8) -> Result<(), AllocError>
     }
 }
 
-// Appends a control as `\u` and four hexadecimal digits.
+// Appends a control character as `\u` and four hexadecimal digits.
 #[tactic(auto, unfolding(crate::specs::JsonEscape::hex_escape))]
 fn push_hex(out: &mut String, byte: u8) -> Result<(), AllocError>
     requires { byte < 0x20 }

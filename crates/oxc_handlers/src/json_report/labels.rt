@@ -12,7 +12,7 @@ use crate::runs::write_number;
 use oxc_protocol::LabeledSpan;
 use std::alloc::AllocError;
 
-/// Appends the member of the labels, which have these places.
+/// Appends the member `labels`, whose labels have these locations.
 #[tactic(auto, unfolding(crate::specs::JsonText::labels_member))]
 pub fn push_labels_member(
     out: &mut String,
@@ -29,7 +29,7 @@ pub fn push_labels_member(
     out.push_str("]")
 }
 
-// Appends the labels, with commas between.
+// Appends the labels, separated by commas.
 #[tactic(auto, unfolding(crate::specs::JsonText::label_list))]
 fn push_labels(
     out: &mut String,
@@ -95,7 +95,7 @@ fn push_label(
     out.push_str("}")
 }
 
-// Appends the bytes that a label covers, and its place.
+// Appends the span of a label: its bytes and its location.
 #[tactic(auto, unfolding(crate::specs::JsonText::span_object))]
 fn push_span(out: &mut String, label: &LabeledSpan, place: Option<Place>) -> Result<(), AllocError>
     ensures text { OnOk result (Appends out.old out.new (span_object place label.now)) }

@@ -30,7 +30,7 @@ pub fn push_key(out: &mut String, key: &str) -> Result<(), AllocError>
     out.push_str("\": ")
 }
 
-/// Appends a key with a text, and a comma, where there is a text.
+/// Appends a key with a text, and a comma, if there is a text.
 pub fn push_optional(out: &mut String, key: &str, text: Option<&str>) -> Result<(), AllocError>
     ensures { OnOk result
         (Appends out.old out.new (optional_member key.now (option_copied text.entry))) }

@@ -15,7 +15,7 @@ pub struct Place {
     pub column: usize,
 }
 
-/// Finds the places of labels. Contracts see the bytes of the source, if there is one.
+/// Finds the locations of labels. Contracts see the bytes of the source, if there is one.
 #[derive(Drop)]
 pub struct Places<'a> {
     scanner: Option<SpanScanner<'a>>,
@@ -34,7 +34,7 @@ impl<'a> Model for Places<'a> {
 }
 
 impl<'a> Places<'a> {
-    /// The places in the source that a scanner reads, where there is one.
+    /// The locations in the source that a scanner reads, if there is one.
     pub fn new(scanner: Option<SpanScanner<'a>>) -> Self
         requires { ReadsRowsAlone scanner }
         ensures { result ≡ read_bytes scanner.entry }
@@ -42,7 +42,7 @@ impl<'a> Places<'a> {
         Places { scanner }
     }
 
-    /// The scanner, which can find the places of later labels.
+    /// The scanner, which can find the locations of later labels.
     pub fn into_scanner(self) -> Option<SpanScanner<'a>>
         ensures reads { read_bytes result ≡ self.entry }
         ensures alone { ReadsRowsAlone result }
@@ -50,7 +50,7 @@ impl<'a> Places<'a> {
         self.scanner
     }
 
-    /// The place of a label's start: none without a source, and none where the label ends past it.
+    /// The location of a label's start; none without a source, and none if the label ends past it.
     #[tactic(auto, using(crate::proofs::JsonPlaceLemmas::column_read))]
     pub fn find(&mut self, label: &LabeledSpan) -> Result<Option<Place>, AllocError>
         ensures place { IfOk result (λ found. found ≡ label_place self.old label.now) }
