@@ -8,12 +8,12 @@ use std::alloc::{AllocError, Global};
 use std::fmt;
 use std::fmt::{Display, Formatter, Write};
 
-/// A code in two parts: a scope, as the name of a linter's plugin, and a number, as the name of a
-/// rule in it.
+/// A code in two parts: a scope, such as the name of a linter's plugin, and a number, such as the
+/// name of a rule in it.
 ///
-/// Codes are ordered by scope, then by number; a missing part comes before every text, and texts go
-/// by their bytes. The default has neither part. A code prints as `scope(number)`, as the one part
-/// that it has, or as nothing.
+/// Codes are ordered by scope, then by number; a missing part comes before every text, and texts
+/// are ordered by their bytes. The default has neither part. A code prints as `scope(number)`, as
+/// the one part that it has, or as nothing.
 #[derive(Default, PartialEq, Eq, PartialOrd, Ord, Debug, Drop)]
 pub struct OxcCode {
     pub scope: Option<String>,
@@ -30,7 +30,7 @@ impl OxcCode {
         self.scope.is_some() || self.number.is_some()
     }
 
-    /// The code's text, none where neither part is there.
+    /// The code's text; none if it has neither part.
     pub(crate) fn shown(&self, alloc: Global) -> Result<Option<String>, AllocError>
         ensures { IfOk result (λ text. text_bytes text ≡ shown_of (code_parts self.now)) }
     {
@@ -43,11 +43,11 @@ impl OxcCode {
         Ok(Some(text))
     }
 
-    /// Appends the code's text, and says whether there is one: either part is there.
+    /// Appends the code's text, and returns whether there is one: the code has at least one part.
     ///
     /// # Errors
     ///
-    /// Want of memory.
+    /// Out of memory.
     pub fn push_onto(&self, out: &mut String) -> Result<bool, AllocError>
         ensures told { IfOk result (λ there. IsTrue there
             ↔ IsSome (shown_of (code_parts self.now))) }
@@ -68,7 +68,7 @@ impl OxcCode {
     }
 }
 
-/// The bytes of a part, none where it is missing.
+/// The number of bytes of a part; 0 if it is missing.
 fn len_of(part: &Option<String>) -> usize {
     match part {
         Some(text) => text.len(),

@@ -13,10 +13,10 @@ use std::fmt;
 use std::fmt::{Debug, Formatter, Write};
 use std::marker::Model;
 
-/// A diagnostic as it is built up: a message and a severity, and then whatever parts are known.
+/// A diagnostic that is built step by step: a message and a severity, then any other parts.
 ///
-/// A builder takes the diagnostic and gives it back with the named part changed and all others as
-/// they were. Where it finds no memory, the diagnostic is let go.
+/// A builder takes the diagnostic and returns it with the named part changed and all others
+/// unchanged. If memory runs out, the diagnostic is dropped.
 #[derive(Debug, Drop)]
 pub struct OxcDiagnostic {
     inner: OxcDiagnosticInner,
@@ -90,7 +90,7 @@ impl OxcDiagnostic {
     ///
     /// # Errors
     ///
-    /// Want of memory.
+    /// Out of memory.
     pub fn error(alloc: Global, message: &str) -> Result<Self, AllocError>
         ensures { IfOk result (λ it. it ≡ bare_diagnostic Error message.now) }
     {
@@ -101,7 +101,7 @@ impl OxcDiagnostic {
     ///
     /// # Errors
     ///
-    /// Want of memory.
+    /// Out of memory.
     pub fn warn(alloc: Global, message: &str) -> Result<Self, AllocError>
         ensures { IfOk result (λ it. it ≡ bare_diagnostic Warning message.now) }
     {
@@ -124,12 +124,11 @@ impl OxcDiagnostic {
         })
     }
 
-    /// Gives the code's scope and its number, neither of them empty. A part that is there already
-    /// stays.
+    /// Sets the code's scope and number, neither of them empty. A part that is already set stays.
     ///
     /// # Errors
     ///
-    /// Want of memory; the diagnostic is given up.
+    /// Out of memory; the diagnostic is dropped.
     pub fn with_error_code(
         self,
         alloc: Global,
@@ -146,11 +145,11 @@ impl OxcDiagnostic {
             .with_error_code_num(alloc, number)
     }
 
-    /// Gives the code's scope, which is not empty. A scope that is there already stays.
+    /// Sets the code's scope, which isn't empty. A scope that is already set stays.
     ///
     /// # Errors
     ///
-    /// Want of memory; the diagnostic is given up.
+    /// Out of memory; the diagnostic is dropped.
     pub fn with_error_code_scope(
         mut self,
         alloc: Global,
@@ -167,11 +166,11 @@ impl OxcDiagnostic {
         Ok(self)
     }
 
-    /// Gives the code's number, which is not empty. A number that is there already stays.
+    /// Sets the code's number, which isn't empty. A number that is already set stays.
     ///
     /// # Errors
     ///
-    /// Want of memory; the diagnostic is given up.
+    /// Out of memory; the diagnostic is dropped.
     pub fn with_error_code_num(mut self, alloc: Global, code_num: &str) -> Result<Self, AllocError>
         requires { 0 < length code_num.now }
         ensures { IfOk result (λ it. it ≡ record self {
@@ -184,14 +183,15 @@ impl OxcDiagnostic {
         Ok(self)
     }
 
-    /// Appends the text of the code, and says whether there is one: either part is there.
+    /// Appends the text of the code, and returns whether there is one: the code has at least one
+    /// part.
     ///
-    /// A caller that shows many diagnostics needs one text for all their codes, in place of a new
-    /// one for each as by [`code`](Diagnostic::code).
+    /// So one `String` serves for the codes of many diagnostics; [`code`](Diagnostic::code) makes a
+    /// new one for each.
     ///
     /// # Errors
     ///
-    /// Want of memory.
+    /// Out of memory.
     pub fn push_code(&self, out: &mut String) -> Result<bool, AllocError>
         ensures told { IfOk result (λ there. IsTrue there ↔ IsSome (shown_of self.now.code)) }
         ensures text { OnOk result (string_bytes out.new
@@ -212,7 +212,7 @@ impl OxcDiagnostic {
     ///
     /// # Errors
     ///
-    /// Want of memory; the diagnostic is given up.
+    /// Out of memory; the diagnostic is dropped.
     pub fn with_help(mut self, alloc: Global, help: &str) -> Result<Self, AllocError>
         ensures { IfOk result (λ it. it ≡ record self { help = Some help.now }) }
     {
@@ -220,11 +220,11 @@ impl OxcDiagnostic {
         Ok(self)
     }
 
-    /// Sets the note: what the reader should know besides.
+    /// Sets the note: what else the reader should know.
     ///
     /// # Errors
     ///
-    /// Want of memory; the diagnostic is given up.
+    /// Out of memory; the diagnostic is dropped.
     pub fn with_note(mut self, alloc: Global, note: &str) -> Result<Self, AllocError>
         ensures { IfOk result (λ it. it ≡ record self { note = Some note.now }) }
     {
@@ -232,11 +232,11 @@ impl OxcDiagnostic {
         Ok(self)
     }
 
-    /// Sets one label in place of all that are there. [`OxcDiagnostic::and_label`] appends one.
+    /// Replaces all labels with this one. [`OxcDiagnostic::and_label`] appends one.
     ///
     /// # Errors
     ///
-    /// Want of memory; the diagnostic is given up.
+    /// Out of memory; the diagnostic is dropped.
     pub fn with_label(mut self, alloc: Global, label: LabeledSpan) -> Result<Self, AllocError>
         ensures { IfOk result (λ it. it ≡ record self { labels = label ∷ [] }) }
     {
@@ -246,12 +246,12 @@ impl OxcDiagnostic {
         Ok(self)
     }
 
-    /// Sets these labels in place of all that are there. [`OxcDiagnostic::and_labels`] appends
-    /// them.
+    /// Replaces all labels with these. [`OxcDiagnostic::and_labels`] appends them. The call
+    /// allocates nothing; it takes `alloc` so that all these builders look alike.
     ///
     /// # Errors
     ///
-    /// Want of memory; the diagnostic is given up.
+    /// Out of memory; the diagnostic is dropped.
     pub fn with_labels(
         mut self,
         _alloc: Global,
@@ -267,7 +267,7 @@ impl OxcDiagnostic {
     ///
     /// # Errors
     ///
-    /// Want of memory; the diagnostic is given up.
+    /// Out of memory; the diagnostic is dropped.
     pub fn and_label(mut self, label: LabeledSpan) -> Result<Self, AllocError>
         ensures { IfOk result (λ it. it ≡ record self { labels = self.labels ++ label ∷ [] }) }
     {
@@ -279,7 +279,7 @@ impl OxcDiagnostic {
     ///
     /// # Errors
     ///
-    /// Want of memory; the diagnostic is given up.
+    /// Out of memory; the diagnostic is dropped.
     pub fn and_labels(mut self, labels: Vec<LabeledSpan>) -> Result<Self, AllocError>
         ensures { IfOk result (λ it. it ≡ record self { labels = self.labels ++ labels.items }) }
     {
@@ -288,11 +288,11 @@ impl OxcDiagnostic {
         Ok(self)
     }
 
-    /// Sets where more about it is written.
+    /// Sets the URL of a page that says more.
     ///
     /// # Errors
     ///
-    /// Want of memory; the diagnostic is given up.
+    /// Out of memory; the diagnostic is dropped.
     pub fn with_url(mut self, alloc: Global, url: &str) -> Result<Self, AllocError>
         ensures { IfOk result (λ it. it ≡ record self { url = Some url.now }) }
     {
@@ -300,7 +300,7 @@ impl OxcDiagnostic {
         Ok(self)
     }
 
-    /// The same diagnostic with this source. The caller puts it into a box.
+    /// The same diagnostic with this source. The caller boxes it.
     pub fn with_source_code<T: SourceCode>(self, source_code: T) -> DiagnosticWithSource<T>
         ensures { result ≡ parts_with self (Some (T.source source_code)) }
     {
@@ -336,7 +336,7 @@ impl OxcDiagnostic {
     ///
     /// # Errors
     ///
-    /// Want of memory.
+    /// Out of memory.
     pub fn try_clone(&self, alloc: Global) -> Result<Self, AllocError>
         ensures { IfOk result (λ copy. copy ≡ self.now) }
     {
@@ -357,7 +357,7 @@ impl OxcDiagnostic {
     }
 }
 
-/// An equal text of its own, where there is one.
+/// A copy of the text, if there is one.
 fn copied_text(alloc: Global, text: &Option<String>) -> Result<Option<String>, AllocError>
     ensures { IfOk result (λ copy. text_bytes copy ≡ text_bytes text.now) }
 {

@@ -8,7 +8,7 @@ use std::alloc::{AllocError, Global};
 use std::marker::Model;
 use std::{slice, vec};
 
-/// A list of diagnostics that can tell its errors and its warnings.
+/// A list of diagnostics that can give its errors and its warnings.
 #[derive(Debug, Drop)]
 pub struct Diagnostics {
     diagnostics: Vec<OxcDiagnostic>,
@@ -29,7 +29,7 @@ impl Diagnostics {
     ghost use Rattle.oxc_protocol.specs.LendingList.{LendsItems};
     ghost use Rattle.std.specs.Borrow.{sem};
 
-    /// An empty list, which takes no memory.
+    /// An empty list, which allocates no memory.
     pub fn new(alloc: Global) -> Self
         ensures { result ≡ [] }
     {
@@ -49,7 +49,7 @@ impl Diagnostics {
     ///
     /// # Errors
     ///
-    /// Want of memory.
+    /// Out of memory.
     pub fn from_one(alloc: Global, diagnostic: OxcDiagnostic) -> Result<Self, AllocError>
         ensures { IfOk result (λ list. list ≡ diagnostic ∷ []) }
     {
@@ -116,7 +116,7 @@ impl Diagnostics {
     ///
     /// # Errors
     ///
-    /// Want of memory: the list is as it was.
+    /// Out of memory; the list is unchanged.
     pub fn push(&mut self, diagnostic: OxcDiagnostic) -> Result<(), AllocError>
         ensures ok { OnOk result (self.new ≡ self.old ++ diagnostic ∷ []) }
         ensures err { OnErr result (self.new ≡ self.old) }
@@ -129,7 +129,7 @@ impl Diagnostics {
     ///
     /// # Errors
     ///
-    /// Want of memory: the list is as it was.
+    /// Out of memory; the list is unchanged.
     pub fn extend(&mut self, diagnostics: Vec<OxcDiagnostic>) -> Result<(), AllocError>
         ensures ok { OnOk result (self.new ≡ self.old ++ diagnostics.items) }
         ensures err { OnErr result (self.new ≡ self.old) }
@@ -143,7 +143,7 @@ impl Diagnostics {
     ///
     /// # Errors
     ///
-    /// Want of memory.
+    /// Out of memory.
     pub fn try_clone(&self, alloc: Global) -> Result<Self, AllocError>
         ensures { IfOk result (λ copy. copy ≡ self.now) }
     {

@@ -1,11 +1,11 @@
-//! What a linter reports, the sources that it points into, and where drawn reports go.
+//! What a linter reports, the sources that it points into, and the sinks for drawn reports.
 //!
-//! A linter builds an [`OxcDiagnostic`] and hands it on, as a value, in a list of [`Diagnostics`],
-//! or in a box as an [`Error`]. Whoever shows it asks for its parts by the trait [`Diagnostic`]
-//! alone, and for the source that its labels point into by [`SourceCode`].
+//! A linter builds an [`OxcDiagnostic`] and passes it on as a value, in a list of [`Diagnostics`],
+//! or boxed as an [`Error`]. Code that shows it asks for its parts only by the trait
+//! [`Diagnostic`], and for its source by [`SourceCode`].
 //!
 //! A [`Sink`] is any device that takes bytes and counts its own faults. [`MemorySink`] keeps what
-//! it took, and can be told to fail, for tests and for callers that want the text.
+//! it took, and can be made to fail: it is for tests, and for callers that want the text.
 #![tactic(auto)]
 
 mod code;
@@ -39,5 +39,5 @@ pub type Error = Box<dyn Diagnostic>;
 /// A result whose error is an [`OxcDiagnostic`].
 pub type Result<T> = std::result::Result<T, OxcDiagnostic>;
 
-/// The labels of an [`OxcDiagnostic`]. One or two are kept inline and need no allocation.
+/// The labels of an [`OxcDiagnostic`]. Up to two are kept inline and need no allocation.
 pub type Labels = SmallVec<LabeledSpan, 2, Global>;

@@ -1,4 +1,4 @@
-// A sink in memory, which fails at the calls that it was told.
+// A sink in memory, which fails at given calls.
 ghost use Rattle.std.specs.Prelude.{◌≡◌, [], ◌<◌, ◌≤◌, ◌↔◌, length, Some, vec_capacity, IfOk};
 ghost use Rattle.std.specs.Prelude.{IsErr, OnErr, OnOk};
 ghost use Rattle.std.specs.Io.{WritesAtMost};
@@ -11,7 +11,7 @@ use crate::{Failed, Sink};
 use std::alloc::{AllocError, Global};
 use std::marker::Model;
 
-/// A sink that keeps what it took, in memory taken beforehand.
+/// A sink that keeps what it took, in memory allocated beforehand.
 ///
 /// Contracts see its [`SinkState`](../specs/MemorySink.antt): the bytes taken, the room for all of
 /// them, the most that one call takes, the numbers of the calls that fail (the first call is 0),
@@ -43,11 +43,11 @@ impl Model for MemorySink {
 }
 
 impl MemorySink {
-    /// Takes the memory for `room` bytes; no later call takes any.
+    /// Allocates room for `room` bytes; no later call allocates.
     ///
     /// # Errors
     ///
-    /// Want of memory.
+    /// Out of memory.
     pub fn new(
         alloc: Global,
         room: usize,

@@ -5,7 +5,7 @@ use crate::SourceCode;
 use std::fmt;
 use std::fmt::{Debug, Formatter, Write};
 
-/// A source under a name, which stands in place of its own name if it has one.
+/// A source with a name, which replaces the source's own name if it has one.
 #[derive(Drop)]
 pub struct NamedSource<S> {
     name: String,
@@ -24,7 +24,7 @@ impl<S: SourceCode> Debug for NamedSource<S> {
 impl<S: SourceCode> NamedSource<S> {
     ghost use Rattle.oxc_protocol.specs.SourceViews.{named_view};
 
-    /// The source under this name.
+    /// The source with this name.
     pub fn new(name: String, source: S) -> Self
         ensures { named_view S.source result
             ≡ record { bytes = (S.source source).bytes; name = Some (string_bytes name) } }

@@ -11,8 +11,8 @@ use crate::{InfoPosition, LabeledSpan, SourceRef};
 use bytecount::count;
 use memchr::{memchr_iter, memrchr2};
 
-/// Where the first label starts and where it ends, if there is a source within which it ends.
-/// Breaks are counted once up to the label's end.
+/// The positions of the first label's start and end, if there is a source and the label ends within
+/// it. Breaks are counted once up to the label's end.
 pub fn positions(
     source: Option<SourceRef<'_>>,
     labels: &[LabeledSpan],
@@ -43,7 +43,7 @@ fn position(bytes: &[u8], offset: usize, row: usize) -> InfoPosition
     }
 }
 
-/// How many breaks end in a part of a source: its LFs, and its CRs that no LF follows.
+/// The number of breaks that end in a part of a source: its LFs, and its CRs that no LF follows.
 fn breaks_ending(bytes: &[u8], from: usize, to: usize) -> usize
     requires ordered { from ≤ to }
     requires within { to ≤ length bytes.now }
@@ -53,7 +53,8 @@ fn breaks_ending(bytes: &[u8], from: usize, to: usize) -> usize
     count(part, b'\n') + lone_returns(part, &bytes[from..])
 }
 
-/// How many CRs of a part no LF follows, where `rest` begins with the part and goes on behind it.
+/// The number of CRs of a part that no LF follows; `rest` begins with the part and continues after
+/// it.
 fn lone_returns(part: &[u8], rest: &[u8]) -> usize
     ensures { result ≡ count_by (is_lone_return rest.now) (places (is_byte 13) part.now) }
 {
@@ -62,14 +63,15 @@ fn lone_returns(part: &[u8], rest: &[u8]) -> usize
         .count()
 }
 
-/// Whether a CR stands at a place, and no LF behind it.
+/// Whether the byte at an index is a CR that no LF follows.
 fn is_lone_return(bytes: &[u8], at: usize) -> bool
     ensures { result ≡ is_lone_return bytes.now at }
 {
     bytes.get(at) == Some(&b'\r') && bytes.get(at + 1) != Some(&b'\n')
 }
 
-/// The bytes from the start of its row to an offset, where the LF of a CRLF counts as its CR.
+/// The number of bytes from the start of its row to an offset, where the LF of a CRLF counts as its
+/// CR.
 fn column_of(bytes: &[u8], offset: usize) -> usize
     requires { offset ≤ length bytes.now }
     ensures exact { result ≡ byte_column (length bytes.now) (breaks_of bytes.now) offset }

@@ -10,8 +10,9 @@ use std::alloc::{AllocError, Global};
 
 /// The parts of a diagnostic that a renderer shows.
 ///
-/// A contract knows a diagnostic by one record, `parts`, and each call answers the part of its
-/// name. An implementation that lacks a part answers none, or an empty list.
+/// Contracts see a diagnostic as one record, `parts`; each call returns the part of its name. An
+/// implementation without a part returns none, or an empty list. (There are no default bodies: one
+/// body is proved for every implementation.)
 pub trait Diagnostic: Drop {
     ghost use Rattle.oxc_protocol.specs.SourceViews.{ref_views};
 
@@ -25,11 +26,11 @@ pub trait Diagnostic: Drop {
     ///
     /// # Errors
     ///
-    /// Want of memory.
+    /// Out of memory.
     fn code(&self, alloc: Global) -> Result<Option<String>, AllocError>
         ensures { IfOk result (λ code. text_bytes code ≡ (parts self.now).code) };
 
-    /// How grave it is. A renderer takes a missing severity as [`Severity::Error`].
+    /// Its severity. A renderer takes a missing severity as [`Severity::Error`].
     fn severity(&self) -> Option<Severity>
         ensures { result ≡ (parts self.now).severity };
 
@@ -41,7 +42,7 @@ pub trait Diagnostic: Drop {
     fn note(&self) -> Option<&str>
         ensures { option_copied result ≡ (parts self.now).note };
 
-    /// Where more about it is written.
+    /// The URL of a page that says more.
     fn url(&self) -> Option<&str>
         ensures { option_copied result ≡ (parts self.now).url };
 
@@ -49,12 +50,12 @@ pub trait Diagnostic: Drop {
     fn source_code(&self) -> Option<SourceRef<'_>>
         ensures { ref_views result ≡ (parts self.now).source };
 
-    /// The places that it points to, in the order in which they were given.
+    /// The labels, in the given order.
     fn labels(&self) -> &[LabeledSpan]
         ensures { result.now ≡ (parts self.now).labels };
 }
 
-/// How grave a diagnostic is, in rising order. The default is an error.
+/// The severity of a diagnostic, in rising order. The default is an error.
 #[derive(Clone, Copy, PartialEq, Eq, PartialOrd, Ord, Debug, Default)]
 pub enum Severity {
     /// Advice on code that is not wrong.
@@ -66,9 +67,9 @@ pub enum Severity {
     Error,
 }
 
-/// A source that diagnostics point into: fewer than `u32::MAX` bytes, and maybe a name.
+/// A source that diagnostics point into: fewer than `u32::MAX` bytes, and an optional name.
 ///
-/// An implementation that has no name answers none.
+/// An implementation that has no name returns none.
 pub trait SourceCode: Drop {
     ghost source: { Self → SourceParts };
 
@@ -76,14 +77,14 @@ pub trait SourceCode: Drop {
     fn bytes(&self) -> &[u8]
         ensures { result.now ≡ (source self.now).bytes };
 
-    /// The source's name, as that of its file.
+    /// The source's name, such as its file's.
     fn name(&self) -> Option<&str>
         ensures { option_copied result ≡ (source self.now).name };
 
     ghost fits: { (s : Self) → Fits (source s).bytes };
 }
 
-/// A source that is borrowed: its bytes and its name.
+/// A borrowed source: its bytes and its name.
 #[derive(Clone, Copy)]
 pub struct SourceRef<'a> {
     bytes: &'a [u8],
@@ -94,7 +95,7 @@ pub struct SourceRef<'a> {
 impl<'a> SourceRef<'a> {
     ghost use Rattle.oxc_protocol.specs.SourceViews.{ref_view};
 
-    /// A reference to these bytes, which are fewer than `u32::MAX`, under this name.
+    /// A source of these bytes, fewer than `u32::MAX`, with this name.
     pub fn new(bytes: &'a [u8], name: Option<&'a str>) -> Self
         requires { Fits bytes.now }
         ensures { ref_view result ≡ record { bytes = bytes.now; name = option_copied name.entry } }

@@ -1,4 +1,5 @@
-//! Reporters, which turn diagnostics into texts, and what an editor is told of a diagnostic.
+//! Reporters, which turn diagnostics into texts, and [`Info`], what an editor needs of a
+//! diagnostic.
 ghost use Rattle.std.specs.Prelude.{◌≡◌, ℕ, List, Option, None, false, IfOk, OnOk, OnErr, map};
 ghost use Rattle.std.specs.Prelude.{string_bytes};
 ghost use Rattle.std.specs.Fn.{CalledAt};
@@ -17,12 +18,12 @@ use crate::{Diagnostic, Error, Severity, SourceRef};
 use std::alloc::{AllocError, Global};
 use std::marker::Model;
 
-/// Renders diagnostics to some format, a text at a time.
+/// Renders diagnostics to a format, one text at a time.
 ///
-/// An implementation says by two relations what it does: `renders` speaks of the reporter before,
-/// the diagnostic's parts, the text or none that is answered, and the reporter after; `finishes` of
-/// the reporter before, the counts, the text or none, and the reporter after. The list calls are
-/// known by `renders` alone.
+/// An implementation states two relations. `renders` relates the reporter before, the diagnostic's
+/// parts, the returned text or none, and the reporter after; `finishes` the reporter before, the
+/// counts, the returned text or none, and the reporter after. The contracts of the list calls speak
+/// of `renders` only.
 pub trait DiagnosticReporter {
     ghost renders: { Self → Parts → Option (List ℕ) → Self → Type 0 };
 
@@ -30,11 +31,11 @@ pub trait DiagnosticReporter {
 
     ghost lacks_fallback: { Self → Type 0 } = { λ _. ⊥ };
 
-    /// Called where no more diagnostics come. A reporter that kept texts back gives them now.
+    /// To be called after the last diagnostic. A reporter that kept texts back returns them now.
     ///
     /// # Errors
     ///
-    /// Want of memory.
+    /// Out of memory.
     fn finish(
         &mut self,
         alloc: Global,
@@ -43,26 +44,26 @@ pub trait DiagnosticReporter {
         ensures { IfOk result (λ text. finishes self.old counts.now (text_bytes text) self.new) };
 
     /// Whether a very long line of a text may be replaced by a warning that the file is minified. A
-    /// reporter whose texts are read by programs answers false.
+    /// reporter whose texts are read by programs returns false.
     fn supports_minified_file_fallback(&self) -> bool
         ensures { result ≡ false → lacks_fallback self.now }
     {
         true
     }
 
-    /// Renders one diagnostic. None leaves it out.
+    /// Renders one diagnostic. None omits it. After an error nothing is known of the reporter.
     ///
     /// # Errors
     ///
-    /// Want of memory.
+    /// Out of memory.
     fn render_error(&mut self, alloc: Global, error: Error) -> Result<Option<String>, AllocError>
         ensures { IfOk result (λ text. renders self.old (parts error) (text_bytes text) self.new) };
 
-    /// Renders diagnostics in order, and hands on each text that this gives.
+    /// Renders diagnostics in order, and passes each text on.
     ///
     /// # Errors
     ///
-    /// Want of memory, after the texts of the first of them were handed on.
+    /// Out of memory, after the texts of a first part of them were passed on.
     final fn render_errors<F: FnMut(&str)>(
         &mut self,
         alloc: Global,
@@ -82,11 +83,11 @@ pub trait DiagnosticReporter {
         self.render_errors_into(alloc, errors, &mut emit)
     }
 
-    /// The same with a closure that is lent, so that a caller knows what became of it.
+    /// The same with a borrowed closure, so that the caller's proof learns what the closure wrote.
     ///
     /// # Errors
     ///
-    /// Want of memory, after the texts of the first of them were handed on.
+    /// Out of memory, after the texts of a first part of them were passed on.
     final fn render_errors_into<F: FnMut(&str)>(
         &mut self,
         alloc: Global,
@@ -111,12 +112,13 @@ pub trait DiagnosticReporter {
         Ok(())
     }
 
-    /// Renders diagnostics in order, and offers each text that this gives with the name of its
-    /// source, up to and with the first that is not kept.
+    /// Renders diagnostics in order, and passes each text on with the name of its source, up to and
+    /// including the first for which the closure returns false.
     ///
     /// # Errors
     ///
-    /// Want of memory, after what the first of them gave was offered and kept.
+    /// Out of memory, after the texts of a first part of them were passed on, for each of which the
+    /// closure returned true.
     final fn render_errors_until<F: FnMut(Option<&str>, &str) -> bool>(
         &mut self,
         alloc: Global,
@@ -134,11 +136,12 @@ pub trait DiagnosticReporter {
         self.render_errors_until_into(alloc, errors, &mut keep)
     }
 
-    /// The same with a closure that is lent, so that a caller knows what became of it.
+    /// The same with a borrowed closure, so that the caller's proof learns what the closure wrote.
     ///
     /// # Errors
     ///
-    /// Want of memory, after what the first of them gave was offered and kept.
+    /// Out of memory, after the texts of a first part of them were passed on, for each of which the
+    /// closure returned true.
     final fn render_errors_until_into<F: FnMut(Option<&str>, &str) -> bool>(
         &mut self,
         alloc: Global,
@@ -167,14 +170,14 @@ pub trait DiagnosticReporter {
     }
 }
 
-/// The name of the source of a diagnostic, as a text of its own.
+/// A copy of the name of a diagnostic's source.
 fn source_name(alloc: Global, error: &Error) -> Result<Option<String>, AllocError>
     ensures { IfOk result (λ name. text_bytes name ≡ source_name (parts error.now).source) }
 {
     name_of(alloc, error.source_code())
 }
 
-/// The name of a source, as a text of its own.
+/// A copy of a source's name.
 fn name_of(alloc: Global, source: Option<SourceRef<'_>>) -> Result<Option<String>, AllocError>
     ensures { IfOk result (λ name. text_bytes name ≡ source_name (ref_views source.entry)) }
 {
@@ -187,14 +190,14 @@ fn name_of(alloc: Global, source: Option<SourceRef<'_>>) -> Result<Option<String
     }
 }
 
-/// A name, lent where there is one.
+/// The name, borrowed, if there is one.
 fn lent(name: &Option<String>) -> Option<&str>
     ensures { option_copied result ≡ text_bytes name.now }
 {
     name.as_deref()
 }
 
-/// How many warnings and errors were reported, and whether the warnings were more than allowed. The
+/// The numbers of warnings and errors, and whether there were more warnings than allowed. The
 /// caller counts.
 #[derive(Debug, Drop)]
 pub struct DiagnosticResult {
@@ -231,14 +234,14 @@ impl DiagnosticResult {
         }
     }
 
-    /// How many warnings there were.
+    /// The number of warnings.
     pub fn warnings_count(&self) -> usize
         ensures { result ≡ self.now.warnings }
     {
         self.warnings_count
     }
 
-    /// How many errors there were.
+    /// The number of errors.
     pub fn errors_count(&self) -> usize
         ensures { result ≡ self.now.errors }
     {
@@ -263,24 +266,24 @@ impl Default for DiagnosticResult {
     }
 }
 
-/// What an editor or a log is told of a diagnostic.
+/// What an editor or a log needs of a diagnostic.
 #[derive(Debug, Drop)]
 pub struct Info {
     /// Where its first label starts.
     pub start: InfoPosition,
     /// Where its first label ends.
     pub end: InfoPosition,
-    /// The name of its source, empty where it has none.
+    /// The name of its source; empty if it has none.
     pub filename: String,
-    /// The message, empty where no position was found.
+    /// The message; empty if no position was found.
     pub message: String,
-    /// An error or a warning; a warning where no position was found.
+    /// An error or a warning; a warning if no position was found.
     pub severity: Severity,
     /// The code.
     pub rule_id: Option<String>,
 }
 
-/// A row and a byte column of a source, both from 1. Both are 0 where no position was found.
+/// A row and a byte column of a source, both from 1. Both are 0 if no position was found.
 #[derive(PartialEq, Eq, PartialOrd, Ord, Debug, Drop)]
 pub struct InfoPosition {
     /// The row, under all three breaks: LF, CR, and CRLF taken as one.
@@ -292,16 +295,16 @@ pub struct InfoPosition {
 impl Info {
     ghost use Rattle.oxc_protocol.specs.Info.{info_of, info_parts};
 
-    /// What is told of a diagnostic.
+    /// What an editor needs of a diagnostic.
     ///
-    /// A position is found where it has a source and a label, and its first label ends within the
-    /// source. A missing severity is then an error, and advice is a warning. Where no position is
-    /// found, both positions are 0, the message is empty, and the severity is a warning, whatever
-    /// the diagnostic says.
+    /// A position is found if the diagnostic has a source and a label, and its first label ends
+    /// within the source. Then a missing severity is an error, and advice is a warning. If no
+    /// position is found, both positions are 0, the message is empty, and the severity is a
+    /// warning, whatever the diagnostic says.
     ///
     /// # Errors
     ///
-    /// Want of memory.
+    /// Out of memory.
     pub fn new(alloc: Global, diagnostic: &dyn Diagnostic) -> Result<Info, AllocError>
         ensures { IfOk result (λ info. info_parts info ≡ info_of (parts diagnostic.now)) }
     {
@@ -328,7 +331,7 @@ impl Info {
     }
 }
 
-/// The name of a source, empty where there is none.
+/// The name of a source; empty if there is none.
 fn filename(alloc: Global, source: Option<SourceRef<'_>>) -> Result<String, AllocError>
     ensures { IfOk result (λ name. string_bytes name
         ≡ filename_of (source_name (ref_views source.entry))) }
@@ -337,7 +340,7 @@ fn filename(alloc: Global, source: Option<SourceRef<'_>>) -> Result<String, Allo
     Ok(name.unwrap_or(String::new(alloc)))
 }
 
-/// How grave a diagnostic that has a position is told to be.
+/// The severity of the [`Info`] of a diagnostic that has a position.
 fn told_severity(severity: Option<Severity>) -> Severity
     ensures { result ≡ told_severity severity }
 {

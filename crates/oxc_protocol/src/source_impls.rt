@@ -1,4 +1,4 @@
-//! Sources that this crate offers.
+//! The sources of this crate.
 ghost use Rattle.std.specs.Prelude.{◌≡◌, ◌<◌, None, length, string_bytes};
 ghost use Rattle.oxc_protocol.specs.Source.{Fits};
 
