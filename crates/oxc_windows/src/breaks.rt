@@ -7,11 +7,11 @@ ghost use Rattle.oxc_windows.specs.Breaks.{break_at};
 pub struct LineBreak {
     /// The offset of its first byte.
     pub start: usize,
-    /// The offset of its last byte, which is `start` but for a CRLF.
+    /// The offset of its last byte: `start`, or the LF of a CRLF.
     pub end: usize,
 }
 
-/// The break that starts at a place, if one does. The LF of a CRLF starts none.
+/// The break that starts at an offset, if one does. The LF of a CRLF starts none.
 pub fn break_starting(bytes: &[u8], at: usize) -> Option<LineBreak>
     ensures { result ≡ break_at bytes.now at }
 {

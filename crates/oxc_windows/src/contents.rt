@@ -6,7 +6,7 @@ use crate::Window;
 use oxc_span::Span;
 use std::marker::Model;
 
-/// Bytes of a source, where they stand in it, and the numbers of their rows.
+/// Bytes of a source, their span in it, and the numbers of their rows.
 #[derive(Debug, Drop)]
 pub struct SpanContents<'a> {
     bytes: &'a [u8],
@@ -27,7 +27,7 @@ impl<'a> Model for SpanContents<'a> {
 }
 
 impl<'a> SpanContents<'a> {
-    /// Contents of exactly these parts; `line` and `column`, in bytes, count from 0.
+    /// Contents of exactly these parts. `line` and `column` (in bytes) count from 0.
     pub fn new(bytes: &'a [u8], span: Span, line: usize, column: usize, line_count: usize) -> Self
         ensures { result ≡ record {
           bytes = bytes.now;
@@ -46,14 +46,14 @@ impl<'a> SpanContents<'a> {
         }
     }
 
-    /// The bytes, as they stand in the source.
+    /// The bytes.
     pub fn bytes(&self) -> &'a [u8]
         ensures { result.now ≡ self.now.bytes }
     {
         self.bytes
     }
 
-    /// Where the bytes stand in the source.
+    /// The span of the bytes in the source.
     pub fn span(&self) -> &Span
         ensures { result.now ≡ self.now.span }
     {
@@ -67,8 +67,8 @@ impl<'a> SpanContents<'a> {
         self.line
     }
 
-    /// The byte column of the span that was read, from 0, where no row stands before it, and 0
-    /// else.
+    /// The byte column, from 0, of the start of the span that was read, if no rows of context
+    /// before it were asked for; else 0.
     pub fn column(&self) -> usize
         ensures { result ≡ self.now.column }
     {

@@ -1,4 +1,4 @@
-//! The bytes that end rows, sought in one pass by vectors: how many LFs there are, and whether
+//! The bytes that end rows, searched in one pass by vectors: how many LFs there are, and whether
 //! there is a CR.
 ghost use Rattle.std.specs.Prelude.{◌≡◌, ◌≤◌, ◌<◌, ◌^◌, ◌==◌, count_by, length, map, sum, sum_by};
 ghost use Rattle.std.specs.List.{list_any};
@@ -7,7 +7,7 @@ ghost use Rattle.bytecount.specs.Words.{flags};
 use bytecount::count;
 use std::simd::prelude::*;
 
-/// How far each byte stands above a CR, where a byte below it wraps: 0 at a CR, and 253 at an LF.
+/// Each byte minus CR, wrapping: 0 for a CR, and 253 for an LF.
 fn less_return(bytes: u8x32) -> u8x32
     ensures returns { map (λ byte. byte == 0) result ≡ map (λ byte. byte == 13) bytes }
     ensures feeds { flags (λ byte. byte == 253) result ≡ flags (λ byte. byte == 10) bytes }
@@ -15,7 +15,7 @@ fn less_return(bytes: u8x32) -> u8x32
     bytes - u8x32::splat(b'\r')
 }
 
-/// 1 at each LF, by its distance from a CR, and 0 at the others.
+/// 1 for each LF, given the bytes minus CR, and 0 for the others.
 fn feeds_at(above: u8x32) -> u8x32
     ensures { result ≡ flags (λ byte. byte == 253) above }
 {
@@ -41,7 +41,7 @@ fn has_zero(values: u8x32) -> bool
     values.simd_eq(u8x32::splat(0)).to_bitmask() != 0
 }
 
-/// The LFs of at most 127 pairs of vectors, of which no counter passes 254, and whether there is a
+/// The LFs of at most 127 pairs of vectors, so that no counter passes 254, and whether there is a
 /// CR.
 fn endings_in_block(block: &[[u8; 64]]) -> (usize, bool)
     requires { length block.now ≤ 127 }
@@ -49,7 +49,7 @@ fn endings_in_block(block: &[[u8; 64]]) -> (usize, bool)
     ensures returns { result.1 ≡ list_any (λ pair. list_any (λ byte. byte == 13) pair) block.now }
 {
     let mut counts = u8x32::splat(0);
-    // one least byte of each lane costs less than a second comparison
+    // the least byte of each lane costs less than a second comparison
     let mut least = u8x32::splat(255);
     for pair in block {
         let first = less_return(u8x32::from_slice(&pair[..32]));

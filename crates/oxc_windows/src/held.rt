@@ -11,22 +11,22 @@ use crate::{BreakSource, LineBreak, Steps, Window};
 use std::alloc::AllocError;
 use std::sync::ledger::Ledger;
 
-/// Consecutive rows, up to the place up to which breaks are known. A row takes eight bytes.
+/// Consecutive rows, as far as breaks are known. A row takes eight bytes.
 #[derive(Drop)]
 pub struct Rows {
     /// Where each row starts.
     pub starts: Vec<u32>,
-    /// Where the break at the end of each row starts, but for the last row, whose break is not
-    /// known. It ends before the start of the next row.
+    /// Where the break at the end of each row starts, except for the last row, whose break isn't
+    /// known. A break ends before the start of the next row.
     pub heads: Vec<u32>,
     /// The number of the first of these rows.
     pub top: usize,
-    /// The place up to which breaks are known. It is never inside a CRLF.
+    /// The offset up to which breaks are known. It is never inside a CRLF.
     pub known: usize,
 }
 
 impl Rows {
-    /// Puts a break after those held.
+    /// Adds a break after those held.
     fn put(&mut self, found: LineBreak) -> Result<(), AllocError>
         requires { (found.end + 1 < 4294967296) × (found.start ≤ found.end) }
         ensures top { self.new.top ≡ self.old.top }
@@ -48,7 +48,7 @@ impl Rows {
         Ok(())
     }
 
-    /// One search from the known place.
+    /// One search from the known offset on.
     fn step<L: Ledger, S: BreakSource<L>>(
         &mut self,
         source: &S,
@@ -81,7 +81,7 @@ impl Rows {
         }
     }
 
-    /// Searches on until the breaks that start before a place are known.
+    /// Searches on until the breaks that start before an offset are known.
     fn reach<L: Ledger, S: BreakSource<L>>(
         &mut self,
         source: &S,
@@ -104,7 +104,7 @@ impl Rows {
         Ok(())
     }
 
-    /// Searches on until so many breaks are held, or all are known.
+    /// Searches on until this many breaks are held, or all are known.
     fn gather<L: Ledger, S: BreakSource<L>>(
         &mut self,
         source: &S,
@@ -129,8 +129,8 @@ impl Rows {
         Ok(())
     }
 
-    /// Searches as far as the window of a span that ends there goes, and guesses how many of the
-    /// breaks then held start before that end.
+    /// Searches as far as the window of a span that ends at `end` goes, and guesses how many of the
+    /// breaks then held start before `end`.
     fn search_for<L: Ledger, S: BreakSource<L>>(
         &mut self,
         source: &S,
@@ -164,8 +164,8 @@ impl Rows {
         Ok(below)
     }
 
-    /// The window of a span whose first row is held or follows those held, and the searches that it
-    /// takes.
+    /// The window of a span whose first row is held or follows those held, with the searches that
+    /// it takes.
     pub fn answer<L: Ledger, S: BreakSource<L>>(
         &mut self,
         source: &S,

@@ -1,4 +1,4 @@
-//! The lazy index: windows of rows, from breaks that are looked for once.
+//! The lazy index: windows of rows, from breaks that are searched for once.
 ghost use Rattle.std.specs.Prelude.{◌≡◌, ℕ, ◌*◌, true, Some, None, IsSome, ◌+◌, ◌≤◌, List, []};
 ghost use Rattle.std.specs.Prelude.{IfOk, OnOk, OnErr};
 ghost use Rattle.oxc_windows.specs.declared.breaks.LineBreak.{LineBreak};
@@ -18,8 +18,7 @@ use std::sync::ledger::Ledger;
 /// The rows of a source, as far as windows of it were asked for: each byte is looked at once, and a
 /// later window of the rows held costs a search among them.
 ///
-/// An index holds no source: each read is handed one, and each source that is handed in has the
-/// same length and breaks.
+/// An index holds no source: each read is given one, always with the same length and breaks.
 #[derive(Drop)]
 pub struct WindowIndex {
     alloc: Global,
@@ -31,8 +30,8 @@ pub struct WindowIndex {
 }
 
 impl WindowIndex {
-    /// An empty index, for windows with so many rows of context before and after a span. It takes
-    /// no memory.
+    /// An empty index, for windows with this many rows of context before and after a span. It
+    /// allocates no memory.
     pub fn new(alloc: Global, before: usize, after: usize) -> Self
         ensures empty { (len : ℕ) (breaks : List LineBreak) → IsIndexOf len breaks result }
         ensures view { index_view result ≡ new_index before after }
@@ -53,7 +52,7 @@ impl WindowIndex {
     }
 
     /// The row starts that the index keeps, ascending: offsets in bytes. They are those of
-    /// consecutive rows of each source that it is an index of.
+    /// consecutive rows of its source.
     pub fn kept(&self) -> &[u32]
         ensures value { result.now ≡ (index_view self.now).kept }
         ensures true_rows { (len : ℕ) (breaks : List LineBreak) → IsBreakList len breaks
@@ -108,7 +107,7 @@ impl WindowIndex {
         }
     }
 
-    /// The window of a span that is served.
+    /// The window of a span whose rows are held or follow those held.
     fn read_on<L: Ledger, S: BreakSource<L>>(
         &mut self,
         source: &S,
@@ -156,16 +155,16 @@ impl WindowIndex {
         rows.answer(source, self.before, self.after, start, end, steps)
     }
 
-    /// The window of a span whose start is not after its end. There is none exactly where the span
-    /// ends past the source.
+    /// The window of a span whose start is not after its end; none exactly if the span ends past
+    /// the source.
     ///
-    /// The first span that has a window is looked for from the source's start; from then on the
-    /// index looks further from the place where it stopped. A span above the rows held is looked
-    /// for afresh, and leaves the index as it was.
+    /// The first span that has a window is searched for from the source's start; later searches
+    /// continue where the last one stopped. A span above the rows held is searched for from
+    /// scratch, and leaves the index unchanged.
     ///
     /// # Errors
     ///
-    /// Want of memory, which changes no later answer.
+    /// Out of memory; it changes no later result.
     pub fn read<L: Ledger, S: BreakSource<L>>(
         &mut self,
         source: &S,

@@ -11,7 +11,7 @@ use oxc_span::Span;
 use std::alloc::{AllocError, Global};
 use std::sync::ledger::Ledger;
 
-/// One window, and what it leaves of the steps.
+/// One window, and what remains of the steps.
 fn read_next<L: Ledger, S: BreakSource<L>>(
     index: &mut WindowIndex,
     source: &S,
@@ -36,15 +36,15 @@ fn read_next<L: Ledger, S: BreakSource<L>>(
     Ok(window)
 }
 
-/// The windows of spans in any order, each of whose starts is not after its end, by an index that
-/// has read nothing.
+/// The windows of spans in any order, by an index that has read nothing. No span's start is after
+/// its end.
 ///
-/// Where no span that has a window starts before the first such span, the reads look at no more
-/// bytes than the source has, those before that span once more, and two.
+/// If no span that has a window starts before the first such span, all reads together look at no
+/// more bytes than the source has, plus those before that span, plus two.
 ///
 /// # Errors
 ///
-/// Want of memory.
+/// Out of memory.
 pub fn read_all<L: Ledger, S: BreakSource<L>>(
     alloc: Global,
     index: &mut WindowIndex,
@@ -71,7 +71,7 @@ pub fn read_all<L: Ledger, S: BreakSource<L>>(
     Ok(found)
 }
 
-/// The contents of one window, and what it leaves of the steps.
+/// The contents of one window, and what remains of the steps.
 fn read_next_span<'a, L: Ledger>(
     scanner: &mut SpanScanner<'a>,
     span: Span,
@@ -91,15 +91,15 @@ fn read_next_span<'a, L: Ledger>(
     Ok(contents)
 }
 
-/// The contents of the windows of spans in any order, each of whose starts is not after its end, by
-/// a scanner that has read nothing.
+/// The contents of the windows of spans in any order, by a scanner that has read nothing. No span's
+/// start is after its end.
 ///
-/// Where no span that has a window starts before the first such span, the reads look at no more
-/// bytes than the source has, those before that span once more, and two.
+/// If no span that has a window starts before the first such span, all reads together look at no
+/// more bytes than the source has, plus those before that span, plus two.
 ///
 /// # Errors
 ///
-/// Want of memory.
+/// Out of memory.
 pub fn read_spans<'a, L: Ledger>(
     alloc: Global,
     scanner: &mut SpanScanner<'a>,

@@ -17,8 +17,8 @@ use std::sync::ledger::{Blank, Ledger};
 
 /// Reads the windows of spans in one source, with rows of context before and after them.
 ///
-/// It keeps the rows that it found: each byte is looked at once, and a later window costs a search
-/// among the rows.
+/// It keeps the rows that it has found: each byte is looked at once, and a later window costs a
+/// search among the rows.
 #[derive(Drop)]
 pub struct SpanScanner<'a> {
     source: SliceSource<'a>,
@@ -39,8 +39,8 @@ impl<'a> Model for SpanScanner<'a> {
 }
 
 impl<'a> SpanScanner<'a> {
-    /// A scanner of a source of fewer than `u32::MAX` bytes, with so many rows of context before
-    /// and after a span. It takes no memory.
+    /// A scanner of a source of fewer than `u32::MAX` bytes, with this many rows of context before
+    /// and after a span. It allocates no memory.
     pub fn new(alloc: Global, input: &'a [u8], before: usize, after: usize) -> Self
         requires { length input.now < 4294967295 }
         ensures { result ≡ new_scan input.now before after }
@@ -52,7 +52,7 @@ impl<'a> SpanScanner<'a> {
         }
     }
 
-    /// The same of a source that is a text, which [`text`](SpanScanner::text) then need not check.
+    /// The same for a source that is a text, so that [`text`](SpanScanner::text) needn't check it.
     pub fn of_text(alloc: Global, text: &'a str, before: usize, after: usize) -> Self
         requires { length text.now < 4294967295 }
         ensures { result ≡ new_scan text.now before after }
@@ -71,12 +71,11 @@ impl<'a> SpanScanner<'a> {
         self.source.bytes() == input
     }
 
-    /// The source as a text, or how many of its first bytes are one. The source is read at the
-    /// first call alone.
+    /// The source as a text. It is checked at the first call only.
     ///
     /// # Errors
     ///
-    /// The source is no UTF-8: the number of bytes before the first that doesn't belong to a
+    /// The source isn't UTF-8: the number of bytes before the first that doesn't belong to a
     /// character.
     pub fn text(&mut self) -> Result<&'a str, usize>
         ensures cases { IsAsText self.old.input result }
@@ -100,18 +99,18 @@ impl<'a> SpanScanner<'a> {
         self.index.kept()
     }
 
-    /// The contents of the window of a span whose start is not after its end. There is none exactly
-    /// where the span ends past the source.
+    /// The contents of the window of a span whose start is not after its end; none exactly if the
+    /// span ends past the source.
     ///
-    /// The window begins at the start of the first row of context, or at the span's start where no
-    /// row is asked for. It ends after the last row of context, counted from the row of the span's
-    /// last byte, and one row further if that byte belongs to a break. Where no row is asked for it
-    /// ends after the last byte, or after the LF of its CRLF. An empty span has the byte before it
-    /// for its last, and byte 0 at the source's start.
+    /// The window begins at the start of the first row of context, or at the span's start if no row
+    /// is asked for. It ends after the last row of context, counted from the row of the span's last
+    /// byte, and one row later if that byte belongs to a break. If no row is asked for, it ends
+    /// after the last byte, or after the LF of its CRLF. The last byte of an empty span is the byte
+    /// before it, and byte 0 at the source's start.
     ///
     /// # Errors
     ///
-    /// Want of memory, which changes no later answer.
+    /// Out of memory; it changes no later result.
     pub fn read_span(&mut self, span: Span) -> Result<Option<SpanContents<'a>>, AllocError>
         requires { span.start ≤ span.end }
         ensures read { ReadsSpan self.old self.new span result }
@@ -119,11 +118,11 @@ impl<'a> SpanScanner<'a> {
         read_on_own::<Brand>(self, span, Blank::new(1))
     }
 
-    /// The same, where the bytes that are looked at are counted.
+    /// The same, and counts the bytes that are looked at.
     ///
     /// # Errors
     ///
-    /// Want of memory, which changes no later answer.
+    /// Out of memory; it changes no later result.
     pub fn read_span_counted<L: Ledger>(
         &mut self,
         span: Span,
@@ -140,7 +139,7 @@ impl<'a> SpanScanner<'a> {
     }
 }
 
-/// Reads a span on a counter of its own.
+/// Reads a span with a counter of its own.
 fn read_on_own<'a, P: Page>(
     scanner: &mut SpanScanner<'a>,
     span: Span,
@@ -156,7 +155,7 @@ fn read_on_own<'a, P: Page>(
     scanner.read_span_counted(span, &mut steps)
 }
 
-/// Bytes as a text, or how many of the first are one.
+/// Bytes as a text, or the length of their longest UTF-8 prefix.
 fn text_of(bytes: &[u8]) -> Result<&str, usize>
     ensures { IsAsText bytes.now result }
 {

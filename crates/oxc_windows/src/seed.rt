@@ -1,4 +1,4 @@
-//! The rows of a span that is the first: a count up to it, and a walk back over the rows before it.
+//! The rows of the first span: a count up to it, and a walk back over the rows before it.
 ghost use Rattle.std.specs.Prelude.{◌≡◌, ◌+◌, ◌-◌, ◌*◌, ◌<◌, ◌≤◌, [], false, IfOk, OnOk};
 ghost use Rattle.oxc_windows.specs.Rows.{row_of, row_start, is_second_byte};
 ghost use Rattle.oxc_windows.specs.Held.{AreRowsOf, Back, IsCut};
@@ -8,7 +8,7 @@ use crate::{BreakSource, Steps};
 use std::alloc::{AllocError, Global};
 use std::sync::ledger::Ledger;
 
-/// The start of the row of a place.
+/// The start of the row of an offset.
 fn row_begin<L: Ledger, S: BreakSource<L>>(
     source: &S,
     at: usize,
@@ -30,7 +30,7 @@ fn row_begin<L: Ledger, S: BreakSource<L>>(
     }
 }
 
-/// The rows from `low` on up to the place `cut`, whose row is `place`: a walk back from there.
+/// The rows from `low` on up to the offset `cut`, whose row is `place`: a walk back from there.
 fn walked_back<L: Ledger, S: BreakSource<L>>(
     alloc: Global,
     source: &S,
@@ -72,7 +72,7 @@ fn walked_back<L: Ledger, S: BreakSource<L>>(
     })
 }
 
-/// The rows of a span that is the first: from `before` rows above that of its start up to it.
+/// The rows of the first span: from `before` rows above its start's row up to that row.
 pub fn seeded<L: Ledger, S: BreakSource<L>>(
     alloc: Global,
     source: &S,
@@ -93,7 +93,7 @@ pub fn seeded<L: Ledger, S: BreakSource<L>>(
     }
 }
 
-/// The same, with the place to which breaks are counted.
+/// The same, with the offset to which breaks are counted.
 fn seeded_at<L: Ledger, S: BreakSource<L>>(
     alloc: Global,
     source: &S,

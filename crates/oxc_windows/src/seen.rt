@@ -1,11 +1,11 @@
-//! What the rows that are held say of places.
+//! Rows, columns and window ends, from the rows that are held.
 ghost use Rattle.std.specs.Prelude.{◌≡◌, ◌⊎◌, ◌+◌, ◌-◌, ◌^◌, ◌<◌, ◌≤◌, IsTrue, length};
 ghost use Rattle.std.specs.Prelude.{slice_index_or};
 ghost use Rattle.std.specs.List.Sorted.{IsNonDecreasing};
 ghost use Rattle.oxc_windows.specs.Seen.{AreInOrder, column_seen, end_seen, heads_before};
 ghost use Rattle.oxc_windows.specs.Seen.{is_first_seen, is_second_seen, row_seen, settled_seen};
 
-/// The number at a place of a list, or another where the list has no such place.
+/// The number at an index of a list, or `other` if the list has no such index.
 pub fn at_or(list: &[u32], place: usize, other: usize) -> usize
     ensures { result ≡ slice_index_or list.now place other }
 {
@@ -25,7 +25,7 @@ fn row_seen(starts: &[u32], offset: usize) -> usize
     upto.saturating_sub(1)
 }
 
-/// Whether a row has an offset.
+/// Whether an offset is in a row.
 fn is_row_of(starts: &[u32], row: usize, offset: usize) -> bool
     ensures { IsTrue result → (row < length starts.now)
         × (slice_index_or starts.now row 0 ≤ offset)
@@ -36,7 +36,7 @@ fn is_row_of(starts: &[u32], row: usize, offset: usize) -> bool
         && offset < at_or(starts, row + 1, usize::MAX)
 }
 
-/// The row of an offset. Where the guess is right, it costs no search.
+/// The row of an offset. If the guess is right, it costs no search.
 #[tactic(auto, using(crate::proofs::GuessLemmas::row_guessed))]
 pub fn row_near(starts: &[u32], guess: usize, offset: usize) -> usize
     requires { IsNonDecreasing starts.now }
@@ -49,7 +49,7 @@ pub fn row_near(starts: &[u32], guess: usize, offset: usize) -> usize
     row_seen(starts, offset)
 }
 
-/// How many of some breaks start before a place.
+/// How many of these breaks start before an offset.
 fn count_before(heads: &[u32], to: usize) -> usize
     requires { IsNonDecreasing heads.now }
     ensures exact { result ≡ heads_before heads.now to }
@@ -58,7 +58,7 @@ fn count_before(heads: &[u32], to: usize) -> usize
     heads.partition_point(|h| (*h as usize) < to)
 }
 
-/// How many of the breaks held start before a place. It looks first among the last eight.
+/// How many of the breaks held start before an offset. The last eight are searched first.
 pub fn heads_before(heads: &[u32], to: usize) -> usize
     requires { IsNonDecreasing heads.now }
     ensures exact { result ≡ heads_before heads.now to }
@@ -71,7 +71,7 @@ pub fn heads_before(heads: &[u32], to: usize) -> usize
     count_before(heads, to)
 }
 
-/// Whether so many breaks start before a place.
+/// Whether exactly `count` breaks start before an offset.
 fn is_count_of(heads: &[u32], count: usize, to: usize) -> bool
     ensures { IsTrue result → (count ≤ length heads.now)
         × ((count ≡ 0) ⊎ (slice_index_or heads.now (count - 1) 0 < to))
@@ -82,7 +82,7 @@ fn is_count_of(heads: &[u32], count: usize, to: usize) -> bool
         && to <= at_or(heads, count, usize::MAX)
 }
 
-/// How many of the breaks held start before a place. Where the guess is right, it costs no search.
+/// How many of the breaks held start before an offset. If the guess is right, it costs no search.
 #[tactic(auto, using(crate::proofs::GuessLemmas::count_guessed))]
 fn heads_near(heads: &[u32], guess: usize, to: usize) -> usize
     requires { IsNonDecreasing heads.now }
@@ -95,7 +95,7 @@ fn heads_near(heads: &[u32], guess: usize, to: usize) -> usize
     heads_before(heads, to)
 }
 
-/// Whether a place is the CR of a CRLF held.
+/// Whether an offset is that of the CR of a CRLF held.
 #[tactic(auto, unfolding(crate::specs::Seen::is_first_seen))]
 fn is_first_seen(starts: &[u32], heads: &[u32], guess: usize, at: usize) -> bool
     requires order { AreInOrder starts.now heads.now }
@@ -106,7 +106,7 @@ fn is_first_seen(starts: &[u32], heads: &[u32], guess: usize, at: usize) -> bool
     at_or(heads, row, 0) == at && at_or(starts, row + 1, 0) == at + 2
 }
 
-/// Whether an offset, whose row is given, is the LF of a CRLF held.
+/// Whether an offset, whose row is given, is that of the LF of a CRLF held.
 #[tactic(auto, unfolding(crate::specs::Seen::is_second_seen))]
 fn is_second_seen(starts: &[u32], heads: &[u32], row: usize, offset: usize) -> bool
     requires at { row ≡ row_seen starts.now offset }
@@ -144,8 +144,8 @@ pub fn column_seen(len: usize, starts: &[u32], heads: &[u32], row: usize, offset
     settled_seen(starts, heads, row, offset) - at_or(starts, row, len)
 }
 
-/// Where the window of a span ends that ends within the source. The guess is of the breaks that
-/// start before its end.
+/// The end of the window of a span that ends within the source. The guess is how many breaks start
+/// before the span's end.
 #[tactic(auto, using(crate::proofs::StartsLemmas::seen_saturated), unfolding(crate::specs::Seen::end_seen))]
 pub fn end_seen(
     len: usize,

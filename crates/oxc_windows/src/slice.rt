@@ -36,14 +36,14 @@ impl<'a> SliceSource<'a> {
     }
 }
 
-/// Whether the byte after a place is no LF.
+/// Whether the byte after an index isn't an LF.
 fn is_before_no_lf(bytes: &[u8], at: usize) -> bool
     ensures { result ≡ is_before_no_lf bytes.now at }
 {
     at >= bytes.len() || bytes.get(at + 1) != Some(&b'\n')
 }
 
-/// The number of CRs before a place that no LF follows.
+/// The number of CRs before an offset that no LF follows.
 fn count_stray(bytes: &[u8], to: usize) -> usize
     requires { to ≤ length bytes.now }
     ensures { result
@@ -54,7 +54,8 @@ fn count_stray(bytes: &[u8], to: usize) -> usize
         .count()
 }
 
-/// The number of breaks that end before a place: each LF ends one, and each CR that no LF follows.
+/// The number of breaks that end before an offset: each LF ends one, and each CR that no LF
+/// follows.
 fn count_ended(bytes: &[u8], to: usize) -> usize
     requires within { to ≤ length bytes.now }
     requires outside { is_second_byte (breaks_of bytes.now) to ≡ false }
@@ -67,7 +68,7 @@ fn count_ended(bytes: &[u8], to: usize) -> usize
     line_feeds
 }
 
-/// The first break that starts from a place to before another.
+/// The first break that starts at or after `from` and before `to`.
 fn first_in(bytes: &[u8], from: usize, to: usize) -> Option<LineBreak>
     requires ordered { from ≤ to }
     requires within { to ≤ length bytes.now }
@@ -77,12 +78,12 @@ fn first_in(bytes: &[u8], from: usize, to: usize) -> Option<LineBreak>
         × (found.end < length bytes.now)) }
 {
     let mut places = memchr2_iter(b'\n', b'\r', &bytes[from..to]);
-    // an iterator looks near before it looks far
+    // an iterator finds a near byte fast
     let further = places.next()?;
     break_starting(bytes, from + further)
 }
 
-/// The last break that ends before a place.
+/// The last break that ends before an offset.
 fn last_in(bytes: &[u8], to: usize) -> Option<LineBreak>
     requires within { to ≤ length bytes.now }
     requires outside { is_second_byte (breaks_of bytes.now) to ≡ false }
@@ -97,7 +98,7 @@ fn last_in(bytes: &[u8], to: usize) -> Option<LineBreak>
     }
 }
 
-/// Whether a place stands between a CR and its LF.
+/// Whether an offset is between a CR and its LF.
 fn is_inside(bytes: &[u8], at: usize) -> bool
     requires { at ≤ length bytes.now }
     ensures { result ≡ is_second_byte (breaks_of bytes.now) at }

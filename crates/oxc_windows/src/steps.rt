@@ -1,10 +1,10 @@
-//! A counter of steps that contracts see and no running program reads.
+//! A counter of steps, which contracts see and which no program reads at run time.
 ghost use Rattle.std.specs.Prelude.{◌≡◌, ℕ, ◌+◌, ◌<◌};
 
 use std::marker::{Brand, Model, PhantomData};
 use std::sync::ledger::{Blank, Book, Ledger, Share};
 
-/// A ledger whose value stands for a book that nothing was written in.
+/// A ledger whose value opens an empty book.
 pub trait StepLedger: Ledger {
     /// The empty book.
     fn into_blank(self) -> Blank
@@ -15,11 +15,11 @@ pub trait StepLedger: Ledger {
         ensures some { 0 < result.parts };
 }
 
-/// A number of steps, which contracts see as that number. It takes no bytes.
+/// A number of steps, which contracts see as that number. It takes no space.
 ///
-/// It is made by [`Steps::new`] alone, from a value of its ledger, can't be copied, and only
-/// [`Steps::tick`] adds to it. So code that is handed a counter and no ledger can count on that
-/// counter alone.
+/// Only [`Steps::new`] makes one, from a value of its ledger; it can't be copied, and only
+/// [`Steps::tick`] adds to it. So code that gets a counter and no ledger can count only on that
+/// counter.
 #[derive(Drop)]
 pub struct Steps<L: Ledger> {
     book: Book<L>,
@@ -35,7 +35,7 @@ impl<L: Ledger> Model for Steps<L> {
 }
 
 impl<L: StepLedger> Steps<L> {
-    /// A counter that stands at 0.
+    /// A counter with value 0.
     pub fn new(ledger: L) -> Steps<L>
         ensures { result ≡ 0 }
     {
@@ -53,7 +53,7 @@ impl<L: Ledger> Steps<L> {
     }
 }
 
-/// Which book a [`OwnLedger`] stands for; its maker picks it.
+/// The book of an [`OwnLedger`]; its creator picks it.
 pub trait Page {
     ghost number: { ℕ };
 
@@ -66,7 +66,7 @@ impl Page for Brand {
     ghost pieces = { 0 };
 }
 
-/// A ledger of its maker's own, out of an empty book.
+/// A ledger that its creator makes of an empty book.
 pub struct OwnLedger<P: Page> {
     blank: Blank,
     of: PhantomData<P>,

@@ -9,7 +9,7 @@ pub struct Window {
     pub end: usize,
     /// Its first row.
     pub line: usize,
-    /// The byte column of the span's start where no row stands before the span's, and 0 else.
+    /// The byte column of the span's start if no rows of context before it were asked for; else 0.
     pub column: usize,
     /// The number of all breaks of the source that end before the window's end.
     pub line_count: usize,
