@@ -1,4 +1,4 @@
-//! Labels: places in a source, each with a text that may be missing.
+//! Labels: locations in a source, each with an optional text.
 ghost use Rattle.std.specs.Prelude.{◌≡◌, ◌+◌, ◌<◌, ◌^◌, true, false, IfOk};
 ghost use Rattle.std.specs.Option.{option_copied};
 ghost use Rattle.oxc_span.specs.Label.{label_end};
@@ -7,11 +7,11 @@ use crate::Span;
 use std::alloc::{AllocError, Global};
 use std::marker::Model;
 
-/// A place in a source that a diagnostic points to.
+/// A location in a source that a diagnostic points to, with an optional text.
 ///
-/// The place is an offset from the source's first byte and a length, in bytes, whose sum is in the
-/// range of `u32`. A report has at its head the place of its primary label, if one is marked so.
-/// The default is an empty label at 0 with no text, not primary.
+/// It is an offset from the source's first byte and a length, in bytes; their sum is in the range
+/// of `u32`. A report's head shows the location of its first primary label, else of its first
+/// label. The default is an empty label at 0, without a text, not primary.
 #[derive(Debug, Drop)]
 pub struct LabeledSpan {
     label: Option<String>,
@@ -87,7 +87,7 @@ impl LabeledSpan {
         self.len
     }
 
-    /// The label's place as a span.
+    /// The label's bytes as a span.
     pub fn span(&self) -> Span
         ensures value { result ≡ record { start = self.now.offset; end = label_end self.now } }
         ensures in_range { label_end self.now < 2 ^ 32 }
@@ -95,18 +95,18 @@ impl LabeledSpan {
         Span::sized(self.offset, self.len)
     }
 
-    /// Whether this label is marked as the primary one of its diagnostic.
+    /// Whether this label is marked as a primary label of its diagnostic.
     pub fn primary(&self) -> bool
         ensures { result ≡ self.now.primary }
     {
         self.primary
     }
 
-    /// An equal label with a text of its own.
+    /// An equal label with its own copy of the text.
     ///
     /// # Errors
     ///
-    /// Want of memory.
+    /// Out of memory.
     pub fn try_clone(&self, alloc: Global) -> Result<Self, AllocError>
         ensures { IfOk result (λ copy. copy ≡ self.now) }
     {

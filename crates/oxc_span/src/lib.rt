@@ -1,7 +1,7 @@
 //! Spans of a source, and the labels that mark them.
 //!
-//! A [`Span`] is a pair of byte offsets. A [`LabeledSpan`] is a place in a source, given by its
-//! offset and its length in bytes, with a text that may be missing.
+//! A [`Span`] is a pair of byte offsets. A [`LabeledSpan`] is a location in a source, given by its
+//! offset and its length in bytes, with an optional text.
 #![tactic(auto)]
 
 mod labeled_span;

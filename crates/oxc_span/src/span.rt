@@ -1,7 +1,7 @@
 //! Spans: pairs of byte offsets.
 ghost use Rattle.std.specs.Prelude.{◌≡◌, ◌+◌, ◌<◌, ◌≤◌, ◌^◌, ◌↔◌, IsTrue};
 
-/// The bytes from `start` up to `end`, which is not part of it. Both count bytes from 0.
+/// The bytes from `start` to before `end`. Both count bytes from 0.
 #[derive(Clone, Copy, PartialEq, Eq, Debug)]
 pub struct Span {
     /// The offset of the first byte.
@@ -35,7 +35,7 @@ impl Span {
         self.end - self.start
     }
 
-    /// Whether `other` lies inside this span, common ends included.
+    /// Whether `other` is inside this span; the ends may be equal.
     pub fn contains_inclusive(&self, other: Span) -> bool
         ensures { IsTrue result ↔ ((self.now.start ≤ other.start) × (other.end ≤ self.now.end)) }
     {

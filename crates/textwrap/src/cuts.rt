@@ -1,4 +1,4 @@
-//! The front of a text that fits a room.
+//! The longest prefix of a text that fits a width.
 ghost use Rattle.std.specs.Prelude.{◌≡◌, ◌==◌, ◌&&◌, nat_lt, ◌*◌, ◌<◌, ◌≤◌, [], ◌∷◌, length, take};
 ghost use Rattle.std.specs.Prelude.{drop, if◌then◌else◌};
 ghost use Rattle.std.specs.Str.{IsCharBoundary};
@@ -7,14 +7,14 @@ ghost use Rattle.textwrap.specs.Cuts.{cuts};
 
 use crate::pen::{moved_over, pen_at_start};
 
-/// The bytes of the front of a text, and its width in cells.
+/// A prefix of a text: its bytes, and its width in cells.
 #[derive(Clone, Copy, Debug, PartialEq, Eq)]
 pub struct Front {
     pub len: usize,
     pub width: usize,
 }
 
-/// The longest front of a text that fits the room, and no less than a character.
+/// The longest prefix of a text that fits `room` cells, and at least one character.
 pub fn front_cut(text: &str, room: usize) -> Front
     ensures cut { cuts room text.now
         ≡ (if result.len == length text.now then text.now ∷
@@ -43,7 +43,7 @@ pub fn front_cut(text: &str, room: usize) -> Front
     }
 }
 
-/// Whether a character no longer belongs to a front of `len` bytes, which it would make `width`
+/// Whether a character no longer belongs to a prefix of `len` bytes, which it would make `width`
 /// cells wide.
 fn is_over(len: usize, width: usize, room: usize) -> bool
     ensures { result ≡ (nat_lt 0 len && nat_lt room width) }

@@ -15,17 +15,16 @@ use crate::pieces::pieces_of;
 use memchr::memchr;
 use std::alloc::{AllocError, Global};
 
-/// Fills a text to the options' width: each part of it between LFs by itself, by first fit.
+/// Fills a text to the options' width, by first fit. Each part between LFs is filled separately.
 ///
-/// A part is laid out in words, and the spaces behind them. A word may be parted behind a `-`
-/// between two ASCII letters or digits, and where it is wider than the room of a later line, then
-/// into longest pieces that fit. A line takes pieces, with the spaces between them, as long as they
-/// fit behind its indent, and one in any case; spaces at its end are dropped. Lines are joined by
-/// LF.
+/// A part is split into words at spaces. A word may be split after a `-` between two ASCII letters
+/// or digits. If it is wider than the room of a later line, it is split into the longest pieces
+/// that fit. A line takes pieces, with the spaces between them, as long as they fit after its
+/// indent, and always at least one; spaces at its end are dropped. Lines are joined by LF.
 ///
 /// # Errors
 ///
-/// Want of memory.
+/// Out of memory.
 #[tactic(auto, using(crate::proofs::FilledLemmas::filled_is))]
 pub fn fill(alloc: Global, text: &str, options: &Options<'_>) -> Result<String, AllocError>
     ensures relation { IfOk result
@@ -44,7 +43,7 @@ pub fn fill(alloc: Global, text: &str, options: &Options<'_>) -> Result<String, 
 ///
 /// # Errors
 ///
-/// Want of memory; the text may then end in a first part of the filled one.
+/// Out of memory; a first part of the filled text may have been appended.
 pub fn fill_onto(
     alloc: Global,
     out: &mut String,
@@ -64,15 +63,16 @@ pub fn fill_onto(
     push_parts(alloc, out, &parts, options)
 }
 
-/// Whether it is easily seen that a text fits on a line of so many cells: it has no more bytes than
-/// these, no LF, and no space at its end. Such a text is filled to its indent and itself.
+/// A quick check that a text fits on a line of `room` cells: it has at most `room` bytes, no LF,
+/// and no space at its end. Such a text fills to its indent and itself.
 pub fn fits_on_line(text: &str, room: usize) -> bool
     ensures { IsTrue result ↔ FitsOnLine room text.now }
 {
     text.len() <= room && !ends_with_space(text.as_bytes()) && !has_break(text.as_bytes())
 }
 
-/// The cells that an indent leaves to its line at least: it takes no more cells than bytes.
+/// A lower bound of the cells that an indent leaves to its line: an indent takes at most one cell
+/// for each byte.
 #[tactic(auto, unfolding(crate::specs::Filled::room), using(crate::proofs::OneLine::width_fits))]
 fn least_room(width: usize, indent: &str) -> usize
     ensures { result ≤ room width indent.now }
@@ -103,7 +103,7 @@ fn parts_of<'a>(alloc: Global, text: &'a str) -> Result<Vec<&'a str>, AllocError
     text.split('\n').collect(alloc)
 }
 
-/// The parts of a text, filled, with LFs between them.
+/// Appends the parts of a text, filled, with LFs between them.
 fn push_parts(
     alloc: Global,
     out: &mut String,
@@ -122,7 +122,7 @@ fn push_parts(
     push_later_parts(alloc, out, later, options)
 }
 
-/// Parts behind others.
+/// Appends the parts after the first.
 fn push_later_parts(
     alloc: Global,
     out: &mut String,
@@ -140,7 +140,7 @@ fn push_later_parts(
     Ok(())
 }
 
-/// A part, with an indent before its first line.
+/// Appends a part, filled, with an indent before its first line.
 #[tactic(auto, using(crate::proofs::FilledLemmas::part_text))]
 fn push_part(
     alloc: Global,

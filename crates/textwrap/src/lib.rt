@@ -1,4 +1,5 @@
-//! Texts filled to a width by first fit, and the width that a text takes on a screen.
+//! Texts filled to a width by first fit, and the width of a text on a screen. (The module is named
+//! `core_` since `core` is a library of the kit.)
 #![tactic(auto)]
 
 pub mod core_;

@@ -15,11 +15,11 @@ pub struct Line {
     pub room: usize,
     /// The cells that its pieces and the gaps between them take.
     pub used: usize,
-    /// The spaces behind its last piece.
+    /// The spaces after its last piece.
     pub gap: usize,
 }
 
-/// Lays pieces out behind an indent, by first fit.
+/// Appends pieces after an indent, by first fit.
 #[tactic(auto, unfolding(crate::specs::Layout::laid_out))]
 pub fn push_pieces(
     out: &mut String,
@@ -44,7 +44,7 @@ pub fn push_pieces(
     push_more(out, line, more, later, indent)
 }
 
-/// Lays pieces out behind a line so far.
+/// Appends pieces to a line so far.
 fn push_more(
     out: &mut String,
     first: Line,
@@ -63,7 +63,7 @@ fn push_more(
     Ok(())
 }
 
-/// Puts a piece into the line where it fits, and else into the next one.
+/// Appends a piece to the line if it fits, else to the next line.
 #[tactic(auto, unfolding(crate::specs::Layout::appended, crate::specs::Layout::line_behind))]
 fn push_piece(
     out: &mut String,

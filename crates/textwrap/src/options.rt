@@ -1,14 +1,15 @@
 //! How a text is filled.
 ghost use Rattle.std.specs.Prelude.{◌≡◌, []};
 
-/// The width of a filled text, and what stands before its lines.
+/// The width of a filled text, and the indents of its lines.
 #[derive(Clone, Copy, Debug, PartialEq, Eq)]
 pub struct Options<'a> {
-    /// The cells that a line takes at most, its indent included, if it can.
+    /// The cells that a line may take, including its indent. A piece that is wider still gets its
+    /// line.
     pub width: usize,
-    /// What stands before the very first line.
+    /// The indent of the very first line.
     pub initial_indent: &'a str,
-    /// What stands before every other line.
+    /// The indent of every other line.
     pub subsequent_indent: &'a str,
 }
 

@@ -1,25 +1,25 @@
-//! How far the characters of a text come, past its escape sequences.
+//! The width of a text, character by character, without its escape sequences.
 ghost use Rattle.std.specs.Prelude.{◌≡◌, ◌+◌, ◌*◌, ◌^◌, ◌<◌, ◌≤◌, length, encode_utf8};
 ghost use Rattle.textwrap.specs.Width.{after, at_start, cells, moved};
 
 use unicode_width::UnicodeWidthChar;
 
-/// Where a character stands in a text with escape sequences.
+/// Where a character is in a text with escape sequences.
 #[derive(Clone, Copy, Debug, PartialEq, Eq)]
 pub enum Escape {
     /// Outside of all sequences.
     Outside,
-    /// Right behind the ESC that begins one.
+    /// Directly after the ESC that begins one.
     Begun,
     /// Within one that began with ESC and `[`.
     Control,
     /// Within one that began with ESC and `]`.
     Command,
-    /// Within such a one, right behind an ESC.
+    /// Within such a sequence, directly after an ESC.
     Ending,
 }
 
-/// Where the next character stands, and the cells so far.
+/// Where the next character is, and the cells so far.
 #[derive(Clone, Copy, Debug, PartialEq, Eq)]
 pub struct Pen {
     pub escape: Escape,
@@ -36,7 +36,7 @@ pub const fn pen_at_start() -> Pen
     }
 }
 
-/// The pen behind a character.
+/// The pen after a character.
 pub fn moved_over(pen: Pen, c: char) -> Pen
     requires { pen.width + 2 * length (encode_utf8 c) < 2 ^ 64 }
     ensures exact { result ≡ moved pen c }
@@ -48,7 +48,7 @@ pub fn moved_over(pen: Pen, c: char) -> Pen
     }
 }
 
-/// Where the character behind `c` stands.
+/// Where the character after `c` is.
 fn escape_after(escape: Escape, c: char) -> Escape
     ensures { result ≡ after escape c }
 {

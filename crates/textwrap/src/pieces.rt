@@ -1,4 +1,4 @@
-//! The pieces that a part of a text is laid out in.
+//! The pieces into which a part of a text is split.
 ghost use Rattle.std.specs.Prelude.{◌≡◌, ◌++◌, ◌+◌, ◌*◌, ◌≤◌, IfOk, OnOk, length, map};
 ghost use Rattle.textwrap.specs.Pieces.{extent, piece_view, pieces, word_pieces};
 
@@ -6,18 +6,17 @@ use crate::cuts::front_cut;
 use crate::words::first_word;
 use std::alloc::{AllocError, Global};
 
-/// A piece of a part, which no line break parts.
+/// A piece of a part, which no line break splits.
 #[derive(Clone, Copy, Debug)]
 pub struct Piece<'a> {
     pub text: &'a str,
-    /// The cells that the text takes by itself.
+    /// The cells that the text takes, measured alone.
     pub width: usize,
-    /// How many spaces stand behind it.
+    /// The number of spaces after it.
     pub gap: usize,
 }
 
-/// The pieces of a part, none wider than the room if it has more than one character that takes
-/// cells.
+/// The pieces of a part. A piece that is wider than the room is a single character.
 #[tactic(auto, unfolding(crate::specs::Pieces::pieces))]
 pub fn pieces_of<'a>(
     alloc: Global,
@@ -38,7 +37,7 @@ pub fn pieces_of<'a>(
     Ok(list)
 }
 
-/// The pieces of a word.
+/// Appends the pieces of a word.
 #[tactic(auto, unfolding(crate::specs::Pieces::word_pieces))]
 fn push_word<'a>(
     list: &mut Vec<Piece<'a>>,

@@ -5,14 +5,14 @@ ghost use Rattle.std.specs.List.{take_while};
 ghost use Rattle.std.specs.Str.{IsCharBoundary, IsUtf8};
 ghost use Rattle.textwrap.specs.Words.{is_inner_hyphen, is_letter_or_digit, words};
 
-/// The bytes of a word, and the spaces behind it.
+/// The length of a word in bytes, and the number of spaces after it.
 #[derive(Clone, Copy, Debug, PartialEq, Eq)]
 pub struct WordLength {
     pub len: usize,
     pub gap: usize,
 }
 
-/// The first word of a part, which may be empty where spaces stand behind it.
+/// The first word of a part. It is empty if the part begins with a space.
 pub fn first_word(part: &[u8]) -> WordLength
     requires text { IsUtf8 part.now }
     requires some { 0 < length part.now }
@@ -42,14 +42,14 @@ pub fn first_word(part: &[u8]) -> WordLength
     }
 }
 
-/// How many spaces begin the bytes.
+/// The number of leading spaces.
 fn leading_spaces(bytes: &[u8]) -> usize
     ensures { result ≡ length (take_while (λ byte. byte == 0x20) bytes.now) }
 {
     bytes.iter().take_while(|byte| **byte == b' ').count()
 }
 
-/// Whether a word is cut behind a byte: a `-` between two ASCII letters or digits.
+/// Whether a word is split after a byte: the byte is a `-` between two ASCII letters or digits.
 fn is_cut_behind(bytes: &[u8], at: usize) -> bool
     requires { at < length bytes.now }
     ensures { result ≡ is_inner_hyphen (nat_lt 0 at && is_letter_or_digit
@@ -62,7 +62,7 @@ fn is_cut_behind(bytes: &[u8], at: usize) -> bool
         && is_letter_or_digit_at(bytes, at + 1)
 }
 
-/// Whether an ASCII letter or digit stands at a place.
+/// Whether the byte at an index is an ASCII letter or digit.
 #[tactic(auto, unfolding(crate::specs::Words::is_letter_or_digit))]
 fn is_letter_or_digit_at(bytes: &[u8], at: usize) -> bool
     ensures { result ≡ is_letter_or_digit (slice_index bytes.now at) }
