@@ -19,7 +19,7 @@ use std::alloc::Global;
 /// # Errors
 ///
 /// Those of [`GraphicalReportHandler::render_view`]: the first label that ends past the text, or
-/// want of memory.
+/// out of memory.
 pub fn draw_on(
     alloc: Global,
     handler: &GraphicalReportHandler,
@@ -42,7 +42,7 @@ pub fn draw_on(
     )
 }
 
-/// The same, where the diagnostic's code is at hand.
+/// The same, with the diagnostic's code.
 fn draw_coded<'a>(
     alloc: Global,
     handler: &GraphicalReportHandler,
@@ -60,7 +60,7 @@ fn draw_coded<'a>(
     handler.render_view(alloc, &view, &mut scanner)
 }
 
-/// What is drawn of a diagnostic with a source, whose code is at hand.
+/// What is drawn of a diagnostic with a source; `code` is its code.
 fn view_on<'a>(
     source: SourceRef<'a>,
     diagnostic: &'a OxcDiagnostic,

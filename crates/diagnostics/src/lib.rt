@@ -1,10 +1,10 @@
 //! Diagnostics in one crate: what a linter needs of `oxc_span`, `oxc_protocol`, `oxc_plan` and
-//! `oxc_handlers`, which the original has in one, and the call that people meet first.
+//! `oxc_handlers`, and [`draw_on`], the simplest call.
 //!
 //! - [`OxcDiagnostic`], [`LabeledSpan`], [`Severity`]: what is reported.
 //! - [`GraphicalReportHandler`], [`GraphicalTheme`], [`TabWidth`]: how it looks.
 //! - [`draw_on`]: one diagnostic on one text. For lists, boxes and sinks: the handler's own calls.
-//! - [`Sink`], [`write_all`]: where drawings go.
+//! - [`Sink`], [`write_all`]: where drawings are written.
 #![tactic(auto)]
 
 mod draw;

@@ -34,7 +34,7 @@ fn ends_with_space(text: &str) -> bool
     }
 }
 
-/// Whether a mark by itself is well formed.
+/// Whether a mark alone is well formed.
 #[tactic(auto, unfolding(crate::specs::WellFormed::is_mark))]
 fn is_mark_alone(mark: &SeenMark) -> bool
     ensures { result ≡ is_mark (mark_model mark.now) }
@@ -124,12 +124,12 @@ fn are_snippets(snippets: &[SeenSnippet]) -> bool
     true
 }
 
-/// Whether a value is what a drawn report can say, so that it can be shown and read back.
+/// Whether a drawn report can say this value, so that it can be shown and read back.
 ///
 /// No text holds an LF, and the title doesn't end in a space. The row and the column of a head are
-/// at least 1; without a name it has them exactly where there are two rows or more. Row numbers
-/// don't descend. Marks under a row have a cell each, and a free cell between them; an arrow has a
-/// text and one cell; start and end of a mark have a sum that fits `usize`.
+/// at least 1; a head without a name has them exactly if there are at least two rows. Row numbers
+/// don't descend. Marks under a row have at least one cell each, with a free cell between them; an
+/// arrow has a text and one cell; the sum of a mark's start and end fits `usize`.
 #[tactic(auto, unfolding(crate::specs::WellFormed::is_well_formed))]
 pub fn well_formed(seen: &Seen) -> bool
     ensures { result ≡ is_well_formed (report_model seen.now) }

@@ -1,4 +1,4 @@
-//! The law that ties drawing to reading.
+//! The laws on drawing and reading back.
 ghost use Rattle.std.specs.Prelude.{◌≡◌, ◌<◌, ◌^◌, None, true, IfSome, length, map};
 ghost use Rattle.std.specs.Option.{option_copied};
 ghost use Rattle.std.specs.Str.{IsUtf8};
@@ -14,12 +14,12 @@ use oxc_handlers::DiagnosticView;
 use oxc_plan::TabWidth;
 use oxc_protocol::SourceRef;
 
-/// The law that drawings are read back: for every width and every distance of the tab stops, a view
-/// that can be drawn, whose filled title, name and label texts have one line each, without bars
-/// beside its rows, without help or note, and whose marks stand at least one column apart, is drawn
-/// in the plain theme as exactly the text that shows what its plan says; that is well formed, and
-/// so it is what [`read_report`](crate::read_report) gives. Its calls only recall what the types of
-/// its arguments have; a caller calls it to know the law.
+/// The law that drawings are read back, for every width and tab width. The view can be drawn; its
+/// filled title, its name and its label texts have one line each; it has no help, no note and no
+/// bars beside its rows; and its marks are at least one column apart. Then its drawing in the plain
+/// theme is exactly the text that shows what its plan says. That is well formed, so
+/// [`read_report`](crate::read_report) returns it. The calls in the body only state what the
+/// argument types guarantee.
 pub fn drawings_read_back(_width: usize, tabs: TabWidth, view: &DiagnosticView<'_>)
     ensures { ReadsBack _width tabs (view_parts view.now) }
 {
@@ -29,11 +29,11 @@ pub fn drawings_read_back(_width: usize, tabs: TabWidth, view: &DiagnosticView<'
     let _stop = tabs.get();
 }
 
-/// The law of the lines under a row, cell by cell, counted from 0: of marks that are in order with a
-/// space between them, the line of marks has in each mark's cells its carets, and its marker where
-/// its text hangs, and a space in every other cell; and the line of a text that hangs behind them
-/// has, up to its own cell, a bar where each of their texts hangs, and a space in every other cell.
-/// It does nothing; a caller calls it to know the law.
+/// The law of the lines under a row, cell by cell, counted from 0, for marks in order with a space
+/// between them. The mark line has each mark's carets in its cells, its marker where its text
+/// hangs, and spaces elsewhere. The line of a text that hangs after them has, up to its own cell, a
+/// bar where each of their texts hangs, and spaces elsewhere. It does nothing; a caller calls it to
+/// use the law.
 pub fn marks_by_cells(_marks: &[SeenMark])
     ensures { are_marks None (map mark_model _marks.now) ≡ true
         → AreCells (map mark_model _marks.now) }

@@ -1,9 +1,8 @@
 //! A drawn report, read back.
 //!
-//! [`read_report`] takes a text that a report drawn in the plain theme has, and gives what it says:
-//! which rows, which marks under them, which texts at those. [`show_report`] is the way back, and
-//! [`well_formed`] tells which values have one. Cells and columns count from 0, rows and the places
-//! in heads from 1.
+//! [`read_report`] parses the text of a report drawn in the plain theme: its rows, the marks under
+//! them, and their texts. [`show_report`] is the inverse, and [`well_formed`] says which values
+//! have one. Cells count from 0; rows, and the locations in heads, from 1.
 #![tactic(auto)]
 
 mod checks;

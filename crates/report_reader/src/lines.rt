@@ -1,4 +1,4 @@
-//! The kinds of lines below a title, and what heads and titles say.
+//! The kinds of lines below a title, and the values of heads and titles.
 ghost use Rattle.std.specs.Prelude.{◌≡◌, IfOk, option_map, slice_index};
 ghost use Rattle.report_reader.specs.Seen.{head_model};
 ghost use Rattle.report_reader.specs.Reading.{head_in, line_in, line_model, severity_by};
@@ -47,7 +47,7 @@ fn first_byte(text: &str) -> u8
     }
 }
 
-/// The head that a line gives.
+/// The head that a line states.
 #[tactic(auto, unfolding(crate::specs::Reading::head_in))]
 pub(crate) fn head_of(alloc: Global, text: &str) -> Result<SeenHead, AllocError>
     ensures { IfOk result (λ head. head_model head ≡ head_in text.now) }
@@ -70,7 +70,7 @@ pub(crate) fn head_of(alloc: Global, text: &str) -> Result<SeenHead, AllocError>
     }
 }
 
-/// The severity that the icon of a title line tells.
+/// The severity of the icon of a title line.
 #[tactic(auto, unfolding(crate::specs::Reading::severity_in))]
 pub(crate) fn severity_of(line: &str) -> Option<Severity>
     ensures { result ≡ severity_in line.now }

@@ -10,7 +10,7 @@ use crate::seen::SeenMark;
 use crate::texts::split_first;
 use std::alloc::{AllocError, Global};
 
-/// Cells beside one another that aren't spaces.
+/// Adjacent cells that aren't spaces.
 #[derive(Clone, Copy)]
 pub(crate) struct Run {
     pub(crate) start: usize,
@@ -64,8 +64,8 @@ fn runs_of(alloc: Global, cells: &[u8]) -> Result<Vec<Run>, AllocError>
     Ok(runs)
 }
 
-/// The text of the hanging line at an index, where it hangs from a cell, and the index behind what
-/// was taken.
+/// The text of the hanging line at an index, if it hangs from the cell `bar`, and the index after
+/// what was taken.
 #[tactic(auto, using(crate::proofs::ReaderLemmas::drop_next))]
 fn take_text<'a>(hangs: &[&'a str], index: usize, bar: usize) -> (Option<&'a str>, usize)
     ensures text { option_map (λ text. text.now) result.0
@@ -99,7 +99,7 @@ fn mark_of(alloc: Global, run: Run, text: Option<&str>) -> Result<SeenMark, Allo
     })
 }
 
-/// The marks of a line, with the lines that hang below it, the first mark's first.
+/// The marks of a line, with the lines that hang below it, the first mark's line first.
 #[tactic(auto, unfolding(crate::specs::Reading::marks_in))]
 pub(crate) fn marks_of(
     alloc: Global,

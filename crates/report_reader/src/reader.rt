@@ -1,4 +1,4 @@
-//! A report read back: what a text would be, held against what that shows.
+//! A report read back: a value is guessed from the text, shown again, and compared with the text.
 ghost use Rattle.std.specs.Prelude.{◌≡◌, ◌==◌, IfOk, IfSome, map, option_map, option_copied};
 ghost use Rattle.std.specs.Prelude.{reverse};
 ghost use Rattle.std.specs.List.{slice_split};
@@ -14,8 +14,8 @@ use crate::seen::{Seen, SeenMark, SeenRow, SeenSnippet};
 use crate::shows::show_report;
 use std::alloc::{AllocError, Global};
 
-/// What the lines from some line to the last make. Each list stands from its last item to its
-/// first.
+/// What was read of the lines from some line to the last. Lines are read from the last to the
+/// first, so each list is in reverse order.
 #[derive(Drop)]
 pub(crate) struct Parts<'a> {
     line: Option<&'a str>,
@@ -38,7 +38,7 @@ fn marks_under(
     }
 }
 
-/// With a line below a row, of which the cells are given.
+/// Adds a line below a row, given its cells.
 fn with_line<'a>(parts: Parts<'a>, cells: &'a str) -> Result<Parts<'a>, AllocError>
     ensures { IfOk result (λ more. parts_model more ≡ add_line (under_kind cells.now)
         (parts_model parts.entry)) }
@@ -60,7 +60,7 @@ fn with_line<'a>(parts: Parts<'a>, cells: &'a str) -> Result<Parts<'a>, AllocErr
     })
 }
 
-/// With a row, below which stand the lines that were read last.
+/// Adds a row, with the lines that were read last below it.
 fn with_row<'a>(
     alloc: Global,
     parts: Parts<'a>,
@@ -90,7 +90,7 @@ fn with_row<'a>(
     })
 }
 
-/// A snippet of a head and of rows from the last to the first.
+/// A snippet of a head and of rows in reverse order.
 #[tactic(auto, using(crate::proofs::ReaderLemmas::map_reverse))]
 fn snippet_of(alloc: Global, head: &str, mut rows: Vec<SeenRow>) -> Result<SeenSnippet, AllocError>
     ensures { IfOk result (λ snippet. snippet_model snippet
@@ -103,7 +103,7 @@ fn snippet_of(alloc: Global, head: &str, mut rows: Vec<SeenRow>) -> Result<SeenS
     })
 }
 
-/// With a head, below which stand the rows that were read last.
+/// Adds a head, with the rows that were read last below it.
 fn with_head<'a>(alloc: Global, parts: Parts<'a>, head: &str) -> Result<Parts<'a>, AllocError>
     ensures { IfOk result (λ more. parts_model more ≡ add_line (head_kind head.now)
         (parts_model parts.entry)) }
@@ -163,7 +163,8 @@ fn lines_of<'a>(alloc: Global, text: &'a str) -> Result<Vec<&'a str>, AllocError
     text.split('\n').collect(alloc)
 }
 
-/// What a text would be, if it is a report.
+/// The value of a text, if it is a report. A line's kind is the character after the indent: `,` a
+/// head, `:` a line below a row, a digit a row; others are skipped.
 #[tactic(auto, unfolding(crate::specs::Reading::guess))]
 fn guess_of(alloc: Global, text: &str) -> Result<Option<Seen>, AllocError>
     ensures { IfOk result (λ seen. option_map report_model seen ≡ guess text.now) }
@@ -182,15 +183,15 @@ fn guess_of(alloc: Global, text: &str) -> Result<Option<Seen>, AllocError>
     }
 }
 
-/// What a drawn report says: the one value that is [`well_formed`](crate::well_formed) and whose
-/// [`show_report`](crate::show_report) is this text. None, exactly where there is no such value.
+/// What a drawn report says: the only value that is [`well_formed`](crate::well_formed) and whose
+/// [`show_report`](crate::show_report) is this text; none exactly if there is no such value.
 ///
 /// A report with bars beside its rows, with help or with a note has none, with one exception: bars
-/// without a text at their end are read as parts of the rows.
+/// of labels without a text are read as parts of the rows' texts.
 ///
 /// # Errors
 ///
-/// Want of memory.
+/// Out of memory.
 pub fn read_report(alloc: Global, text: &str) -> Result<Option<Seen>, AllocError>
     ensures sound { IfOk result
         (λ seen. IfSome seen (λ report. IsRead text.now (report_model report))) }

@@ -1,4 +1,4 @@
-//! What is seen in a drawn report.
+//! What a drawn report says, as values.
 use oxc_protocol::Severity;
 
 /// The marked cells under a row, with the text that hangs from them.
@@ -6,11 +6,11 @@ use oxc_protocol::Severity;
 pub struct SeenMark {
     /// The first cell, from 0.
     pub start: usize,
-    /// The cell behind the last one.
+    /// The cell after the last one.
     pub end: usize,
     /// The text, if there is one.
     pub text: Option<String>,
-    /// The text hangs from an arrow instead of a bar: an empty place is marked.
+    /// Whether the text hangs from an arrow instead of a bar: an empty label is marked.
     pub arrow: bool,
 }
 
@@ -19,13 +19,13 @@ pub struct SeenMark {
 pub struct SeenRow {
     /// The row's number in its source.
     pub number: usize,
-    /// The row as it is drawn, each tab as spaces.
+    /// The row as it is drawn, with tabs as spaces.
     pub text: String,
     /// The marks under it, from left to right.
     pub marks: Vec<SeenMark>,
 }
 
-/// What the head of a snippet says.
+/// The head of a snippet.
 #[derive(PartialEq, Eq, Drop)]
 pub enum SeenHead {
     /// The name of a source, and the row and the column to which the head points, both from 1.

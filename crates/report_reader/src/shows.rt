@@ -1,4 +1,4 @@
-//! What a report looks like.
+//! Shows a value as the text of a drawn report.
 ghost use Rattle.std.specs.Prelude.{◌≡◌, ◌++◌, ◌∷◌, [], ◌<◌, ◌≤◌, ◌^◌, IfOk, OnOk, decimal, length};
 ghost use Rattle.std.specs.Prelude.{map, replicate, reverse, string_bytes, None};
 ghost use Rattle.std.specs.List.{flat_map};
@@ -16,7 +16,7 @@ use itoa::Buffer;
 use oxc_protocol::Severity;
 use std::alloc::{AllocError, Global};
 
-/// An ASCII character some times over.
+/// Appends an ASCII character `count` times.
 fn push_times(out: &mut String, c: char, count: usize) -> Result<(), AllocError>
     requires { c < 128 }
     ensures { OnOk result (Appends out.old out.new (replicate count c)) }
@@ -27,7 +27,7 @@ fn push_times(out: &mut String, c: char, count: usize) -> Result<(), AllocError>
     Ok(())
 }
 
-/// A number.
+/// Appends a number.
 fn push_number(out: &mut String, number: usize) -> Result<(), AllocError>
     ensures { OnOk result (Appends out.old out.new (decimal number)) }
 {
@@ -35,7 +35,7 @@ fn push_number(out: &mut String, number: usize) -> Result<(), AllocError>
     out.push_str(buffer.format(number))
 }
 
-/// How many digits a number has.
+/// The number of digits of a number.
 fn digits_of(number: usize) -> usize
     ensures value { result ≡ length (decimal number) }
     ensures small { result ≤ 40 }
@@ -82,7 +82,7 @@ fn push_marks(out: &mut String, marks: &[SeenMark]) -> Result<(), AllocError>
     Ok(())
 }
 
-/// What stands before a line that is no row.
+/// Appends what is drawn before a line that isn't a row.
 #[tactic(auto, unfolding(crate::specs::Shown::other_front))]
 fn push_other_front(out: &mut String, digits: usize) -> Result<(), AllocError>
     requires { digits < 2 ^ 62 }
@@ -93,7 +93,7 @@ fn push_other_front(out: &mut String, digits: usize) -> Result<(), AllocError>
     Ok(())
 }
 
-/// What stands before a row.
+/// Appends what is drawn before a row.
 #[tactic(auto, unfolding(crate::specs::Shown::row_front))]
 fn push_row_front(out: &mut String, digits: usize, number: usize) -> Result<(), AllocError>
     ensures { OnOk result (Appends out.old out.new (row_front digits number)) }
@@ -308,14 +308,14 @@ fn push_snippet(out: &mut String, snippet: &SeenSnippet) -> Result<(), AllocErro
     Ok(())
 }
 
-/// The text of a drawn report that says this, in the plain theme.
+/// The text, in the plain theme, of a drawn report that says this value.
 ///
-/// For a value that isn't [`well_formed`](crate::well_formed) it is a text all the same, but
-/// nothing is promised about reading it.
+/// There is no condition. For a value that isn't [`well_formed`](crate::well_formed), nothing is
+/// promised about reading the text back.
 ///
 /// # Errors
 ///
-/// Want of memory.
+/// Out of memory.
 #[tactic(auto, unfolding(crate::specs::Shown::shown, crate::specs::Shown::report_lines))]
 pub fn show_report(alloc: Global, seen: &Seen) -> Result<String, AllocError>
     ensures { IfOk result (λ text. string_bytes text ≡ shown (report_model seen.now)) }
