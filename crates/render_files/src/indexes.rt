@@ -1,4 +1,4 @@
-// From positions of labels to offsets in the sources of their files.
+// From rows and columns of labels to offsets in the sources of their files.
 ghost use Rattle.std.specs.Prelude.{◌≡◌, ◌<◌, nat_lt, IfOk, length};
 ghost use Rattle.codespan.specs.Texts.{text_of};
 ghost use Rattle.source_location.specs.Index.{Fits, index_of};
@@ -12,10 +12,9 @@ use std::alloc::{AllocError, Global};
 use std::collections::BTreeMap;
 use std::marker::Model;
 
-/// Offsets of positions in the files of a database, which is what contracts see of it.
+/// Finds offsets in the files of a database; contracts see that database.
 ///
-/// The line index of a file is made when the first position by row and column asks for it, and
-/// kept.
+/// The line index of a file is made when a row and a column of it are first looked up, and kept.
 #[derive(Drop)]
 pub(crate) struct Offsets<'a> {
     files: &'a Files<String>,
@@ -54,7 +53,7 @@ impl<'a> Offsets<'a> {
         self.files.contains(file)
     }
 
-    /// The offset of a label's start, or none where it has none.
+    /// The offset of a label's start; none if it isn't a boundary.
     pub(crate) fn start_of(
         &mut self,
         file: FileId,
@@ -70,7 +69,7 @@ impl<'a> Offsets<'a> {
         }
     }
 
-    /// The offset of a label's end, or none where it has none.
+    /// The offset of a label's end; none if it isn't a boundary.
     pub(crate) fn end_of(
         &mut self,
         file: FileId,
@@ -126,7 +125,7 @@ fn offset_in(index: &LineIndex, text: &str, location: SourceLocation) -> Option<
         .map(|offset| offset.to_u32())
 }
 
-/// The number itself, where no character is cut there.
+/// The offset itself, if it is a character boundary.
 #[tactic(auto, using(crate::proofs::Offsets::boundary_there, crate::proofs::Offsets::no_boundary_there))]
 fn boundary_at(text: &str, offset: u32) -> Option<u32>
     ensures { result ≡ boundary_of text.now offset }

@@ -1,4 +1,4 @@
-// Which report is refused, and where the labels of the others stand.
+// Checks reports, and finds the offsets of their labels.
 ghost use Rattle.std.specs.Prelude.{◌≡◌, ◌<◌, ◌≤◌, ◌-◌, nat_lt, None, Some, map, length, IfOk};
 ghost use Rattle.std.specs.Prelude.{MatchOption, if◌then◌else◌};
 ghost use Rattle.codespan.specs.Texts.{text_of};
@@ -17,13 +17,13 @@ use std::alloc::{AllocError, Global};
 use std::ops::Range;
 
 /// Gives the labels of each report their offsets in its file's source, report by report. A file's
-/// line index is made once for all reports, and only where a label names a row and a column of the
+/// line index is made once for all reports, and only if a label names a row and a column of the
 /// file.
 ///
 /// # Errors
 ///
-/// The first report that has a fault decides, as [`ReportError`] says. `OutOfMemory` may come
-/// before any other error, and `SinkFault` never comes.
+/// The first error of the first wrong report, as [`ReportError`] says. `OutOfMemory` may come
+/// before any other error; `SinkFault` never comes.
 #[tactic(auto, unfolding(crate::specs::Refusal::refusal_of))]
 pub fn place_labels(
     alloc: Global,
@@ -73,7 +73,7 @@ fn place_report(
     }
 }
 
-/// The offsets of a label, or that of its positions that has none.
+/// The offsets of a label, or the error of the first of its ends that isn't a boundary.
 fn judge_positions(
     offsets: &mut Offsets<'_>,
     report: usize,
@@ -107,7 +107,7 @@ fn judge_positions(
     Ok(start..end)
 }
 
-/// Why a label with these offsets is refused, if it is.
+/// The error of a label that ends before it starts.
 fn judge_order(report: usize, label: usize, range: &Range<u32>) -> Option<ReportError>
     ensures { result ≡ (if nat_lt range.now.end range.now.start then Some
         (LabelReversed report label range.now.start range.now.end) else None) }

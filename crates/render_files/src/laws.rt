@@ -1,4 +1,4 @@
-// Laws that tie definitions of the crates below, and the two measures of a label's place, each as
+// Laws on the definitions of the crates below, and on the two forms of a label's location, each as
 // the contract of a function that does nothing.
 ghost use Rattle.std.specs.Prelude.{◌≡◌, None, map};
 ghost use Rattle.std.specs.List.{AllZip};
@@ -11,35 +11,34 @@ ghost use Rattle.render_files.specs.Ties.{AllTellOneRow, HasPairedCrs, IsByBytes
 use crate::places::FileReport;
 use codespan::Files;
 
-/// The law that the breaks by which windows are cut are those by which rows are counted. It does
-/// nothing: a caller calls it to know the law.
+/// The law that `oxc_windows` and `source_location` see the same breaks. It does nothing; a caller
+/// calls it to use the law.
 pub fn breaks_are_the_same(_text: &[u8])
     ensures { AgreeOnBreaks _text.now }
 {}
 
-/// The law that a window and a line index put each offset into the same row, at the same number of
-/// bytes from its start. It does nothing: a caller calls it to know the law.
+/// The law that a window and a line index give each offset the same row, and the same number of
+/// bytes from the row's start. It does nothing; a caller calls it to use the law.
 pub fn places_are_the_same(_text: &[u8])
     ensures { AgreeOnPlaces _text.now }
 {}
 
-/// The law that the row of an offset is told alike, but for the number that rows are counted from:
-/// by a line index, by what an editor is told of a diagnostic that points there, and by a scanner
-/// without rows of context that reads an empty span there. It does nothing: a caller calls it to
-/// know the law.
+/// The law that three calls give the same row for an offset, counted from 0 or from 1: a line
+/// index; the `Info` of a diagnostic that points there; and a scanner without rows of context that
+/// reads an empty span there. It does nothing; a caller calls it to use the law.
 pub fn all_tell_one_row(_text: &[u8], _offset: usize)
     ensures { AllTellOneRow _text.now _offset }
 {}
 
-/// The law that, where CR stands only before LF, lines under LF alone start where rows under LF, CR
-/// and CRLF start. It does nothing: a caller calls it to know the law.
+/// The law that, if CR occurs only before LF, `codespan`'s lines (which end at LF) start where rows
+/// (which end at LF, CR and CRLF) start. It does nothing; a caller calls it to use the law.
 pub fn line_starts_are_the_same(_text: &[u8])
     requires { HasPairedCrs _text.now }
     ensures { AgreeOnLines _text.now }
 {}
 
-/// The law that reports of which none is refused show the same where places by row and column are
-/// replaced by their offsets. It does nothing: a caller calls it to know the law.
+/// The law that reports without errors show the same if locations by row and column are replaced by
+/// their offsets. It does nothing; a caller calls it to use the law.
 pub fn offsets_show_the_same(
     _files: &Files<String>,
     _reports: &[FileReport],

@@ -1,4 +1,4 @@
-// Reports drawn, or written as JSON, by scanners that are kept, one for each file.
+// Reports drawn, or written as JSON, by one kept scanner for each file.
 ghost use Rattle.std.specs.Prelude.{◌≡◌, ◌<◌, ◌≤◌, ◌++◌, All, IfOk, IfSome, OnOk, Some, length};
 ghost use Rattle.std.specs.Prelude.{string_bytes};
 ghost use Rattle.std.specs.Option.{option_copied};
@@ -18,11 +18,12 @@ use std::collections::BTreeMap;
 use std::marker::Model;
 
 /// Scanners of the files of a database. Contracts see the files, and how many rows of context the
-/// scanners read round a span.
+/// scanners read around a span. The invariant says that each scanner reads its file's source, so no
+/// source is compared or checked for UTF-8.
 ///
-/// The scanner of a file is made for the first report on it, and kept for the reports to come. It
-/// begins to keep rows at the least place that was told of the file, so that reports in any order
-/// find the rows that they show.
+/// The scanner of a file is made for the first report on it, and kept for later reports. It begins
+/// to keep rows at the least start of the file's labels, so that reports in any order find the rows
+/// that they show.
 #[derive(Drop)]
 pub(crate) struct Readers<'a> {
     files: &'a Files<String>,
@@ -44,8 +45,7 @@ impl<'a> Model for Readers<'a> {
 }
 
 impl<'a> Readers<'a> {
-    /// No scanner is made yet; those to come read so many rows of context before a span and after
-    /// one.
+    /// Without scanners yet; they will read this many rows of context before a span and after one.
     pub(crate) fn new(alloc: Global, files: &'a Files<String>, rows: usize) -> Self
         ensures { result ≡ record { files = files.now; rows = rows } }
     {
@@ -58,7 +58,7 @@ impl<'a> Readers<'a> {
         }
     }
 
-    /// Tells that a label of a file starts there.
+    /// Records that a label of a file starts there.
     pub(crate) fn tell(&mut self, file: FileId, start: u32) -> Result<(), AllocError>
         ensures { self.new ≡ self.old }
     {
@@ -70,7 +70,8 @@ impl<'a> Readers<'a> {
         Ok(())
     }
 
-    /// Appends the drawing of a report on a file, by scanners that read one row round a span.
+    /// Appends the drawing of a report on a file, by scanners that read one row of context on each
+    /// side. A scanner is used in its place in the map.
     pub(crate) fn draw(
         &mut self,
         handler: &GraphicalReportHandler,
@@ -123,7 +124,7 @@ impl<'a> Readers<'a> {
         Ok(())
     }
 
-    /// Takes out the scanner of a file, or makes it.
+    /// Takes the scanner of a file out of the map, or makes it.
     fn reader_of(&mut self, file: FileId) -> Result<SpanScanner<'a>, AllocError>
         requires { file < length self.old.files }
         ensures reads { IfOk result (Reads (text_of self.old.files file) self.old.rows) }
@@ -135,7 +136,7 @@ impl<'a> Readers<'a> {
         }
     }
 
-    /// A scanner of a file, which keeps rows from the least place on that was told.
+    /// A scanner of a file, which keeps rows from the least recorded start on.
     fn new_reader(&self, file: FileId) -> Result<SpanScanner<'a>, AllocError>
         requires { file < length self.now.files }
         ensures { IfOk result (Reads (text_of self.now.files file) self.now.rows) }

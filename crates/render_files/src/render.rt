@@ -1,4 +1,4 @@
-// Reports on files, drawn or as JSON, and sent to a sink.
+// Reports on files, drawn or as JSON, and written to a sink.
 ghost use Rattle.std.specs.Prelude.{◌≡◌, ◌≢◌, ◌++◌, ◌∷◌, [], ◌<◌, ◌≤◌, All, None, Some, OnOk, IfOk};
 ghost use Rattle.std.specs.Prelude.{IfErr, IsErrOf, IsOk, IsOkAnd, length, map, string_bytes};
 ghost use Rattle.std.specs.Io.KnownBytes.{Appends};
@@ -23,16 +23,15 @@ use oxc_handlers::{DiagnosticView, GraphicalReportHandler};
 use oxc_protocol::{Diagnostic, LabeledSpan, Sink, SourceRef, write_all};
 use std::alloc::{AllocError, Global};
 
-/// Draws reports on the files of a database, and sends the drawings to the sink one after another.
+/// Draws reports on the files of a database, and writes the drawings to the sink one after another.
 ///
-/// The whole text is built before its first byte goes out. A file's source is read by one scanner
-/// for all reports on it.
+/// The whole text is built before its first byte is written. A file's source is read by one scanner
+/// for all reports on it. An empty list allocates nothing and leaves the sink unchanged.
 ///
 /// # Errors
 ///
-/// The refusals of [`ReportError`], by the first report that has a fault, and want of memory, which
-/// may come before any other: nothing was written. `SinkFault`: the sink took a first part of the
-/// text.
+/// [`ReportError`]: the first error of the first wrong report, or out of memory, which may come
+/// before any other; nothing was written. `SinkFault`: the sink took a first part of the text.
 #[tactic(auto, using(crate::proofs::Standing::none_refused))]
 pub fn render_files<K: Sink>(
     alloc: Global,
@@ -61,13 +60,13 @@ pub fn render_files<K: Sink>(
     Ok(())
 }
 
-/// Sends reports on the files of a database to the sink as JSON: an object and an LF for each.
+/// Writes reports on the files of a database to the sink as JSON: an object and an LF for each.
 ///
-/// The whole text is built before its first byte goes out.
+/// The whole text is built before its first byte is written.
 ///
 /// # Errors
 ///
-/// As those of [`render_files`].
+/// Those of [`render_files`].
 #[tactic(auto, using(crate::proofs::Standing::none_refused))]
 pub fn render_files_json<K: Sink>(
     alloc: Global,
@@ -95,11 +94,11 @@ pub fn render_files_json<K: Sink>(
     Ok(())
 }
 
-/// The text that [`render_files`] sends.
+/// The text that [`render_files`] writes.
 ///
 /// # Errors
 ///
-/// The same refusals, and want of memory; never `SinkFault`.
+/// Those of [`render_files`], except `SinkFault`.
 #[tactic(auto, using(crate::proofs::Standing::never_fault, crate::proofs::Standing::none_refused))]
 pub fn files_text(
     alloc: Global,
@@ -120,11 +119,11 @@ pub fn files_text(
     Ok(draw_all(alloc, handler, files, reports, &spans)?)
 }
 
-/// The text that [`render_files_json`] sends.
+/// The text that [`render_files_json`] writes.
 ///
 /// # Errors
 ///
-/// The same refusals, and want of memory; never `SinkFault`.
+/// Those of [`render_files`], except `SinkFault`.
 #[tactic(auto, using(crate::proofs::Standing::never_fault, crate::proofs::Standing::none_refused))]
 pub fn files_json(
     alloc: Global,
@@ -145,7 +144,8 @@ pub fn files_json(
     Ok(write_all_json(alloc, files, reports, &spans, &codes)?)
 }
 
-/// The codes of reports, as they are shown.
+/// The codes of reports, as they are shown. For JSON they are made before the first line, since
+/// views and scanners share a lifetime.
 fn codes_of(alloc: Global, reports: &[FileReport]) -> Result<Vec<Option<String>>, AllocError>
     ensures { IfOk result (λ codes. map text_bytes codes.items
         ≡ map code_of (map given_report reports.now)) }
@@ -157,10 +157,10 @@ fn codes_of(alloc: Global, reports: &[FileReport]) -> Result<Vec<Option<String>>
     Ok(codes)
 }
 
-/// How many bytes of room are taken at first for each drawing.
+/// The bytes that are reserved for each drawing.
 const GUESS: usize = 256;
 
-/// The drawings of reports of which none is refused, with their labels.
+/// The drawings of reports without errors, with their labels.
 fn draw_all<'a>(
     alloc: Global,
     handler: &GraphicalReportHandler,
@@ -184,8 +184,8 @@ fn draw_all<'a>(
     Ok(text)
 }
 
-/// Readers of the database, with so many rows of context, that were told where the labels of
-/// reports start.
+/// Readers of the database, with this many rows of context, in which the starts of the reports'
+/// labels are recorded.
 fn readers_for<'a>(
     alloc: Global,
     files: &'a Files<String>,
@@ -204,7 +204,7 @@ fn readers_for<'a>(
     Ok(readers)
 }
 
-/// The lines of reports of which none is refused, with their labels and their codes.
+/// The JSON lines of reports without errors, with their labels and codes.
 fn write_all_json<'a>(
     alloc: Global,
     files: &'a Files<String>,
