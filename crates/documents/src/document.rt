@@ -1,4 +1,4 @@
-// The document: source files, and reports on them.
+// Reads documents: source files, and reports on them.
 ghost use Rattle.std.specs.Prelude.{◌≡◌, ◌<◌, ◌^◌, [], is_some, length, map, nat_lt, string_bytes};
 ghost use Rattle.std.specs.Prelude.{option_and_then, option_map, unwrap_or, IfOk, IfSome};
 ghost use Rattle.codespan.specs.Texts.{Fits};
@@ -30,29 +30,29 @@ use std::alloc::{AllocError, Global};
 /// Source files, and reports on them.
 #[derive(Drop)]
 pub struct Document {
-    /// The files, which reports name by their place.
+    /// The files, which reports name by index.
     pub files: Files<String>,
     /// The reports.
     pub reports: Vec<FileReport>,
 }
 
-/// Which form a document has.
+/// The version of a document.
 #[derive(Clone, Copy, PartialEq, Eq)]
 pub(crate) enum Version {
-    /// Labels are given by rows and columns.
+    /// Labels have rows and columns.
     One,
-    /// Labels are given by rows and columns, or by bytes.
+    /// Labels have rows and columns, or offsets in bytes.
     Two,
 }
 
-/// The document that the bytes are, or none: exactly where the whole input is JSON of the form that
-/// `docs/DOCUMENT.md` states.
+/// The document that the bytes state; none exactly if the whole input isn't JSON of the form that
+/// `docs/DOCUMENT.md` states. The last of two equal keys counts.
 ///
-/// Texts are moved out of the JSON value that was read.
+/// Texts are moved out of the JSON value, not copied.
 ///
 /// # Errors
 ///
-/// Want of memory, which says nothing of whether the bytes are a document.
+/// Out of memory, whether the bytes are a document or not.
 pub fn read_document(alloc: Global, bytes: &[u8]) -> Result<Option<Document>, AllocError>
     ensures { IfOk result (λ it. option_map document_view it ≡ document_of bytes.now) }
 {
@@ -91,7 +91,7 @@ fn read_form(alloc: Global, value: Value) -> Result<Option<Document>, AllocError
     Ok(Some(Document { files, reports }))
 }
 
-// The version, which may be left out.
+// The version, which may be omitted.
 fn read_version(found: &Option<Value>) -> Option<Version>
     ensures allowed { is_some result ≡ is_allowed version_in (option_map view found.now) }
     ensures value { IfSome result
@@ -130,7 +130,8 @@ fn found_reports(
     }
 }
 
-// The files of a document, which are fewer than a database could not hold.
+// The files of a document; none if there are more than a database holds. (So `add` can fail only
+// when out of memory.)
 #[tactic(auto, using(crate::proofs::KindLemmas::too_many, crate::proofs::KindLemmas::few_enough))]
 fn read_files(alloc: Global, values: Vec<Value>) -> Result<Option<Files<String>>, AllocError>
     ensures { IfOk result (λ it. option_map (λ files. files) it
@@ -219,7 +220,7 @@ fn label_by_bytes(members: Map<String, Value>) -> Option<PlaceLabel>
     })
 }
 
-// A label of the version.
+// A label, in one of the forms of this version: with `bytes` or with `start` and `end`.
 #[tactic(auto, unfolding(crate::specs::Document::label_by_rows, crate::specs::Document::label_by_bytes))]
 fn read_label(version: Version, value: Value) -> Option<PlaceLabel>
     ensures { option_map given_label result ≡ label version (view value) }
@@ -269,7 +270,7 @@ fn read_labels(
     Ok(Some(labels))
 }
 
-// The labels that stand under a key that may be left out.
+// The labels under a key that may be omitted.
 fn optional_labels(
     alloc: Global,
     version: Version,
@@ -288,7 +289,7 @@ fn optional_labels(
     }
 }
 
-// A diagnostic of these parts.
+// A diagnostic with these parts.
 fn diagnostic(alloc: Global, parts: OxcDiagnosticInner) -> Result<OxcDiagnostic, AllocError>
     ensures { IfOk result (λ it. it ≡ inner_parts parts) }
 {
@@ -297,7 +298,7 @@ fn diagnostic(alloc: Global, parts: OxcDiagnosticInner) -> Result<OxcDiagnostic,
     Ok(diagnostic)
 }
 
-// What a report says.
+// The parts of a report's diagnostic.
 fn diagnostic_parts(alloc: Global, fields: SaidFields) -> Option<OxcDiagnosticInner>
     ensures allowed { is_some result ≡ are_said fields }
     ensures parts { IfSome result (λ parts. inner_parts parts ≡ said fields) }
@@ -323,7 +324,7 @@ fn diagnostic_parts(alloc: Global, fields: SaidFields) -> Option<OxcDiagnosticIn
     })
 }
 
-// The file that a report names by its place, from 0.
+// The file that a report names by its index, from 0.
 fn file_id(found: &Option<Value>) -> Option<FileId>
     ensures { result ≡ option_and_then file_number (option_map view found.now) }
 {

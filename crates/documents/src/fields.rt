@@ -1,4 +1,5 @@
-// The values of an object, taken out of it by their keys.
+// The values of an object, taken out of it by their keys. An object has no other key if nothing
+// remains.
 ghost use Rattle.std.specs.Prelude.{◌≡◌, [], codes, is_some, option_map};
 ghost use Rattle.serde_json.specs.View.{view, members_view};
 ghost use Rattle.serde_json.specs.Find.{get_member};
@@ -10,13 +11,13 @@ ghost use Rattle.documents.specs.Document.{row_keys};
 
 use serde_json::{Map, Value};
 
-/// What stands under a key, if anything does.
+/// The value of a key, if the key is there.
 #[derive(Drop)]
 pub(crate) struct Found {
     pub(crate) value: Option<Value>,
 }
 
-/// What stands under the keys of a file, and whether these are all its keys.
+/// The values of a file's keys, and whether it has no other key.
 #[derive(Drop)]
 pub(crate) struct FileFields {
     pub(crate) name: Found,
@@ -36,7 +37,7 @@ pub(crate) fn file_fields(mut members: Map<String, Value>) -> FileFields
     }
 }
 
-/// What stands under the keys of a label by rows and columns, and whether these are all its keys.
+/// The values of the keys of a label by rows and columns, and whether it has no other key.
 #[derive(Drop)]
 pub(crate) struct RowFields {
     pub(crate) start: Found,
@@ -62,7 +63,7 @@ pub(crate) fn row_fields(mut members: Map<String, Value>) -> RowFields
     }
 }
 
-/// What stands under the keys of a label by bytes, and whether these are all its keys.
+/// The values of the keys of a label by bytes, and whether it has no other key.
 #[derive(Drop)]
 pub(crate) struct ByteFields {
     pub(crate) bytes: Found,
@@ -85,7 +86,7 @@ pub(crate) fn byte_fields(mut members: Map<String, Value>) -> ByteFields
     }
 }
 
-/// What stands under the keys of a report.
+/// The values of a report's keys.
 #[derive(Drop)]
 pub(crate) struct ReportFields {
     pub(crate) file: Found,
@@ -93,8 +94,7 @@ pub(crate) struct ReportFields {
     pub(crate) said: SaidFields,
 }
 
-/// What stands under the keys by which a report says something, and whether the report has no other
-/// key.
+/// The values of the keys of a report's diagnostic, and whether the report has no other key.
 #[derive(Drop)]
 pub(crate) struct SaidFields {
     pub(crate) message: Found,
@@ -136,7 +136,7 @@ pub(crate) fn report_fields(mut members: Map<String, Value>) -> ReportFields
     }
 }
 
-/// What stands under the keys of a document, and whether these are all its keys.
+/// The values of a document's keys, and whether it has no other key.
 #[derive(Drop)]
 pub(crate) struct DocumentFields {
     pub(crate) version: Found,
@@ -160,14 +160,14 @@ pub(crate) fn document_fields(mut members: Map<String, Value>) -> DocumentFields
     }
 }
 
-/// Whether there is such a key.
+/// Whether the object has this key.
 pub(crate) fn has_key(members: &Map<String, Value>, key: &str) -> bool
     ensures { result ≡ is_some (get_member key.now (members_view members.now.entries)) }
 {
     members.contains_key(key)
 }
 
-// Takes out what stands under the key.
+// Takes out the value of a key.
 fn take(members: &mut Map<String, Value>, key: &str) -> Found
     ensures value { option_map view result.value
         ≡ get_member key.now (members_view members.old.entries) }
@@ -179,7 +179,7 @@ fn take(members: &mut Map<String, Value>, key: &str) -> Found
     }
 }
 
-// Whether nothing is left.
+// Whether no key remains.
 #[tactic(auto, using(crate::proofs::KeyLemmas::none_left, crate::proofs::KeyLemmas::some_left))]
 fn is_empty(members: &Map<String, Value>) -> bool
     ensures { result ≡ only_keys [] (members_view members.now.entries) }

@@ -12,16 +12,15 @@ use itoa::Buffer;
 use serde_json::{Value, json};
 use std::alloc::{AllocError, Global};
 
-/// A document without spaces of one file with so many rows, and of as many reports, one on each
-/// row.
+/// A document without spaces: one file with `count` rows, and a report on each row.
 ///
-/// A row is `r` and its number from 1 on, or, where 4 divides the number, a tab, `日` and the
-/// number. Its report's message is `m` and the number, and its one label, `t`, goes from the row's
-/// first column to the second. None of them is refused.
+/// A row is `r` and its number, from 1, or, if 4 divides the number, a tab, `日` and the number. Its
+/// report's message is `m` and the number; its only label, with the text `t`, goes from the row's
+/// first column to the second. No report has an error.
 ///
 /// # Errors
 ///
-/// Want of memory.
+/// Out of memory.
 pub fn generate(alloc: Global, count: u32) -> Result<Vec<u8>, AllocError>
     requires { count ≤ 5000 }
     ensures bytes { IfOk result (λ bytes. bytes.items ≡ generated count) }

@@ -1,13 +1,13 @@
-//! Documents: source files and reports on them, as JSON; and the sources that programs read.
+//! Documents: source files and reports on them, as JSON; and the devices that programs read.
 //!
-//! What comes in goes through the modules in this order:
+//! Input passes through the modules in this order:
 //!
-//! - `source`: a device that gives bytes, and the loop that reads it to its end; `memory` and
-//!   `streams` have such devices
-//! - `document`: the document that the bytes are, by `fields` (the keys of an object) and `values`
-//!   (what stands under them)
+//! - `source`: the trait of devices that give bytes, and the loop that reads one to its end;
+//!   `memory` and `streams` have such devices
+//! - `document`: the document that the bytes state, by `fields` (the keys of an object) and
+//!   `values` (their values)
 //! - `generated`: a document of any size, for measuring
-//! - `written`: the document that files and reports are
+//! - `written`: files and reports, written as a document
 #![tactic(auto)]
 
 mod document;

@@ -1,4 +1,4 @@
-// A source in memory, which fails at the calls that it was told.
+// A source in memory, which fails at given calls.
 ghost use Rattle.std.specs.Prelude.{◌≡◌, ◌<◌, ◌≤◌, ◌↔◌, length, take, drop, min, Some, IfOk, IsErr};
 ghost use Rattle.std.specs.Prelude.{OnErr};
 ghost use Rattle.std.specs.Io.{ReadsAtMost};
@@ -10,9 +10,9 @@ use crate::source::Source;
 use oxc_protocol::Failed;
 use std::marker::Model;
 
-/// A source that gives the bytes that it was made of.
+/// A source that gives the bytes that it was made from.
 ///
-/// Contracts see its state (`specs/MemorySource.antt`): the bytes to come, the most that one call
+/// Contracts see its state (`specs/MemorySource.antt`): the remaining bytes, the most that one call
 /// gives, the numbers of the calls that fail (the first call is 0), and how many calls and faults
 /// there were.
 #[derive(Drop)]
@@ -56,7 +56,7 @@ impl MemorySource {
         }
     }
 
-    /// The bytes still to come.
+    /// The remaining bytes.
     pub fn left(&self) -> &[u8]
         ensures { result.now ≡ self.now.left }
     {

@@ -1,4 +1,4 @@
-// A source as its callers see it, and the loop that reads it to its end.
+// The trait of sources, and the loop that reads one to its end.
 ghost use Rattle.std.specs.Prelude.{ℕ, ◌≤◌, List, Option};
 ghost use Rattle.std.specs.Io.{ReadsAtMost};
 ghost use Rattle.std.specs.Io.KnownBytes.{ReadConsumes};
@@ -12,38 +12,38 @@ const CHUNK: usize = 4096;
 
 /// A device that gives bytes.
 pub trait Source {
-    /// The bytes still to come. A device that can't know them tells none.
+    /// The remaining bytes; none if they aren't known.
     ghost left: { Self → Option (List ℕ) };
 
     /// How often the device failed: a number that never falls, and stops at its type's end.
     ghost faults: { Self → ℕ };
 
-    /// Puts the next bytes at the front of `buf` and answers how many; 0 for a `buf` that isn't
-    /// empty means the end.
+    /// Puts the next bytes at the front of `buf` and returns how many. For a `buf` that isn't
+    /// empty, 0 means the end.
     ///
     /// # Errors
     ///
-    /// `Failed`, only where the count of faults rose; nothing was taken.
+    /// `Failed`, only if the count of faults rose; nothing was taken.
     fn read(&mut self, buf: &mut [u8]) -> Result<usize, Failed>
         ensures bound { ReadsAtMost result buf.new }
         ensures bytes { ReadConsumes (left self.old) (left self.new) result buf.new }
         ensures cause { HasCause (faults self.old) (faults self.new) result };
 }
 
-/// What reading a source to its end came to.
+/// The result of reading a source to its end.
 #[derive(Drop)]
 pub enum Reading {
     /// All its bytes.
     Whole(Vec<u8>),
-    /// There are more bytes than were asked for.
+    /// There are more bytes than the limit.
     TooLong,
     /// The source failed.
     Fault,
-    /// There was no memory left.
+    /// Out of memory.
     OutOfMemory,
 }
 
-/// Reads a source to its end, and stops once it has taken one byte more than `limit`.
+/// Reads a source to its end, or until it has taken one byte more than `limit`.
 pub fn read_all<I: Source>(alloc: Global, input: &mut I, limit: usize) -> Reading
     ensures says { Says result (I.left input.old) (I.left input.new) limit }
     ensures cause { HasReadingCause (I.faults input.old) (I.faults input.new) result }

@@ -1,6 +1,5 @@
-// The standard streams as a source and sinks. What they give and take isn't told: this is the edge
-// that is trusted to hand the bytes on. A reader that tells its bytes, as one over memory, tells
-// them here too.
+// The standard streams as a source and sinks. Contracts don't know their bytes; these adapters are
+// trusted to pass them on. If a reader's bytes are known, as in memory, they are known here too.
 ghost use Rattle.std.specs.Prelude.{◌≡◌, None};
 
 use crate::source::Source;
@@ -18,7 +17,7 @@ pub struct ReaderSource<R: Read> {
 pub type StdinSource = ReaderSource<Stdin>;
 
 impl<R: Read> ReaderSource<R> {
-    /// A source over the reader, which has not failed yet.
+    /// A source over the reader, without failures so far.
     pub fn new(reader: R) -> ReaderSource<R>
         ensures kept { result.reader ≡ reader }
         ensures faults { result.faults ≡ 0 }
@@ -33,7 +32,7 @@ impl<R: Read> ReaderSource<R> {
         &self.reader
     }
 
-    /// How many of its reads failed, those that were made again among them.
+    /// The number of reads that failed, including those that were repeated.
     pub fn failures(&self) -> u64
         ensures { result ≡ self.now.faults }
     {
@@ -46,8 +45,7 @@ impl<R: Read> Source for ReaderSource<R> {
 
     ghost faults = { λ s. s.faults };
 
-    /// A read that was interrupted is counted and made again; any other failure is counted, and
-    /// ends it.
+    /// An interrupted read is counted and repeated; any other failure is counted and returned.
     fn read(&mut self, buf: &mut [u8]) -> Result<usize, Failed> {
         for _ in 0..u64::MAX {
             match self.reader.read(buf) {
@@ -63,7 +61,8 @@ impl<R: Read> Source for ReaderSource<R> {
     }
 }
 
-/// A writer of std whose failures are counted, and which is flushed after each write.
+/// A writer of std whose failures are counted, and which is flushed after each write. Contracts
+/// don't know what it received, since a failed flush is an error although the bytes were taken.
 #[derive(Drop)]
 pub struct WriterSink<W: Write> {
     writer: W,
@@ -77,7 +76,7 @@ pub type StdoutSink = WriterSink<Stdout>;
 pub type StderrSink = WriterSink<Stderr>;
 
 impl<W: Write> WriterSink<W> {
-    /// A sink over the writer, which has not failed yet.
+    /// A sink over the writer, without failures so far.
     pub fn new(writer: W) -> WriterSink<W>
         ensures kept { result.writer ≡ writer }
         ensures faults { result.faults ≡ 0 }
@@ -92,7 +91,7 @@ impl<W: Write> WriterSink<W> {
         &self.writer
     }
 
-    /// How many of its writes failed, those that were made again among them.
+    /// The number of writes that failed, including those that were repeated.
     pub fn failures(&self) -> u64
         ensures { result ≡ self.now.faults }
     {
@@ -105,8 +104,8 @@ impl<W: Write> Sink for WriterSink<W> {
 
     ghost faults = { λ s. s.faults };
 
-    /// A write that was interrupted is counted and made again. A write that takes nothing of a
-    /// piece that isn't empty fails, and so does one whose flush is refused.
+    /// An interrupted write is counted and repeated. A write that takes nothing of a slice that
+    /// isn't empty fails, and so does one whose flush fails.
     fn write(&mut self, bytes: &[u8]) -> Result<usize, Failed> {
         for _ in 0..u64::MAX {
             match self.writer.write(bytes) {

@@ -1,4 +1,4 @@
-// Single values of a document, by their kinds. Texts are moved out of the JSON values.
+// Single values of a document, by kind. Texts are moved out of the JSON values.
 ghost use Rattle.std.specs.Prelude.{◌≡◌, ◌^◌, ◌-◌, is_some, IfSome, option_map, option_and_then};
 ghost use Rattle.std.specs.Prelude.{string_bytes};
 ghost use Rattle.oxc_span.specs.Views.{text_bytes};
@@ -45,7 +45,7 @@ pub(crate) fn source(value: Value) -> Option<String>
     }
 }
 
-/// A text that may be left out: `None` where something else stands there.
+/// A text that may be omitted: `None` if the value isn't a text.
 pub(crate) fn optional_text(found: Option<Value>) -> Option<Option<String>>
     ensures allowed { is_some result ≡ is_allowed text_in (option_map view found) }
     ensures value { IfSome result (λ it. text_bytes it
@@ -57,7 +57,7 @@ pub(crate) fn optional_text(found: Option<Value>) -> Option<Option<String>>
     }
 }
 
-/// A text that may be left out and isn't empty.
+/// A text that may be omitted and isn't empty.
 pub(crate) fn optional_some_text(found: Option<Value>) -> Option<Option<String>>
     ensures allowed { is_some result ≡ is_allowed filled_text (option_map view found) }
     ensures value { IfSome result (λ it. text_bytes it ≡ option_and_then filled_text
@@ -69,7 +69,7 @@ pub(crate) fn optional_some_text(found: Option<Value>) -> Option<Option<String>>
     }
 }
 
-/// A truth value that may be left out.
+/// A boolean that may be omitted.
 pub(crate) fn optional_truth(found: &Option<Value>) -> Option<Option<bool>>
     ensures allowed { is_some result ≡ is_allowed truth_in (option_map view found.now) }
     ensures value { IfSome result (λ it. it ≡ option_and_then truth_in
@@ -81,7 +81,7 @@ pub(crate) fn optional_truth(found: &Option<Value>) -> Option<Option<bool>>
     }
 }
 
-/// How grave a report is, which may be left out.
+/// A severity that may be omitted.
 pub(crate) fn optional_severity(found: &Option<Value>) -> Option<Option<Severity>>
     ensures allowed { is_some result ≡ is_allowed severity_in (option_map view found.now) }
     ensures value { IfSome result (λ it. it ≡ option_and_then severity_in
@@ -104,7 +104,7 @@ fn severity_named(name: &str) -> Option<Severity>
     }
 }
 
-/// A whole number from the least to the most.
+/// An integer from `least` to `most`.
 pub(crate) fn whole(least: u32, most: u32, value: &Value) -> Option<u32>
     ensures { result ≡ whole_in least most (view value.now) }
 {
@@ -137,14 +137,14 @@ fn place_of(values: &[Value]) -> Option<SourceLocation>
     }
 }
 
-// A number from 1 on.
+// An integer, at least 1.
 fn counted(value: &Value) -> Option<OneIndexed>
     ensures { result ≡ whole_in 1 (2 ^ 32 - 1) (view value.now) }
 {
     OneIndexed::new(whole(1, u32::MAX, value)?)
 }
 
-/// Two numbers of bytes.
+/// Two offsets in bytes.
 pub(crate) fn bytes_pair(value: &Value) -> Option<(u32, u32)>
     ensures { result ≡ two_numbers (view value.now) }
 {

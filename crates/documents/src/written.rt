@@ -1,4 +1,4 @@
-// Source files and reports on them, written as a document.
+// Writes source files and reports on them as a document.
 ghost use Rattle.std.specs.Prelude.{◌≡◌, ◌<◌, ◌^◌, All, codes, IfOk, OnOk, Some, length, map};
 ghost use Rattle.std.specs.Prelude.{string_bytes};
 ghost use Rattle.std.specs.List.{list_all};
@@ -27,14 +27,14 @@ use serde_json::{Map, Value, json, put};
 use source_location::SourceLocation;
 use std::alloc::{AllocError, Global};
 
-/// The text without spaces of the document that these files and reports are.
+/// The text, without spaces, of the document of these files and reports.
 ///
-/// Each label stands in it as it is given, by rows and columns or by bytes; where one is by bytes,
-/// the document is of version 2. What would say no more than its default is left out.
+/// Each label is written as it is given, by rows and columns or by bytes; if one is by bytes, the
+/// document has version 2. Members with default values are omitted.
 ///
 /// # Errors
 ///
-/// Want of memory.
+/// Out of memory.
 pub fn write_document(
     alloc: Global,
     files: &Files<String>,
@@ -159,7 +159,7 @@ fn report_value(alloc: Global, report: &FileReport) -> Result<Value, AllocError>
     Ok(Value::Object(members))
 }
 
-// The labels, where there are any.
+// Puts the labels, if there are any.
 #[tactic(auto, using(crate::proofs::WrittenLemmas::some_labels, crate::proofs::WrittenLemmas::no_labels))]
 fn put_labels(
     alloc: Global,
@@ -177,7 +177,7 @@ fn put_labels(
     put(members, alloc, "labels", labels_value(alloc, labels)?)
 }
 
-// The members that say what is reported.
+// Puts the members that say what is reported.
 #[tactic(auto, unfolding(crate::specs::Written::said_members))]
 fn put_said(
     alloc: Global,
@@ -196,7 +196,7 @@ fn put_said(
     put_text(alloc, members, "url", said.url.as_deref())
 }
 
-// A text under a key, where there is one.
+// Puts a text under a key, if there is one.
 fn put_text(
     alloc: Global,
     members: &mut Map<String, Value>,
@@ -214,7 +214,7 @@ fn put_text(
     put(members, alloc, key, Value::String(text))
 }
 
-// The name of a severity that isn't the default one.
+// The name of a severity that isn't the default.
 fn severity_name(severity: Severity) -> Option<&'static str>
     ensures { text_value (option_copied result) ≡ severity_written severity }
 {
@@ -250,7 +250,7 @@ fn label_value(alloc: Global, label: &PlaceLabel) -> Result<Value, AllocError>
     Ok(Value::Object(members))
 }
 
-// The members that say where a label stands.
+// The members for a label's location.
 fn place_members(alloc: Global, place: LabelPlace) -> Result<Map<String, Value>, AllocError>
     ensures members { IfOk result (λ members. members_view members.entries ≡ place_written place) }
     ensures ranges { OnOk result (IsPlace place) }
