@@ -1,2 +1,2 @@
-//! Lemmas on lists, ranges of numbers and choices that several crates need. All of it is in `proofs/`.
+//! Lemmas on lists, ranges of numbers and choices that several crates need. All are in `proofs/`.
 #![tactic(auto)]

@@ -1,7 +1,7 @@
-//! The program `report`: a document of source files and reports on standard input, their drawing on
-//! standard output, and the status as exit status.
+//! The program `report`: reads a document of source files and reports from standard input, writes
+//! their drawing to standard output, and has the status as exit status.
 //!
-//! [`run`] is the whole program over any source and sinks; `main` gives it the words and the
+//! [`run`] is the whole program over any source and sinks; `main` gives it the arguments and the
 //! standard streams.
 #![tactic(auto)]
 
@@ -15,14 +15,14 @@ use std::env;
 use std::io::ErrorKind;
 use std::process::ExitCode;
 
-/// The system gave no words, for another cause than memory.
+/// The exit status if the system gave no arguments, for another cause than memory.
 const NO_WORDS: u8 = 9;
 
 fn main(rt: HostRuntime) -> ExitCode {
     let alloc = rt.alloc();
     let mut args = match env::args(&rt) {
         Ok(args) => args,
-        // (there was no memory for the words: nothing is read or written)
+        // (out of memory for the arguments: nothing is read or written)
         Err(e) if e.kind() == ErrorKind::OutOfMemory => return exit(Status::OutOfMemory),
         Err(_) => return ExitCode::from(NO_WORDS),
     };

@@ -1,4 +1,5 @@
-// How a run ended, and the line on `err` that says so. A line takes no memory.
+// How a run ended, and the line on `err` that says so. A line is built on the stack and written at
+// once, so it allocates no memory.
 ghost use Rattle.std.specs.Prelude.{◌≡◌, ◌≤◌, length};
 ghost use Rattle.report_run.specs.Ending.{IsTold, label_line as labelled, line_of, status_of};
 ghost use Rattle.report_run.specs.Ending.{no_position as unplaced, plain_line as plainly};
@@ -11,32 +12,32 @@ use itoa::Buffer;
 use oxc_protocol::{Sink, write_all};
 use render_files::ReportError;
 
-/// The longest line has 104 bytes.
+/// A line of `err`. The longest has 104 bytes.
 type Line = ArrayString<256>;
 
-/// How a run ended.
+/// How a run ended, with the error of a report if there is one.
 #[derive(Clone, Copy, PartialEq, Eq)]
 pub(crate) enum Ending {
-    /// The text was written whole.
+    /// The whole text was written.
     Done,
-    /// A report names no file or no place.
+    /// A report has an error.
     Refused(ReportError),
-    /// The words are no command.
+    /// The arguments are wrong.
     Usage,
-    /// The input is no document.
+    /// The input isn't a document.
     NoDocument,
     /// The input failed.
     ReadFault,
     /// The output failed.
     SinkFault,
-    /// There was no memory left.
+    /// Out of memory.
     OutOfMemory,
     /// The input is longer than a run reads.
     InputTooLong,
 }
 
 impl Ending {
-    /// The status that stands for it.
+    /// Its status.
     pub(crate) fn status(self) -> Status
         ensures { result ≡ status_of self }
     {

@@ -1,15 +1,15 @@
-//! The run of the program `report`: a document of source files and reports is read, and their
-//! drawing is written.
+//! The run of the program `report`: reads a document of source files and reports, and writes their
+//! drawing.
 //!
-//! [`run`] is the whole program over any source and sinks. A run goes through the modules in this
+//! [`run`] is the whole program over any source and sinks. A run passes through the modules in this
 //! order:
 //!
-//! - `words`: the command that the words are
-//! - `look`: what that asks for: how reports are shown, or how many are made
-//! - `program`: the run itself: a document is read, and its reports are shown
-//! - `measuring`: in their place, the drawing of a generated document, and how much it is
+//! - `words`: the command that the arguments state
+//! - `look`: what a command asks for: how reports are shown, or how many are generated
+//! - `program`: the run itself: reads a document and shows its reports
+//! - `measuring`: instead of that, draws a generated document and says how large the drawing is
 //! - `ending`: how a run ended, and the line that says so
-//! - `status`: the status, and the exit status that stands for it
+//! - `status`: the status, and its exit status
 #![tactic(auto)]
 
 mod ending;

@@ -1,4 +1,4 @@
-// What a run is asked for: how the reports of a document are shown, or how many are made.
+// What a run is asked for: how the reports of a document are shown, or how many are generated.
 ghost use Rattle.std.specs.Prelude.{◌≡◌, IfSome, map, option_map, string_bytes};
 ghost use Rattle.report_run.specs.Drawn.{theme_of};
 ghost use Rattle.report_run.specs.Tasks.{command_for};
@@ -8,7 +8,7 @@ use crate::words::{Command, ThemeName, read_words};
 use oxc_handlers::GraphicalTheme;
 use oxc_plan::TabWidth;
 
-/// How the reports of a document are shown: what the words set.
+/// How the reports of a document are shown: the options of the arguments.
 #[derive(Clone, Copy)]
 pub(crate) struct Look {
     pub(crate) theme: ThemeName,
@@ -17,14 +17,14 @@ pub(crate) struct Look {
     pub(crate) json: bool,
 }
 
-/// What a command asks for: the look of the reports in one value.
+/// What a command asks for, with the look of the reports as one value.
 #[derive(Clone, Copy)]
 pub(crate) enum Task {
     Draw(Look),
     Make(u32),
 }
 
-/// What the words ask for, if they are a command.
+/// What the arguments ask for, if they are right.
 pub(crate) fn asked(words: &[String]) -> Option<Task>
     ensures command { option_map command_for result ≡ command_of (map string_bytes words.now) }
     ensures few { IfSome result (λ it. IsFew (command_for it)) }
@@ -54,7 +54,7 @@ fn task_of(command: Command) -> Task
     }
 }
 
-/// The theme of the name.
+/// The theme with this name.
 pub(crate) fn theme(name: ThemeName) -> GraphicalTheme
     ensures { result ≡ theme_of name }
 {

@@ -1,4 +1,4 @@
-// The drawing of a generated document, and how much it is.
+// The drawing of a generated document, and how large it is.
 ghost use Rattle.std.specs.Prelude.{◌≡◌, ◌==◌, ◌≤◌, count_by, false, map};
 ghost use Rattle.std.specs.Prelude.{IfOk, OnOk, None, Some, string_bytes};
 ghost use Rattle.render_files.specs.Given.{given_report};
@@ -18,7 +18,7 @@ use oxc_protocol::{Sink, write_all};
 use render_files::{ReportError, files_text};
 use std::alloc::{AllocError, Global};
 
-/// Draws the generated document, and writes how much that is.
+/// Draws the generated document, and writes how large the drawing is.
 pub(crate) fn make<O: Sink>(alloc: Global, count: u32, out: &mut O) -> Ending
     requires { count ≤ 5000 }
     ensures measures { Measures result count (device O.received O.faults out.old out.new) }
@@ -33,7 +33,7 @@ pub(crate) fn make<O: Sink>(alloc: Global, count: u32, out: &mut O) -> Ending
     }
 }
 
-// The line that says how much the drawing of the generated document is.
+// The line that says how large the drawing of the generated document is.
 #[tactic(auto, unfolding(crate::specs::Drawn::measured))]
 fn made_line(alloc: Global, count: u32) -> Result<String, AllocError>
     requires { count ≤ 5000 }
@@ -47,7 +47,7 @@ fn made_line(alloc: Global, count: u32) -> Result<String, AllocError>
     Ok(line)
 }
 
-// How many LFs a text has.
+// The number of LFs of a text.
 fn lines_in(text: &str) -> usize
     ensures { result ≡ count_by (λ byte. byte == 10) text.now }
 {
@@ -68,7 +68,7 @@ fn made_text(alloc: Global, count: u32) -> Result<String, AllocError>
     }
 }
 
-// The plain drawing of a document without refusal.
+// The drawing, in the plain theme, of a document whose reports have no errors.
 fn drawn_text(alloc: Global, document: &Document) -> Result<String, AllocError>
     requires { refusal_of document.now.files (map given_report document.now.reports.items) ≡ None }
     ensures { IfOk result (λ text. string_bytes text

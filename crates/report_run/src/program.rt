@@ -24,12 +24,12 @@ use oxc_protocol::Sink;
 use render_files::{ReportError, render_files, render_files_json};
 use std::alloc::Global;
 
-/// The most bytes that a run reads, 64 MiB.
+/// The most bytes that a run reads: 64 MiB.
 const LIMIT: usize = 67_108_864;
 
-/// Does what the words say, and tells `err` how it ended: reads a document to its end and writes
-/// its reports, drawn or as JSON, to `out`; or draws a generated document and writes to `out` how
-/// much that is.
+/// Does what the arguments ask for, and writes to `err` how it ended. It reads a document to its
+/// end and writes its reports, drawn or as JSON, to `out`; or it draws a generated document and
+/// writes to `out` how large the drawing is.
 pub fn run<I: Source, O: Sink, E: Sink>(
     alloc: Global,
     words: &[String],
@@ -37,32 +37,32 @@ pub fn run<I: Source, O: Sink, E: Sink>(
     out: &mut O,
     err: &mut E,
 ) -> Status
-    // What each status means: `Done` is that the whole input is a document without refusal and
-    // `out` received its reports, each drawn by its plan.
+    // What each status means. `Done`: the whole input is a document whose reports have no errors,
+    // and `out` received the reports, each drawn by its plan.
     ensures means { Ends result (command_of (map string_bytes words.now))
         (device I.left I.faults input.old input.new) (device O.received O.faults out.old out.new)
         (device E.received E.faults err.old err.new) }
 
-    // Where the input tells its bytes, they and the words settle the status, faults and memory
-    // aside.
+    // If the input's bytes are known, they and the arguments decide the status, except for faults
+    // and out of memory.
     ensures settled { IfSome (I.left input.old) (λ bytes.
         Settles result (ending_of (command_of (map string_bytes words.now)) bytes)
         (device I.left I.faults input.old input.new) (device O.received O.faults out.old out.new)) }
 
-    // A command and, where it is read, a document without refusal succeed where no faults rose, but
-    // for want of memory.
+    // With right arguments and, if it is read, a document whose reports have no errors, a run
+    // succeeds unless faults rose or memory ran out.
     ensures complete { Succeeds (command_of (map string_bytes words.now)) (I.left input.old)
         → ¬ Rose (I.faults input.old) (I.faults input.new)
         → ¬ Rose (O.faults out.old) (O.faults out.new)
         → (result ≡ Status.Done) ⊎ (result ≡ Status.OutOfMemory) }
 
-    // Words that are no command give `Usage`; what isn't read is as it was.
+    // `Usage` exactly if the arguments are wrong. An input that isn't read is unchanged.
     ensures usage { (result ≡ Status.Usage) ↔ (command_of (map string_bytes words.now) ≡ None) }
     ensures unread { reads (command_of (map string_bytes words.now)) ≡ false
         → input.new ≡ input.old }
 
-    // With every status but `Done` and `SinkFault` the output is as it was, whether it tells what
-    // it received or not.
+    // With every status except `Done` and `SinkFault` the output is unchanged, whether its bytes
+    // are known or not.
     ensures untouched { IsUntouched result out.old out.new }
 {
     let ending = obey(alloc, words, input, out);
@@ -70,7 +70,7 @@ pub fn run<I: Source, O: Sink, E: Sink>(
     ending.status()
 }
 
-// Does what the words say.
+// Does what the arguments ask for.
 fn obey<I: Source, O: Sink>(alloc: Global, words: &[String], input: &mut I, out: &mut O) -> Ending
     ensures means { Means result (command_of (map string_bytes words.now))
         (device I.left I.faults input.old input.new) (device O.received O.faults out.old out.new) }
@@ -101,7 +101,7 @@ fn draw<I: Source, O: Sink>(alloc: Global, look: Look, input: &mut I, out: &mut 
     }
 }
 
-// Shows the reports of the document that the bytes are.
+// Shows the reports of the document that the bytes state.
 fn show<O: Sink>(alloc: Global, look: Look, bytes: &[u8], out: &mut O) -> Ending
     ensures shows { Shows result look bytes.now (device O.received O.faults out.old out.new) }
     ensures untouched { IsUntouched (status_of result) out.old out.new }
@@ -119,7 +119,7 @@ fn show<O: Sink>(alloc: Global, look: Look, bytes: &[u8], out: &mut O) -> Ending
     }
 }
 
-// Sends the reports of a document.
+// Writes the reports of a document.
 fn send<O: Sink>(
     alloc: Global,
     look: Look,

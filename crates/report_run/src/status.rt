@@ -1,21 +1,21 @@
-// What a run ended with.
+// How a run ended.
 
-/// What a run ended with; its [`code`](Status::code) is the program's exit status.
+/// How a run ended; its [`code`](Status::code) is the program's exit status.
 #[derive(Clone, Copy, PartialEq, Eq)]
 pub enum Status {
-    /// The text was written whole.
+    /// The whole text was written.
     Done,
-    /// A report names no file or no place.
+    /// A report has an error.
     Refused,
-    /// The words are no command.
+    /// The arguments are wrong.
     Usage,
-    /// The input is no document.
+    /// The input isn't a document.
     NoDocument,
     /// The input failed.
     ReadFault,
     /// The output failed.
     SinkFault,
-    /// There was no memory left.
+    /// Out of memory.
     OutOfMemory,
     /// The input is longer than a run reads.
     InputTooLong,

@@ -1,4 +1,4 @@
-// The words of the command line.
+// The arguments of the command line.
 ghost use Rattle.std.specs.Prelude.{◌≡◌, ◌<◌, ◌≤◌, IfSome, length, map, option_and_then};
 ghost use Rattle.std.specs.Prelude.{string_bytes};
 ghost use Rattle.std.specs.List.{list_all};
@@ -20,12 +20,12 @@ pub enum Command {
         theme: ThemeName,
         /// The columns to which titles, help and notes are filled.
         width: usize,
-        /// How many columns the tab stops are apart.
+        /// The tab width, in columns.
         tabs: TabWidth,
-        /// Whether the reports are shown as JSON, and not drawn.
+        /// Whether the reports are written as JSON instead of drawn.
         json: bool,
     },
-    /// Draw a document of the given size, and say how much that is.
+    /// Draw a generated document of this size, and say how large the drawing is.
     Make {
         /// The number of its rows and reports, at most 5,000.
         count: u32,
@@ -35,7 +35,7 @@ pub enum Command {
 /// The name of a theme.
 #[derive(Clone, Copy, PartialEq, Eq)]
 pub enum ThemeName {
-    /// ASCII characters: `none`.
+    /// ASCII: `none`.
     Plain,
     /// Box characters and colors: `unicode`.
     Unicode,
@@ -43,7 +43,7 @@ pub enum ThemeName {
     UnicodeNocolor,
 }
 
-/// One setting of a drawing.
+/// An option of a drawing, with its value.
 #[derive(Clone, Copy)]
 pub(crate) enum Setting {
     Theme(ThemeName),
@@ -52,7 +52,7 @@ pub(crate) enum Setting {
     Json,
 }
 
-/// The settings of a drawing so far.
+/// The options of a drawing so far.
 #[derive(Clone, Copy)]
 pub(crate) struct Settings {
     theme: Option<ThemeName>,
@@ -61,11 +61,11 @@ pub(crate) struct Settings {
     json: bool,
 }
 
-/// The command that the words are, or none where they are none.
+/// The command that the arguments state; none if they are wrong.
 ///
-/// They are `--make` and a number of at most 5,000, or any order of `--theme` with the name of a
-/// theme, `--width` with a number, `--tabs` with a number from 1 to 16, and `--json`, each at most
-/// once. A number is one to nine digits, of which the first isn't 0 unless it is the only one.
+/// They are `--make` with a number of at most 5,000; or, in any order and each at most once,
+/// `--theme` with the name of a theme, `--width` with a number, `--tabs` with a number from 1 to
+/// 16, and `--json`. A number has one to nine digits, and no leading zero.
 #[tactic(auto, unfolding(crate::specs::Words::command_of))]
 pub fn read_words(words: &[String]) -> Option<Command>
     ensures value { result ≡ command_of (map string_bytes words.now) }
@@ -77,7 +77,7 @@ pub fn read_words(words: &[String]) -> Option<Command>
     }
 }
 
-// The count behind `--make`.
+// The count after `--make`.
 #[tactic(auto, using(crate::proofs::WordLemmas::not_two))]
 fn made_by(words: &[String]) -> Option<u32>
     ensures value { result ≡ count_made_by (map string_bytes words.now) }
@@ -112,7 +112,7 @@ fn read_drawing(words: &[String]) -> Option<Command>
     }
 }
 
-// The settings of the words, on top of those so far.
+// The options of the arguments, added to those so far.
 #[tactic(auto, using(crate::proofs::WordLemmas::one_more, crate::proofs::WordLemmas::no_more))]
 fn read_settings(so_far: Settings, words: &[String]) -> Option<Settings>
     ensures { result ≡ option_and_then (settled so_far) (settings (map string_bytes words.now)) }
@@ -129,7 +129,7 @@ fn read_settings(so_far: Settings, words: &[String]) -> Option<Settings>
     }
 }
 
-// The setting that the words begin with, and the words behind it.
+// The first option of the arguments, and the arguments after it.
 fn first_setting(words: &[String]) -> Option<(Setting, &[String])>
     requires { 0 < length words.now }
     ensures first { settings (map string_bytes words.now) ≡ begun_with result }
@@ -161,7 +161,7 @@ fn first_with_value<'w>(name: &str, words: &'w [String]) -> Option<(Setting, &'w
 }
 
 impl Settings {
-    // With one setting more, which isn't made yet.
+    // Adds an option that isn't set yet.
     fn with(mut self, setting: Setting) -> Option<Settings>
         ensures { result ≡ with_setting self setting }
     {
@@ -209,7 +209,7 @@ fn theme_named(word: &str) -> Option<ThemeName>
     }
 }
 
-// A number from the least to the most.
+// A number from `least` to `most`.
 fn number_in(least: u32, most: u32, word: &str) -> Option<u32>
     ensures value { result ≡ number_between least most word.now }
     ensures within { IfSome result (λ number. (least ≤ number) × (number ≤ most)) }
@@ -239,7 +239,7 @@ fn are_digits(bytes: &[u8]) -> bool
     bytes.iter().all(|byte| b'0' <= *byte && *byte <= b'9')
 }
 
-// Whether the first of several digits isn't 0.
+// Whether there is no leading zero: the first of several digits isn't 0.
 fn begins_well(bytes: &[u8]) -> bool
     ensures { result ≡ may_begin bytes.now }
 {
