@@ -1,7 +1,7 @@
 //! Offsets into a text and ranges of it, in 32 bits.
 //!
 //! A [`TextSize`] is a number of bytes: the length of a text, or an offset into one, from 0. A
-//! [`TextRange`] is a start and an end that does not come before it. Contracts see the first as a
+//! [`TextRange`] is a start and an end that isn't before the start. Contracts see the first as a
 //! number and the second as a pair of numbers.
 #![tactic(auto)]
 

@@ -17,7 +17,7 @@ use std::marker::Model;
 use std::ops::{Add, AddAssign, Bound, Range, RangeBounds, Sub, SubAssign};
 use std::{cmp, fmt};
 
-/// A range of a text in bytes: a start, and an end that is excluded and never before the start.
+/// A range of a text in bytes: a start, and an exclusive end that is never before the start.
 ///
 /// Contracts see it as the pair of its start and its end. Equality, hash and `Debug` are those of
 /// the pair.
@@ -46,7 +46,7 @@ impl Debug for TextRange {
 }
 
 impl TextRange {
-    /// The range from `start` to `end`, which may not come before `start`.
+    /// The range from `start` to `end`, which isn't before `start`.
     #[inline]
     pub fn new(start: TextSize, end: TextSize) -> TextRange
         requires { start ≤ end }
@@ -55,7 +55,7 @@ impl TextRange {
         TextRange { start, end }
     }
 
-    /// The range of `len` bytes from `offset` on; the sum has to be at most `u32::MAX`.
+    /// The range of `len` bytes from `offset`; the sum is at most `u32::MAX`.
     #[inline]
     pub fn at(offset: TextSize, len: TextSize) -> TextRange
         requires { offset + len < 2 ^ 32 }
@@ -97,14 +97,14 @@ impl TextRange {
         self.start
     }
 
-    /// Where the range ends: the first offset behind it.
+    /// Where the range ends: the first offset after it.
     #[inline]
     pub fn end(self) -> TextSize
         ensures end { result ≡ self.1 }
         ensures ordered { self.0 ≤ self.1 }
         ensures fits { self.1 < 2 ^ 32 }
     {
-        // A look at the number, which makes its bound known.
+        // Reading the number makes its bound known.
         let _ = &self.end.raw;
         self.end
     }
@@ -128,7 +128,7 @@ impl TextRange {
 }
 
 impl TextRange {
-    /// Whether the offset is in the range, whose end is excluded.
+    /// Whether the offset is in the range; the end isn't.
     #[inline]
     pub fn contains(self, offset: TextSize) -> bool
         ensures { IsTrue result ↔ ((self.0 ≤ offset) × (offset < self.1)) }
@@ -152,9 +152,8 @@ impl TextRange {
         self.start <= other.start && other.end <= self.end
     }
 
-    /// What the two ranges have in common: from the larger start to the smaller end. Ranges that
-    /// touch give an empty range; `None` comes exactly where the smaller end is less than the
-    /// larger start.
+    /// The bytes that the two ranges have in common. Ranges that touch give an empty range; `None`
+    /// is given exactly where the smaller end is less than the larger start.
     #[inline]
     pub fn intersect(self, other: TextRange) -> Option<TextRange>
         ensures apart { IsNone result ↔ (min self.1 other.1 < max self.0 other.0) }
@@ -283,8 +282,8 @@ pub fn slice(text: &str, range: TextRange) -> &str
 
 /// The bytes in the range, to be written. The range's end is at most the number of bytes.
 ///
-/// Once the part is given up, the bytes are what they were, but for those of the range, which are
-/// as they were left.
+/// When the borrow ends, the bytes of the range are those last written, and all others are
+/// unchanged.
 #[inline]
 pub fn slice_mut(text: &mut [u8], range: TextRange) -> &mut [u8]
     requires { range.1 ≤ length text.old }
@@ -312,7 +311,7 @@ impl RangeBounds<TextSize> for TextRange {
 }
 
 impl TextRange {
-    /// The same range; its end may not come before its start.
+    /// The same range; its end isn't before its start.
     #[inline]
     pub fn from_range(range: Range<TextSize>) -> TextRange
         requires { range.start ≤ range.end }

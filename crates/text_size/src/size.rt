@@ -108,7 +108,7 @@ impl From<TextSize> for u32 {
     }
 }
 
-/// Refused exactly above `u32::MAX`.
+/// An error exactly above `u32::MAX`.
 impl TryFrom<usize> for TextSize {
     type Error = TryFromIntError;
 
@@ -283,7 +283,7 @@ impl SubAssign<&TextSize> for TextSize {
     }
 }
 
-/// Every sum on the way has to be at most `u32::MAX`, which is so exactly where the last one is.
+/// Every sum on the way is at most `u32::MAX`, which holds exactly where the last one is.
 impl Sum<TextSize> for TextSize {
     ghost can_sum = { λ sizes. sum sizes < 2 ^ 32 };
 
@@ -298,7 +298,7 @@ impl Sum<TextSize> for TextSize {
     }
 }
 
-/// The same of sizes that are lent.
+/// The same for sizes by reference.
 impl<'a> Sum<&'a TextSize> for TextSize {
     ghost can_sum = { λ sizes. sum_by (λ size. size.now) sizes < 2 ^ 32 };
 

@@ -5,7 +5,7 @@ use crate::TextSize;
 use sealed::Sealed;
 
 mod sealed {
-    // Out of reach of other crates, so that none of them implements `TextLen`.
+    // Private, so that no other crate implements `TextLen`.
     pub trait Sealed {}
 }
 
