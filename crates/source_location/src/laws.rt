@@ -1,5 +1,4 @@
-// What holds of the definitions that the contracts cite, as the contracts of functions that do
-// nothing.
+// Laws of the definitions that the contracts cite: contracts of functions that do nothing.
 ghost use Rattle.std.specs.Prelude.{◌≡◌, chars, length};
 ghost use Rattle.std.specs.Str.{IsCharBoundary};
 ghost use Rattle.source_location.specs.Breaks.{breaks_of, IsBreakList};
@@ -11,13 +10,13 @@ pub fn breaks_keep_apart(_text: &str)
     ensures { IsBreakList (length _text.now) (breaks_of _text.now) }
 {}
 
-/// What columns count is characters: a text has as many of them as bytes that begin one.
+/// Columns count characters: a text has as many of them as bytes that begin one.
 pub fn columns_count_characters(_text: &str)
     ensures { char_count _text.now ≡ length (chars _text.now) }
 {}
 
-/// Each boundary of a text is found again from its location; for 0 before a byte order mark it is
-/// 3, behind the mark.
+/// Each boundary of a text is found again from its location; for 0 before a byte order mark the
+/// answer is 3, the offset after the mark.
 pub fn boundary_is_found_again(_text: &str, _offset: usize)
     requires { IsCharBoundary _text.now _offset }
     ensures { LeadsBack _text.now _offset }

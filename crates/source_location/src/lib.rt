@@ -75,7 +75,7 @@ impl<'src, 'index> SourceCode<'src, 'index> {
     pub fn line_index(&self, offset: TextSize) -> OneIndexed
         ensures { result ≡ row_of (breaks_of self.now) offset + 1 }
     {
-        // A look at a field, by which it is known that the index is the text's.
+        // Reading a field makes it known that the index is the text's.
         let _ = &self.text;
         self.index.line_index(offset)
     }
@@ -107,7 +107,7 @@ impl<'src, 'index> SourceCode<'src, 'index> {
         text_size::slice(self.text, range)
     }
 
-    /// Where a row starts. One past the last row there is an empty row at the text's end.
+    /// Where a row starts. The row after the last one is empty, at the text's end.
     pub fn line_start(&self, line: OneIndexed) -> TextSize
         requires { line ≤ row_count self.now + 1 }
         ensures { result ≡ row_start (length self.now) (breaks_of self.now) (line - 1) }
@@ -115,15 +115,15 @@ impl<'src, 'index> SourceCode<'src, 'index> {
         self.index.line_start(line, self.text)
     }
 
-    /// Where a row with its break ends; from the last row on that is the text's end.
+    /// Where a row with its break ends; for the last row and any later one the text's end.
     pub fn line_end(&self, line: OneIndexed) -> TextSize
         ensures { result ≡ row_start (length self.now) (breaks_of self.now) line }
     {
         self.index.line_end(line, self.text)
     }
 
-    /// Where a row with its break starts and ends. One past the last row there is an empty row at
-    /// the text's end.
+    /// Where a row with its break starts and ends. The row after the last one is empty, at the
+    /// text's end.
     pub fn line_range(&self, line: OneIndexed) -> TextRange
         requires { line ≤ row_count self.now + 1 }
         ensures { result ≡ (
@@ -134,8 +134,7 @@ impl<'src, 'index> SourceCode<'src, 'index> {
         self.index.line_range(line, self.text)
     }
 
-    /// The text of a row with its break. One past the last row there is an empty row at the text's
-    /// end.
+    /// The text of a row with its break. The row after the last one is empty, at the text's end.
     #[inline]
     pub fn line_text(&self, index: OneIndexed) -> &'src str
         requires { index ≤ row_count self.now + 1 }
@@ -184,8 +183,7 @@ impl<'src, 'index> Eq for SourceCode<'src, 'index> {
     ghost laws = { text_eq_equiv };
 }
 
-/// The parts of a [`SourceFile`] that is being made: its name, its text, and perhaps the text's
-/// index.
+/// A [`SourceFile`] that is being made: its name, its text, and the text's index if one was passed.
 ///
 /// Contracts see it as the name and the text.
 #[derive(Drop)]
@@ -210,7 +208,7 @@ impl Model for SourceFileBuilder {
 }
 
 impl SourceFileBuilder {
-    /// A file with that name and that text, which has to fit.
+    /// A file with that name and that text, which has to fit (`fits`).
     pub fn new(name: String, code: String) -> Self
         requires { Fits (string_bytes code) }
         ensures { result ≡ record { name = string_bytes name; text = string_bytes code } }
@@ -222,7 +220,7 @@ impl SourceFileBuilder {
         }
     }
 
-    /// The same with the index of its text, which then need not be made.
+    /// The same with the index of its text, so that none has to be built.
     #[must_use]
     pub fn line_index(mut self, index: LineIndex) -> Self
         requires { index ≡ index_of self.text }
@@ -232,7 +230,7 @@ impl SourceFileBuilder {
         self
     }
 
-    /// Hands in the index of its text, which then need not be made.
+    /// Sets the index of the text, so that none has to be built.
     pub fn set_line_index(&mut self, index: LineIndex)
         requires { index ≡ index_of self.old.text }
         ensures { self.new ≡ self.old }
@@ -240,11 +238,11 @@ impl SourceFileBuilder {
         self.index = Some(index);
     }
 
-    /// The file, whose index is made here if none was handed in.
+    /// The file. Its index is built here if none was passed.
     ///
     /// # Errors
     ///
-    /// Want of memory; the parts are given up.
+    /// Out of memory; the name and the text are dropped.
     pub fn finish(self, alloc: Global) -> Result<SourceFile, AllocError>
         ensures { IfOk result (λ file. file ≡ self) }
     {
@@ -258,7 +256,7 @@ impl SourceFileBuilder {
     }
 }
 
-/// The index that was handed in, or else a new one.
+/// The index that was passed, or else a new one.
 fn made_index(alloc: Global, text: &str, index: Option<LineIndex>) -> Result<LineIndex, AllocError>
     requires fits { Fits text.now }
     requires indexed { IfSome index (λ known. known ≡ index_of text.now) }
@@ -332,7 +330,7 @@ impl SourceFile {
     ///
     /// # Errors
     ///
-    /// Want of memory.
+    /// Out of memory.
     pub fn try_clone(&self, alloc: Global) -> Result<SourceFile, AllocError>
         ensures { IfOk result (λ file. file ≡ self.now) }
     {
@@ -364,9 +362,9 @@ impl Eq for SourceFile {
     ghost laws = { file_eq_equiv };
 }
 
-/// A place in a text as a reader counts it: the row and the column, both from 1.
+/// A position in a text as a reader counts it: the row and the column, both from 1.
 ///
-/// The column counts characters, not bytes. Places are ordered by row, then by column.
+/// The column counts characters, not bytes. Positions are ordered by row, then by column.
 #[derive(Clone, Copy, Debug, PartialEq, Eq, PartialOrd, Ord, Hash)]
 pub struct SourceLocation {
     pub row: OneIndexed,
@@ -376,7 +374,7 @@ pub struct SourceLocation {
 impl Default for SourceLocation {
     ghost is_default = { λ place. place ≡ record { row = 1; column = 1 } };
 
-    /// The first place of every text.
+    /// The first position of every text.
     fn default() -> Self {
         SourceLocation {
             row: OneIndexed::MIN,

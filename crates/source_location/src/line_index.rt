@@ -28,7 +28,7 @@ pub fn fits(text: &str) -> bool
     text.len() < u32::MAX as usize
 }
 
-/// Where the rows of a text start, by which its offsets are turned into rows and columns and back.
+/// The row starts of a text, which turn its offsets into rows and columns and back.
 ///
 /// A row ends after an LF, a CR that no LF follows, or a CRLF. An index holds no text: each call
 /// that needs one takes the text that the index was made of.
@@ -63,7 +63,7 @@ impl LineIndex {
     ///
     /// # Errors
     ///
-    /// Want of memory.
+    /// Out of memory.
     pub fn from_source_text(alloc: Global, text: &str) -> Result<LineIndex, AllocError>
         requires { Fits text.now }
         ensures { IfOk result (λ index. index ≡ index_of text.now) }
@@ -91,7 +91,7 @@ impl LineIndex {
     ///
     /// # Errors
     ///
-    /// Want of memory.
+    /// Out of memory.
     pub fn try_clone(&self, alloc: Global) -> Result<LineIndex, AllocError>
         ensures { IfOk result (λ index. index ≡ self.now) }
     {
@@ -118,9 +118,9 @@ impl LineIndex {
         }
     }
 
-    /// The largest boundary of the text with the location; None exactly where no boundary has it.
+    /// The largest boundary of the text with the location; `None` exactly where no boundary has it.
     ///
-    /// Behind a byte order mark the first column is at 3.
+    /// After a byte order mark the first column is at 3.
     pub fn offset_of(&self, text: &str, location: SourceLocation) -> Option<TextSize>
         requires indexed { self.now ≡ index_of text.now }
         ensures largest { IsOffsetAt text.now location result }
@@ -295,7 +295,7 @@ fn begins_character(byte: u8) -> bool
     byte < 128 || byte >= 192
 }
 
-/// Whether the rows of an index may hold characters of several bytes.
+/// Whether a text may have characters of several bytes.
 #[derive(Debug, Clone, Copy)]
 enum IndexKind {
     /// Each byte is a character.
@@ -305,7 +305,7 @@ enum IndexKind {
 }
 
 impl IndexKind {
-    /// The kind of a text that goes on with this one.
+    /// The kind of a text of this kind with that text appended.
     fn with(self, text: &str) -> IndexKind
         ensures { is_ascii_kind result ≡ (is_ascii_kind self && is_ascii text.now) }
     {
@@ -328,7 +328,7 @@ impl IndexKind {
         }
     }
 
-    /// The boundary after the first characters of a row, if it has so many.
+    /// The boundary after the first `characters` characters of a row, if the row has that many.
     fn nth_boundary(self, row: &[u8], characters: usize) -> Option<usize>
         requires { is_ascii_kind self ≡ true → is_ascii row.now ≡ true }
         ensures { MatchOption result (char_count row.now < characters)
@@ -349,7 +349,7 @@ fn character_count(bytes: &[u8]) -> usize
     num_chars(bytes)
 }
 
-/// The same for any row, by a walk over its bytes.
+/// The same for any row, byte by byte.
 #[tactic(auto, using(crate::proofs::CharactersLemmas::counted_to_a_place))]
 fn boundary_after(row: &[u8], characters: usize) -> Option<usize>
     ensures { MatchOption result (char_count row.now < characters)
@@ -393,7 +393,7 @@ impl OneIndexed {
     /// The largest number.
     pub const MAX: Self = OneIndexed { value: u32::MAX };
 
-    /// The number itself, or none for 0.
+    /// The number itself, or `None` for 0.
     pub fn new(value: u32) -> Option<Self>
         ensures { SomeIff result (1 ≤ value) value }
     {

@@ -28,8 +28,8 @@ pub fn universal_newlines(text: &str) -> UniversalNewlineIterator<'_>
 /// An iterator over the lines of a text with their breaks, under LF, CR and CRLF alike, from both
 /// ends.
 ///
-/// Contracts see it as the lines that are left. Each line comes once, from one of the ends; then
-/// none comes for good.
+/// Contracts see it as the remaining lines. Each line is given once, from one of the ends, and
+/// `None` for good after the last.
 #[derive(Drop)]
 pub struct UniversalNewlineIterator<'a> {
     text: &'a str,
@@ -70,8 +70,8 @@ impl<'a> UniversalNewlineIterator<'a> {
     }
 }
 
-/// The first break of a text: its place in bytes, and its kind. None exactly where the text has no
-/// break.
+/// The first break of a text: its place in bytes, and its kind. `None` exactly where the text has
+/// no break.
 #[tactic(auto, using(crate::proofs::NewlinesLemmas::no_newline))]
 #[inline]
 pub fn find_newline(text: &str) -> Option<(usize, LineEnding)>
@@ -107,7 +107,7 @@ impl<'a> Iterator for UniversalNewlineIterator<'a> {
 
     ghost remaining = { item_count (λ rest. rest) };
 
-    /// The first line that is left.
+    /// The first of the remaining lines.
     #[inline]
     fn next(&mut self) -> Option<Line<'a>> {
         if self.text.is_empty() {
@@ -126,7 +126,7 @@ impl<'a> DoubleEndedIterator for UniversalNewlineIterator<'a> {
 
     ghost next_back_gives = { YieldsLastBy line_view (λ rest. rest) };
 
-    /// The last line that is left.
+    /// The last of the remaining lines.
     #[inline]
     fn next_back(&mut self) -> Option<Line<'a>> {
         if self.text.is_empty() {
@@ -165,7 +165,7 @@ fn last_line_start(text: &str) -> usize
     }
 }
 
-/// How many bytes the LF, CR or CRLF has that the bytes end in.
+/// How many bytes the LF, CR or CRLF at the end of the bytes has.
 fn length_of_ending(bytes: &[u8]) -> usize
     ensures exact { result ≡ ending_length bytes.now }
     ensures within { result ≤ length bytes.now }
@@ -177,10 +177,10 @@ fn length_of_ending(bytes: &[u8]) -> usize
     }
 }
 
-/// The same lines, forwards alone, and an empty one at the text's end if the text ends in an LF or
-/// a CR.
+/// The same lines, forwards only, and an empty one at the text's end if the text ends in an LF or a
+/// CR.
 ///
-/// Contracts see it as the lines that are left.
+/// Contracts see it as the remaining lines.
 #[derive(Drop)]
 pub struct NewlineWithTrailingNewline<'a> {
     trailing: Option<Line<'a>>,
@@ -250,7 +250,7 @@ impl<'a> Iterator for NewlineWithTrailingNewline<'a> {
 
     ghost remaining = { item_count (λ rest. rest) };
 
-    /// The first line that is left.
+    /// The first of the remaining lines.
     #[inline]
     fn next(&mut self) -> Option<Line<'a>> {
         match self.underlying.next() {

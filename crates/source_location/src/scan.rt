@@ -1,4 +1,4 @@
-//! The first and the last LF or CR of some bytes, sought a vector at a time.
+//! The first and the last LF or CR of some bytes, found a vector at a time.
 ghost use Rattle.std.specs.Prelude.{◌≡◌, ◌≢◌, ◌↔◌, ℕ, ◌<◌, ◌≤◌, true, length, slice_index};
 ghost use Rattle.std.specs.Prelude.{MatchOption};
 ghost use Rattle.std.specs.Int.{bit_at};
@@ -21,7 +21,7 @@ pub(crate) fn first_of_breaks(bytes: &[u8]) -> Option<usize>
     first_from(bytes, start)
 }
 
-/// The place of the first LF or CR from a place on, byte by byte.
+/// The place of the first LF or CR from `start` on, byte by byte.
 fn first_from(bytes: &[u8], start: usize) -> Option<usize>
     requires { start ≤ length bytes.now }
     ensures { IsFirst (Passes (is_byte2 10 13) bytes.now) start (length bytes.now) result }
