@@ -49,7 +49,7 @@ pub(crate) fn mark_line(
     Ok(())
 }
 
-/// How many bytes a character past ASCII has, by its first one.
+/// How many bytes a character past ASCII has, by its first byte.
 fn bytes_begun(first: u8) -> usize
     ensures { result ≡ bytes_by first }
 {
@@ -62,14 +62,14 @@ fn bytes_begun(first: u8) -> usize
     }
 }
 
-/// How many units it takes.
+/// How many units it has.
 fn units_begun(first: u8) -> u32
     ensures { result ≡ units_by first }
 {
     if first < 240 { 1 } else { 2 }
 }
 
-/// How many bytes the blocks of ASCII at the front have.
+/// How many bytes the leading blocks of ASCII have.
 fn ascii_blocks(bytes: &[u8]) -> usize
     ensures within { result ≤ length bytes.now }
     ensures ascii { (k : ℕ) → k < result → slice_index bytes.now k < 128 }
@@ -92,7 +92,7 @@ fn first_past_ascii(bytes: &[u8]) -> Option<usize>
     }
 }
 
-/// The same by blocks.
+/// The same, in blocks.
 fn later_past_ascii(bytes: &[u8]) -> Option<usize>
     ensures { IsFirstPastAscii bytes.now result }
 {
@@ -103,7 +103,7 @@ fn later_past_ascii(bytes: &[u8]) -> Option<usize>
     }
 }
 
-/// The same byte by byte.
+/// The same, byte by byte.
 fn position_past_ascii(bytes: &[u8]) -> Option<usize>
     ensures { result ≡ position (λ byte. nat_le 128 byte) bytes.now }
 {

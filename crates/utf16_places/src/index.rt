@@ -1,4 +1,4 @@
-// The index that turns offsets into places and back.
+// The index that turns offsets into positions and back.
 ghost use Rattle.std.specs.Prelude.{◌≡◌, ◌^◌, ◌<◌, ◌≤◌, ◌↔◌, ℕ, List, [], ◌∷◌, IsTrue, Some, IfOk};
 ghost use Rattle.std.specs.Prelude.{length, take, count_by, nat_le};
 ghost use Rattle.std.specs.List.Sorted.{IsNonDecreasing};
@@ -22,8 +22,8 @@ use std::alloc::{AllocError, Global};
 use std::marker::Model;
 use text_size::{TextRange, TextSize};
 
-/// Where the lines of a text start and where their breaks begin, and the characters past ASCII:
-/// what turns offsets of the text into places and back.
+/// The line starts, the starts of their breaks, and the characters past ASCII of a text. They turn
+/// offsets of the text into positions and back.
 ///
 /// A line ends after an LF, a CR that no LF follows, or a CRLF. The index holds no text and needs
 /// none to answer.
@@ -62,7 +62,7 @@ impl Utf16Index {
     ///
     /// # Errors
     ///
-    /// Want of memory.
+    /// Out of memory.
     pub fn new(alloc: Global, text: &str) -> Result<Utf16Index, AllocError>
         requires { Fits text.now }
         ensures { IfOk result (λ index. IsIndexOf index text.now) }
@@ -90,8 +90,8 @@ impl Utf16Index {
         })
     }
 
-    /// The place of a boundary of the text. Of an offset that is none (`is_boundary` tests it) the
-    /// place isn't said.
+    /// The position of a boundary of the text. For other offsets (`is_boundary` tests) the position
+    /// isn't specified.
     pub fn place_of(&self, offset: TextSize) -> Place16
         ensures { (text : List ℕ) → IsIndexOf self.now text → IsCharBoundary text offset
             → result ≡ utf16_place text offset }
@@ -112,8 +112,8 @@ impl Utf16Index {
         offset <= self.end && is_outside(self.wide.as_slice(), offset)
     }
 
-    /// The boundary with the place; None exactly where no boundary has it, as inside a character
-    /// past U+FFFF, behind a line's end, or past the last line.
+    /// The boundary with the position; `None` exactly where no boundary has it, as inside a
+    /// character past U+FFFF, after a line's end, or past the last line.
     pub fn offset_of(&self, place: Place16) -> Option<TextSize>
         ensures only { (text : List ℕ) → IsIndexOf self.now text → IsOffsetOf text place result }
         ensures back { (text : List ℕ) (offset : ℕ) → IsIndexOf self.now text
@@ -136,8 +136,9 @@ impl Utf16Index {
         }
     }
 
-    /// The boundary nearest to a place: past the last line the text's end; in a line the largest
-    /// boundary not behind where its break begins whose unit is at most the asked one.
+    /// The boundary nearest to a position. Past the last line it is the text's end; in a line it is
+    /// the largest boundary that isn't after the start of its break and whose unit is at most the
+    /// requested one.
     pub fn nearest(&self, place: Place16) -> TextSize
         ensures nearest { (text : List ℕ) → IsIndexOf self.now text → IsNearest text place result }
         ensures boundary { (text : List ℕ) → IsIndexOf self.now text → IsCharBoundary text result }
@@ -157,7 +158,7 @@ impl Utf16Index {
         .offset
     }
 
-    /// The places of both ends of a range, each of which is a boundary of the text.
+    /// The positions of both ends of a range, each of which is a boundary of the text.
     pub fn range_of(&self, range: TextRange) -> (Place16, Place16)
         ensures start { (text : List ℕ) → IsIndexOf self.now text → IsCharBoundary text range.0
             → result.0 ≡ utf16_place text range.0 }
@@ -167,8 +168,8 @@ impl Utf16Index {
         (self.place_of(range.start()), self.place_of(range.end()))
     }
 
-    /// The place of a location by rows and columns of characters, which count from 1; None exactly
-    /// where no boundary of the text has the location.
+    /// The position of a location by rows and columns of characters, which count from 1; `None`
+    /// exactly where no boundary of the text has the location.
     pub fn from_location(
         &self,
         text: &str,

@@ -1,11 +1,10 @@
-// What holds of the definitions that the contracts cite, as the contracts of functions that do
-// nothing.
+// Laws of the definitions that the contracts cite: contracts of functions that do nothing.
 ghost use Rattle.std.specs.Prelude.{◌≡◌, ℕ, ◌<◌, Option, Some};
 ghost use Rattle.std.specs.Str.{IsCharBoundary};
 ghost use Rattle.utf16_places.specs.Places.{utf16_place, IsBefore, IsOffsetOf, IsNearest};
 ghost use Rattle.utf16_places.specs.Places.{PartsNoCrlf};
 
-/// Of two boundaries of a text the first has the first place.
+/// Positions keep the order of the boundaries of a text.
 pub fn places_ascend(_text: &str, _first: usize, _second: usize)
     requires first { IsCharBoundary _text.now _first }
     requires second { IsCharBoundary _text.now _second }
@@ -13,15 +12,15 @@ pub fn places_ascend(_text: &str, _first: usize, _second: usize)
     ensures { IsBefore (utf16_place _text.now _first) (utf16_place _text.now _second) }
 {}
 
-/// Each boundary of a text is the one that its own place leads back to, behind a byte order mark
-/// too.
+/// The position of a boundary leads back to that boundary, after a byte order mark too.
 pub fn places_lead_back(_text: &str, _offset: usize)
     requires { IsCharBoundary _text.now _offset }
     ensures { (answer : Option ℕ) → IsOffsetOf _text.now (utf16_place _text.now _offset) answer
         → answer ≡ Some _offset }
 {}
 
-/// The nearest boundary to the place of a boundary is that boundary, unless it is the LF of a CRLF.
+/// The nearest boundary to the position of a boundary is that boundary, unless it is the LF of a
+/// CRLF.
 pub fn nearest_keeps_places(_text: &str, _offset: usize)
     requires { PartsNoCrlf _text.now _offset }
     ensures { (answer : ℕ) → IsNearest _text.now (utf16_place _text.now _offset) answer

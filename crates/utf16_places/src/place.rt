@@ -1,9 +1,10 @@
-// Places as language servers count them.
+// Positions as language servers count them.
 
-/// A place in a text as language servers count it: the line, and the UTF-16 unit in it, both from
-/// 0.
+/// A position in a text as language servers count it: the line, and the UTF-16 unit in it, both
+/// from 0.
 ///
-/// A character up to U+FFFF is one unit, one past it two. Places are ordered by line, then by unit.
+/// A character up to U+FFFF is one unit, one past it two. Positions are ordered by line, then by
+/// unit.
 #[derive(Clone, Copy, Default, PartialEq, Eq, PartialOrd, Ord, Hash)]
 pub struct Place16 {
     /// The line, from 0.

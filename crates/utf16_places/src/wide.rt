@@ -1,4 +1,4 @@
-// The characters past ASCII of a text, and how lines are counted by them.
+// The characters past ASCII of a text, and how they are used to count in lines.
 ghost use Rattle.std.specs.Prelude.{◌≡◌, ◌⊎◌, ◌-◌, ◌<◌, ◌≤◌, ◌||◌, ◌&&◌, ℕ, List, true, false};
 ghost use Rattle.std.specs.Prelude.{nat_lt, nat_le, length, slice_range, slice_index_or};
 ghost use Rattle.std.specs.List.Sorted.{IsPartitionPoint};
@@ -26,7 +26,7 @@ pub(crate) struct Counted {
     pub(crate) unit: u32,
 }
 
-/// Whether an offset of the text stands inside none of the characters.
+/// Whether an offset of the text is inside none of the characters.
 pub(crate) fn is_outside(wide: &[WideCharacter], offset: TextSize) -> bool
     requires { AreWide wide.now }
     ensures yes { (text : List ℕ) → AreWideOf text wide.now → offset ≤ length text → result ≡ true
@@ -49,7 +49,7 @@ pub(crate) fn units_before(wide: &[WideCharacter], start: TextSize, offset: Text
     counted.unit + offset.to_u32().saturating_sub(counted.offset.to_u32())
 }
 
-/// The largest boundary of a part of a line with at most so many units before it.
+/// The largest boundary of a part of a line with at most `unit` units before it.
 pub(crate) fn boundary_up_to(
     wide: &[WideCharacter],
     start: TextSize,
@@ -85,8 +85,8 @@ fn starting_before(wide: &[WideCharacter], offset: TextSize) -> usize
     wide.partition_point(|character| character.start < offset)
 }
 
-/// How many of the characters stand before a line, or in the part of it with at most so many units
-/// before their end.
+/// How many of the characters are before a line, or in the part of it up to `limit` with at most
+/// `unit` units before their end.
 fn reached_by(wide: &[WideCharacter], start: TextSize, limit: TextSize, unit: u32) -> usize
     requires { AreWideWithPart wide.now start limit }
     ensures bound { result ≤ length wide.now }
@@ -100,8 +100,8 @@ fn reached_by(wide: &[WideCharacter], start: TextSize, limit: TextSize, unit: u3
     })
 }
 
-/// The end of the last of the first so many characters if it stands in the line, and else the
-/// line's start.
+/// The end of the last of the first `passed` characters if it is in the line, else the line's
+/// start.
 fn counted_to(wide: &[WideCharacter], passed: usize, start: TextSize) -> Counted
     requires known { AreWide wide.now }
     requires bound { passed ≤ length wide.now }
@@ -130,7 +130,7 @@ fn counted_to(wide: &[WideCharacter], passed: usize, start: TextSize) -> Counted
     }
 }
 
-/// Whether the last of the first so many characters starts at an offset or behind it.
+/// Whether the last of the first `passed` characters starts at `start` or after it.
 fn stands_from(wide: &[WideCharacter], passed: usize, start: TextSize) -> bool
     requires { passed ≤ length wide.now }
     ensures yes { result ≡ true → (0 < passed)
