@@ -1,4 +1,4 @@
-// A change that is made.
+// Applying one change.
 ghost use Rattle.std.specs.Prelude.{◌≡◌, ◌+◌, ◌*◌, ◌-◌, ◌≤◌, ◌↔◌, IsTrue, length, string_bytes, OnOk};
 ghost use Rattle.std.specs.Prelude.{IfErr, OnErr};
 ghost use Rattle.std.specs.List.{replace_range};
@@ -27,7 +27,7 @@ fn fits_after(places: &TextPlaces, start: TextSize, end: TextSize, insert: &str)
     insert.len() < u32::MAX as usize && kept + (insert.len() as u64) < u32::MAX as u64
 }
 
-/// Replaces the part of a text between two places.
+/// Replaces the part of a text between two positions.
 fn replace_part<L: Ledger>(
     alloc: Global,
     places: &mut TextPlaces,
@@ -56,7 +56,7 @@ fn replace_part<L: Ledger>(
     }
 }
 
-/// Puts a text in the place of the whole.
+/// Replaces the whole text.
 fn replace_whole<L: Ledger>(
     alloc: Global,
     places: &mut TextPlaces,

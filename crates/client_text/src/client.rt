@@ -15,7 +15,8 @@ use std::marker::{Brand, Model};
 use std::sync::ledger::{Blank, Ledger};
 use text_places::{Encoding, Pieces, TextPlaces};
 
-/// A document as a client edits it: its text, which has its places, and its version.
+/// A document as a client edits it: its text with the index of its positions, the encoding in which
+/// the client counts, and the version.
 #[derive(Drop)]
 pub struct ClientText {
     alloc: Global,
@@ -92,7 +93,7 @@ fn apply_one<L: Ledger>(
     }
 }
 
-/// Makes all changes of a list, or none: of a single one in place, of more on a copy.
+/// Makes all changes of a list, or none: a single one in place, more on a copy.
 fn change_places<L: Ledger>(
     alloc: Global,
     places: &mut TextPlaces,
@@ -113,7 +114,7 @@ fn change_places<L: Ledger>(
     }
 }
 
-/// Makes changes on a copy, which takes the place of the text when all are made.
+/// Makes changes on a copy, which replaces the text once all are made.
 fn change_copy<L: Ledger>(
     alloc: Global,
     places: &mut TextPlaces,
@@ -138,7 +139,7 @@ fn change_copy<L: Ledger>(
     Ok(())
 }
 
-/// Makes the changes of a notification on a counter of its own.
+/// Makes the changes of a notification with a counter of its own.
 fn change_alone<P: Page>(
     client: &mut ClientText,
     version: i32,
@@ -161,7 +162,7 @@ impl ClientText {
     ///
     /// # Errors
     ///
-    /// Want of memory.
+    /// Out of memory.
     pub fn open(
         alloc: Global,
         encoding: Encoding,
@@ -181,7 +182,7 @@ impl ClientText {
         })
     }
 
-    /// The text and its places.
+    /// The text with the index of its positions.
     pub fn places(&self) -> &TextPlaces
         ensures { result.now ≡ self.now.text }
     {
@@ -195,7 +196,7 @@ impl ClientText {
         self.encoding
     }
 
-    /// The version, as it was last given.
+    /// The version that was given last.
     pub fn version(&self) -> i32
         ensures { result ≡ self.now.version }
     {
@@ -203,12 +204,12 @@ impl ClientText {
     }
 
     /// Makes the changes of a notification, each on the text that the one before left: all, or
-    /// none. A refusal names the first that can't be made.
+    /// none. An error names the first that can't be made.
     ///
     /// # Errors
     ///
-    /// A range that ends before it starts, a text that would have `u32::MAX` bytes or more, or want
-    /// of memory: text and version are as they were.
+    /// A range that ends before it starts, a text that would have `u32::MAX` bytes or more, or out
+    /// of memory: text and version don't change.
     pub fn change(&mut self, version: i32, changes: &[Change]) -> Result<(), Refusal>
         ensures done { OnOk result (IsEdited self.old version changes.now self.new) }
         ensures cause { IfErr result (IsRefusal self.old.encoding self.old.text changes.now) }
@@ -217,13 +218,13 @@ impl ClientText {
         change_alone::<Brand>(self, version, changes, Blank::new(1))
     }
 
-    /// The same, where the bytes of the text and of what is inserted that are looked at are counted.
-    /// A single change looks at what it inserts and at nine pages of 1,024 bytes at most, whatever
-    /// it removes; a list of more looks at the whole text besides, which is copied.
+    /// The same, with a count of the bytes of the text and of the inserted texts that are looked
+    /// at. A single change looks at what it inserts and at most nine pages of 1,024 bytes, whatever
+    /// it removes; a longer list also looks at the whole text, which is copied.
     ///
     /// # Errors
     ///
-    /// As [`ClientText::change`] has them.
+    /// Those of [`ClientText::change`].
     pub fn change_counted<L: Ledger>(
         &mut self,
         version: i32,
@@ -241,8 +242,8 @@ impl ClientText {
         Ok(())
     }
 
-    /// The pieces in which the text is kept, in order: for whoever writes it out or reads through it
-    /// without a copy.
+    /// The pieces in which the text is kept, in order, for callers that write it out or read
+    /// through it without a copy.
     pub fn pieces(&self) -> Pieces<'_>
         ensures { concat result ≡ self.now.text }
     {
@@ -253,7 +254,7 @@ impl ClientText {
     ///
     /// # Errors
     ///
-    /// Want of memory.
+    /// Out of memory.
     pub fn to_text(&self, alloc: Global) -> Result<String, AllocError>
         ensures { IfOk result (λ text. string_bytes text ≡ self.now.text) }
     {
