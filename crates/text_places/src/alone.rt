@@ -1,4 +1,4 @@
-// The answers where nobody counts what is looked at: each on a counter of its own.
+// The answers where the caller doesn't count what is looked at: each with a counter of its own.
 ghost use Rattle.std.specs.Prelude.{◌≡◌, ◌<◌, ◌≤◌, length, OnOk, OnErr};
 ghost use Rattle.std.specs.List.{replace_range};
 ghost use Rattle.std.specs.Str.{IsCharBoundary};
@@ -16,7 +16,7 @@ use std::alloc::{AllocError, Global};
 use std::sync::ledger::Blank;
 use text_size::TextRange;
 
-/// The boundary with a place.
+/// The boundary with a position.
 pub(crate) fn offset_alone<P: LedgerPage>(
     pages: &[Page],
     end: Counts,
@@ -34,7 +34,7 @@ pub(crate) fn offset_alone<P: LedgerPage>(
     offset_in(pages, end, encoding, place, &mut steps)
 }
 
-/// The boundary nearest to a place.
+/// The boundary nearest to a position.
 pub(crate) fn nearest_alone<P: LedgerPage>(
     pages: &[Page],
     end: Counts,
@@ -53,7 +53,7 @@ pub(crate) fn nearest_alone<P: LedgerPage>(
     nearest_in(pages, end, encoding, place, &mut steps)
 }
 
-/// The place at which a client sees an offset.
+/// The position at which a client sees an offset.
 pub(crate) fn client_place_alone<P: LedgerPage>(
     pages: &[Page],
     end: Counts,
@@ -73,7 +73,7 @@ pub(crate) fn client_place_alone<P: LedgerPage>(
     client_place_in(pages, end, encoding, offset, &mut steps)
 }
 
-/// Where a line starts, and where it ends before its break.
+/// Where a line starts, and where its break begins.
 pub(crate) fn line_alone<P: LedgerPage>(
     pages: &[Page],
     end: Counts,
@@ -91,14 +91,14 @@ pub(crate) fn line_alone<P: LedgerPage>(
     line_in(pages, end, line, &mut steps)
 }
 
-/// What gives way of a text, and what takes its place.
+/// A range of a text, and what replaces it.
 #[derive(Clone, Copy)]
 pub(crate) struct Replacement<'a> {
     pub(crate) range: TextRange,
     pub(crate) insert: &'a str,
 }
 
-/// Replaces a part of a text. An `Err` leaves all as it was.
+/// Replaces a range of a text. An `Err` changes nothing.
 pub(crate) fn replace_alone<P: LedgerPage>(
     alloc: Global,
     places: &mut TextPlaces,

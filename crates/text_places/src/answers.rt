@@ -1,4 +1,4 @@
-// Places and offsets among the pages of a text.
+// Positions and offsets among the pages of a text.
 ghost use Rattle.std.specs.Prelude.{◌≡◌, ◌+◌, ◌-◌, ◌*◌, ◌^◌, ◌<◌, ◌≤◌, ℕ, length};
 ghost use Rattle.std.specs.Prelude.{List, IfSome};
 ghost use Rattle.std.specs.Str.{IsCharBoundary, IsUtf8};
@@ -19,7 +19,7 @@ use crate::{Encoding, Place};
 use oxc_windows::Steps;
 use std::sync::ledger::Ledger;
 
-/// The place of an offset.
+/// The position of an offset.
 pub(crate) fn place_in(pages: &[Page], encoding: Encoding, offset: u32) -> Place
     requires known { ArePages pages.now }
     requires within { offset ≤ length (text_of pages.now) }
@@ -40,7 +40,7 @@ pub(crate) fn place_in(pages: &[Page], encoding: Encoding, offset: u32) -> Place
     Place { line, unit }
 }
 
-/// The last place that is no more units behind the start of a line than so many.
+/// The last offset with at most `place.unit` units between it and the start of the line.
 fn found_by<L: Ledger>(
     pages: &[Page],
     encoding: Encoding,
@@ -57,7 +57,7 @@ fn found_by<L: Ledger>(
     place_by(pages, encoding, before as u64 + place.unit as u64, steps)
 }
 
-/// The boundary with a place in a line that lies in one page.
+/// The boundary with a position in a line that lies in one page.
 fn offset_of_line(line: &LineInPage, encoding: Encoding, place: Place) -> Option<u32>
     requires { LiesIn line.now }
     ensures { (text : List ℕ) → IsUtf8 text → IsLineInPage text place.line line.now
@@ -75,7 +75,7 @@ fn offset_of_line(line: &LineInPage, encoding: Encoding, place: Place) -> Option
     }
 }
 
-/// The boundary with a place, wherever its line lies.
+/// The boundary with a position, wherever its line lies.
 fn offset_anywhere<L: Ledger>(
     pages: &[Page],
     encoding: Encoding,
@@ -95,7 +95,7 @@ fn offset_anywhere<L: Ledger>(
     }
 }
 
-/// The boundary with a place.
+/// The boundary with a position.
 pub(crate) fn offset_in<L: Ledger>(
     pages: &[Page],
     end: Counts,
@@ -115,7 +115,7 @@ pub(crate) fn offset_in<L: Ledger>(
     }
 }
 
-/// Where a line ends before its break.
+/// Where the break of a line begins.
 pub(crate) fn line_end<L: Ledger>(
     pages: &[Page],
     end: Counts,
@@ -134,7 +134,7 @@ pub(crate) fn line_end<L: Ledger>(
     }
 }
 
-/// The boundary nearest to a place in a line that lies in one page.
+/// The boundary nearest to a position in a line that lies in one page.
 fn nearest_of_line(line: &LineInPage, encoding: Encoding, place: Place) -> u32
     requires { LiesIn line.now }
     ensures { (text : List ℕ) → IsUtf8 text → IsLineInPage text place.line line.now
@@ -145,7 +145,7 @@ fn nearest_of_line(line: &LineInPage, encoding: Encoding, place: Place) -> u32
     line.page.before.bytes + reached.place as u32
 }
 
-/// The boundary nearest to a place, wherever its line lies.
+/// The boundary nearest to a position, wherever its line lies.
 fn nearest_anywhere<L: Ledger>(
     pages: &[Page],
     end: Counts,
@@ -162,7 +162,7 @@ fn nearest_anywhere<L: Ledger>(
     found_by(pages, encoding, place, steps).min(limit)
 }
 
-/// The boundary nearest to a place.
+/// The boundary nearest to a position.
 pub(crate) fn nearest_in<L: Ledger>(
     pages: &[Page],
     end: Counts,
@@ -184,8 +184,8 @@ pub(crate) fn nearest_in<L: Ledger>(
     }
 }
 
-/// The boundary nearest to a place, where its line is ASCII and lies in the page in which it is
-/// looked for first. No text is read.
+/// The boundary nearest to a position, if its line is ASCII and lies in the guessed page. No text
+/// is read.
 #[inline(always)]
 pub(crate) fn nearest_at_once(
     pages: &[Page],
@@ -203,7 +203,7 @@ pub(crate) fn nearest_at_once(
     }
 }
 
-/// The same, where its line starts near that page.
+/// The same, if its line starts near that page.
 pub(crate) fn nearest_near(
     pages: &[Page],
     share: u64,
@@ -236,7 +236,7 @@ pub(crate) fn client_offset<L: Ledger>(
     offset.min(line_end(pages, end, line, steps))
 }
 
-/// The place at which a client sees an offset.
+/// The position at which a client sees an offset.
 pub(crate) fn client_place_in<L: Ledger>(
     pages: &[Page],
     end: Counts,
@@ -252,7 +252,7 @@ pub(crate) fn client_place_in<L: Ledger>(
     place_in(pages, encoding, client_offset(pages, end, offset, steps))
 }
 
-/// Where a line starts, and where it ends before its break.
+/// Where a line starts, and where its break begins.
 pub(crate) fn line_in<L: Ledger>(
     pages: &[Page],
     end: Counts,

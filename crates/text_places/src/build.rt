@@ -57,7 +57,7 @@ fn counts_in(text: &str) -> Counts
     }
 }
 
-/// A page of a text, before which nothing is counted yet.
+/// A page of a text, with nothing counted before it yet.
 fn page_of(alloc: Global, text: &str) -> Result<Page, AllocError>
     requires { Fits text.now }
     ensures { IfOk result (λ page. IsPageOf text.now page) }
@@ -70,7 +70,7 @@ fn page_of(alloc: Global, text: &str) -> Result<Page, AllocError>
     })
 }
 
-/// A cut at a boundary or before the CR there, so that no CRLF is parted.
+/// A split point at a boundary, or before the CR there, so that no CRLF is split.
 fn clean_cut(text: &str, at: usize) -> usize
     requires { IsCharBoundary text.now at }
     ensures boundary { IsCharBoundary text.now result }
@@ -86,7 +86,7 @@ fn clean_cut(text: &str, at: usize) -> usize
     }
 }
 
-/// Where the first page of a text ends that is too long for one.
+/// Where the first page ends of a text that is too long for one.
 fn first_cut(text: &str) -> usize
     requires { 1024 < length text.now }
     ensures { IsPageEnd text.now result }
@@ -110,7 +110,7 @@ pub(crate) fn pages_of(alloc: Global, text: &str) -> Result<Vec<Page>, AllocErro
     Ok(pages)
 }
 
-/// Counts what is before each page, from what is before the first, and in all of them.
+/// Sets what is counted before each page, given what is before the first, and returns the total.
 fn recount(pages: &mut [Page], at: Counts) -> Counts
     requires { (k : ℕ) → k ≤ length pages.old → AreSmall (total at (take k pages.old)) }
     ensures pages { pages.new ≡ recounted at pages.old }
@@ -127,7 +127,7 @@ fn recount(pages: &mut [Page], at: Counts) -> Counts
     sum
 }
 
-/// Counts what is before each page from one on, and in all of them.
+/// Sets what is counted before each page from one on, and returns the total.
 pub(crate) fn recount_from(pages: &mut Vec<Page>, first: usize, at: Counts) -> Counts
     requires within { first ≤ vec_len pages.old }
     requires small { (k : ℕ) → k ≤ length (drop first pages.old.items)

@@ -1,7 +1,6 @@
 // The units in which clients count.
 
-/// A unit in which the columns of places are counted: those of the Language Server Protocol's
-/// position encodings.
+/// A unit in which columns are counted: those of the Language Server Protocol's position encodings.
 #[derive(Clone, Copy, PartialEq, Eq)]
 pub enum Encoding {
     /// `utf-8`: bytes.

@@ -1,4 +1,4 @@
-// What holds of the definitions that the contracts cite: contracts of functions that do nothing.
+// Laws of the definitions that the contracts cite: contracts of functions that do nothing.
 ghost use Rattle.std.specs.Prelude.{◌≡◌, ℕ, ◌<◌, Option, Some};
 ghost use Rattle.std.specs.Str.{IsCharBoundary};
 ghost use Rattle.text_places.specs.Places.{place_at, client_offset, IsBefore, IsOffsetOf};
@@ -6,7 +6,7 @@ ghost use Rattle.text_places.specs.Places.{IsNearest, PartsNoCrlf};
 
 use crate::Encoding;
 
-/// Of two boundaries of a text the first has the first place.
+/// Positions keep the order of the boundaries of a text.
 pub fn places_ascend(_encoding: Encoding, _text: &str, _first: usize, _second: usize)
     requires first { IsCharBoundary _text.now _first }
     requires second { IsCharBoundary _text.now _second }
@@ -15,7 +15,7 @@ pub fn places_ascend(_encoding: Encoding, _text: &str, _first: usize, _second: u
         (place_at _encoding _text.now _second) }
 {}
 
-/// Each boundary of a text is the one that its own place leads back to.
+/// The position of a boundary leads back to that boundary.
 pub fn places_lead_back(_encoding: Encoding, _text: &str, _offset: usize)
     requires { IsCharBoundary _text.now _offset }
     ensures { (answer : Option ℕ)
@@ -23,7 +23,7 @@ pub fn places_lead_back(_encoding: Encoding, _text: &str, _offset: usize)
         → answer ≡ Some _offset }
 {}
 
-/// The place in another encoding is the one of the same offset: to change the encoding is to go
+/// A position in another encoding is the position of the same offset: to change the encoding, go
 /// back to the offset.
 pub fn encodings_commute(_from: Encoding, _to: Encoding, _text: &str, _offset: usize)
     requires { IsCharBoundary _text.now _offset }
@@ -32,8 +32,8 @@ pub fn encodings_commute(_from: Encoding, _to: Encoding, _text: &str, _offset: u
         → place_at _to _text.now found ≡ place_at _to _text.now _offset }
 {}
 
-/// The boundary nearest to the place at which a client sees a boundary is that boundary, and the CR
-/// for the LF of a CRLF.
+/// The boundary nearest to the position at which a client sees a boundary is that boundary, or the
+/// CR for the LF of a CRLF.
 pub fn nearest_keeps_places(_encoding: Encoding, _text: &str, _offset: usize)
     requires { IsCharBoundary _text.now _offset }
     ensures { let seen = client_offset _text.now _offset in (answer : ℕ)

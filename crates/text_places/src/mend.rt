@@ -1,4 +1,4 @@
-// A text that is changed in its pages.
+// Replacing a range of a text that is kept in pages.
 ghost use Rattle.std.specs.Prelude.{◌≡◌, ◌<◌, ◌≤◌, length, string_bytes, take, drop, vec_len, ◌-◌};
 ghost use Rattle.std.specs.Prelude.{◌*◌, ◌+◌, ◌++◌, IfOk, OnOk, OnErr};
 ghost use Rattle.std.specs.Str.{IsCharBoundary};
@@ -34,7 +34,7 @@ fn number_behind(pages: &[Page], offset: u32) -> usize
     pages.partition_point(|page| page.before.bytes <= offset) - 1
 }
 
-/// The text of the pages from one to another in which a part gives way to what is inserted. It
+/// The text of the first and the last page with everything between `from` and `to` replaced. It
 /// looks at these two pages and at what is inserted.
 fn merged<L: Ledger>(
     alloc: Global,
@@ -61,7 +61,7 @@ fn merged<L: Ledger>(
     Ok(text)
 }
 
-/// A text that takes the place of that of the pages from one to another.
+/// A text that replaces that of the pages from `first` to `last`.
 #[derive(Drop)]
 pub(crate) struct Part {
     first: usize,
@@ -69,8 +69,8 @@ pub(crate) struct Part {
     text: String,
 }
 
-/// The pages at the ends of a part of the text, and what takes their place when the part gives way
-/// to what is inserted. It looks at these two pages and at what is inserted.
+/// The pages at the ends of a range of the text, and the text that replaces theirs when the range
+/// is replaced. It looks at these two pages and at what is inserted.
 fn part_between<L: Ledger>(
     alloc: Global,
     pages: &[Page],
@@ -95,7 +95,7 @@ fn part_between<L: Ledger>(
     Ok(Part { first, last, text })
 }
 
-/// A part with the page behind it.
+/// A part joined with the page after it.
 fn with_next<L: Ledger>(
     pages: &[Page],
     part: Part,
@@ -123,7 +123,7 @@ fn with_next<L: Ledger>(
     })
 }
 
-/// A part with the page before it, which is the last one.
+/// A part joined with the page before it; the part ends with the last page.
 fn with_previous<L: Ledger>(
     alloc: Global,
     pages: &[Page],
@@ -150,7 +150,7 @@ fn with_previous<L: Ledger>(
     })
 }
 
-/// A part that is long enough for a page, with a neighbour where it needs one and there is one.
+/// A part that is long enough for a page: joined with a neighbour if it needs one and there is one.
 fn joined<L: Ledger>(
     alloc: Global,
     pages: &[Page],
@@ -176,7 +176,7 @@ fn joined<L: Ledger>(
     Ok(part)
 }
 
-/// Puts pages in the place of as many others.
+/// Replaces pages by as many others.
 fn put_same(pages: &mut Vec<Page>, first: usize, behind: usize, mut new: Vec<Page>)
     requires ordered { first ≤ behind }
     requires within { behind ≤ vec_len pages.old }
@@ -187,7 +187,7 @@ fn put_same(pages: &mut Vec<Page>, first: usize, behind: usize, mut new: Vec<Pag
     pages[first..behind].swap_with_slice(&mut new);
 }
 
-/// Puts pages in the place of others. An `Err` leaves all as it was.
+/// Replaces pages by others. An `Err` changes nothing.
 fn put_others(
     pages: &mut Vec<Page>,
     first: usize,
@@ -210,7 +210,7 @@ fn put_others(
     Ok(())
 }
 
-/// Puts pages in the place of others. An `Err` leaves all as it was.
+/// Replaces pages by others. An `Err` changes nothing.
 fn put(pages: &mut Vec<Page>, first: usize, behind: usize, new: Vec<Page>) -> Result<(), AllocError>
     requires ordered { first ≤ behind }
     requires within { behind ≤ vec_len pages.old }
@@ -225,7 +225,7 @@ fn put(pages: &mut Vec<Page>, first: usize, behind: usize, new: Vec<Page>) -> Re
     put_others(pages, first, behind, new)
 }
 
-/// The pages that take the place of others.
+/// The pages that replace others.
 #[derive(Drop)]
 pub(crate) struct Plan {
     first: usize,
@@ -235,7 +235,7 @@ pub(crate) struct Plan {
     new: Vec<Page>,
 }
 
-/// The pages that take the place of others when a part of the text gives way to what is inserted.
+/// The pages that replace others when a range of the text is replaced.
 fn planned<L: Ledger>(
     alloc: Global,
     pages: &[Page],
@@ -265,7 +265,7 @@ fn planned<L: Ledger>(
     })
 }
 
-/// Replaces a part of the text of pages. An `Err` leaves all as it was.
+/// Replaces a range of the text of pages. An `Err` changes nothing.
 pub(crate) fn replace<L: Ledger>(
     alloc: Global,
     pages: &mut Vec<Page>,

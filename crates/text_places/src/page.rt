@@ -16,7 +16,7 @@ use std::sync::ledger::Ledger;
 
 /// How many bytes a page has at most.
 pub(crate) const PAGE: usize = 1024;
-/// How many bytes a page has at least, but for an only one.
+/// How many bytes a page has at least, unless it is the only one.
 pub(crate) const LEAST: usize = 256;
 
 /// What is counted in a piece of a text.
@@ -55,7 +55,7 @@ impl Counts {
     }
 }
 
-/// The text of a page with its answers: all its bytes count as looked at.
+/// The text of a page with its index; all its bytes count as looked at.
 pub(crate) fn looked_at<'a, L: Ledger>(page: &'a Page, steps: &mut Steps<L>) -> &'a PageText
     ensures text { string_bytes result.now ≡ bytes_in page.now }
     ensures ticks { steps.new ≡ steps.old + length (bytes_in page.now) }
@@ -64,7 +64,7 @@ pub(crate) fn looked_at<'a, L: Ledger>(page: &'a Page, steps: &mut Steps<L>) -> 
     &page.text
 }
 
-/// The text of a page, which counts as looked at.
+/// The text of a page; all its bytes count as looked at.
 pub(crate) fn opened<'a, L: Ledger>(page: &'a Page, steps: &mut Steps<L>) -> &'a str
     ensures text { result.now ≡ bytes_in page.now }
     ensures ticks { steps.new ≡ steps.old + length (bytes_in page.now) }
@@ -110,7 +110,7 @@ fn sum_units(encoding: Encoding, bytes: &[u8]) -> u32
     bytes.iter().map(|byte| units_begun(encoding, *byte)).sum()
 }
 
-/// Whether a row ends with the byte at a place.
+/// Whether the byte at `at` ends a row.
 pub(crate) fn ends_row(bytes: &[u8], at: usize) -> bool
     requires { at < length bytes.now }
     ensures { result ≡ ends_row bytes.now at }
@@ -153,8 +153,8 @@ fn count_ends(bytes: &[u8], to: usize) -> usize
     (0..to).filter(|at| ends_row(bytes, *at)).count()
 }
 
-/// The place behind a row that ends in the bytes, by its number from 1: byte by byte, for rows are
-/// short where their ends aren't listed.
+/// The offset after a row that ends in the bytes, by its number from 1. It goes byte by byte, since
+/// rows whose ends aren't listed are short.
 pub(crate) fn row_end(bytes: &[u8], row: usize) -> usize
     requires some { 1 ≤ row }
     requires within { row ≤ length (breaks_of bytes.now) }
@@ -174,14 +174,14 @@ pub(crate) fn row_end(bytes: &[u8], row: usize) -> usize
     bytes.len()
 }
 
-/// A place, and how many of the units that were to begin before it do not.
+/// An offset, and how many of the requested units don't begin before it.
 #[derive(Clone, Copy)]
 pub(crate) struct Reached {
     pub(crate) place: usize,
     pub(crate) left: u64,
 }
 
-/// The last place from one on before which no more units begin than so many more, byte by byte.
+/// The last offset from `from` on with at most `most` more units before it, byte by byte.
 pub(crate) fn place_by_byte(encoding: Encoding, bytes: &[u8], from: usize, most: u64) -> Reached
     requires { from ≤ length bytes.now }
     ensures last { IsLastUpTo encoding bytes.now (before encoding bytes.now from + most)
@@ -199,7 +199,7 @@ pub(crate) fn place_by_byte(encoding: Encoding, bytes: &[u8], from: usize, most:
     Reached { place, left }
 }
 
-/// Where the break begins that ends before a place.
+/// Where the break that ends at `place` begins.
 pub(crate) fn break_start(bytes: &[u8], place: usize) -> usize
     requires some { 1 ≤ place }
     requires within { place ≤ length bytes.now }

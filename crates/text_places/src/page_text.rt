@@ -1,4 +1,4 @@
-// The text of a page, with what answers for its rows and units at once.
+// The text of a page, with an index of its rows and units.
 ghost use Rattle.std.specs.Prelude.{◌≡◌, ◌+◌, ◌*◌, ◌^◌, ◌<◌, ◌≤◌, length, true, IfOk, IfSome};
 ghost use Rattle.std.specs.Prelude.{slice_range, string_bytes};
 ghost use Rattle.source_location.specs.Breaks.{breaks_of};
@@ -14,7 +14,7 @@ use memchr::{memchr, memchr2};
 use std::alloc::{AllocError, Global};
 use std::marker::Model;
 
-/// Rows shorter than so many bytes are not listed: the list would be long beside the text.
+/// Rows shorter than this on average aren't listed: the list would be long compared to the text.
 const SHORT: usize = 8;
 
 /// The text of a page. Contracts see the text alone.
@@ -24,7 +24,7 @@ pub(crate) struct PageText {
     is_ascii: bool,
     /// Whether it is ASCII without a CR.
     is_plain: bool,
-    /// The places behind the row ends, where there are few.
+    /// The offsets after the row ends, if they are few.
     ends: Option<Vec<u16>>,
 }
 
@@ -46,7 +46,7 @@ impl Model for PageText {
 }
 
 impl PageText {
-    /// A text in which so many rows end.
+    /// A text in which `rows` rows end.
     pub(crate) fn new(alloc: Global, text: &str, rows: usize) -> Result<PageText, AllocError>
         ensures { IfOk result (λ it. string_bytes it ≡ text.now) }
     {
@@ -77,7 +77,7 @@ impl PageText {
         }
     }
 
-    /// The place behind a row that ends in the text, by its number from 1.
+    /// The offset after a row that ends in the text, by its number from 1.
     pub(crate) fn row_end(&self, row: usize) -> usize
         requires some { 1 ≤ row }
         requires within { row ≤ length (breaks_of (string_bytes self.now)) }
@@ -89,7 +89,7 @@ impl PageText {
         }
     }
 
-    /// The places behind the row ends, where they are listed and the text is ASCII without a CR.
+    /// The offsets after the row ends, if they are listed and the text is ASCII without a CR.
     pub(crate) fn plain_ends(&self) -> Option<&[u16]>
         ensures plain { IfSome result (λ _. IsPlain (string_bytes self.now)) }
         ensures ends { IfSome result (λ ends. AreEnds (string_bytes self.now) ends.now) }
@@ -115,8 +115,7 @@ impl PageText {
         }
     }
 
-    /// The last place up to one, from another on, before which no more units begin than so many
-    /// more.
+    /// The last offset between `from` and `to` with at most `most` more units before it.
     pub(crate) fn reach(&self, encoding: Encoding, from: usize, to: usize, most: u64) -> Reached
         requires ordered { from ≤ to }
         requires within { to ≤ length (string_bytes self.now) }
@@ -148,7 +147,7 @@ fn is_plain(bytes: &[u8]) -> bool
     }
 }
 
-/// The places behind all row ends, where they are few and the text is no longer than a page.
+/// The offsets after all row ends, if they are few and the text is no longer than a page.
 fn listed_ends(alloc: Global, bytes: &[u8], rows: usize) -> Result<Option<Vec<u16>>, AllocError>
     ensures { IfOk result (λ ends. IfSome ends (λ ends. AreEnds bytes.now ends.items)) }
 {
@@ -159,7 +158,7 @@ fn listed_ends(alloc: Global, bytes: &[u8], rows: usize) -> Result<Option<Vec<u1
     Ok(Some(ends))
 }
 
-/// The places behind all row ends.
+/// The offsets after all row ends.
 fn all_ends(alloc: Global, bytes: &[u8], rows: usize) -> Result<Vec<u16>, AllocError>
     requires { length bytes.now ≤ 1024 }
     ensures { IfOk result (λ ends. AreEnds bytes.now ends.items) }
@@ -176,7 +175,7 @@ fn all_ends(alloc: Global, bytes: &[u8], rows: usize) -> Result<Vec<u16>, AllocE
     Ok(ends)
 }
 
-/// How many of all row ends come up to a place.
+/// How many of the row ends are at or before an offset.
 fn ends_upto(bytes: &[u8], ends: &[u16], to: usize) -> usize
     requires ends { AreEnds bytes.now ends.now }
     requires within { to ≤ length bytes.now }

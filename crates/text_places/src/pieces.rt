@@ -4,8 +4,8 @@ ghost use Rattle.std.specs.Iterator.{YieldsFirstRef, item_count};
 use crate::page::Page;
 use std::marker::Model;
 
-/// The pieces of a text in order, each at a boundary and none within a CRLF. Contracts see the
-/// bytes of the pieces that are left.
+/// The pieces of a text in order. Each starts at a boundary, and none splits a CRLF. Contracts see
+/// the bytes of the remaining pieces.
 #[derive(Drop)]
 pub struct Pieces<'a> {
     pages: &'a [Page],

@@ -1,7 +1,7 @@
-// Places as clients count them.
+// Positions as clients count them.
 
-/// A place in a text: the line, and the unit in it, both from 0. Places are ordered by line, then
-/// by unit.
+/// A position in a text: the line, and the unit in it, both from 0. Positions are ordered by line,
+/// then by unit.
 #[derive(Clone, Copy, Default, PartialEq, Eq, PartialOrd, Ord, Hash)]
 pub struct Place {
     /// The line, from 0.

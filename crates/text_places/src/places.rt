@@ -1,4 +1,4 @@
-// The index that turns offsets into places and back.
+// The index that turns offsets into positions and back.
 ghost use Rattle.std.specs.Prelude.{◌≡◌, ◌+◌, ◌<◌, ◌≤◌, ℕ, length, IfOk, IfSome, IsSome, OnOk};
 ghost use Rattle.std.specs.Prelude.{OnErr, string_bytes, All, ◌*◌, ◌↔◌};
 ghost use Rattle.std.specs.List.{concat, replace_range};
@@ -25,12 +25,14 @@ use std::marker::{Brand, Model};
 use std::sync::ledger::{Blank, Ledger};
 use text_size::{TextRange, TextSize};
 
-/// A text in pages, with what turns offsets into places and back. Contracts see it as the text.
+/// A text in pages, with the index that turns offsets into positions and back. Contracts see it as
+/// the text.
 #[derive(Drop)]
 pub struct TextPlaces {
     pages: Vec<Page>,
     end: Counts,
-    /// How many pages come to a row, in parts of 2^32: where a page is looked for first.
+    /// How many pages there are for each row, times 2^32. It says in which page to look first, and
+    /// no invariant speaks of it.
     share: u64,
 }
 
@@ -57,11 +59,11 @@ fn as_size(offset: Option<u32>) -> Option<TextSize>
 }
 
 impl TextPlaces {
-    /// The places of a text that fits (`source_location::fits` tests it).
+    /// The text with its index. The text has to fit (`source_location::fits` tests it).
     ///
     /// # Errors
     ///
-    /// Want of memory.
+    /// Out of memory.
     pub fn new(alloc: Global, text: &str) -> Result<TextPlaces, AllocError>
         requires { Fits text.now }
         ensures { IfOk result (λ places. places ≡ text.now) }
@@ -72,8 +74,8 @@ impl TextPlaces {
         Ok(TextPlaces { pages, end, share })
     }
 
-    /// The place of a boundary of the text, which is an offset in bytes from 0. Of an offset that is
-    /// none, or past the text, the place isn't said.
+    /// The position of a boundary of the text, which is an offset in bytes from 0. For other
+    /// offsets the position isn't specified.
     pub fn place_of(&self, encoding: Encoding, offset: TextSize) -> Place
         ensures { IsCharBoundary self.now offset → result ≡ place_at encoding self.now offset }
     {
@@ -81,7 +83,8 @@ impl TextPlaces {
         place_in(self.pages.as_slice(), encoding, at)
     }
 
-    /// The boundary with the place, as an offset in bytes; None exactly where no boundary has it.
+    /// The boundary with the position, as an offset in bytes; `None` exactly where no boundary has
+    /// it.
     pub fn offset_of(&self, encoding: Encoding, place: Place) -> Option<TextSize>
         ensures { IsOffsetOf encoding self.now place result }
     {
@@ -91,7 +94,7 @@ impl TextPlaces {
         }
     }
 
-    /// The same, where its line isn't found at once.
+    /// The same, if the guess doesn't find its line.
     #[inline(never)]
     fn offset_looked_for(&self, encoding: Encoding, place: Place) -> Option<TextSize>
         ensures { IsOffsetOf encoding self.now place result }
@@ -103,8 +106,9 @@ impl TextPlaces {
         }
     }
 
-    /// The boundary nearest to a place: past the last line the text's end; in a line the largest
-    /// boundary not behind where its break begins whose unit is at most the asked one.
+    /// The boundary nearest to a position. Past the last line it is the text's end; in a line it is
+    /// the largest boundary that isn't after the start of its break and whose unit is at most the
+    /// requested one.
     pub fn nearest(&self, encoding: Encoding, place: Place) -> TextSize
         ensures nearest { IsNearest encoding self.now place result }
         ensures boundary { IsCharBoundary self.now result }
@@ -115,7 +119,7 @@ impl TextPlaces {
         }
     }
 
-    /// The same, where its line isn't found at once.
+    /// The same, if the guess doesn't find its line.
     #[inline(never)]
     fn nearest_looked_for(&self, encoding: Encoding, place: Place) -> TextSize
         ensures nearest { IsNearest encoding self.now place result }
@@ -134,7 +138,7 @@ impl TextPlaces {
         }
     }
 
-    /// The same, where the bytes that are looked at are counted: at most those of three pages.
+    /// The same, with a count of the bytes that are looked at: at most those of three pages.
     pub fn nearest_counted<L: Ledger>(
         &self,
         encoding: Encoding,
@@ -152,7 +156,7 @@ impl TextPlaces {
         }
     }
 
-    /// The place at which a client sees a boundary: that of the CR for the LF of a CRLF.
+    /// The position at which a client sees a boundary: for the LF of a CRLF, that of the CR.
     pub fn client_place_of(&self, encoding: Encoding, offset: TextSize) -> Place
         ensures { IsCharBoundary self.now offset
             → result ≡ place_at encoding self.now (client_offset_of self.now offset) }
@@ -169,7 +173,7 @@ impl TextPlaces {
         TextSize::new(self.end.bytes)
     }
 
-    /// The nearest boundaries to the places of both ends of a range.
+    /// The nearest boundaries to the positions of both ends of a range.
     pub fn nearest_range(
         &self,
         encoding: Encoding,
@@ -181,7 +185,7 @@ impl TextPlaces {
         (self.nearest(encoding, start), self.nearest(encoding, end))
     }
 
-    /// The same, where the bytes that are looked at are counted: at most those of six pages.
+    /// The same, with a count of the bytes that are looked at: at most those of six pages.
     pub fn nearest_range_counted<L: Ledger>(
         &self,
         encoding: Encoding,
@@ -197,7 +201,7 @@ impl TextPlaces {
         (first, last)
     }
 
-    /// The places of both ends of a range of boundaries.
+    /// The positions of both ends of a range of boundaries.
     pub fn range_of(&self, encoding: Encoding, range: TextRange) -> (Place, Place)
         ensures start { IsCharBoundary self.now range.0
             → result.0 ≡ place_at encoding self.now range.0 }
@@ -217,8 +221,8 @@ impl TextPlaces {
         self.end.rows + 1
     }
 
-    /// Where a line lies, without its break, in bytes; lines count from 0. None where there is no such
-    /// line.
+    /// The range of a line without its break, in bytes; lines count from 0. `None` if there is no
+    /// such line.
     pub fn line_range(&self, line: u32) -> Option<TextRange>
         ensures some { IsSome result ↔ (line ≤ length (breaks_of self.now)) }
         ensures value { IfSome result (λ range. IsLineRange self.now line range.0 range.1) }
@@ -235,11 +239,11 @@ impl TextPlaces {
         Some(TextRange::new(TextSize::new(start), TextSize::new(end)))
     }
 
-    /// Replaces a part of the text, a range of bytes.
+    /// Replaces a range of bytes of the text.
     ///
     /// # Errors
     ///
-    /// Want of memory: the text is as it was.
+    /// Out of memory: the text doesn't change.
     pub fn replace(
         &mut self,
         alloc: Global,
@@ -256,12 +260,12 @@ impl TextPlaces {
         replace_alone::<Brand>(alloc, self, with, Blank::new(1))
     }
 
-    /// The same, where the bytes that are looked at are counted: whatever is removed, at most those
-    /// of three pages and of what is inserted.
+    /// The same, with a count of the bytes that are looked at: at most those of three pages and of
+    /// what is inserted, whatever is removed.
     ///
     /// # Errors
     ///
-    /// As [`TextPlaces::replace`] has them.
+    /// Those of [`TextPlaces::replace`].
     pub fn replace_counted<L: Ledger>(
         &mut self,
         alloc: Global,
@@ -282,8 +286,8 @@ impl TextPlaces {
         Ok(())
     }
 
-    /// The pieces in which the text is kept, in order: for whoever writes it out or reads through it
-    /// without a copy.
+    /// The pieces in which the text is kept, in order, for callers that write it out or read
+    /// through it without a copy.
     pub fn pieces(&self) -> Pieces<'_>
         ensures text { concat result ≡ self.now }
         ensures most { All (λ piece. length piece ≤ most_bytes) result }
@@ -297,7 +301,7 @@ impl TextPlaces {
     ///
     /// # Errors
     ///
-    /// Want of memory.
+    /// Out of memory.
     pub fn to_text(&self, alloc: Global) -> Result<String, AllocError>
         ensures { IfOk result (λ text. string_bytes text ≡ self.now) }
     {

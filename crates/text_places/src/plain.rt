@@ -10,7 +10,7 @@ ghost use Rattle.text_places.specs.Plain.{IsPlain, IsPlainLine};
 use crate::Place;
 use crate::page::Page;
 
-/// How far from where it is looked for first a page is looked for.
+/// How many pages around the guessed one are searched.
 const NEAR: usize = 8;
 
 /// A line of ASCII with a break of one byte: where it starts, and where its break begins.
@@ -20,7 +20,7 @@ pub(crate) struct PlainLine {
     pub(crate) limit: u32,
 }
 
-/// How many pages come to a row, in parts of 2^32.
+/// How many pages there are for each row, times 2^32.
 pub(crate) fn share_of_rows(pages: &[Page]) -> u64 {
     match pages.last() {
         Some(last) if last.before.rows > 0 => {
@@ -38,7 +38,8 @@ fn has_row(page: &Page, row: u32) -> bool {
 }
 
 /// The number of the page in which a row is looked for first: where it would be if all pages had as
-/// many rows, or, as it isn't there, so many pages from there. There may be no such page.
+/// many rows; if it isn't there, that number corrected once by the rows it is off. There may be no
+/// such page.
 #[inline(always)]
 fn guessed(pages: &[Page], share: u64, row: u32) -> usize {
     let whole = (row as u64).wrapping_mul(share) >> 32;
@@ -57,7 +58,7 @@ fn guessed(pages: &[Page], share: u64, row: u32) -> usize {
     (parts >> 32) as usize
 }
 
-/// Back from a page to one before which a row doesn't end, or a few pages.
+/// The nearest earlier page before which the row doesn't end, at most a few pages back.
 fn back_to_row(pages: &[Page], from: usize, row: u32) -> usize
     requires { from < length pages.now }
     ensures { result < length pages.now }
@@ -70,7 +71,7 @@ fn back_to_row(pages: &[Page], from: usize, row: u32) -> usize
     at
 }
 
-/// On from a page to one in which a row ends, or a few pages.
+/// The nearest later page in which the row ends, at most a few pages on.
 fn on_to_row(pages: &[Page], from: usize, row: u32) -> usize
     requires { from < length pages.now }
     ensures { result < length pages.now }
@@ -83,7 +84,7 @@ fn on_to_row(pages: &[Page], from: usize, row: u32) -> usize
     at
 }
 
-/// A page near the one in which a row is looked for first, that in which it ends if it is near.
+/// A page near the guessed one: the page in which the row ends, if that is near.
 fn near_row(pages: &[Page], share: u64, row: u32) -> usize
     requires { 0 < length pages.now }
     ensures { result < length pages.now }
@@ -92,7 +93,7 @@ fn near_row(pages: &[Page], share: u64, row: u32) -> usize
     on_to_row(pages, back_to_row(pages, number, row), row)
 }
 
-/// The page of a number.
+/// The page with a number.
 fn page_of(pages: &[Page], number: usize) -> &Page
     requires known { ArePages pages.now }
     requires within { number < length pages.now }
@@ -101,7 +102,7 @@ fn page_of(pages: &[Page], number: usize) -> &Page
     &pages[number]
 }
 
-/// The place in the text behind a row end of a page, by its number there from 1.
+/// The offset in the text after a row end of a page, by its number there from 1.
 fn end_in(page: &Page, ends: &[u16], row: usize) -> u32
     requires fits { page.now.before.bytes + length (bytes_in page.now) < 2 ^ 32 - 1 }
     requires ends { AreEnds (bytes_in page.now) ends.now }
@@ -113,7 +114,7 @@ fn end_in(page: &Page, ends: &[u16], row: usize) -> u32
     page.before.bytes + ends[row - 1] as u32
 }
 
-/// The line behind a row end of a page, which ends there too.
+/// The line after a row end of a page, if the line ends in that page too.
 #[inline(always)]
 fn line_within(page: &Page, ends: &[u16], row: usize) -> PlainLine
     requires fits { page.now.before.bytes + length (bytes_in page.now) < 2 ^ 32 - 1 }
@@ -132,7 +133,7 @@ fn line_within(page: &Page, ends: &[u16], row: usize) -> PlainLine
     }
 }
 
-/// The line behind the last row end of a page, which ends in the next page.
+/// The line after the last row end of a page, which ends in the next page.
 fn line_across(page: &Page, ends: &[u16], next: &Page, first: &[u16]) -> PlainLine
     requires fits { page.now.before.bytes + length (bytes_in page.now) < 2 ^ 32 - 1 }
     requires plain { IsPlain (bytes_in page.now) }
@@ -155,7 +156,7 @@ fn line_across(page: &Page, ends: &[u16], next: &Page, first: &[u16]) -> PlainLi
     }
 }
 
-/// The line behind the last row end of a page, where it is that line and ends in the next page.
+/// The line after the last row end of a page, if it is the requested one and ends in the next page.
 fn line_joined(
     page: &Page,
     ends: &[u16],
@@ -186,7 +187,7 @@ fn line_joined(
     }
 }
 
-/// The same, where the next page is ASCII too.
+/// The same, if the next page is ASCII too.
 fn line_up_to(page: &Page, ends: &[u16], next: &Page, line: u32) -> Option<PlainLine>
     requires fits { page.now.before.bytes + length (bytes_in page.now) < 2 ^ 32 - 1 }
     requires plain { IsPlain (bytes_in page.now) }
@@ -201,7 +202,7 @@ fn line_up_to(page: &Page, ends: &[u16], next: &Page, line: u32) -> Option<Plain
     }
 }
 
-/// A line that starts behind the last row end of a page of ASCII and ends in the next one.
+/// A line that starts after the last row end of a page of ASCII and ends in the next page.
 fn line_to_next(pages: &[Page], number: usize, line: u32) -> Option<PlainLine>
     requires known { ArePages pages.now }
     requires within { number < length pages.now }
@@ -238,7 +239,7 @@ fn line_listed(page: &Page, ends: &[u16], line: u32) -> Option<PlainLine>
     }
 }
 
-/// A line that starts and ends in a page, where that is ASCII.
+/// A line that starts and ends in a page, if the page is ASCII.
 #[inline(always)]
 fn line_from(pages: &[Page], number: usize, line: u32) -> Option<PlainLine>
     requires known { ArePages pages.now }
@@ -252,7 +253,7 @@ fn line_from(pages: &[Page], number: usize, line: u32) -> Option<PlainLine>
     }
 }
 
-/// A line, where it is ASCII and lies in the page in which it is looked for first.
+/// A line, if it is ASCII and lies in the guessed page.
 #[inline(always)]
 pub(crate) fn plain_line(pages: &[Page], share: u64, line: u32) -> Option<PlainLine>
     requires { ArePages pages.now }
@@ -266,7 +267,7 @@ pub(crate) fn plain_line(pages: &[Page], share: u64, line: u32) -> Option<PlainL
     }
 }
 
-/// A line, where it is ASCII and starts near the page in which it is looked for first.
+/// A line, if it is ASCII and starts near the guessed page.
 pub(crate) fn plain_line_near(pages: &[Page], share: u64, line: u32) -> Option<PlainLine>
     requires { ArePages pages.now }
     ensures { IfSome result (IsPlainLine (text_of pages.now) line) }
@@ -278,7 +279,7 @@ pub(crate) fn plain_line_near(pages: &[Page], share: u64, line: u32) -> Option<P
     }
 }
 
-/// The boundary nearest to a place in such a line, in any encoding.
+/// The boundary nearest to a position in such a line, in any encoding.
 #[inline(always)]
 pub(crate) fn nearest_in_plain(line: PlainLine, place: Place) -> u32
     requires { line.start ≤ line.limit }
@@ -288,7 +289,7 @@ pub(crate) fn nearest_in_plain(line: PlainLine, place: Place) -> u32
     line.start + place.unit.min(line.limit - line.start)
 }
 
-/// The boundary with a place in such a line, in any encoding.
+/// The boundary with a position in such a line, in any encoding.
 #[inline(always)]
 pub(crate) fn offset_in_plain(line: PlainLine, place: Place) -> Option<u32>
     requires { line.start ≤ line.limit }

@@ -1,4 +1,4 @@
-// Where an offset, a row or a number of units stands among the pages of a text.
+// Finds the page of an offset, of a row, or of a number of units.
 ghost use Rattle.std.specs.Prelude.{◌≡◌, ◌+◌, ◌-◌, ◌^◌, ◌<◌, ◌≤◌, length, IfNone, IfSome};
 ghost use Rattle.std.specs.Prelude.{nat_le, nat_lt};
 ghost use Rattle.source_location.specs.Breaks.{breaks_of};
@@ -17,17 +17,17 @@ use crate::page::{Page, break_start, looked_at};
 use oxc_windows::Steps;
 use std::sync::ledger::Ledger;
 
-/// How far from where it is looked for first a page is looked for.
+/// How many pages around the guessed one are searched.
 const NEAR: usize = 8;
 
-/// Pages from one on and before another.
+/// The pages from `low` up to `high`, without `high`.
 #[derive(Clone, Copy)]
 struct Range {
     low: usize,
     high: usize,
 }
 
-/// Pages around one, or around the last one where there are not so many.
+/// The pages around one, or around the last one if there are fewer.
 fn around(pages: &[Page], number: usize) -> Range
     requires { 0 < length pages.now }
     ensures some { result.low < result.high }
@@ -40,8 +40,7 @@ fn around(pages: &[Page], number: usize) -> Range
     }
 }
 
-/// Pages among which that of an offset is: few where pages are about as long as they are made, and
-/// else all.
+/// Pages among which is that of an offset: few if pages have about their usual length, else all.
 fn pages_near(pages: &[Page], offset: u32) -> Range
     requires { ArePages pages.now }
     ensures { IsAmong (λ page. nat_le page.before.bytes offset) pages.now result }
@@ -57,7 +56,7 @@ fn pages_near(pages: &[Page], offset: u32) -> Range
     }
 }
 
-/// The page of an offset, by its number.
+/// The number of the page of an offset.
 fn number_at(pages: &[Page], offset: u32) -> usize
     requires known { ArePages pages.now }
     requires within { offset ≤ length (text_of pages.now) }
@@ -67,7 +66,7 @@ fn number_at(pages: &[Page], offset: u32) -> usize
     low + pages[low..high].partition_point(|page| page.before.bytes <= offset) - 1
 }
 
-/// The page that has a row by the share of the rows before it, if all pages had as many.
+/// The page that would have the row if all pages had as many rows.
 fn share_of(pages: &[Page], row: u32) -> usize
     requires { 0 < length pages.now }
 {
@@ -76,7 +75,7 @@ fn share_of(pages: &[Page], row: u32) -> usize
     ((row as u64).wrapping_mul(pages.len() as u64) / rows) as usize
 }
 
-/// Pages among which that is in which a row ends: few where pages have about as many rows each, and
+/// Pages among which is the one in which a row ends: few if pages have about as many rows each,
 /// else all.
 fn pages_near_row(pages: &[Page], row: u32) -> Range
     requires known { ArePages pages.now }
@@ -94,7 +93,7 @@ fn pages_near_row(pages: &[Page], row: u32) -> Range
     }
 }
 
-/// The page in which a row ends, by its number.
+/// The number of the page in which a row ends.
 fn number_of_row(pages: &[Page], row: u32) -> usize
     requires known { ArePages pages.now }
     requires some { 1 ≤ row }
@@ -105,7 +104,7 @@ fn number_of_row(pages: &[Page], row: u32) -> usize
     low + pages[low..high].partition_point(|page| page.before.rows < row) - 1
 }
 
-/// The page in which no more units begin than so many, by its number.
+/// The number of the last page before which at most `most` units begin.
 fn number_of_units(pages: &[Page], encoding: Encoding, most: u64) -> usize
     requires { ArePages pages.now }
     ensures { IsUnitPage encoding pages.now result most }
@@ -144,7 +143,7 @@ fn first_page(pages: &[Page]) -> &Page
     &pages[0]
 }
 
-/// The page in which no more units begin than so many.
+/// The last page before which at most `most` units begin.
 fn page_of_units(pages: &[Page], encoding: Encoding, most: u64) -> &Page
     requires { ArePages pages.now }
     ensures { HasUnits encoding (text_of pages.now) most result.now }
@@ -163,7 +162,7 @@ pub(crate) fn rows_to(pages: &[Page], offset: u32) -> u32
     page.before.rows + page.text.rows_to(within) as u32
 }
 
-/// The place behind the end of a row, by its number from 1.
+/// The offset after the end of a row, by its number from 1.
 fn row_end_at(pages: &[Page], row: u32) -> u32
     requires known { ArePages pages.now }
     requires some { 1 ≤ row }
@@ -211,7 +210,7 @@ pub(crate) fn units_to_row(pages: &[Page], encoding: Encoding, row: u32) -> u32
     units_within(page, encoding, end)
 }
 
-/// The same, where what is looked at is counted.
+/// The same, with a count of what is looked at.
 pub(crate) fn units_before_row<L: Ledger>(
     pages: &[Page],
     encoding: Encoding,
@@ -233,7 +232,7 @@ pub(crate) fn units_before_row<L: Ledger>(
     units_within(page, encoding, end)
 }
 
-/// Where the break of a row begins, which has one.
+/// Where the break of a row begins; the row has one.
 pub(crate) fn break_begin<L: Ledger>(pages: &[Page], row: u32, steps: &mut Steps<L>) -> u32
     requires known { ArePages pages.now }
     requires within { row < length (breaks_of (text_of pages.now)) }
@@ -247,7 +246,7 @@ pub(crate) fn break_begin<L: Ledger>(pages: &[Page], row: u32, steps: &mut Steps
     page.before.bytes + break_start(text.as_str().as_bytes(), end) as u32
 }
 
-/// The last place before which no more units begin than so many.
+/// The last offset before which at most `most` units begin.
 pub(crate) fn place_by<L: Ledger>(
     pages: &[Page],
     encoding: Encoding,
@@ -265,7 +264,7 @@ pub(crate) fn place_by<L: Ledger>(
 }
 
 /// A line that lies in one page with its break: where it starts there, where its break begins, and
-/// where that ends.
+/// where the break ends.
 #[derive(Drop)]
 pub(crate) struct LineInPage<'a> {
     pub(crate) page: &'a Page,
@@ -274,7 +273,7 @@ pub(crate) struct LineInPage<'a> {
     pub(crate) next: usize,
 }
 
-/// The first line, where it lies in one page with its break.
+/// The first line, if it lies in one page with its break.
 fn first_line<'a, L: Ledger>(pages: &'a [Page], steps: &mut Steps<L>) -> Option<LineInPage<'a>>
     requires { ArePages pages.now }
     ensures line { IfSome result (IsLineInPage (text_of pages.now) 0) }
@@ -296,7 +295,7 @@ fn first_line<'a, L: Ledger>(pages: &'a [Page], steps: &mut Steps<L>) -> Option<
     })
 }
 
-/// A later line, where it lies in one page with its break and with the one before it.
+/// A later line, if it lies in one page with its break and with the end of the line before it.
 fn later_line<'a, L: Ledger>(
     pages: &'a [Page],
     line: u32,
@@ -326,7 +325,7 @@ fn later_line<'a, L: Ledger>(
     })
 }
 
-/// A line, where it lies in one page with its break. Most lines do.
+/// A line, if it lies in one page with its break. Most lines do.
 pub(crate) fn line_in_page<'a, L: Ledger>(
     pages: &'a [Page],
     line: u32,
