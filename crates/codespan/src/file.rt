@@ -22,10 +22,9 @@ use std::alloc::{AllocError, Global};
 use std::marker::Model;
 use std::ops::Range;
 
-/// A text that the database holds: what a source file's contents are kept in.
+/// The text of a source: what a file's contents are kept in.
 ///
-/// Its one parent is `Drop`, so that the database can let go of a source that it replaces or
-/// refuses.
+/// It requires `Drop`, so that the database can drop a source that it rejects or replaces.
 pub trait SourceText: Drop {
     ghost text: { Self → List ℕ };
 
@@ -50,7 +49,7 @@ impl<'a> SourceText for &'a str {
     }
 }
 
-/// What a database calls a file: the number of files that were there before it.
+/// The handle of a file in a database: the number of files that were there before it.
 #[derive(Clone, Copy, Debug, PartialEq, Eq, PartialOrd, Ord, Hash)]
 pub struct FileId {
     index: u32,
@@ -93,7 +92,7 @@ impl FileId {
     }
 }
 
-/// Why a source was not taken.
+/// Why a source wasn't added.
 #[derive(Clone, Copy, Debug, thiserror::Error, PartialEq, Eq)]
 pub enum AddError {
     /// The source has `u32::MAX` bytes or more.
@@ -105,7 +104,7 @@ pub enum AddError {
     /// The database holds `u32::MAX` files.
     #[error("the database is full")]
     TooManyFiles,
-    /// There was no memory left.
+    /// Out of memory.
     #[error("out of memory")]
     OutOfMemory,
 }
@@ -158,7 +157,7 @@ impl<Source: SourceText> Files<Source> {
         self.files.len()
     }
 
-    /// Whether the database holds the file, which every other call that takes a handle asks for.
+    /// Whether the database holds the file. Every other call that takes a handle requires this.
     pub fn contains(&self, file_id: FileId) -> bool
         ensures contained { IsTrue result ↔ (file_id < length self.now) }
         ensures fits { All (λ file. Fits file.text) self.now }
@@ -171,8 +170,8 @@ impl<Source: SourceText> Files<Source> {
     /// # Errors
     ///
     /// `SourceTooLong`, where the source has `u32::MAX` bytes or more; else `TooManyFiles`, where
-    /// `u32::MAX` files are held; else it may be `OutOfMemory`. With each of them the database is
-    /// as it was.
+    /// `u32::MAX` files are held; else possibly `OutOfMemory`. After an error the database is
+    /// unchanged.
     pub fn add(&mut self, name: String, source: Source) -> Result<FileId, AddError>
         ensures added { IfOk result (λ id. (id ≡ length self.old)
             × (self.new ≡ self.old ++ record
@@ -197,14 +196,14 @@ impl<Source: SourceText> Files<Source> {
         Ok(file_id)
     }
 
-    /// Puts another source in the place of the file's. Its name stays, and so do all other files.
+    /// Replaces the source of a file. Its name stays, and so do all other files.
     ///
     /// Places and spans of the old source may not be places of the new one.
     ///
     /// # Errors
     ///
-    /// `SourceTooLong`, where the source has `u32::MAX` bytes or more; else it may be
-    /// `OutOfMemory`. With both the database is as it was.
+    /// `SourceTooLong`, where the source has `u32::MAX` bytes or more; else possibly `OutOfMemory`.
+    /// After an error the database is unchanged.
     pub fn update(&mut self, file_id: FileId, source: Source) -> Result<(), AddError>
         requires { file_id < length self.old }
         ensures updated { OnOk result (self.new ≡ with_text self.old file_id (Source.text source)) }
@@ -230,7 +229,7 @@ impl<Source: SourceText> Files<Source> {
         &self.files[file_id.get()]
     }
 
-    /// What the file is called.
+    /// The name of the file.
     #[must_use]
     pub fn name(&self, file_id: FileId) -> &str
         requires { file_id < length self.now }
@@ -239,12 +238,12 @@ impl<Source: SourceText> Files<Source> {
         self.get(file_id).name()
     }
 
-    /// The span of a line, with its line feed. Lines end at line feeds alone, and count from 0.
+    /// The span of a line, with its line feed. Lines end at line feeds only, and count from 0.
     ///
     /// # Errors
     ///
-    /// `LineTooLarge`, exactly for the lines that the source doesn't have; the first of them is
-    /// named by the number after it.
+    /// `LineTooLarge`, exactly for lines that the source doesn't have; it names the first of them
+    /// by the number after it.
     pub fn line_span(&self, file_id: FileId, line_index: LineIndex) -> Result<Span, Error>
         requires { file_id < length self.now }
         ensures line { MatchResult result
@@ -264,12 +263,13 @@ impl<Source: SourceText> Files<Source> {
         self.get(file_id).line_index(byte_index)
     }
 
-    /// The line of a place, in bytes from 0, and its column in characters, both from 0.
+    /// The line of a place, which is in bytes from 0, and its column in characters; both count from
+    /// 0.
     ///
     /// # Errors
     ///
-    /// `IndexTooLarge`, exactly for the places past the end; `InvalidCharBoundary`, exactly for
-    /// those inside a character.
+    /// `IndexTooLarge`, exactly for places past the end; `InvalidCharBoundary`, exactly for places
+    /// inside a character.
     pub fn location(&self, file_id: FileId, byte_index: ByteIndex) -> Result<Location, Error>
         requires { file_id < length self.now }
         ensures { MatchResult result
@@ -301,9 +301,9 @@ impl<Source: SourceText> Files<Source> {
     ///
     /// # Errors
     ///
-    /// `IndexTooLarge`, exactly for the spans that go past the end; of the others
-    /// `InvalidCharBoundary`, exactly where an end is inside a character. The start is named before
-    /// the end.
+    /// `IndexTooLarge`, exactly for spans that go past the end; of the others
+    /// `InvalidCharBoundary`, exactly where an end is inside a character. If both ends are wrong,
+    /// it names the start.
     pub fn source_slice(&self, file_id: FileId, span: Span) -> Result<&str, Error>
         requires { file_id < length self.now }
         ensures { MatchResult result
@@ -361,7 +361,7 @@ impl<Source: SourceText> files::Files for Files<Source> {
 /// One of the files, with an index of its lines.
 #[derive(Debug, Drop)]
 struct File<Source: SourceText> {
-    /// What the file is called.
+    /// The name of the file.
     name: String,
     /// The contents of the file.
     source: Source,
@@ -462,7 +462,7 @@ impl<Source: SourceText> File<Source> {
     }
 }
 
-/// Whether the source is short enough.
+/// Whether the source is short enough: fewer than `u32::MAX` bytes.
 fn check_length<Source: SourceText>(source: &Source) -> Result<(), AddError>
     ensures { MatchResult result (λ _. Fits (Source.text source.now))
         (λ error. (error ≡ AddError.SourceTooLong (length (Source.text source.now)))
@@ -489,7 +489,7 @@ fn line_starts(alloc: Global, source: &str) -> Result<Vec<ByteIndex>, AllocError
     Ok(starts)
 }
 
-/// The line of a place, given where the lines of a text start.
+/// The line of a place, given the line starts of the text.
 fn line_in(starts: &[ByteIndex], byte_index: ByteIndex) -> usize
     requires { IsStrictlyIncreasing (map (λ start. start.0) starts.now) }
     ensures { result ≡ line_at (map (λ start. start.0) starts.now) byte_index.0 }
@@ -506,7 +506,7 @@ fn last_index(source: &str) -> usize
     source.len().saturating_sub(1)
 }
 
-/// Whether the place is a boundary of the text.
+/// Checks that the place is a boundary of the text.
 fn check_place(source: &str, place: usize) -> Result<(), Error>
     ensures { MatchResult result (λ _. IsCharBoundary source.now place)
         (λ error. IsPlaceRefusal source.now place error) }
@@ -523,7 +523,7 @@ fn check_place(source: &str, place: usize) -> Result<(), Error>
     Ok(())
 }
 
-/// How many characters stand between two boundaries.
+/// How many characters are between two boundaries.
 fn characters_between(source: &str, start: usize, end: usize) -> usize
     requires order { start ≤ end }
     requires start { IsCharBoundary source.now start }
@@ -534,7 +534,7 @@ fn characters_between(source: &str, start: usize, end: usize) -> usize
     characters_in(&source[start..end])
 }
 
-/// How many characters the text has. They are counted by their first bytes, with no decoding.
+/// How many characters the text has. Their first bytes are counted; nothing is decoded.
 fn characters_in(text: &str) -> usize
     ensures exact { result ≡ length (chars text.now) }
     ensures bound { result ≤ length text.now }

@@ -1,8 +1,7 @@
-//! Types for places in a source: lines, columns and bytes, which can't be mixed up.
+//! Types for places in a source: lines, columns and bytes.
 //!
-//! An index is a place, counted from 0. An offset is the way from one place to another, and may
-//! lead back. What an operator gives has to be in the range of its type: that is the condition of
-//! each.
+//! An index is a place, counted from 0. An offset is the signed difference of two places. The
+//! result of each operator has to be in the range of its type; that is its condition.
 ghost use Rattle.std.specs.Prelude.{◌≡◌, ℕ, ◌+◌, ◌++◌, ◌<◌, ◌≤ℤ◌, pos, length, Some, codes};
 ghost use Rattle.std.specs.Fmt.{decimal, signed_decimal};
 ghost use Rattle.std.specs.Char.{len_utf8};
@@ -16,11 +15,10 @@ use std::fmt::{Formatter, Write};
 use std::marker::Model;
 use std::ops::{Add, AddAssign, Neg, Sub, SubAssign};
 
-/// A place as a plain number, with no word on what it counts. 32 bits are enough, since a source
-/// has fewer than `u32::MAX` bytes.
+/// A place as a plain number. 32 bits are enough, since a source has fewer than `u32::MAX` bytes.
 pub type RawIndex = u32;
 
-/// A way between two places as a plain number.
+/// An offset as a plain number.
 pub type RawOffset = i64;
 
 /// A line of a source, from 0.
@@ -99,7 +97,7 @@ impl fmt::Display for LineNumber {
     }
 }
 
-/// A number of lines, back or forth.
+/// A number of lines, forward or back.
 #[derive(Clone, Copy, Default, PartialEq, Eq, Hash, PartialOrd, Ord)]
 pub struct LineOffset(pub RawOffset);
 
@@ -197,7 +195,7 @@ impl fmt::Display for ColumnNumber {
     }
 }
 
-/// A number of columns, back or forth.
+/// A number of columns, forward or back.
 #[derive(Clone, Copy, Default, PartialEq, Eq, Hash, PartialOrd, Ord)]
 pub struct ColumnOffset(pub RawOffset);
 
@@ -257,7 +255,7 @@ impl fmt::Display for ByteIndex {
     }
 }
 
-/// A number of bytes, back or forth.
+/// A number of bytes, forward or back.
 #[derive(Clone, Copy, Default, PartialEq, Eq, Hash, PartialOrd, Ord)]
 pub struct ByteOffset(pub RawOffset);
 
@@ -302,7 +300,7 @@ impl fmt::Display for ByteOffset {
     }
 }
 
-/// A way between two places of one kind. Offsets add up like numbers.
+/// The difference of two places of one kind. Offsets add up like numbers.
 ///
 /// Each offset keeps these laws, where the sums are in range: `ZERO` added on either side changes
 /// nothing; an offset and its opposite add up to `ZERO`; `(a + b) - b` is `a`; `a + (b - a)` is
@@ -314,7 +312,7 @@ pub trait Offset: Copy
     + AddAssign<Self>
     + Sub<Self, Output = Self>
     + SubAssign<Self> {
-    /// The way from a place to itself.
+    /// The offset from a place to itself.
     const ZERO: Self;
 
     ghost ZERO: { Self };
@@ -347,7 +345,7 @@ pub trait Index: Copy
     + Sub<<Self as Index>::Offset, Output = Self>
     + SubAssign<<Self as Index>::Offset>
     + Sub<Self, Output = <Self as Index>::Offset> {
-    /// The way between two such places.
+    /// The offset between two such places.
     type Offset: Offset;
 
     ghost stays: { (i r : Self) → Self.add_gives i Self.Offset.ZERO r → r ≡ i };

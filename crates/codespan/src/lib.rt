@@ -1,4 +1,4 @@
-//! A database of source files, with places in them that can't be mixed up.
+//! A database of source files with typed places.
 #![tactic(auto)]
 
 mod file;

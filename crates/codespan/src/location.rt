@@ -3,8 +3,8 @@ ghost use Rattle.std.specs.Prelude.{◌≡◌};
 
 use crate::{ColumnIndex, LineIndex};
 
-/// A place in a source, by its line and its column in characters, both from 0. Earlier places are
-/// less.
+/// A place in a source, by its line and its column in characters, both from 0. Places are ordered
+/// by line, then by column.
 #[derive(Copy, Clone, Debug, PartialEq, Eq, PartialOrd, Ord, Hash)]
 pub struct Location {
     /// The line.
@@ -14,7 +14,7 @@ pub struct Location {
 }
 
 impl Location {
-    /// The place in that line and column.
+    /// The place with that line and column.
     pub fn new(line: LineIndex, column: ColumnIndex) -> Location
         ensures line { result.line ≡ line }
         ensures column { result.column ≡ column }

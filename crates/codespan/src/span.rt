@@ -1,4 +1,4 @@
-//! A stretch of a source by its ends.
+//! A range of a source by its ends.
 ghost use Rattle.std.specs.Prelude.{◌≡◌, ◌≤◌, ◌<◌, ◌++◌, ◌↔◌, IsTrue, Some, codes, length};
 ghost use Rattle.std.specs.Fmt.{decimal};
 ghost use Rattle.codespan.specs.Spans.{Extent, merged, Covers, AreDisjoint};
@@ -9,8 +9,8 @@ use std::fmt::{Formatter, Write};
 use std::marker::Model;
 use std::ops::Range;
 
-/// A stretch of a source, from its first byte to before the byte at its end. Spans are ordered by
-/// their starts, then by their ends. Contracts see a span as the two numbers.
+/// A range of a source; the end is exclusive. Spans are ordered by their starts, then by their
+/// ends. Contracts see a span as the two numbers.
 #[derive(Debug, Copy, Clone, PartialEq, Eq, PartialOrd, Ord, Hash)]
 pub struct Span {
     start: ByteIndex,
@@ -74,7 +74,7 @@ impl Span {
         Span::new(ByteIndex(0), ByteIndex(s.len() as u32))
     }
 
-    /// The least span that contains both, and with them what lies between.
+    /// The least span that contains both; it also contains what is between them.
     #[must_use]
     pub fn merge(self, other: Span) -> Span
         ensures merged { result ≡ merged self other }
@@ -87,9 +87,9 @@ impl Span {
         Span::new(self.start.min(other.start), self.end.max(other.end))
     }
 
-    /// Whether one of the spans ends before the other starts, or just there. So an empty span is
-    /// disjoint from one at whose end it stands, but not from one within which it stands, though
-    /// it shares no byte with either.
+    /// Whether one of the spans ends at or before the other's start. So an empty span is disjoint
+    /// from one at whose end it is, but not from one inside which it is, though it shares no byte
+    /// with either.
     #[must_use]
     pub fn disjoint(self, other: Span) -> bool
         ensures exact { IsTrue result ↔ AreDisjoint self other }

@@ -1,4 +1,4 @@
-//! The database of source files as the tools see it, and why it refuses a question.
+//! The database of source files as tools see it, and its errors.
 ghost use Rattle.std.specs.Prelude.{◌≡◌, ℕ, ◌<◌, ◌≤◌, Bool, List, length, ◌⊎◌, IsTrue, IfErr, IfOk};
 ghost use Rattle.std.specs.Prelude.{OnOk, MatchResult};
 ghost use Rattle.codespan_reporting.specs.Lines.{AreLineStarts, IsLineRange, line_at, line_bytes};
@@ -8,22 +8,21 @@ ghost use Rattle.std.specs.Str.{IsUtf8};
 
 use std::ops::Range;
 
-/// Why a question about a file was refused.
+/// Why a question about a file has no answer.
 #[derive(Clone, Copy, Debug, thiserror::Error, PartialEq, Eq)]
 pub enum Error {
     /// A place past the end of the source.
     #[error("place {given} is past the end, {max}")]
     IndexTooLarge {
-        /// The place that was given, in bytes.
+        /// The requested place, in bytes.
         given: usize,
-        /// The place of the source's last byte, and 0 for an empty source.
+        /// The place of the source's last byte, or 0 for an empty source.
         max: usize,
     },
     /// A line past the last one.
     #[error("line {given} is not among the {max} lines")]
     LineTooLarge {
-        /// The line that was given, from 0, or the one after it where it is the first that isn't
-        /// there.
+        /// The requested line, from 0, or the number after it for the first line that isn't there.
         given: usize,
         /// How many lines the source has.
         max: usize,
@@ -31,17 +30,17 @@ pub enum Error {
     /// A place inside a character.
     #[error("place {given} is inside a character")]
     InvalidCharBoundary {
-        /// The place that was given, in bytes.
+        /// The requested place, in bytes.
         given: usize,
     },
 }
 
-/// What holds source files for a tool.
+/// A database of source files.
 ///
 /// Contracts see, for each handle, whether the database holds it, the file's name, its text, where
-/// the text's lines start, and with which errors, if any, it may refuse a file that it holds.
+/// the text's lines start, and which errors, if any, it may give for a file that it holds.
 pub trait Files {
-    /// What names a file in the database.
+    /// The handle of a file in the database.
     type FileId: Copy;
 
     ghost holds: { Self → Self.FileId → Bool };
@@ -54,15 +53,15 @@ pub trait Files {
 
     ghost refuses: { Self → Self.FileId → Error → Type 0 };
 
-    /// Whether the database holds the file, which every other call asks for.
+    /// Whether the database holds the file. Every other call requires this.
     fn contains(&self, id: Self::FileId) -> bool
         ensures { result ≡ holds self.now id };
 
-    /// What to call the file in a message.
+    /// The name of the file in messages.
     ///
     /// # Errors
     ///
-    /// What the database refuses (`refuses`).
+    /// Those that the database may give (`refuses`).
     fn name(&self, id: Self::FileId) -> Result<&str, Error>
         requires { IsTrue (holds self.now id) }
         ensures { MatchResult result (λ name. name.now ≡ name_in self.now id)
@@ -72,7 +71,7 @@ pub trait Files {
     ///
     /// # Errors
     ///
-    /// What the database refuses (`refuses`).
+    /// Those that the database may give (`refuses`).
     fn source(&self, id: Self::FileId) -> Result<&str, Error>
         requires { IsTrue (holds self.now id) }
         ensures { MatchResult result (λ text. text.now ≡ text_in self.now id)
@@ -83,7 +82,7 @@ pub trait Files {
     ///
     /// # Errors
     ///
-    /// What the database refuses (`refuses`).
+    /// Those that the database may give (`refuses`).
     fn line_index(&self, id: Self::FileId, byte_index: usize) -> Result<usize, Error>
         requires held { IsTrue (holds self.now id) }
         requires small { byte_index ≤ u32.MAX }
@@ -113,7 +112,7 @@ pub trait Files {
 ///
 /// # Errors
 ///
-/// What `line_range` refuses, and else only where the database refuses the file.
+/// Those of `line_range`, and those that the database may give for the file (`refuses`).
 pub fn line_text<F: Files>(files: &F, id: F::FileId, line_index: usize) -> Result<&str, Error>
     requires held { IsTrue (F.holds files.now id) }
     requires small { line_index ≤ u32.MAX }

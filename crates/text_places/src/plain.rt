@@ -58,7 +58,7 @@ fn guessed(pages: &[Page], share: u64, row: u32) -> usize {
     (parts >> 32) as usize
 }
 
-/// The nearest earlier page before which the row doesn't end, at most a few pages back.
+/// From a page back to one before which the row doesn't end, at most a few pages.
 fn back_to_row(pages: &[Page], from: usize, row: u32) -> usize
     requires { from < length pages.now }
     ensures { result < length pages.now }
@@ -71,7 +71,7 @@ fn back_to_row(pages: &[Page], from: usize, row: u32) -> usize
     at
 }
 
-/// The nearest later page in which the row ends, at most a few pages on.
+/// From a page on to one in which the row ends, at most a few pages.
 fn on_to_row(pages: &[Page], from: usize, row: u32) -> usize
     requires { from < length pages.now }
     ensures { result < length pages.now }
