@@ -1,4 +1,4 @@
-//! Counts by words: eight bytes at a time, each with a small counter of its own.
+//! Counts by words: eight bytes at a time, each with its own small counter.
 ghost use Rattle.std.specs.Prelude.{◌≡◌, ◌≤◌, ◌<◌, ◌-◌, ◌^◌, ◌==◌, count_by, drop, length, sum};
 ghost use Rattle.std.specs.Prelude.{sum_by, replicate, if◌then◌else◌};
 ghost use Rattle.std.specs.Simd.Lanes.{zip2};
@@ -28,12 +28,12 @@ fn bytewise_equal(lhs: u64, rhs: u64) -> u64
         (bytes_of rhs) }
 {
     let differing = lhs ^ rhs;
-    // No carry leaves a byte; its highest bit is set where one of the lower ones was.
+    // No carry leaves a byte; its highest bit is set if one of the lower bits was.
     let carried = (differing & BELOW_HIGH) + BELOW_HIGH;
     (!(carried | differing) & HIGH) >> 7
 }
 
-/// The word of eight bytes, the first of them the lowest.
+/// The word of eight bytes; the first byte is the lowest.
 fn word_of(bytes: &[u8; 8]) -> u64
     ensures { bytes_of result ≡ bytes.now }
 {
@@ -72,7 +72,7 @@ fn is_leading_utf8_byte(values: u64) -> u64
     ((!values & HIGH) >> 7) | ((values & SECOND) >> 6)
 }
 
-/// How many bytes of at most 255 words equal the needle: no counter of a byte passes 255.
+/// How many bytes of at most 255 words equal the needle. No byte's counter passes 255.
 fn count_in_block(block: &[[u8; 8]], needle: u8) -> usize
     requires { length block.now ≤ 255 }
     ensures { result ≡ sum_by (λ word. count_by (λ byte. byte == needle) word) block.now }
@@ -85,7 +85,7 @@ fn count_in_block(block: &[[u8; 8]], needle: u8) -> usize
     sum_usize(counts)
 }
 
-/// How many bytes of the words equal the needle.
+/// How many bytes in `words` equal the needle.
 fn count_in_words(words: &[[u8; 8]], needle: u8) -> usize
     requires { sum_by (λ word. count_by (λ byte. byte == needle) word) words.now < 2 ^ 64 }
     ensures { result ≡ sum_by (λ word. count_by (λ byte. byte == needle) word) words.now }
@@ -100,7 +100,7 @@ fn count_in_words(words: &[[u8; 8]], needle: u8) -> usize
     count + count_in_block(rest, needle)
 }
 
-/// How many bytes of `haystack`, which are eight or more, equal `needle`.
+/// How many bytes of `haystack`, which has at least eight, equal `needle`.
 pub fn chunk_count(haystack: &[u8], needle: u8) -> usize
     requires { 8 ≤ length haystack.now }
     ensures { result ≡ count_by (λ byte. byte == needle) haystack.now }
@@ -111,7 +111,7 @@ pub fn chunk_count(haystack: &[u8], needle: u8) -> usize
     count + sum_of_last(bytewise_equal(word_of(last), splat(needle)), rest.len())
 }
 
-/// How many bytes of at most 255 words begin a character: no counter of a byte passes 255.
+/// How many bytes of at most 255 words begin a character. No byte's counter passes 255.
 fn num_chars_in_block(block: &[[u8; 8]]) -> usize
     requires { length block.now ≤ 255 }
     ensures { result ≡ sum_by (λ word. count_by begins_char word) block.now }
@@ -123,7 +123,7 @@ fn num_chars_in_block(block: &[[u8; 8]]) -> usize
     sum_usize(counts)
 }
 
-/// How many bytes of the words begin a character.
+/// How many bytes in `words` begin a character.
 fn num_chars_in_words(words: &[[u8; 8]]) -> usize
     requires { sum_by (λ word. count_by begins_char word) words.now < 2 ^ 64 }
     ensures { result ≡ sum_by (λ word. count_by begins_char word) words.now }
@@ -138,7 +138,7 @@ fn num_chars_in_words(words: &[[u8; 8]]) -> usize
     count + num_chars_in_block(rest)
 }
 
-/// How many bytes of `utf8_chars`, which are eight or more, begin a character.
+/// How many bytes of `utf8_chars`, which has at least eight, begin a character.
 pub fn chunk_num_chars(utf8_chars: &[u8]) -> usize
     requires { 8 ≤ length utf8_chars.now }
     ensures count { result ≡ char_count utf8_chars.now }

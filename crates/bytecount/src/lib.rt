@@ -27,7 +27,7 @@ pub fn count(haystack: &[u8], needle: u8) -> usize
     naive_count(haystack, needle)
 }
 
-/// How many bytes of `utf8_chars` begin a character, which are those whose two top bits aren't 10.
+/// How many bytes of `utf8_chars` begin a character: those whose two top bits aren't 10.
 pub fn num_chars(utf8_chars: &[u8]) -> usize
     ensures count { result ≡ char_count utf8_chars.now }
     ensures bound { result ≤ length utf8_chars.now }

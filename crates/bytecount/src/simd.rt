@@ -1,4 +1,4 @@
-//! Counts by vectors: thirty-two bytes at a time, each with a small counter of its own.
+//! Counts by vectors: thirty-two bytes at a time, each with its own small counter.
 ghost use Rattle.std.specs.Prelude.{◌≡◌, ◌≤◌, ◌<◌, ◌^◌, ◌==◌, count_by, length, sum, sum_by};
 ghost use Rattle.std.specs.Str.{IsUtf8, chars};
 ghost use Rattle.bytecount.specs.Counts.{begins_char, char_count};
@@ -35,7 +35,7 @@ fn sum_of(values: u8x32) -> usize
     sum
 }
 
-/// How many bytes of at most 255 vectors equal the needle: no counter of a byte passes 255.
+/// How many bytes of at most 255 vectors equal the needle. No byte's counter passes 255.
 fn count_in_block(block: &[[u8; 32]], needle: u8) -> usize
     requires { length block.now ≤ 255 }
     ensures { result ≡ sum_by (λ lanes. count_by (λ byte. byte == needle) lanes) block.now }
@@ -62,7 +62,7 @@ fn count_in_vectors(vectors: &[[u8; 32]], needle: u8) -> usize
     count + count_in_block(rest, needle)
 }
 
-/// How many bytes after the last whole vector equal the needle: by words, where there is one.
+/// How many bytes after the last whole vector equal the needle: by words, if there is one.
 fn count_in_rest(rest: &[u8], needle: u8) -> usize
     ensures { result ≡ count_by (λ byte. byte == needle) rest.now }
 {
@@ -80,7 +80,7 @@ pub(crate) fn chunk_count(haystack: &[u8], needle: u8) -> usize
     count_in_vectors(vectors, needle) + count_in_rest(rest, needle)
 }
 
-/// How many bytes of at most 255 vectors begin a character: no counter of a byte passes 255.
+/// How many bytes of at most 255 vectors begin a character. No byte's counter passes 255.
 fn num_chars_in_block(block: &[[u8; 32]]) -> usize
     requires { length block.now ≤ 255 }
     ensures { result ≡ sum_by (λ lanes. count_by begins_char lanes) block.now }
@@ -107,7 +107,7 @@ fn num_chars_in_vectors(vectors: &[[u8; 32]]) -> usize
     count + num_chars_in_block(rest)
 }
 
-/// How many bytes after the last whole vector begin a character: by words, where there is one.
+/// How many bytes after the last whole vector begin a character: by words, if there is one.
 fn num_chars_in_rest(rest: &[u8]) -> usize
     ensures { result ≡ char_count rest.now }
 {
