@@ -1,4 +1,4 @@
-// Edits, and why one is refused.
+// Edits, and why one can't be made.
 ghost use Rattle.std.specs.Prelude.{◌≡◌, ◌⊎◌, MatchOption, MatchResult};
 ghost use Rattle.std.specs.Str.{IsCharBoundary};
 ghost use Rattle.source_edit.specs.Edits.{change_of};
@@ -6,35 +6,35 @@ ghost use Rattle.source_edit.specs.Causes.{IsAcceptable, IsCause};
 
 use text_size::{TextRange, TextSize};
 
-/// The bytes of a range of a text, and what is put in their place. An empty range inserts.
+/// A range of bytes of a text, and what replaces them. An empty range inserts.
 #[derive(Drop)]
 pub struct Edit {
-    /// Which bytes of the text give way.
+    /// Which bytes of the text are replaced.
     pub range: TextRange,
-    /// What is put there.
+    /// What is inserted.
     pub insert: String,
 }
 
-/// Why an edit was refused. `edit` is its place in the list of edits, from 0, and 0 for a single
-/// one.
+/// Why an edit can't be made. `edit` is its index in the list of edits, from 0, and 0 for a single
+/// edit.
 ///
-/// The causes are judged in this order. A refusal changes nothing.
+/// The causes are tested in this order. After an error nothing has changed.
 #[derive(Clone, Copy, Debug, thiserror::Error, PartialEq, Eq)]
 pub enum EditError {
-    /// The range ends behind the text.
+    /// The range ends past the text.
     #[error("edit {edit}: the range ends at {end}, and the text has {length} bytes")]
     Outside {
-        /// The edit's place in its list.
+        /// The edit's index in its list.
         edit: usize,
         /// Where the range ends, in bytes.
         end: u32,
         /// The text's length in bytes.
         length: usize,
     },
-    /// The range's start, or else its end, lies inside a character.
+    /// The range's start, or else its end, is inside a character.
     #[error("edit {edit}: byte {at} is inside a character")]
     NotBoundary {
-        /// The edit's place in its list.
+        /// The edit's index in its list.
         edit: usize,
         /// That start or end, in bytes.
         at: u32,
@@ -42,20 +42,20 @@ pub enum EditError {
     /// The new text would have `u32::MAX` bytes or more.
     #[error("edit {edit}: the text would have {length} bytes, and no place past 4294967294 can be named")]
     TooLong {
-        /// The edit's place in its list.
+        /// The edit's index in its list.
         edit: usize,
         /// The length in bytes that the text would have.
         length: u64,
     },
-    /// There was no memory left.
+    /// Out of memory.
     #[error("edit {edit}: out of memory")]
     OutOfMemory {
-        /// The edit's place in its list.
+        /// The edit's index in its list.
         edit: usize,
     },
 }
 
-/// Whether a text takes the edit that stands at a place of its list, but for want of memory.
+/// Checks that a text takes an edit, given the edit's index in its list. Memory isn't checked.
 pub(crate) fn check(place: usize, text: &str, edit: &Edit) -> Result<(), EditError>
     ensures { MatchResult result (λ _. IsAcceptable text.now (change_of edit.now))
         (λ error. IsCause place text.now (change_of edit.now) error) }
@@ -85,7 +85,7 @@ pub(crate) fn check(place: usize, text: &str, edit: &Edit) -> Result<(), EditErr
     Ok(())
 }
 
-/// The first of two places that is no boundary.
+/// The first of two offsets that is no boundary.
 fn parted_end(text: &str, start: TextSize, end: TextSize) -> Option<TextSize>
     ensures { MatchOption result (IsCharBoundary text.now start × IsCharBoundary text.now end)
         (λ at. (¬ IsCharBoundary text.now start × (at ≡ start))

@@ -25,20 +25,20 @@ use text_size::{TextRange, TextSize};
 /// What it takes to undo an edit.
 #[derive(Drop)]
 struct Step {
-    /// Where the inserted bytes lie.
+    /// The range of the inserted bytes.
     written: TextRange,
-    /// The bytes that gave way to them.
+    /// The bytes that were replaced.
     removed: String,
     /// The rows that started among those bytes, or right at their ends.
     starts: Vec<TextSize>,
 }
 
-/// A text of fewer than `u32::MAX` bytes that is edited in place, with its row starts and the way
-/// back.
+/// A text of fewer than `u32::MAX` bytes that is edited in place, with its row starts and its
+/// history.
 ///
 /// Contracts see the text and its history: the list of texts to which [`undo`](EditText::undo) goes
-/// back, the latest last. An accepted edit puts the text of that moment at its end. No copy of a
-/// text is kept, but the bytes that each edit removed.
+/// back, the latest last. An accepted edit appends the text of that moment. No copies of the text
+/// are kept, only the bytes that each edit removed.
 #[derive(Drop)]
 pub struct EditText {
     text: String,
@@ -63,7 +63,7 @@ impl EditText {
     ///
     /// # Errors
     ///
-    /// Want of memory.
+    /// Out of memory.
     pub fn new(alloc: Global, text: String) -> Result<EditText, AllocError>
         requires { Fits (string_bytes text) }
         ensures { IfOk result (λ made. made ≡ record { text = string_bytes text; history = [] }) }
@@ -100,7 +100,7 @@ impl EditText {
         self.line_starts.len()
     }
 
-    /// Where a row lies with its break, by its number from 0; none where there is no such row.
+    /// The range of a row with its break, by its number from 0; `None` if there is no such row.
     pub fn line_range(&self, line: usize) -> Option<TextRange>
         ensures some { IsSome result ↔ (line < row_count self.now.text) }
         ensures value { IfSome result (λ range. range ≡ row_range self.now.text line) }
@@ -113,7 +113,7 @@ impl EditText {
         Some(TextRange::new(start, end))
     }
 
-    /// Where a row starts, and the text's end for one that there isn't.
+    /// Where a row starts; past the last row the text's end.
     fn row_start(&self, row: usize) -> TextSize
         ensures { result ≡ row_start (length self.now.text) (breaks_of self.now.text) row }
     {
@@ -125,7 +125,7 @@ impl EditText {
         }
     }
 
-    /// The text, for good: what it took to edit it and to go back is given up.
+    /// The text. The row starts and the history are dropped.
     pub fn into_text(self) -> String
         ensures { string_bytes result ≡ self.text }
     {
@@ -138,8 +138,8 @@ impl EditText {
         text
     }
 
-    /// Ends the history: no edit made so far can be undone, and what they kept of memory is given
-    /// back, with the room that was taken for going back.
+    /// Clears the history: no edit made so far can be undone. The memory that it took is freed, and
+    /// so is the room that was reserved for undoing.
     pub fn forget(&mut self)
         ensures text { self.new.text ≡ self.old.text }
         ensures history { self.new.history ≡ [] }
@@ -160,10 +160,9 @@ impl EditText {
     ///
     /// # Errors
     ///
-    /// `Outside` where the range ends behind the text; else `NotBoundary` where its start, or else
-    /// its end, is inside a character; else `TooLong` where the new text would have `u32::MAX` bytes
-    /// or more; else `OutOfMemory` for want of memory. The text, its row starts and its history are
-    /// as they were.
+    /// `Outside` where the range ends past the text; else `NotBoundary` where its start, or else
+    /// its end, is inside a character; else `TooLong` where the new text would have `u32::MAX`
+    /// bytes or more; else `OutOfMemory`. The text, its row starts and its history don't change.
     pub fn apply(&mut self, edit: Edit) -> Result<(), EditError>
         ensures accepted { OnOk result (self.new ≡ after_edit self.old (change_of edit)) }
         ensures cause { MatchResult result (λ _. IsAcceptable self.old.text (change_of edit))
@@ -173,13 +172,12 @@ impl EditText {
         self.apply_at(0, &edit)
     }
 
-    /// Edits the text by each of the edits in turn, each on the text that the one before left: by
-    /// all, or by none.
+    /// Makes each of the edits in turn, on the text that the one before left: all, or none.
     ///
     /// # Errors
     ///
-    /// Those of [`EditText::apply`], of the first edit that it refuses, with its place in the list.
-    /// The text, its row starts and its history are as they were before the first.
+    /// Those of [`EditText::apply`], for the first edit that can't be made, with its index in the
+    /// list. The text, its row starts and its history are as they were before the first edit.
     pub fn apply_all(&mut self, edits: Vec<Edit>) -> Result<(), EditError>
         ensures accepted { OnOk result (self.new
             ≡ after_edits self.old (map change_of edits.items)) }
@@ -200,7 +198,7 @@ impl EditText {
     ///
     /// # Errors
     ///
-    /// It has none: what it needs of memory was taken by the edit.
+    /// None: the edit took the memory that this needs.
     pub fn undo(&mut self) -> Result<bool, AllocError>
         ensures said { result ≡ Ok (nat_lt 0 (length self.old.history)) }
         ensures latest { 0 < length self.old.history
@@ -212,7 +210,7 @@ impl EditText {
         Ok(self.step_back())
     }
 
-    /// Edits the text by the edit at a place of its list.
+    /// Makes an edit, given its index in its list.
     fn apply_at(&mut self, place: usize, edit: &Edit) -> Result<(), EditError>
         ensures accepted { OnOk result (self.new ≡ after_edit self.old (change_of edit.now)) }
         ensures cause { MatchResult result (λ _. IsAcceptable self.old.text (change_of edit.now))
@@ -238,7 +236,7 @@ impl EditText {
         Ok(())
     }
 
-    /// Goes back by one edit, and says whether there was one.
+    /// Undoes one edit, and returns whether there was one.
     fn step_back(&mut self) -> bool
         ensures { MatchBool result (self.old.history ≡ self.new.history ++ self.new.text ∷ [])
             ((self.old.history ≡ []) × (self.new ≡ self.old)) }
@@ -256,7 +254,7 @@ impl EditText {
         true
     }
 
-    /// Goes back by so many edits.
+    /// Undoes `count` edits.
     fn step_back_by(&mut self, count: usize)
         ensures { (before : Editing) (changes : List Change) → length changes ≡ count
             → self.old ≡ after_edits before changes → self.new ≡ before }
@@ -267,8 +265,8 @@ impl EditText {
     }
 }
 
-/// Takes the room that an edit and its undoing need, and finds the rows that start in what it
-/// inserts and what it removes. The text and its row starts stay as they are.
+/// Reserves the room that an edit and undoing it need, and finds the rows that start in what it
+/// inserts and in what it removes. The text and its row starts don't change.
 fn prepare(
     alloc: Global,
     text: &mut String,
@@ -292,7 +290,7 @@ fn prepare(
     Ok((starts, step))
 }
 
-/// What it will take to undo an edit of a text with the row starts.
+/// What undoing an edit will need, given the text and its row starts.
 fn step_of(
     alloc: Global,
     text: &str,
@@ -315,7 +313,7 @@ fn step_of(
     })
 }
 
-/// The rows that will start in what an edit inserts in a text, or right at its ends.
+/// The rows that will start in what an edit inserts, or right at its ends.
 fn starts_near(alloc: Global, text: &str, edit: &Edit) -> Result<Vec<TextSize>, AllocError>
     requires { IsAcceptable text.now (change_of edit.now) }
     ensures { IfOk result (λ starts. starts.items
@@ -332,8 +330,8 @@ fn starts_near(alloc: Global, text: &str, edit: &Edit) -> Result<Vec<TextSize>, 
     )
 }
 
-/// Puts bytes in the place of a range of a text, and mends its row starts by those near what is
-/// inserted. There is room for both.
+/// Replaces a range of a text, and its row starts near the range by those in and at the ends of
+/// what is inserted. There is room for both.
 fn put(
     text: &mut String,
     line_starts: &mut Vec<TextSize>,

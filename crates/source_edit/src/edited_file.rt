@@ -9,12 +9,12 @@ use crate::{Edit, EditError};
 use codespan::{FileId, Files};
 use std::alloc::{AllocError, Global};
 
-/// Edits the text of one file of a database, which holds it. Its name stays, and so do all other
-/// files.
+/// Edits the text of one file of a database, which holds the file. Its name stays, and so do all
+/// other files.
 ///
 /// # Errors
 ///
-/// Those of [`EditText::apply`](crate::EditText::apply). The database is as it was.
+/// Those of [`EditText::apply`](crate::EditText::apply). The database doesn't change.
 pub fn edit_file(
     alloc: Global,
     files: &mut Files<String>,

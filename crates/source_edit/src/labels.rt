@@ -9,11 +9,10 @@ ghost use Rattle.source_edit.specs.Labels.{moved_start, moved_end, moved_label};
 use crate::Edit;
 use oxc_span::{LabeledSpan, Span};
 
-/// Where a label of a text lies after an edit of it.
+/// Where a label of a text lies after an edit of the text.
 ///
-/// A label wholly before or behind the range covers the same text as before. The new start and end
-/// are in the range of `u32`, as they are where the label was within the text and the edit was
-/// accepted.
+/// A label wholly before or after the range covers the same text as before. The new start and end
+/// have to be in the range of `u32`, as they are for a label within a text that takes the edit.
 #[must_use]
 pub fn move_label(label: &LabeledSpan, edit: &Edit) -> Span
     requires start { moved_start (change_of edit.now) label.now.offset < 2 ^ 32 }

@@ -1,5 +1,4 @@
-// What holds of the definitions that the contracts cite, as the contract of a function that does
-// nothing.
+// A law of the definitions that the contracts cite: the contract of a function that does nothing.
 ghost use Rattle.std.specs.Prelude.{◌<◌, ◌≤◌, ◌^◌, length};
 ghost use Rattle.oxc_span.specs.Label.{label_end};
 ghost use Rattle.source_edit.specs.Edits.{change_of};
@@ -9,7 +8,7 @@ ghost use Rattle.source_edit.specs.Labels.{moved_start, moved_end};
 use crate::Edit;
 use oxc_span::LabeledSpan;
 
-/// What [`move_label`](crate::move_label) asks for holds of a label within a text that takes the
+/// What [`move_label`](crate::move_label) requires holds for a label within a text that takes the
 /// edit.
 pub fn label_stays_in_range(_text: &str, _label: &LabeledSpan, _edit: &Edit)
     requires accepted { IsAcceptable _text.now (change_of _edit.now) }

@@ -1,9 +1,8 @@
 //! Edits of a text with undo, and labels that move with them.
 //!
-//! An [`EditText`] is a text that is edited in place. It knows where its rows start, and mends that
-//! at each edit near the edited place alone; and it can take back each edit that it was given.
-//! [`move_label`] says where a label lies after an edit, and [`edit_file`] edits a file of a
-//! database.
+//! An [`EditText`] is a text that is edited in place. At each edit it updates its row starts near
+//! the edited range only, and it can undo each edit. [`move_label`] says where a label lies after
+//! an edit, and [`edit_file`] edits a file of a database.
 #![tactic(auto)]
 
 mod edit;

@@ -1,4 +1,4 @@
-// Where the rows of a text start, mended after an edit.
+// The row starts of a text, updated after an edit.
 ghost use Rattle.std.specs.Prelude.{◌≡◌, ℕ, ◌+◌, ◌-◌, ◌^◌, ◌<◌, ◌≤◌, ◌++◌, ◌∷◌, [], nat_lt};
 ghost use Rattle.std.specs.Prelude.{count_by, length, map, take, drop, slice_index, ◌==◌};
 ghost use Rattle.std.specs.Prelude.{if◌then◌else◌, All, IfOk, vec_capacity, vec_len};
@@ -18,8 +18,7 @@ fn rows_before(line_starts: &[TextSize], place: usize) -> usize
     line_starts.partition_point(|start| start.to_usize() < place)
 }
 
-/// The rows that start before a range, and those that start before it, in it or at one of its ends:
-/// how many.
+/// How many rows start before a range; and how many start before it, in it or at one of its ends.
 pub(crate) fn rows_near(line_starts: &[TextSize], range: TextRange) -> (usize, usize)
     requires { IsNonDecreasing line_starts.now }
     ensures first { result.0 ≡ count_by (λ start. nat_lt start range.0) line_starts.now }
@@ -32,9 +31,9 @@ pub(crate) fn rows_near(line_starts: &[TextSize], range: TextRange) -> (usize, u
     (first, behind)
 }
 
-/// The rows that start in a text from where `insert` begins to where it ends, both places included.
-/// The text is `before`, `insert` and `behind`; of the first only the last byte is read, of the
-/// last only the first.
+/// The rows that start from where `insert` begins to where it ends, both offsets included, in the
+/// text of `before`, `insert` and `behind`. Only the last byte of `before` and the first of
+/// `behind` are read.
 pub(crate) fn starts_in(
     alloc: Global,
     before: &[u8],
@@ -55,7 +54,7 @@ pub(crate) fn starts_in(
     Ok(starts)
 }
 
-/// The row that starts behind some bytes, given the byte after them, if one does.
+/// The row that starts after some bytes, if one does, given the next byte.
 fn first_start(alloc: Global, before: &[u8], next: u8) -> Result<Vec<TextSize>, AllocError>
     requires { length before.now < 2 ^ 32 }
     ensures { IfOk result (λ starts. starts.items ≡ (if length before.now == 0
@@ -77,7 +76,8 @@ fn ends_row(byte: u8, next: u8) -> bool
     byte == b'\n' || (byte == b'\r' && next != b'\n')
 }
 
-/// The byte at a place of two texts after one another, and 0 behind them.
+/// The byte at a place in two texts one after the other, and 0 at their end. Of the second only the
+/// first byte is read.
 fn byte_at(front: &[u8], back: &[u8], place: usize) -> u8
     requires { place ≤ length front.now }
     ensures { result ≡ slice_index (front.now ++ back.now) place }
@@ -91,7 +91,8 @@ fn byte_at(front: &[u8], back: &[u8], place: usize) -> u8
     }
 }
 
-/// Moves the row starts from one on by what the text lost before them, and by what it won.
+/// Shifts the row starts from index `behind` on: the text before them lost `lost` bytes and gained
+/// `won`.
 pub(crate) fn shift_behind(line_starts: &mut Vec<TextSize>, behind: usize, lost: u32, won: u32)
     requires within { behind ≤ vec_len line_starts.old }
     requires range { All (λ start. (lost ≤ start) × (start - lost + won < 2 ^ 32))
@@ -103,7 +104,7 @@ pub(crate) fn shift_behind(line_starts: &mut Vec<TextSize>, behind: usize, lost:
     shift(&mut line_starts[behind..], lost, won);
 }
 
-/// The same of all of them.
+/// Shifts all of these row starts.
 fn shift(starts: &mut [TextSize], lost: u32, won: u32)
     requires { All (λ start. (lost ≤ start) × (start - lost + won < 2 ^ 32)) starts.old }
     ensures { starts.new ≡ map (λ start. start - lost + won) starts.old }
@@ -113,7 +114,7 @@ fn shift(starts: &mut [TextSize], lost: u32, won: u32)
     }
 }
 
-/// Puts others in the place of the row starts from `first` up to `behind`. There is room for them.
+/// Replaces the row starts from index `first` up to `behind`. There is room for the new ones.
 pub(crate) fn put_starts(
     line_starts: &mut Vec<TextSize>,
     first: usize,
