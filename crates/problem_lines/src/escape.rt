@@ -1,4 +1,4 @@
-//! Texts inside a line: what is escaped in them.
+//! Which bytes of a text are escaped in a line.
 ghost use Rattle.std.specs.Prelude.{◌≡◌, ◌++◌, OnOk, string_bytes};
 ghost use Rattle.std.specs.Option.{option_copied};
 ghost use Rattle.problem_lines.specs.Escape.{escape, own_spelling as own_spelling_by};
@@ -35,7 +35,7 @@ impl Spelling for Field {
     }
 }
 
-/// What stands for a byte that is escaped in one kind of text alone.
+/// The escape of a byte that is escaped in one kind of text only.
 fn own_spelling(field: Field, byte: u8) -> Option<&'static str>
     ensures { option_copied result ≡ own_spelling_by field byte }
 {
@@ -46,7 +46,7 @@ fn own_spelling(field: Field, byte: u8) -> Option<&'static str>
     }
 }
 
-/// Appends a text as it stands in a line.
+/// Appends a text with its escapes.
 #[tactic(auto, using(crate::proofs::EscapeLemmas::escaped_same))]
 pub fn push_escaped(out: &mut String, field: Field, text: &str) -> Result<(), AllocError>
     ensures { OnOk result (string_bytes out.new ≡ string_bytes out.old ++ escape field text.now) }

@@ -1,4 +1,4 @@
-//! The parts of a line.
+//! The fields of a line.
 ghost use Rattle.std.specs.Prelude.{◌≡◌, IfSome, option_map};
 ghost use Rattle.problem_lines.specs.Line.{IsInRange, IsSmall};
 ghost use Rattle.problem_lines.specs.Parsed.{head_at, parsed, place_at, rule_at};
@@ -7,7 +7,7 @@ ghost use Rattle.problem_lines.specs.Parsed.{severity_at, tail_at, texts_of};
 use escapes::{behind, cut, number, without_last};
 use oxc_protocol::{InfoPosition, Severity};
 
-/// The parts of a line, with their escapes.
+/// The fields of a line, with their escapes.
 #[derive(Drop)]
 pub struct LineParts<'a> {
     pub start: InfoPosition,
@@ -18,7 +18,7 @@ pub struct LineParts<'a> {
     pub rule_id: Option<&'a str>,
 }
 
-/// Finds the parts of a line.
+/// Finds the fields of a line.
 #[tactic(auto, unfolding(crate::specs::Parsed::parsed))]
 pub fn parse(line: &str) -> Option<LineParts<'_>>
     ensures parts { option_map texts_of result ≡ parsed line.now }
@@ -36,7 +36,7 @@ pub fn parse(line: &str) -> Option<LineParts<'_>>
     })
 }
 
-/// The name, both positions, and the text behind them.
+/// The name, both positions, and the text after them.
 #[tactic(auto, unfolding(crate::specs::Parsed::head_at))]
 fn head(line: &str) -> Option<(&str, InfoPosition, InfoPosition, &str)>
     ensures parts { option_map (λ it. (it.0.now, it.1, it.2, it.3.now)) result ≡ head_at line.now }
@@ -62,7 +62,7 @@ fn tail(text: &str) -> Option<(Severity, Option<&str>, &str)>
     Some((severity, rule, message))
 }
 
-/// A line and a column, each with a colon behind, and the text behind them.
+/// A line and a column, each with a colon after it, and the text after them.
 #[tactic(auto, unfolding(crate::specs::Parsed::place_at))]
 fn place(text: &str) -> Option<(InfoPosition, &str)>
     ensures parts { option_map (λ it. (it.0, it.1.now)) result ≡ place_at text.now }
@@ -75,7 +75,7 @@ fn place(text: &str) -> Option<(InfoPosition, &str)>
     Some((InfoPosition { line, column }, rest))
 }
 
-/// A severity, and the text behind it.
+/// A severity, and the text after it.
 #[tactic(auto, unfolding(crate::specs::Parsed::severity_at))]
 fn severity(text: &str) -> Option<(Severity, &str)>
     ensures { option_map (λ it. (it.0, it.1.now)) result ≡ severity_at text.now }
@@ -89,7 +89,7 @@ fn severity(text: &str) -> Option<(Severity, &str)>
     Some((Severity::Advice, behind(text, "advice")?))
 }
 
-/// A rule in brackets, where one stands here, and the text behind it.
+/// A rule in brackets, if there is one here, and the text after it.
 #[tactic(auto, unfolding(crate::specs::Parsed::rule_at))]
 fn rule(text: &str) -> Option<(Option<&str>, &str)>
     ensures { option_map (λ it. (option_map (λ rule. rule.now) it.0, it.1.now)) result

@@ -1,4 +1,4 @@
-//! Problems out of lines.
+//! Reading problems from lines.
 ghost use Rattle.std.specs.Prelude.{◌≡◌, List, ◌∷◌, ◌++◌, ◌<◌, ◌≤◌, true, [], IfOk, IfErr, OnOk};
 ghost use Rattle.std.specs.Prelude.{length, map, option_map, string_bytes};
 ghost use Rattle.std.specs.List.{All, flat_map};
@@ -19,7 +19,7 @@ use oxc_protocol::Info;
 use std::alloc::{AllocError, Global};
 use thiserror::Error;
 
-/// Why a text is not read.
+/// Why a text can't be read.
 #[derive(Clone, Copy, Debug, PartialEq, Eq, Error)]
 pub enum ProblemError {
     /// This line is the first that is no problem's.
@@ -28,7 +28,7 @@ pub enum ProblemError {
         /// Its number, from 0.
         line: usize,
     },
-    /// There was no memory left.
+    /// Out of memory.
     #[error("out of memory")]
     OutOfMemory,
 }
@@ -44,14 +44,14 @@ impl From<AllocError> for ProblemError {
     }
 }
 
-/// The problem whose line a text is, or none, exactly where it is no problem's.
+/// The problem whose line a text is; `None` exactly where it is no problem's line.
 ///
-/// The line has its LF. It is taken apart, its escapes are turned back, and what that gives is
-/// written again: it is a problem's line exactly where the same comes out.
+/// The line has its LF. Its escapes are decoded, and the result is written again: the line is a
+/// problem's exactly where the same text comes out.
 ///
 /// # Errors
 ///
-/// Want of memory.
+/// Out of memory.
 #[tactic(auto, using(crate::proofs::BackLemmas::read_a_line))]
 pub fn read_problem(alloc: Global, line: &str) -> Result<Option<Info>, AllocError>
     ensures { IfOk result (λ answer. IsRead line.now (option_map info_parts answer)) }
@@ -68,14 +68,14 @@ pub fn read_problem(alloc: Global, line: &str) -> Result<Option<Info>, AllocErro
     }
 }
 
-/// The problems whose lines a text is made of, in order.
+/// The problems of a text's lines, in order.
 ///
-/// The text is cut after each LF; a rest without one counts as a line, and as one that is no
-/// problem's. The empty text is the empty list.
+/// The text is split after each LF. A last line without an LF is no problem's. The empty text is
+/// the empty list.
 ///
 /// # Errors
 ///
-/// The first line that is no problem's, and want of memory.
+/// The first line that is no problem's, or out of memory.
 pub fn read_problems(alloc: Global, text: &str) -> Result<Vec<Info>, ProblemError>
     ensures read { IfOk result (λ infos. AreProblemsOf (map info_parts infos.items) text.now) }
     ensures cause { IfErr result (λ e. IsCause (lines_of text.now) e) }
@@ -104,7 +104,7 @@ fn read_all(alloc: Global, text: &str) -> Result<Vec<Info>, ProblemError>
     Ok(infos)
 }
 
-/// Appends one that was read.
+/// Appends a problem.
 fn keep(infos: &mut Vec<Info>, info: Info) -> Result<(), AllocError>
     ensures { OnOk result (infos.new.items ≡ infos.old.items ++ info ∷ []) }
 {
@@ -124,7 +124,7 @@ fn first_line(text: &str) -> (&str, &str)
     }
 }
 
-/// A problem of parts whose escapes are turned back.
+/// The problem of these fields, with their escapes decoded.
 fn build(alloc: Global, parts: LineParts<'_>) -> Result<Info, AllocError>
     ensures { IfOk result (λ info. info_parts info ≡ unescaped (texts_of parts.entry)) }
 {
@@ -141,7 +141,7 @@ fn build(alloc: Global, parts: LineParts<'_>) -> Result<Info, AllocError>
     })
 }
 
-/// A rule whose escapes are turned back.
+/// A rule with its escapes decoded.
 fn unescape_rule(alloc: Global, rule: Option<&str>) -> Result<Option<String>, AllocError>
     ensures { IfOk result (λ out. text_bytes out ≡ option_map unescaped_text
         (option_copied rule.entry)) }
@@ -152,7 +152,7 @@ fn unescape_rule(alloc: Global, rule: Option<&str>) -> Result<Option<String>, Al
     }
 }
 
-/// A text whose escapes are turned back. A backslash that begins no escape is dropped.
+/// A text with its escapes decoded. A backslash that begins no escape is dropped.
 fn unescape(alloc: Global, text: &str) -> Result<String, AllocError>
     ensures { IfOk result (λ out. string_bytes out ≡ unescaped_text text.now) }
 {
@@ -166,7 +166,8 @@ fn unescape(alloc: Global, text: &str) -> Result<String, AllocError>
     Ok(out)
 }
 
-/// Appends what the letter behind a backslash stands for, and gives what follows it.
+/// Appends the character of an escape, given the text after its backslash, and returns what follows
+/// it.
 fn push_meant<'a>(out: &mut String, behind: &'a str) -> Result<&'a str, AllocError>
     ensures text { IfOk result (λ rest. string_bytes out.new ++ unescaped_text rest.now
         ≡ string_bytes out.old ++ unescape_from true behind.now) }
@@ -181,14 +182,14 @@ fn push_meant<'a>(out: &mut String, behind: &'a str) -> Result<&'a str, AllocErr
     }
 }
 
-/// What the first byte of a text stands for behind a backslash.
+/// The byte that an escape means, given the text after its backslash.
 fn meaning(behind: &str) -> Option<u8>
     ensures { result ≡ meaning_of behind.now }
 {
     meant(*behind.as_bytes().first()?)
 }
 
-/// What a letter stands for behind a backslash.
+/// The byte that a letter means after a backslash.
 fn meant(letter: u8) -> Option<u8>
     ensures { result ≡ meant_by letter }
 {

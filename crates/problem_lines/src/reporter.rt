@@ -11,7 +11,7 @@ use crate::write::write_problem;
 use oxc_protocol::{DiagnosticReporter, DiagnosticResult, Error, Info};
 use std::alloc::{AllocError, Global};
 
-/// Gives each diagnostic as the line of what an editor is told of it, and the counts at the end.
+/// Prints the line of each diagnostic, and the counts at the end.
 #[derive(Clone, Copy, Default)]
 pub struct ProblemReporter;
 
@@ -32,7 +32,7 @@ impl DiagnosticReporter for ProblemReporter {
 
     ghost lacks_fallback = { λ _. ⊤ };
 
-    /// The counts in one line, as `2 errors, 1 warnings`, with `, too many warnings` behind where
+    /// The counts in one line, as `2 errors, 1 warnings`, with `, too many warnings` at the end if
     /// there were more than allowed. It is no problem's line.
     #[tactic(auto, unfolding(crate::specs::Report::counts_line))]
     fn finish(
@@ -60,14 +60,14 @@ impl DiagnosticReporter for ProblemReporter {
     }
 }
 
-/// What stands behind the counts.
+/// The end of the line of counts.
 fn excess_text(exceeded: bool) -> &'static str
     ensures { result.now ≡ text_of_excess exceeded }
 {
     if exceeded { ", too many warnings" } else { "" }
 }
 
-/// What an editor is told of a diagnostic. Its numbers are those of the machine.
+/// The diagnostic as an [`Info`]. Its numbers are in the range of `usize`.
 fn told(alloc: Global, error: &Error) -> Result<Info, AllocError>
     ensures info { IfOk result (λ info. info_parts info ≡ info_of (parts error.now)) }
     ensures range { IfOk result (λ info. IsInRange (info_parts info)) }
@@ -75,12 +75,11 @@ fn told(alloc: Global, error: &Error) -> Result<Info, AllocError>
     Info::new(alloc, &**error)
 }
 
-/// The lines of diagnostics, one after another, as a log keeps them: each text that
-/// [`ProblemReporter`] hands on.
+/// The lines of diagnostics, joined as a log keeps them: each text that [`ProblemReporter`] prints.
 ///
 /// # Errors
 ///
-/// Want of memory.
+/// Out of memory.
 pub fn report_lines(alloc: Global, errors: Vec<Error>) -> Result<String, AllocError>
     ensures text { IfOk result (λ text. string_bytes text
         ≡ flat_map problem_line (map info_of (map parts errors.items))) }
@@ -97,11 +96,11 @@ pub fn report_lines(alloc: Global, errors: Vec<Error>) -> Result<String, AllocEr
     if whole { Ok(text) } else { Err(AllocError) }
 }
 
-/// What is read of the lines of diagnostics: for each, in order, what an editor is told of it.
+/// Reads the lines of diagnostics back: the [`Info`] of each, in order.
 ///
 /// # Errors
 ///
-/// Want of memory, and nothing else.
+/// Out of memory, and nothing else.
 pub fn lines_read_back(alloc: Global, errors: Vec<Error>) -> Result<Vec<Info>, ProblemError>
     ensures { GivesBack result (map info_of (map parts errors.items)) }
 {

@@ -12,16 +12,15 @@ use std::alloc::{AllocError, Global};
 
 /// The line of a problem, with its LF.
 ///
-/// It is `name:line:column:line:column: severity[rule]: message`, where the first line and column
-/// are those of the start and the others those of the end, in decimal without leading zeros, and
-/// `[rule]` stands only where there is a rule. The severity is `error`, `warning` or `advice`. In
-/// all texts a backslash is `\\`, LF is `\n` and CR is `\r`; in the name `:` is also `\c`, and in
-/// the rule `]` is also `\b`. Nothing else is escaped, and these always are, so a problem has one
-/// line.
+/// It is `name:line:column:line:column: severity[rule]: message`. The first line and column are
+/// those of the start, the others those of the end, in decimal without leading zeros; `[rule]` is
+/// left out if there is no rule. The severity is `error`, `warning` or `advice`. In all texts a
+/// backslash is `\\`, LF is `\n` and CR is `\r`; in the name `:` is also `\c`, and in the rule `]`
+/// is also `\b`. Nothing else is escaped, and these always are, so a problem has one line.
 ///
 /// # Errors
 ///
-/// Want of memory.
+/// Out of memory.
 #[tactic(auto, unfolding(crate::specs::Line::problem_line))]
 pub fn write_problem(alloc: Global, info: &Info) -> Result<String, AllocError>
     ensures line { IfOk result (λ line. string_bytes line ≡ problem_line (info_parts info.now)) }
@@ -87,7 +86,7 @@ fn push_rule(out: &mut String, rule: &Option<String>) -> Result<(), AllocError>
     }
 }
 
-/// Appends a line and a column, each with a colon behind.
+/// Appends a line and a column, each with a colon after it.
 #[tactic(auto, unfolding(crate::specs::Line::place_text))]
 fn push_place(out: &mut String, place: &InfoPosition) -> Result<(), AllocError>
     ensures text { OnOk result (string_bytes out.new

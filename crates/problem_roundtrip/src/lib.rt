@@ -1,7 +1,7 @@
-//! Lines of problems that are written, and what is read of them.
+//! A law: `tool_lines` reads the line of a plain problem, as `problem_lines` writes it, as that
+//! problem.
 //!
-//! A law: the line of a plain problem, as `problem_lines` writes it, is read by `tool_lines` as that
-//! problem. `is_plain` tells which problems are plain, and `specs/Read.antt` says what is read.
+//! `is_plain` tests whether a problem is plain, and `specs/Read.antt` defines what is read.
 #![tactic(auto)]
 
 ghost use Rattle.std.specs.Prelude.{◌≡◌, true, Some, [], map};
@@ -24,22 +24,22 @@ use line_shapes::name::{NameKind, is_name};
 use line_shapes::said::code_behind;
 use oxc_protocol::{Info, InfoPosition};
 
-/// The line of a plain problem is read as the problem, whatever line follows, but one with a place
-/// for what stands before it.
+/// The line of a plain problem is read as the problem, whatever line follows, unless that line may
+/// have the position of what is before it.
 pub fn problem_is_read_back(_info: &Info)
     requires { plain (info_parts _info.now) ≡ true }
     ensures { ReadsBack (info_parts _info.now) }
 {}
 
-/// The lines of plain problems, joined, are read as these problems, in order, each a piece of one
-/// line. Behind the last LF an empty line is left, which is kept.
+/// The lines of plain problems, joined, are read as these problems, in order, each as a block of
+/// one line. The empty line after the last LF is kept.
 pub fn problems_are_read_back(_infos: &[Info])
     requires { list_all plain (map info_parts _infos.now) ≡ true }
     ensures { AreReadBack (map info_parts _infos.now) }
 {}
 
-/// Whether a problem is plain: nothing in it is escaped in its line, nothing is taken for something
-/// else, and its numbers are of 32 bits.
+/// Whether a problem is plain: nothing in it is escaped in its line, nothing in it reads as
+/// something else, and its numbers have 32 bits.
 pub fn is_plain(info: &Info) -> bool
     ensures { result ≡ plain (info_parts info.now) }
 {
@@ -71,7 +71,7 @@ fn is_plain_message(message: &[u8]) -> bool
     0 < message.len() && are_own(message) && is_unpadded(message) && !begins_bracket(message)
 }
 
-/// Whether no blank stands at an end of a text.
+/// Whether a text neither begins nor ends with a blank.
 fn is_unpadded(text: &[u8]) -> bool
     ensures { result ≡ unpadded text.now }
 {
@@ -87,14 +87,14 @@ fn is_plain_code(code: &Option<String>, message: &[u8]) -> bool
     }
 }
 
-/// Whether a code is of bytes that codes before a message have.
+/// Whether all bytes of a code may be in a code before a message.
 fn is_code(code: &[u8]) -> bool
     ensures { result ≡ plain_code (Some code.now) [] }
 {
     0 < code.len() && are_own(code) && are_in_rule(code)
 }
 
-/// Whether no byte of a text is escaped in each text of a problem.
+/// Whether a text has no backslash, LF or CR, which are escaped in all texts of a problem.
 fn are_own(text: &[u8]) -> bool
     ensures { result ≡ list_all own_byte text.now }
 {
