@@ -1,4 +1,4 @@
-//! The names of which the reports of a log ask.
+//! The names that the reports of a log look up.
 ghost use Rattle.std.specs.Prelude.{◌≡◌, ◌++◌, [], flat_map, map, string_bytes, IfOk, OnOk};
 ghost use Rattle.sarif_log.specs.Log.{artifact_location_view, invocation_view, location_view};
 ghost use Rattle.sarif_log.specs.Log.{log_result_view, log_view, names_view, notification_view};
@@ -13,12 +13,12 @@ use sarif_log::{ArtifactLocation, Invocation, Location, Log, LogResult, Names, N
 use std::alloc::{AllocError, Global};
 use std::collections::BTreeSet;
 
-/// The names of which [`crate::reports_of`] asks, each once: sources that tell the same of these
+/// The names that [`crate::reports_of`] looks up, each once: sources that agree on these names
 /// give the same reports.
 ///
 /// # Errors
 ///
-/// Want of memory.
+/// Out of memory.
 #[tactic(auto, using(crate::proofs::AskedLemmas::names_decide), unfolding(crate::proofs::Opened::log_names))]
 pub fn names_of(alloc: Global, log: &Log) -> Result<Vec<String>, AllocError>
     ensures names { IfOk result (λ names. map string_bytes names.items ≡ names_in
@@ -42,7 +42,7 @@ fn push_run_names(alloc: Global, run: &Run, names: &mut Vec<String>) -> Result<(
     push_results_names(alloc, &run.names, &run.results, names)
 }
 
-/// Adds the names of what a tool says of its own run, call by call.
+/// Adds the names in what a tool says of its own run, call by call.
 fn push_invocations_names(
     alloc: Global,
     those: &Names,
@@ -60,7 +60,7 @@ fn push_invocations_names(
     Ok(())
 }
 
-/// Adds the names of what a tool says of one of its calls.
+/// Adds the names in what a tool says of one of its calls.
 fn push_invocation_names(
     alloc: Global,
     those: &Names,
@@ -163,7 +163,7 @@ fn push_locations_names(
     Ok(())
 }
 
-/// Adds the name of a file, and its URI as it stands.
+/// Adds the name of a file, and its URI as written.
 #[tactic(auto, unfolding(crate::specs::Asked::asked_at, crate::proofs::Opened::location))]
 fn push_location_names(
     alloc: Global,
@@ -185,7 +185,7 @@ fn push_location_names(
     Ok(())
 }
 
-/// Names, each once, in the order in which they come.
+/// Names, each once, in the order of their first use.
 fn each_once(alloc: Global, names: &[String]) -> Result<Vec<String>, AllocError>
     ensures { IfOk result (λ once. map string_bytes once.items
         ≡ and_names [] (map string_bytes names.now)) }
@@ -198,7 +198,7 @@ fn each_once(alloc: Global, names: &[String]) -> Result<Vec<String>, AllocError>
     Ok(once)
 }
 
-/// Adds a name, unless it is one of those that are known.
+/// Adds a name, unless it is known.
 fn push_new<'n>(
     alloc: Global,
     names: &mut Vec<String>,

@@ -1,4 +1,4 @@
-//! The contents of files that a log itself has.
+//! The texts of files that a log contains.
 ghost use Rattle.std.specs.Prelude.{◌≡◌, ◌∷◌, List, map, IfOk, OnOk};
 ghost use Rattle.sarif_log.specs.Log.{Artifact as MeantArtifact, artifact_view, names_view};
 ghost use Rattle.sarif_findings.specs.Views.{borrowed};
@@ -11,12 +11,12 @@ use std::alloc::{AllocError, Global};
 use std::collections::BTreeMap;
 use std::marker::Model;
 
-/// What the names of a run stand for, and the contents that its artifacts have, by their names.
-/// Contracts see what the names stand for.
+/// What the names of a run mean, and the contents of its artifacts, by their names. Contracts see
+/// what the names mean.
 #[derive(Drop)]
 pub(crate) struct Contents<'s> {
     names: &'s Names,
-    /// Of each name what its first artifact has that has some.
+    /// Of each name, the contents of its first artifact that has some.
     by_name: BTreeMap<String, &'s str>,
 }
 
@@ -33,7 +33,7 @@ impl<'s> Model for Contents<'s> {
 }
 
 impl<'s> Contents<'s> {
-    /// What these names stand for.
+    /// What these names mean.
     #[tactic(auto, unfolding(sarif_log::specs::Log::names_view))]
     pub(crate) fn new(alloc: Global, names: &'s Names) -> Result<Contents<'s>, AllocError>
         ensures { IfOk result (λ it. it ≡ names_view names.entry.now) }

@@ -17,7 +17,7 @@ use sarif_findings::Finding;
 use sarif_log::{Level, Region};
 use std::alloc::{AllocError, Global};
 
-/// How grave a level is.
+/// The severity of a level.
 pub(crate) fn severity_of(level: Level) -> Severity
     ensures { result ≡ severity_meant level }
 {
@@ -96,7 +96,7 @@ fn with_url(
     }
 }
 
-/// The message of a location, or this one where it has none.
+/// The message of a location, or this one if it has none.
 pub(crate) fn message_or<'f>(own: Option<&'f str>, message: &'f str) -> &'f str
     ensures { result.now ≡ own_or (borrowed own.entry) message.now }
 {
@@ -106,7 +106,7 @@ pub(crate) fn message_or<'f>(own: Option<&'f str>, message: &'f str) -> &'f str
     }
 }
 
-/// The place that a region gives.
+/// The location that a region reports.
 #[tactic(auto, unfolding(crate::specs::Meaning::given_place))]
 pub(crate) fn given_place(region: Option<Region>) -> GivenPlace
     ensures { result ≡ place_meant region }
@@ -127,7 +127,7 @@ pub(crate) fn given_place(region: Option<Region>) -> GivenPlace
     }
 }
 
-/// A number, if 32 bits hold it.
+/// A number, if it fits in 32 bits.
 fn in_u32(number: Option<usize>) -> Option<u32>
     ensures { result ≡ option_and_then fits_u32 number }
 {

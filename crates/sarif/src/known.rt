@@ -1,4 +1,4 @@
-//! The files of a run, each cut into rows once.
+//! The files of a run, each split into rows once.
 ghost use Rattle.std.specs.Prelude.{◌≡◌, ◌++◌, ◌∷◌, [], ◌<◌, All, Some, map, length, drop};
 ghost use Rattle.std.specs.Prelude.{option_map, slice_get, IfOk, IfSome, OnOk, IsTrue};
 ghost use Rattle.std.specs.List.{Contains};
@@ -21,10 +21,10 @@ use sarif_spans::{Row, rows_of};
 use std::alloc::{AllocError, Global};
 use std::collections::BTreeMap;
 
-/// A file that was asked for.
+/// A file that was looked up.
 #[derive(Drop)]
 pub(crate) struct Known<'s> {
-    /// The reference that it was asked for by.
+    /// The reference by which it was looked up.
     pub(crate) location: &'s ArtifactLocation,
     /// Its number among the files of the reports.
     pub(crate) file: usize,
@@ -36,10 +36,10 @@ pub(crate) struct Known<'s> {
     pub(crate) rows: Vec<Row>,
 }
 
-/// A location, with the file that it is in.
+/// A location, with its file.
 #[derive(Drop)]
 pub(crate) struct Placed<'f> {
-    /// Where its file stands among the known ones, if it names one.
+    /// The index of its file among the known ones, if it names one.
     pub(crate) seat: Option<usize>,
     /// Its region.
     pub(crate) region: Option<Region>,
@@ -58,17 +58,17 @@ fn is_same(a: &ArtifactLocation, b: &ArtifactLocation) -> bool
 /// The parts of a reference.
 type Reference<'s> = (Option<&'s str>, Option<&'s str>, Option<usize>);
 
-/// What a reference consists of.
+/// What identifies a reference.
 fn reference_of(it: &ArtifactLocation) -> Reference<'_> {
     (it.uri.as_deref(), it.base.as_deref(), it.index)
 }
 
-/// The files that were asked for.
+/// The files that were looked up.
 #[derive(Drop)]
 pub(crate) struct KnownFiles<'s> {
     /// The files.
     pub(crate) files: Vec<Known<'s>>,
-    /// The seats of the files, by the references that they were asked for by.
+    /// The indexes of the files, by the references by which they were looked up.
     seats: BTreeMap<Reference<'s>, usize>,
 }
 
@@ -83,7 +83,7 @@ impl<'s> KnownFiles<'s> {
         }
     }
 
-    /// The seat of the file that was asked for by this reference.
+    /// The index of the file that was looked up by this reference.
     fn seat(&self, it: &'s ArtifactLocation) -> Option<usize>
         ensures { IfSome result (λ k. option_map (λ it. artifact_location_view it.location.now)
             (slice_get self.now.files.items k) ≡ Some (artifact_location_view it.now)) }
@@ -97,7 +97,7 @@ impl<'s> KnownFiles<'s> {
         }
     }
 
-    /// Adds a file, and gives its seat.
+    /// Adds a file, and gives its index.
     fn push(&mut self, file: Known<'s>) -> Result<usize, AllocError>
         ensures seat { IfOk result (λ seat. seat ≡ length self.old.files.items) }
         ensures files { OnOk result (self.new.files.items
@@ -110,7 +110,7 @@ impl<'s> KnownFiles<'s> {
     }
 }
 
-/// The rows of a file's text, none where it lacks.
+/// The rows of a file's text; none if there is no text.
 fn rows_had(
     alloc: Global,
     text: &Result<&str, Lack>,
@@ -154,8 +154,8 @@ fn known_file<'s>(
     })
 }
 
-/// The seat of the file that a reference stands for, which is asked for and cut into rows where it
-/// isn't known: none where the reference has no URI.
+/// The index of the file of a reference. A new file is looked up and split into rows. None if the
+/// reference has no URI.
 #[tactic(auto, using(crate::proofs::KnownLemmas::known_rules), unfolding(crate::specs::Views::reading_view))]
 fn seat_of<'s, S: Sources>(
     alloc: Global,
@@ -192,7 +192,7 @@ fn seat_of<'s, S: Sources>(
     }
 }
 
-/// Appends locations with their files, which become known.
+/// Appends locations with their files, which are added to the known ones.
 #[tactic(auto, using(crate::proofs::KnownLemmas::views_more, crate::proofs::KnownLemmas::seats_more))]
 pub(crate) fn push_placed<'f, 's, S: Sources>(
     alloc: Global,
@@ -230,7 +230,7 @@ pub(crate) fn push_placed<'f, 's, S: Sources>(
     Ok(())
 }
 
-/// The file at a seat.
+/// The file at an index.
 pub(crate) fn file_at<'k, 's>(known: &'k [Known<'s>], seat: Option<usize>) -> Option<&'k Known<'s>>
     ensures view { option_map (λ it. known_view it.now) result ≡ seated known.now seat }
     ensures among { IfSome result (λ it. Contains known.now it.now) }

@@ -1,4 +1,4 @@
-//! Where locations stand, and what labels they become.
+//! The spans of locations, and their labels.
 ghost use Rattle.std.specs.Prelude.{◌≡◌, ◌≤◌, ◌<◌, ◌^◌, ◌==◌, ◌∷◌, [], All, map, IfOk, IfSome};
 ghost use Rattle.std.specs.Prelude.{OnOk};
 ghost use Rattle.std.specs.List.{list_any};
@@ -18,7 +18,7 @@ use sarif_spans::span_in;
 use std::alloc::{AllocError, Global};
 use std::ops::Range;
 
-/// The bytes of a region of a file: none where its text lacks, or has no such region.
+/// The bytes of a region of a file: none if there is no text or no such region.
 #[tactic(auto, unfolding(crate::specs::Views::reading_view))]
 pub(crate) fn span_in_file(
     reading: &Reading<'_>,
@@ -37,7 +37,7 @@ pub(crate) fn span_in_file(
     span_in(reading.columns, text, &file.rows, region?)
 }
 
-/// The bytes of a location in a file: none where it is in another, or has no span there.
+/// The bytes of a location in a file: none if it is in another file, or has no span there.
 #[tactic(auto, unfolding(crate::specs::Labels::span_beside))]
 pub(crate) fn span_beside(
     reading: &Reading<'_>,
@@ -82,15 +82,14 @@ pub(crate) fn label_on(
     }
 }
 
-/// Whether one of these starts there.
+/// Whether one of these starts at this offset.
 fn starts_there(labels: &[LabeledSpan], offset: u32) -> bool
     ensures { result ≡ list_any (λ label. label.offset == offset) labels.now }
 {
     labels.iter().any(|label| label.offset() == offset)
 }
 
-/// Appends a label, unless it tells nothing new: it is empty, says nothing, and one of the others
-/// starts there.
+/// Appends a label, unless it is empty, has no message, and starts where another one starts.
 fn push_label(labels: &mut Vec<LabeledSpan>, label: LabeledSpan) -> Result<(), AllocError>
     ensures { OnOk result (labels.new.items ≡ and_label labels.old.items label) }
 {
@@ -101,7 +100,7 @@ fn push_label(labels: &mut Vec<LabeledSpan>, label: LabeledSpan) -> Result<(), A
     Ok(())
 }
 
-/// Appends the label of a location, if it is in the file and tells anything new.
+/// Appends the label of a location, if it is in the file and adds something.
 #[tactic(auto, using(crate::proofs::LabelLemmas::beside_rules))]
 fn push_beside(
     alloc: Global,

@@ -1,10 +1,10 @@
 //! SARIF logs as reports on files.
 //!
 //! - [`read_log`] reads a log, and [`log_in`] finds one among other lines.
-//! - [`reports_of`] gives the reports that a log means, over any lookup of the files' texts.
-//! - [`names_of`] gives the names of which that lookup is asked.
+//! - [`reports_of`] gives the reports that a log means, with any lookup of the files' texts.
+//! - [`names_of`] gives the names that this lookup is asked for.
 //!
-//! What a log means say `specs/Meaning.antt` and the definitions that it stands on.
+//! `specs/Meaning.antt` defines what a log means.
 #![tactic(auto)]
 
 mod asked;

@@ -43,7 +43,7 @@ fn copied<'s>(alloc: Global, files: &[FoundFile<'s>]) -> Result<Vec<FoundFile<'s
     Ok(copies)
 }
 
-/// What tells files apart: the name, and the text or the number of the reason why it lacks.
+/// What tells files apart: the name, and the text or the number of the reason why there is none.
 type FileKey<'s> = (String, Result<&'s str, u8>);
 
 /// What tells a file apart.
@@ -77,12 +77,12 @@ struct Once<'s> {
     found: FoundReports<'s>,
     /// The numbers of these files.
     numbers: BTreeMap<FileKey<'s>, usize>,
-    /// Of each file that was given its number here, once it has one.
+    /// For each given file, its number here, once it has one.
     seats: Vec<Option<usize>>,
 }
 
 impl<'s> Once<'s> {
-    /// No reports, where these files are given.
+    /// No reports yet, on these files.
     #[tactic(auto, using(crate::proofs::OnceLemmas::free_rules))]
     fn new(alloc: Global, given: &[FoundFile<'s>]) -> Result<Once<'s>, AllocError>
         ensures keeps { IfOk result (KeepsFiles (map file_view given.now)) }
@@ -119,7 +119,7 @@ impl<'s> Once<'s> {
         self.found.push(number, report.diagnostic, report.place)
     }
 
-    /// The number of a file that is given under this one.
+    /// The number here of a given file.
     fn number(
         &mut self,
         alloc: Global,
@@ -144,7 +144,7 @@ impl<'s> Once<'s> {
         Ok(number)
     }
 
-    /// The number of a file, which is added where it isn't there.
+    /// The number of a file, which is added if it isn't there.
     fn added(&mut self, alloc: Global, file: &FoundFile<'s>) -> Result<usize, AllocError>
         requires numbers { AreNumbers self.old.numbers self.old.found.files }
         requires short { IsShort (file_view file.now) }

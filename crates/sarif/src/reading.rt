@@ -1,4 +1,4 @@
-//! How a run is read: what its names, rows and columns are.
+//! How a run is read: its names, rows and columns.
 ghost use Rattle.std.specs.Prelude.{◌≡◌, filter, map, string_bytes, unwrap_or, option_map, []};
 ghost use Rattle.std.specs.Prelude.{IfOk};
 ghost use Rattle.sarif_log.specs.Log.{run_view};
@@ -13,7 +13,7 @@ use std::alloc::{AllocError, Global};
 /// How a run is read.
 #[derive(Drop)]
 pub(crate) struct Reading<'s> {
-    /// What its names stand for, and the contents that the log has.
+    /// What its names mean, and the contents that the log has.
     pub(crate) contents: Contents<'s>,
     /// What its columns count.
     pub(crate) columns: ColumnKind,
@@ -23,7 +23,7 @@ pub(crate) struct Reading<'s> {
     pub(crate) scope: Option<&'s str>,
 }
 
-/// How a run is read, with columns as the caller says, if he does.
+/// How a run is read. The caller may say what columns count.
 #[tactic(auto, unfolding(crate::specs::Reading::reading_of, crate::proofs::Opened::run))]
 pub(crate) fn reading_of<'s>(
     alloc: Global,
@@ -42,7 +42,7 @@ pub(crate) fn reading_of<'s>(
     })
 }
 
-/// The breaks that a run names, those aside that are empty; the usual ones where there are none.
+/// The line breaks that a run names, except empty ones; the usual ones if there are none.
 #[tactic(auto, unfolding(crate::specs::Reading::breaks_of))]
 fn breaks_of<'s>(alloc: Global, named: &'s Option<Vec<String>>) -> Result<Vec<&'s str>, AllocError>
     ensures { IfOk result (λ breaks. lent_texts breaks.items ≡ breaks_meant
@@ -60,7 +60,7 @@ fn breaks_of<'s>(alloc: Global, named: &'s Option<Vec<String>>) -> Result<Vec<&'
     Ok(breaks)
 }
 
-/// Those that aren't empty.
+/// The texts that aren't empty.
 fn some_texts<'s>(alloc: Global, texts: &'s [String]) -> Result<Vec<&'s str>, AllocError>
     ensures { IfOk result (λ some. lent_texts some.items
         ≡ filter is_some_text (map string_bytes texts.now)) }

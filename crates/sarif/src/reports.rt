@@ -26,13 +26,13 @@ use sarif_findings::{Finding, findings_of};
 use sarif_log::{ColumnKind, Log, Run};
 use std::alloc::{AllocError, Global};
 
-/// The reports that a log means, in its order, over the texts that the sources have.
+/// The reports that a log means, in its order, with the texts of these sources.
 ///
-/// Columns count as the caller says, else as each run says, else characters.
+/// Columns count what the caller says, else what each run says, else characters.
 ///
 /// # Errors
 ///
-/// Want of memory.
+/// Out of memory.
 #[tactic(auto, unfolding(crate::specs::Meaning::reports_in, sarif_log::specs::Log::log_view))]
 pub fn reports_of<'s, S: Sources>(
     alloc: Global,
@@ -132,7 +132,7 @@ fn push_finding<'s, S: Sources>(
     push_reports(alloc, reading, finding, &known.files, &placed, count, found)
 }
 
-/// Appends the reports of a finding at these places, of which so many are its locations.
+/// Appends the reports of a finding at these places. The first `count` of them are its locations.
 #[tactic(auto, using(crate::proofs::ReportLemmas::among_filed))]
 fn push_reports<'s>(
     alloc: Global,
@@ -162,7 +162,7 @@ fn push_reports<'s>(
     push_nowhere(alloc, reading, finding, found)
 }
 
-/// Appends the reports of a finding whose first location that names a file is this one.
+/// Appends the reports of a finding. This is its first location that names a file.
 #[tactic(auto, using(crate::proofs::LabelLemmas::label_rules), unfolding(crate::proofs::Opened::placed))]
 fn push_at<'s>(
     alloc: Global,
@@ -217,8 +217,8 @@ fn main_diagnostic(
     )
 }
 
-/// Appends the report of a finding with its first label and those of the other locations in its
-/// file, and the rest of these as advice.
+/// Appends the report of a finding with its first label and the labels of other locations in its
+/// file; the remaining locations become advice.
 #[tactic(auto, using(crate::proofs::LabelLemmas::labels_stand), unfolding(crate::specs::Meaning::diagnostic_of))]
 fn push_labeled<'s>(
     alloc: Global,
@@ -245,7 +245,7 @@ fn push_labeled<'s>(
     push_other_asides(alloc, reading, finding, known, file, others, found)
 }
 
-/// Appends the advice that these locations become.
+/// Appends these locations as advice.
 fn push_asides<'s>(
     alloc: Global,
     reading: &Reading<'s>,
@@ -266,7 +266,7 @@ fn push_asides<'s>(
     Ok(())
 }
 
-/// Appends the advice that those of these locations become that aren't in a file.
+/// Appends as advice those of these locations that aren't in a file.
 fn push_other_asides<'s>(
     alloc: Global,
     reading: &Reading<'s>,
@@ -291,7 +291,7 @@ fn push_other_asides<'s>(
     Ok(())
 }
 
-/// Appends the advice that a location becomes: none where it names no file.
+/// Appends a location as advice, if it names a file.
 #[tactic(auto, using(crate::proofs::KnownLemmas::filed_one), unfolding(crate::specs::Meaning::aside))]
 fn push_aside<'s>(
     alloc: Global,
@@ -313,7 +313,7 @@ fn push_aside<'s>(
     }
 }
 
-/// Appends the advice that a location in a file becomes.
+/// Appends a location in a file as advice.
 #[tactic(auto, using(crate::proofs::LabelLemmas::label_rules), unfolding(crate::specs::Meaning::diagnostic_of))]
 fn push_aside_at<'s>(
     alloc: Global,
@@ -344,7 +344,7 @@ fn push_aside_at<'s>(
     Ok(())
 }
 
-/// The advice that a location becomes, as a diagnostic with these labels.
+/// The advice of a location, as a diagnostic with these labels.
 #[tactic(auto, unfolding(sarif_findings::specs::Findings::finding_view))]
 fn aside_diagnostic(
     alloc: Global,

@@ -1,4 +1,4 @@
-//! The names of files: URIs with their bases before them.
+//! The names of files: URIs after the URIs of their bases.
 ghost use Rattle.std.specs.Prelude.{◌≡◌, ◌++◌, map, option_map, slice_index};
 ghost use Rattle.std.specs.Prelude.{string_bytes, take_while, not, IfOk};
 ghost use Rattle.std.specs.List.{list_any};
@@ -17,7 +17,7 @@ ghost use Rattle.sarif.specs.Views.{base_seen, lent_texts};
 use sarif_log::{Artifact, ArtifactLocation, Names, UriBase};
 use std::alloc::{AllocError, Global};
 
-/// The artifact of a number.
+/// The artifact with a number.
 #[tactic(auto, unfolding(sarif_log::specs::Log::names_view))]
 pub(crate) fn artifact_at(names: &Names, index: Option<usize>) -> Option<&Artifact>
     ensures { option_map (λ it. artifact_view it.now) result
@@ -26,8 +26,8 @@ pub(crate) fn artifact_at(names: &Names, index: Option<usize>) -> Option<&Artifa
     names.artifacts.get(index?)
 }
 
-/// The location that a reference to a file stands for: its own, or where it has no URI that of the
-/// artifact that it numbers.
+/// The location that a reference to a file means: its own, or if it has no URI, that of the
+/// artifact with its number.
 #[tactic(auto, unfolding(crate::specs::Naming::location_in, crate::proofs::Opened::artifact))]
 pub(crate) fn location_in<'l>(names: &'l Names, it: &'l ArtifactLocation) -> &'l ArtifactLocation
     ensures { artifact_location_view result.now ≡ location_meant (names_view names.now)
@@ -42,7 +42,7 @@ pub(crate) fn location_in<'l>(names: &'l Names, it: &'l ArtifactLocation) -> &'l
     }
 }
 
-/// The base of a name: the last of them counts.
+/// The base with a name: the last one counts.
 #[tactic(auto, using(crate::proofs::NamingLemmas::option_or_assoc), unfolding(crate::proofs::Opened::last_base))]
 fn base_named<'l>(bases: &'l [UriBase], name: &str) -> Option<&'l UriBase>
     ensures { base_seen result ≡ last_named (map uri_base_view bases.now) name.now }
@@ -56,8 +56,7 @@ fn base_named<'l>(bases: &'l [UriBase], name: &str) -> Option<&'l UriBase>
     found
 }
 
-/// Whether a URI stands by itself: it begins with a slash, or a colon stands before its first
-/// slash.
+/// Whether a URI is complete: it begins with a slash, or has a colon before its first slash.
 #[tactic(auto, unfolding(crate::specs::Naming::stands_alone))]
 fn stands_alone(uri: &str) -> bool
     ensures { result ≡ alone uri.now }
@@ -66,7 +65,7 @@ fn stands_alone(uri: &str) -> bool
     first_byte(bytes) == b'/' || has_scheme(bytes)
 }
 
-/// The first byte, or 0 where there is none.
+/// The first byte, or 0 if there is none.
 fn first_byte(bytes: &[u8]) -> u8
     ensures { result ≡ slice_index bytes.now 0 }
 {
@@ -76,7 +75,7 @@ fn first_byte(bytes: &[u8]) -> u8
     }
 }
 
-/// Whether a colon stands before the first slash.
+/// Whether there is a colon before the first slash.
 fn has_scheme(bytes: &[u8]) -> bool
     ensures { result ≡ list_any is_colon (take_while (λ byte. not (is_slash byte)) bytes.now) }
 {
@@ -98,8 +97,7 @@ fn is_among(names: &[&str], name: &str) -> bool
     false
 }
 
-/// The base that comes next before a URI: none where the URI stands by itself, or where the base is
-/// missing or came before.
+/// The next base before a URI: none if the URI is complete, or if the base is missing or was used.
 fn next_base<'l>(
     bases: &'l [UriBase],
     used: &[&str],
@@ -126,7 +124,7 @@ fn ends_a_part(uri: &str) -> bool
     }
 }
 
-/// A URI with the one of a base before it, and a slash between them.
+/// A URI after the URI of a base, with a slash between them.
 #[tactic(auto, unfolding(crate::specs::Naming::front_of))]
 fn joined(alloc: Global, front: Option<&str>, uri: &str) -> Result<String, AllocError>
     ensures { IfOk result (λ it. string_bytes it ≡ front_meant (borrowed front.entry) ++ uri.now) }
@@ -142,7 +140,7 @@ fn joined(alloc: Global, front: Option<&str>, uri: &str) -> Result<String, Alloc
     Ok(out)
 }
 
-/// A URI with its base before it, and that one's base, each once.
+/// A URI after the URI of its base, and of that one's base, each once.
 #[tactic(auto, using(crate::proofs::NamingLemmas::resolved_rules), unfolding(crate::proofs::Opened::bases))]
 pub(crate) fn resolved(
     alloc: Global,
@@ -169,7 +167,7 @@ pub(crate) fn resolved(
     Ok(name)
 }
 
-/// The name of the file that a reference stands for: none where it has no URI.
+/// The name of the file of a reference: none if it has no URI.
 #[tactic(auto, unfolding(crate::specs::Naming::name_of, crate::proofs::Opened::location))]
 pub(crate) fn name_of(
     alloc: Global,

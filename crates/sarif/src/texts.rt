@@ -1,4 +1,4 @@
-//! The texts of files: what the log itself has, else what sources tell.
+//! The texts of files: those of the log, else those of the sources.
 ghost use Rattle.std.specs.Prelude.{◌≡◌, option_map, option_and_then, string_bytes};
 ghost use Rattle.std.specs.Prelude.{IfOk, IfSome};
 ghost use Rattle.oxc_protocol.specs.Source.{Fits};
@@ -18,14 +18,14 @@ use found_reports::{Lack, Sources};
 use sarif_log::{ArtifactLocation, Names};
 use std::alloc::{AllocError, Global};
 
-/// What is had of a file: its name, and its text or why it has none.
+/// A file: its name, and its text or why it has none.
 #[derive(Drop)]
 pub(crate) struct Had<'s> {
     pub(crate) name: String,
     pub(crate) text: Result<&'s str, Lack>,
 }
 
-/// The contents of the artifact of a number.
+/// The contents of the artifact with a number.
 #[tactic(auto, unfolding(sarif_log::specs::Log::artifact_view))]
 fn numbered(names: &Names, index: Option<usize>) -> Option<&str>
     ensures { borrowed result ≡ option_and_then (λ it. it.contents)
@@ -34,7 +34,7 @@ fn numbered(names: &Names, index: Option<usize>) -> Option<&str>
     artifact_at(names, index)?.contents.as_deref()
 }
 
-/// What the log has: of the artifact that is numbered, else of one of the name.
+/// The contents in the log: of the numbered artifact, else of one of this name.
 #[tactic(auto, unfolding(crate::specs::Texts::contents_in, sarif_log::specs::Log::artifact_location_view))]
 fn contents_in<'s>(contents: &Contents<'s>, it: &ArtifactLocation, name: &str) -> Option<&'s str>
     ensures { borrowed result ≡ contents_had contents.now (artifact_location_view it.now)
@@ -46,7 +46,7 @@ fn contents_in<'s>(contents: &Contents<'s>, it: &ArtifactLocation, name: &str) -
     }
 }
 
-/// A text, unless it is too long for places in 32 bits.
+/// A text, unless it is too long for 32-bit offsets.
 fn fitting(text: &str) -> Result<&str, Lack>
     ensures held { held_of result ≡ fitting_text text.now }
     ensures short { IfOk result (λ text. Fits text.now) }
@@ -58,7 +58,7 @@ fn fitting(text: &str) -> Result<&str, Lack>
     }
 }
 
-/// The text of the URI as it stands, else nothing of the name.
+/// The text of the URI as written, else the reason why the name has none.
 fn told_second<'s, S: Sources>(
     alloc: Global,
     sources: &'s S,
@@ -82,7 +82,7 @@ fn told_second<'s, S: Sources>(
     }
 }
 
-/// What sources tell of a name, else of the URI as it stands.
+/// What the sources have of a name, else of the URI as written.
 #[tactic(auto, unfolding(crate::specs::Texts::told_of))]
 fn told_of<'s, S: Sources>(
     alloc: Global,
@@ -103,7 +103,7 @@ fn told_of<'s, S: Sources>(
     }
 }
 
-/// What is had of a name: what the log has, else what sources tell.
+/// A name's text: that of the log, else that of the sources.
 fn had_under<'s, S: Sources>(
     alloc: Global,
     sources: &'s S,
@@ -125,7 +125,7 @@ fn had_under<'s, S: Sources>(
     }
 }
 
-/// The file that a reference stands for: none where it has no URI.
+/// The file of a reference: none if it has no URI.
 #[tactic(auto, unfolding(crate::specs::Texts::source_of, crate::proofs::Opened::location))]
 pub(crate) fn file_had<'s, S: Sources>(
     alloc: Global,
