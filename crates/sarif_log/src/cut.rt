@@ -1,16 +1,16 @@
-//! A log among other lines.
+//! Finds a log among other lines.
 ghost use Rattle.std.specs.Prelude.{◌≡◌, ◌≢◌, ◌<◌, ◌≤◌, ℕ, length, true, slice_index, MatchOption};
 ghost use Rattle.sarif_log.specs.Cut.{HasNoLog, IsFirstOpening, IsLastClosing, IsLogIn, begins};
 ghost use Rattle.sarif_log.specs.Cut.{opens as opens_line};
 
 use std::ops::Range;
 
-/// Where a log stands among other lines: from the first `{` that begins a line to the last `}`, in
+/// Where a log is among other lines: from the first `{` that begins a line to the last `}`, in
 /// bytes.
 ///
-/// Tools write a log among their warnings. A line begins at the first byte, behind a byte order
-/// mark there, and behind each LF. What stands in the range isn't looked at: [`crate::read_log`]
-/// says whether it is a log.
+/// Tools print a log among their warnings. A line begins at the first byte, after a byte order
+/// mark there, and after each LF. The text in the range isn't checked: [`crate::read_log`] says
+/// whether it is a log.
 pub fn log_in(bytes: &[u8]) -> Option<Range<usize>>
     ensures { MatchOption result (HasNoLog bytes.now) (IsLogIn bytes.now) }
 {
@@ -36,7 +36,7 @@ fn first_opening(bytes: &[u8]) -> Option<usize>
     None
 }
 
-/// Whether a brace begins a line there.
+/// Whether a brace begins a line at this offset.
 #[tactic(auto, unfolding(crate::specs::Cut::opens))]
 fn opens(bytes: &[u8], at: usize) -> bool
     requires { at < length bytes.now }

@@ -1,4 +1,4 @@
-//! The first fault of a value, in reading order.
+//! The first error of a value, in reading order.
 ghost use Rattle.std.specs.Prelude.{◌≡◌, ◌&&◌, find, map, option_map, Some, None, IfOk};
 ghost use Rattle.std.specs.List.{list_any};
 ghost use Rattle.std.specs.Option.{is_none};
@@ -31,7 +31,7 @@ pub enum Step<'v> {
     Index(usize),
 }
 
-/// Where a value isn't of its kind: the steps to it, from the inside out.
+/// Where a value is of the wrong kind: the steps to it, from the inside out.
 #[derive(Drop)]
 pub struct Fault<'v> {
     pub steps: Vec<Step<'v>>,
@@ -190,11 +190,11 @@ fn missing<'v>(
     }
 }
 
-/// The first fault of a value, in reading order, if it isn't of the kind.
+/// The first error of a value, in reading order, if it isn't of this kind.
 ///
 /// # Errors
 ///
-/// Want of memory.
+/// Out of memory.
 #[cycle(fault)]
 #[tactic(auto, unfolding(crate::specs::Faults::fault_in))]
 pub fn find_fault<'d>(

@@ -31,7 +31,7 @@ pub enum Shape {
     Replacement,
 }
 
-/// A set of words, of which a text is one.
+/// A set of words; a text must be one of them.
 #[derive(Clone, Copy, PartialEq, Eq)]
 pub enum Words {
     Version,
@@ -42,7 +42,7 @@ pub enum Words {
     Status,
 }
 
-/// What stands under a key.
+/// What a key may hold.
 #[derive(Clone, Copy, PartialEq, Eq)]
 pub enum Kind {
     /// Any value: the key isn't known.

@@ -16,7 +16,7 @@ pub struct Run {
     pub results: Vec<LogResult>,
 }
 
-/// What URIs and artifacts stand for.
+/// What URIs and artifacts mean.
 #[derive(Drop)]
 pub struct Names {
     pub bases: Vec<UriBase>,
@@ -76,7 +76,7 @@ pub struct LogResult {
     pub fixes: Vec<Fix>,
 }
 
-/// A way to mend what was found.
+/// A fix for what was found.
 #[derive(Drop)]
 pub struct Fix {
     pub changes: Vec<Change>,
@@ -96,7 +96,7 @@ pub struct Replacement {
     pub inserted: Option<String>,
 }
 
-/// Why a result is not to be shown.
+/// Why a result isn't shown.
 #[derive(Clone, Copy, PartialEq, Eq)]
 pub struct Suppression {
     pub status: Option<Status>,
@@ -133,7 +133,7 @@ pub struct NamedMessage {
     pub message: Message,
 }
 
-/// Which rule: by its id, its index, and the extension it is of.
+/// A reference to a rule: by its id, its index, and its extension.
 #[derive(Drop)]
 pub struct RuleRef {
     pub id: Option<String>,
@@ -141,7 +141,7 @@ pub struct RuleRef {
     pub extension: Option<usize>,
 }
 
-/// A place in a file, with what is said there.
+/// A location in a file, with its message.
 #[derive(Drop)]
 pub struct Location {
     pub artifact: ArtifactLocation,
@@ -162,7 +162,7 @@ pub struct Region {
     pub byte_length: Option<usize>,
 }
 
-/// What names a file: a URI, what it is relative to, or one of the artifacts.
+/// A reference to a file: a URI, its base, or the number of an artifact.
 #[derive(Drop)]
 pub struct ArtifactLocation {
     pub uri: Option<String>,
@@ -170,7 +170,7 @@ pub struct ArtifactLocation {
     pub index: Option<usize>,
 }
 
-/// A message: its text, or one of the rule by its id, with what fills it.
+/// A message: its text, or the id of one of the rule's, with its arguments.
 #[derive(Drop)]
 pub struct Message {
     pub text: Option<String>,
@@ -178,7 +178,7 @@ pub struct Message {
     pub arguments: Option<Vec<String>>,
 }
 
-/// How grave a finding is.
+/// The severity of a finding.
 #[derive(Clone, Copy, PartialEq, Eq)]
 pub enum Level {
     None,

@@ -39,7 +39,7 @@ use json::Value;
 use numerals::number_of;
 use std::alloc::{AllocError, Global};
 
-/// What stands under a key.
+/// The value under a key.
 fn under<'v, 'd>(it: Option<&'v Value<'d>>, key: &str) -> Option<&'v Value<'d>>
     ensures { seen result ≡ value_there key.now (seen it.entry) }
 {

@@ -19,9 +19,9 @@ use std::alloc::{AllocError, Global};
 /// Why an input is no log.
 #[derive(Drop)]
 pub enum LogError {
-    /// The input isn't JSON: the row and the column, from 1, where reading stopped.
+    /// The input isn't JSON: the row and the column, from 1, at which reading stopped.
     NoJson { line: usize, column: usize },
-    /// What stands at the path isn't what is wanted there.
+    /// The value at the path isn't what is wanted there.
     Fault { path: String, wanted: &'static str },
     OutOfMemory,
 }
@@ -41,8 +41,8 @@ impl From<AllocError> for LogError {
 ///
 /// # Errors
 ///
-/// [`LogError`]: the bytes are no JSON, or the first fault in reading order and what was wanted
-/// there; want of memory may come in place of either.
+/// [`LogError`]: the bytes aren't JSON, or the first error in reading order and what was wanted
+/// there. Out of memory may come instead of either.
 #[tactic(auto, unfolding(crate::specs::Answer::answer_to))]
 pub fn read_log(alloc: Global, bytes: &[u8]) -> Result<Log, LogError>
     ensures { MatchResult result
@@ -121,7 +121,7 @@ fn read_value(alloc: Global, value: &Value<'_>) -> Result<Log, LogError>
     Ok(log(alloc, value)?)
 }
 
-// What is said of a fault, if memory isn't wanting.
+// The error of a fault, if memory suffices.
 fn refusal(alloc: Global, fault: &Fault<'_>) -> LogError
     ensures { IfSome (error_view result) (λ said. said
         ≡ refused_with (path_of (fault_view fault.now).steps) (wanted_of fault.now.wanted)) }
