@@ -14,8 +14,8 @@ fn width(kind: ColumnKind, c: char) -> usize
     }
 }
 
-/// The byte of a row at which a column, from 1, begins: the row's end where it has no such column,
-/// and the character's beginning where it is inside one.
+/// The byte of a row at which a column, from 1, begins: the row's end if it has no such column,
+/// and the character's beginning if the column is inside one.
 pub(crate) fn column_at(kind: ColumnKind, row: &str, column: usize) -> usize
     ensures value { result ≡ fitting kind (column - 1) (chars row.now) }
     ensures boundary { IsCharBoundary row.now result }

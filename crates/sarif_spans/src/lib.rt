@@ -1,8 +1,8 @@
-//! Where the regions of a SARIF log stand in a text.
+//! The spans of the regions of a SARIF log in a text.
 //!
-//! [`rows_of`] cuts a text into rows once, by the breaks that a run names; [`span_in`] gives the
-//! bytes of a region in a text and its rows. What a region means say `specs/Rows.antt` and
-//! `specs/Span.antt`.
+//! [`rows_of`] splits a text into rows once, at the line breaks that a run names; [`span_in`]
+//! gives the bytes of a region in a text and its rows. `specs/Rows.antt` and `specs/Span.antt`
+//! define what a region means.
 #![tactic(auto)]
 
 mod columns;

@@ -1,4 +1,4 @@
-//! Places by characters, and by bytes.
+//! Offsets in characters, and in bytes.
 ghost use Rattle.std.specs.Prelude.{◌≡◌, ◌≤◌, length, IfSome};
 ghost use Rattle.std.specs.Str.{chars, IsCharBoundary};
 ghost use Rattle.sarif_spans.specs.Span.{IsSpanOf, behind as place_behind, by_bytes as bytes_meant};
@@ -8,7 +8,7 @@ ghost use Rattle.sarif_spans.specs.Span.{passed as bytes_passed};
 use crate::rows::mark_len;
 use std::ops::Range;
 
-/// The bytes of so many characters.
+/// The length in bytes of the first `count` characters.
 fn passed(text: &str, count: usize) -> Option<usize>
     ensures value { result ≡ bytes_passed count (chars text.now) }
     ensures boundary { IfSome result (IsCharBoundary text.now) }
@@ -25,7 +25,7 @@ fn passed(text: &str, count: usize) -> Option<usize>
     if left == 0 { Some(at) } else { None }
 }
 
-/// The place so many characters behind another.
+/// The offset that is `count` characters after another one.
 #[tactic(auto, unfolding(crate::specs::Span::behind))]
 fn behind(text: &str, at: usize, count: usize) -> Option<usize>
     requires { IsCharBoundary text.now at }
@@ -37,7 +37,7 @@ fn behind(text: &str, at: usize, count: usize) -> Option<usize>
     Some(at + bytes)
 }
 
-/// The bytes of so many characters that begin so many characters behind a byte order mark.
+/// The bytes of a range in characters. A byte order mark before the text doesn't count.
 #[tactic(auto, unfolding(crate::specs::Span::by_characters))]
 pub(crate) fn by_characters(text: &str, offset: usize, count: usize) -> Option<Range<usize>>
     ensures value { result ≡ characters_meant text.now offset count }
@@ -49,7 +49,7 @@ pub(crate) fn by_characters(text: &str, offset: usize, count: usize) -> Option<R
     Some(start..end)
 }
 
-/// The last place up to this one at which no character is cut.
+/// The last character boundary up to this offset.
 fn floor(text: &str, at: usize) -> usize
     ensures value { result ≡ floor_of text.now at }
     ensures boundary { IsCharBoundary text.now result }
@@ -57,7 +57,7 @@ fn floor(text: &str, at: usize) -> usize
     text.floor_char_boundary(at)
 }
 
-/// So many bytes from an offset on; an end inside a character goes down.
+/// A range in bytes; an end inside a character is rounded down.
 #[tactic(auto, using(crate::proofs::OffsetLemmas::floor_grows), unfolding(crate::specs::Span::by_bytes))]
 pub(crate) fn by_bytes(text: &str, offset: usize, count: usize) -> Option<Range<usize>>
     ensures value { result ≡ bytes_meant text.now offset count }

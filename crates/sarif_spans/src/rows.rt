@@ -9,18 +9,18 @@ use std::alloc::{AllocError, Global};
 /// A row of a text, in bytes from the text's beginning.
 #[derive(Clone, Copy, PartialEq, Eq)]
 pub struct Row {
-    /// Where it starts: behind a byte order mark, in the first row of a text that begins with one.
+    /// Where it starts: after a byte order mark, in the first row of a text that begins with one.
     pub start: usize,
     /// Where its break begins, or the text ends.
     pub end: usize,
 }
 
-/// The rows of a text. A row ends at each place where one of the breaks stands, the first of them
-/// that does; an empty break stands nowhere.
+/// The rows of a text. At each place, the first of the breaks that matches ends the row; an empty
+/// break never matches.
 ///
 /// # Errors
 ///
-/// Want of memory.
+/// Out of memory.
 #[tactic(auto, unfolding(crate::specs::Rows::rows_in))]
 pub fn rows_of(alloc: Global, text: &str, breaks: &[&str]) -> Result<Vec<Row>, AllocError>
     ensures rows { IfOk result (λ rows. rows.items
@@ -54,8 +54,8 @@ fn row_between(start: usize, end: usize) -> Row
     }
 }
 
-/// How long the first of the breaks is that stands at the beginning, or 0. Where the breaks pass
-/// printed characters, these are passed without a look at the breaks.
+/// The length of the first break that matches at the beginning, or 0. If no break begins with a
+/// printed character, the breaks aren't tried at printed characters.
 #[tactic(auto, using(crate::proofs::RowLemmas::printed_none, crate::proofs::RowLemmas::begins_with_none))]
 fn width_at(passes: bool, breaks: &[&str], rest: &[u8]) -> usize
     requires { IsTrue passes → begin_unprinted breaks.now ≡ true }
@@ -94,7 +94,7 @@ fn first_of(bytes: &[u8]) -> u8
     }
 }
 
-/// How long the first of the breaks is that stands at the beginning, or 0.
+/// The length of the first break that matches at the beginning, or 0.
 #[tactic(auto, using(crate::proofs::RowLemmas::begins_with, crate::proofs::RowLemmas::begins_with_none))]
 fn break_at(breaks: &[&str], rest: &[u8]) -> usize
     ensures value { result ≡ break_len (map (λ it. it.now) breaks.now) rest.now }
@@ -109,7 +109,7 @@ fn break_at(breaks: &[&str], rest: &[u8]) -> usize
     0
 }
 
-/// How long the byte order mark is with which a text begins, or 0.
+/// The length of the byte order mark at the beginning of a text, or 0.
 #[tactic(auto, using(crate::proofs::RowLemmas::begins_with_mark, crate::proofs::RowLemmas::begins_with_none))]
 pub(crate) fn mark_len(text: &str) -> usize
     ensures value { result ≡ mark_width text.now }

@@ -11,10 +11,10 @@ use crate::rows::Row;
 use sarif_log::{ColumnKind, Region};
 use std::ops::Range;
 
-/// The bytes of a region of a text that has these rows, as [`crate::rows_of`] gives them.
+/// The bytes of a region of a text with these rows, as [`crate::rows_of`] gives them.
 ///
-/// The region goes by its start row, else by its offset in characters, else by that in bytes; with
-/// none of these it has no span, and none where a row is past the last or an offset past the end.
+/// The start row counts, else the offset in characters, else the offset in bytes. There is no span
+/// without any of these, if the row is past the last one, or if the offset is past the end.
 #[tactic(auto, unfolding(crate::specs::Span::span_of))]
 pub fn span_in(kind: ColumnKind, text: &str, rows: &[Row], region: Region) -> Option<Range<usize>>
     requires { All (IsRowOf text.now) rows.now }
@@ -33,7 +33,7 @@ pub fn span_in(kind: ColumnKind, text: &str, rows: &[Row], region: Region) -> Op
     }
 }
 
-/// A number of a row or a column, which 0 isn't.
+/// The number of a row or a column; 0 is none.
 fn positive(number: Option<usize>) -> Option<usize>
     ensures { result ≡ positive_in number }
 {
@@ -62,7 +62,7 @@ fn by_rows(
     Some(start..start.max(end))
 }
 
-/// The byte of a row and a column, both from 1: without a column, the row's end.
+/// The byte of a row and a column, both from 1; without a column, the row's end.
 #[tactic(auto, unfolding(crate::specs::Span::place_of))]
 fn place(
     kind: ColumnKind,
