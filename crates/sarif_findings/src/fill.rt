@@ -11,12 +11,12 @@ ghost use Rattle.sarif_findings.specs.Fill.{is_placeholder as stands_placeholder
 use numerals::number_of;
 use std::alloc::{AllocError, Global};
 
-/// A text with arguments in it: `{0}`, `{1}`.. are replaced by the arguments, those past the last
+/// A text with its arguments: `{0}`, `{1}`.. are replaced by the arguments, those past the last
 /// stay as they are, and doubled braces become one.
 ///
 /// # Errors
 ///
-/// Want of memory.
+/// Out of memory.
 pub fn filled(alloc: Global, text: &str, arguments: &[String]) -> Result<String, AllocError>
     ensures { IfOk result (λ it. string_bytes it
         ≡ filled_from (map string_bytes arguments.now) 0 text.now) }
@@ -36,7 +36,7 @@ pub fn filled(alloc: Global, text: &str, arguments: &[String]) -> Result<String,
     Ok(out)
 }
 
-/// How many bytes stand before the first brace.
+/// The number of bytes before the first brace.
 fn plain_len(rest: &str) -> usize
     ensures within { result ≤ length rest.now }
     ensures plain { (k : ℕ) → k < result → is_brace_byte (slice_index rest.now k) ≡ false }
@@ -58,7 +58,7 @@ fn is_brace(byte: u8) -> bool
     byte == b'{' || byte == b'}'
 }
 
-/// Appends what the bytes at a brace become, and says how many they are.
+/// Appends the text for the bytes at a brace, and gives how many bytes these are.
 #[tactic(auto, unfolding(crate::specs::Fill::piece_at))]
 fn push_piece(out: &mut String, rest: &str, arguments: &[String]) -> Result<usize, AllocError>
     requires some { 0 < length rest.now }
@@ -90,7 +90,7 @@ fn push_piece(out: &mut String, rest: &str, arguments: &[String]) -> Result<usiz
     Ok(1)
 }
 
-/// The byte at a place, or 0 past the end.
+/// The byte at an offset, or 0 past the end.
 fn byte_at(bytes: &[u8], at: usize) -> u8
     ensures { result ≡ slice_index bytes.now at }
 {
@@ -100,7 +100,7 @@ fn byte_at(bytes: &[u8], at: usize) -> u8
     }
 }
 
-/// How many digits stand behind the first byte.
+/// The number of digits after the first byte.
 fn digits_len(bytes: &[u8]) -> usize
     ensures value { result ≡ digits_there bytes.now }
     ensures within { 0 < result → result < length bytes.now }
@@ -121,7 +121,7 @@ fn is_placeholder(bytes: &[u8], digits: usize) -> bool
         && byte_at(bytes, digits + 1) == b'}'
 }
 
-/// Appends the argument of a placeholder, or the placeholder where there is none.
+/// Appends the argument of a placeholder, or the placeholder if there is none.
 fn push_argument(
     out: &mut String,
     rest: &str,

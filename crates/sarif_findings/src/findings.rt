@@ -37,29 +37,29 @@ pub struct Spot<'l> {
 /// What a run found.
 #[derive(Drop)]
 pub struct Finding<'l> {
-    /// How grave it is.
+    /// Its severity.
     pub level: Level,
-    /// The id of its rule, which isn't empty.
+    /// The id of its rule; not empty.
     pub number: Option<&'l str>,
-    /// Where more about its rule is written, which isn't empty.
+    /// A page about its rule; not empty.
     pub url: Option<&'l str>,
-    /// What it says: empty where the log has no text for it.
+    /// Its message; empty if the log has no text for it.
     pub message: String,
-    /// Where it stands.
+    /// Where it is.
     pub locations: Vec<Spot<'l>>,
-    /// What else it speaks of.
+    /// Related locations.
     pub related: Vec<Spot<'l>>,
 }
 
-/// The findings of a run: what the tool says of its own run first, as the run has it, and then the
+/// The findings of a run: what the tool says of its own run first, in the run's order, then the
 /// results.
 ///
-/// Left out are results of which each suppression is accepted, those that are absent from this run,
-/// and those that passed or didn't apply.
+/// Results are skipped whose suppressions are all accepted, that are absent from this run, that
+/// passed, or that didn't apply.
 ///
 /// # Errors
 ///
-/// Want of memory.
+/// Out of memory.
 #[tactic(auto, unfolding(crate::specs::Findings::findings_in, crate::proofs::Opened::run))]
 pub fn findings_of<'l>(alloc: Global, run: &'l Run) -> Result<Vec<Finding<'l>>, AllocError>
     ensures { IfOk result (λ found. map finding_view found.items ≡ findings_in (run_view run.now)) }
@@ -254,8 +254,8 @@ fn level_by(kind: Option<ResultKind>, own: Option<Level>, rules: Option<Level>) 
     }
 }
 
-/// Whether a result is a finding: some suppression of it isn't accepted or there is none, it isn't
-/// absent, and it neither passed nor didn't apply.
+/// Whether a result is a finding: it has no suppression or one that isn't accepted, isn't absent,
+/// and neither passed nor didn't apply.
 #[tactic(auto, unfolding(crate::specs::Findings::is_finding, sarif_log::specs::Log::log_result_view))]
 pub fn is_finding(found: &LogResult) -> bool
     ensures { result ≡ counts_as_finding (log_result_view found.now) }

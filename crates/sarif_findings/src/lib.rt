@@ -1,8 +1,8 @@
-//! What the runs of a SARIF log found: for each finding its level, its rule's number and address,
-//! its message with the arguments in it, and its locations.
+//! The findings of the runs of a SARIF log: for each its level, its rule's number and URL, its
+//! message with its arguments, and its locations.
 //!
-//! [`findings_of`] gives the findings of a run. What they are say `specs/Findings.antt`,
-//! `specs/Rules.antt` and `specs/Fill.antt`.
+//! [`findings_of`] gives the findings of a run. `specs/Findings.antt`, `specs/Rules.antt` and
+//! `specs/Fill.antt` define them.
 #![tactic(auto)]
 
 mod fill;

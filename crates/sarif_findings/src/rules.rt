@@ -1,4 +1,4 @@
-//! Which rule a result is of, and what its messages say.
+//! The rule of a result, and the texts of its messages.
 ghost use Rattle.std.specs.Prelude.{◌≡◌, map, length, IfOk};
 ghost use Rattle.sarif_log.specs.Log.{component_view, message_view, named_message_view};
 ghost use Rattle.sarif_log.specs.Log.{rule_ref_view, rule_view, text_view, tool_view};
@@ -55,7 +55,7 @@ pub(crate) fn rule_in<'l>(
     }
 }
 
-/// The rule of an id: its own, else that of its longest beginning before a slash.
+/// The rule of an id: the one with this id, else with its longest prefix before a slash.
 #[tactic(auto, unfolding(crate::specs::Rules::rule_named))]
 fn rule_named<'l>(rules: &'l [Rule], id: Option<&str>) -> Option<&'l Rule>
     ensures { rule_seen result ≡ rule_of_id (map rule_view rules.now) (borrowed id.entry) }
@@ -107,7 +107,7 @@ fn has_id(rule: &Rule, id: &[u8]) -> bool
     }
 }
 
-/// A text that isn't empty.
+/// A text, if it isn't empty.
 pub(crate) fn some_text(text: Option<&str>) -> Option<&str>
     ensures { borrowed result ≡ some_text_in (borrowed text.entry) }
 {
@@ -117,7 +117,7 @@ pub(crate) fn some_text(text: Option<&str>) -> Option<&str>
     }
 }
 
-/// What a message says, with its arguments in it.
+/// The text of a message, with its arguments.
 #[tactic(auto, unfolding(crate::specs::Rules::text_of, sarif_log::specs::Log::message_view))]
 pub(crate) fn text_of(
     alloc: Global,
@@ -148,7 +148,7 @@ fn text_or<'l>(strings: Strings<'l>, message: &'l Message) -> Option<&'l str>
     }
 }
 
-/// The text of the rule's message of an id, else of the component's.
+/// The text of an id in the rule's messages, else in the component's.
 #[tactic(auto, unfolding(crate::specs::Rules::text_named, sarif_log::specs::Log::message_view))]
 fn text_named<'l>(strings: Strings<'l>, id: &str) -> Option<&'l str>
     ensures { borrowed result ≡ text_of_id (strings_view strings.entry) id.now }
