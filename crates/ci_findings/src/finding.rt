@@ -1,4 +1,4 @@
-// What is told of a report, whether or not its source was read.
+// Findings: what CI systems read of a report, with or without its source.
 use oxc_protocol::Severity;
 
 /// A row and a column, as far as they are known.
@@ -6,23 +6,23 @@ use oxc_protocol::Severity;
 pub struct Location {
     /// The row, from 1.
     pub row: Option<u32>,
-    /// The column, in characters from 1; of a finding whose source wasn't read, the number that its
-    /// tool gave.
+    /// The column, in characters from 1; of a finding whose source wasn't read, the number that
+    /// its tool gave.
     pub column: Option<u32>,
 }
 
-/// What is told of a report.
+/// What a CI system reads of a report.
 #[derive(Drop)]
 pub struct Finding {
-    /// The name of its file, empty where it has none.
+    /// The name of its file; empty if it has none.
     pub name: String,
     /// Where it starts.
     pub start: Location,
-    /// Where it ends: just past its last character.
+    /// Where it ends: just after its last character.
     pub end: Location,
-    /// How grave it is.
+    /// The severity.
     pub severity: Severity,
-    /// The code, as `scope(number)` or the one part that there is.
+    /// The code: `scope(number)`, or the one of the two that the report has.
     pub code: Option<String>,
     /// The message.
     pub message: String,

@@ -1,8 +1,8 @@
-//! What CI systems are told of reports.
+//! The findings of reports, for CI systems.
 //!
-//! A [`Finding`] has the name of a file, where the finding starts and ends in rows and columns, how
-//! grave it is, its code and its message. [`findings_of`] gives the findings of reports, each once,
-//! in order.
+//! A [`Finding`] has the name of a file, a start and an end in rows and columns, a severity, a
+//! code and a message. [`findings_of`] returns the findings of reports, one for each report, in
+//! order.
 #![tactic(auto)]
 
 mod finding;

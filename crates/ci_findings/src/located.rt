@@ -22,14 +22,14 @@ const NOWHERE: Location = Location {
     column: None,
 };
 
-/// The findings of reports, each once, in order.
+/// The findings of reports, one for each report, in order.
 ///
-/// A finding stands where its report's first label does; where there is none, at the place that its
-/// tool gave. The rows of each file are indexed once.
+/// A finding has the location of its report's first label; without a label, the reported location.
+/// The rows of each file are indexed once.
 ///
 /// # Errors
 ///
-/// Want of memory.
+/// Out of memory.
 pub fn findings_of(alloc: Global, found: &FoundReports<'_>) -> Result<Vec<Finding>, AllocError>
     ensures { IfOk result (λ findings. map finding_parts findings.items
         ≡ map finding_of found.now.found) }
@@ -107,7 +107,7 @@ fn finding_in(
     })
 }
 
-/// Where a report starts and ends: its first label does, or else the place that its tool gave.
+/// Where a report starts and ends: its first label, or else the reported location.
 fn locations(
     source: &Result<&str, Lack>,
     index: &Option<LineIndex>,
@@ -144,7 +144,7 @@ fn location_in(index: &LineIndex, text: &str, offset: u32) -> Location
     }
 }
 
-/// Where a place that a tool gave starts.
+/// The start of a reported location.
 fn given_start(place: Option<GivenPlace>) -> Location
     ensures { result ≡ given_start place }
 {
@@ -157,7 +157,7 @@ fn given_start(place: Option<GivenPlace>) -> Location
     }
 }
 
-/// Where a place that a tool gave ends.
+/// The end of a reported location.
 fn given_end(place: Option<GivenPlace>) -> Location
     ensures { result ≡ given_end place }
 {
