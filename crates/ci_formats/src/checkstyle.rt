@@ -15,11 +15,12 @@ use ci_findings::Finding;
 use oxc_protocol::Severity;
 use std::alloc::{AllocError, Global};
 
-/// The XML of Checkstyle 4.3: each file once, in the order of its first finding, with its findings.
+/// The XML of Checkstyle 4.3: each file once, in the order of its first finding, with its
+/// findings.
 ///
 /// # Errors
 ///
-/// Want of memory.
+/// Out of memory.
 #[tactic(auto, unfolding(crate::specs::Checkstyle::checkstyle_of))]
 pub fn checkstyle_text(alloc: Global, findings: &[Finding]) -> Result<String, AllocError>
     ensures { IfOk result (λ text. string_bytes text
@@ -103,7 +104,7 @@ fn push_error(alloc: Global, out: &mut String, finding: &Finding) -> Result<(), 
     out.push_str("/>\n")
 }
 
-/// Appends where a finding stands.
+/// Appends the location of a finding.
 #[tactic(auto, unfolding(crate::specs::Checkstyle::place_attributes))]
 fn push_place(out: &mut String, finding: &Finding) -> Result<(), AllocError>
     ensures { OnOk result (string_bytes out.new
@@ -113,7 +114,7 @@ fn push_place(out: &mut String, finding: &Finding) -> Result<(), AllocError>
     push_number(out, "column", or_zero(finding.start.column) as usize)
 }
 
-/// Appends the code, where there is one.
+/// Appends the code, if there is one.
 fn push_source(alloc: Global, out: &mut String, code: Option<&str>) -> Result<(), AllocError>
     ensures { OnOk result (string_bytes out.new
         ≡ string_bytes out.old ++ source_attribute (option_copied code.entry)) }

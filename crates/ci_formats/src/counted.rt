@@ -6,7 +6,7 @@ ghost use Rattle.std.specs.Ordering.{is_eq};
 use std::alloc::AllocError;
 use std::collections::BTreeMap;
 
-/// How often a key was counted before; it is counted once more.
+/// How often a key was counted before. Counts it once more.
 pub(crate) fn count_once<K: Ord + Drop>(
     counts: &mut BTreeMap<K, usize>,
     key: K,

@@ -1,4 +1,4 @@
-// The files that findings are on, and what stands on each.
+// The files that findings are on, and the items on each.
 ghost use Rattle.std.specs.Prelude.{◌≡◌, ◌++◌, ◌∷◌, [], ℕ, List, IfOk, OnOk, Some, cond, map};
 ghost use Rattle.std.specs.Borrow.{Bor};
 ghost use Rattle.std.specs.BTreeMap.{get};
@@ -14,7 +14,7 @@ use ci_findings::Finding;
 use std::alloc::{AllocError, Global};
 use std::collections::{BTreeMap, BTreeSet};
 
-/// What stands on each file, by its name.
+/// The items on each file, by its name.
 pub(crate) type ByFile<'a, T> = BTreeMap<&'a str, Vec<T>>;
 
 /// The names of the files, each once, in the order of their first findings.
@@ -30,7 +30,7 @@ pub(crate) fn names_of(alloc: Global, findings: &[Finding]) -> Result<Vec<&str>,
     Ok(names)
 }
 
-/// Appends a name, unless it is one of those that are known.
+/// Appends a name, unless it is already known.
 fn push_new<'a>(
     names: &mut Vec<&'a str>,
     known: &mut BTreeSet<&'a str>,
@@ -61,7 +61,7 @@ pub(crate) fn by_file<'a>(
     Ok(files)
 }
 
-/// Puts an item on the file of a name, behind those that are there.
+/// Appends an item to those on the file of a name.
 pub(crate) fn put_on<'a, T: Drop>(
     files: &mut ByFile<'a, T>,
     name: &'a str,
@@ -75,14 +75,14 @@ pub(crate) fn put_on<'a, T: Drop>(
     Ok(())
 }
 
-/// What stands on the file of a name.
+/// The items on the file of a name.
 pub(crate) fn own<'b, 'a, T>(files: &'b ByFile<'a, T>, name: &'a str) -> &'b [T]
     ensures { result.now ≡ own_in files.entry.now name.entry }
 {
     listed(files.get(&name))
 }
 
-/// The items of a list, none where there is no list.
+/// The items of a list; none if there is no list.
 fn listed<'b, T>(list: Option<&'b Vec<T>>) -> &'b [T]
     ensures { result.now ≡ option_map_or (λ own. own.items) (option_copied list.entry) [] }
 {
@@ -92,7 +92,7 @@ fn listed<'b, T>(list: Option<&'b Vec<T>>) -> &'b [T]
     }
 }
 
-/// A row or a column, 0 where it isn't known.
+/// A row or a column; 0 if it isn't known.
 pub(crate) fn or_zero(number: Option<u32>) -> u32
     ensures { result ≡ number_or_zero number }
 {

@@ -8,12 +8,12 @@ use itoa::Buffer;
 use sha2::{Digest, Sha256};
 use std::alloc::{AllocError, Global};
 
-/// The fingerprint of a finding: SHA-256, in hexadecimal digits, of its path, code and message, and
-/// of how many equal findings stand before it.
+/// The fingerprint of a finding: SHA-256, in hexadecimal digits, of its path, code and message,
+/// and of the number of equal findings before it.
 ///
 /// # Errors
 ///
-/// Want of memory.
+/// Out of memory.
 pub fn fingerprint(
     alloc: Global,
     path: &str,
@@ -29,8 +29,8 @@ pub fn fingerprint(
     hex::encode(alloc, digest.as_slice())
 }
 
-/// What is hashed tells findings apart: it is the same text only of the same path, code, message
-/// and number of equal findings before.
+/// Two findings have the same hashed text only with the same path, code, message and number of
+/// equal findings before.
 pub fn issues_are_told_apart()
     ensures { AreToldApart }
 {}
@@ -64,7 +64,7 @@ fn marked(
     Ok(text)
 }
 
-/// Appends a text behind its length.
+/// Appends the length of a text, and the text.
 #[tactic(auto, unfolding(crate::specs::Fingerprint::measured))]
 fn push_measured(out: &mut String, text: &str) -> Result<(), AllocError>
     ensures { OnOk result (string_bytes out.new ≡ string_bytes out.old ++ measured text.now) }

@@ -42,11 +42,11 @@ pub enum SendError {
     OutOfMemory,
 }
 
-/// The text of findings in a format. For GitLab no tool is named.
+/// The text of findings in a format. GitLab's text names no tool.
 ///
 /// # Errors
 ///
-/// Want of memory.
+/// Out of memory.
 pub fn text_in(alloc: Global, format: CiFormat, findings: &[Finding]) -> Result<String, AllocError>
     ensures { IfOk result (λ text. string_bytes text
         ≡ text_of_format format (map finding_parts findings.now)) }
@@ -65,8 +65,7 @@ pub fn text_in(alloc: Global, format: CiFormat, findings: &[Finding]) -> Result<
 ///
 /// # Errors
 ///
-/// A failure of the sink, which then took a first part of the text; and want of memory, where it
-/// took nothing.
+/// The sink failed, and took a first part of the text; or out of memory, and it took nothing.
 pub fn send<K: Sink>(
     alloc: Global,
     format: CiFormat,

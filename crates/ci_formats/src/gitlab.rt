@@ -28,12 +28,12 @@ pub struct IssueKey<'a> {
     pub path: &'a str,
 }
 
-/// The JSON of a code quality report of GitLab: an array of the findings, in order. The check of a
-/// finding without a code is the tool that is named, else `girzohal`.
+/// The JSON of a code quality report of GitLab: an array of the findings, in order. The check name
+/// of a finding without a code is the tool, if one is named, else `girzohal`.
 ///
 /// # Errors
 ///
-/// Want of memory.
+/// Out of memory.
 pub fn gitlab_text(
     alloc: Global,
     tool: Option<&str>,
@@ -75,7 +75,7 @@ fn issue_key(finding: &Finding) -> IssueKey<'_>
     }
 }
 
-/// A finding as JSON, before which this many of its fingerprint stand.
+/// A finding as JSON, after `before` findings with the same fingerprint texts.
 #[tactic(auto, unfolding(crate::specs::Gitlab::issue_value))]
 fn issue(alloc: Global, usual: &str, before: usize, finding: &Finding) -> Result<Value, AllocError>
     ensures { IfOk result (λ value. view value
@@ -93,7 +93,7 @@ fn issue(alloc: Global, usual: &str, before: usize, finding: &Finding) -> Result
     })
 }
 
-/// Where a finding stands, as JSON.
+/// The location of a finding, as JSON.
 #[tactic(auto, unfolding(crate::specs::Gitlab::location_value))]
 fn location(alloc: Global, finding: &Finding) -> Result<Value, AllocError>
     ensures { IfOk result (λ value. view value ≡ location_of (finding_parts finding.now)) }
@@ -102,21 +102,21 @@ fn location(alloc: Global, finding: &Finding) -> Result<Value, AllocError>
     json!(in alloc; {"path": path_of(finding), "lines": {"begin": begin, "end": end}})
 }
 
-/// The first row, 1 where it isn't known.
+/// The first row; 1 if it isn't known.
 fn begin_row(finding: &Finding) -> u32
     ensures { result ≡ begin_of (finding_parts finding.now) }
 {
     finding.start.row.unwrap_or(1)
 }
 
-/// The last row, the first where it isn't known.
+/// The last row; the first row if it isn't known.
 fn end_row(finding: &Finding) -> u32
     ensures { result ≡ last_of (finding_parts finding.now) }
 {
     finding.end.row.unwrap_or(begin_row(finding))
 }
 
-/// The path without `./` before it.
+/// The path without a leading `./`.
 fn path_of(finding: &Finding) -> &str
     ensures { result.now ≡ path_for (finding_parts finding.now).name }
 {
@@ -127,7 +127,7 @@ fn path_of(finding: &Finding) -> &str
     }
 }
 
-/// The code, empty where there is none.
+/// The code; empty if there is none.
 fn code_of(finding: &Finding) -> &str
     ensures { result.now ≡ code_for (finding_parts finding.now).code }
 {
@@ -137,7 +137,7 @@ fn code_of(finding: &Finding) -> &str
     }
 }
 
-/// The check of findings without a code: the tool, or the program.
+/// The check name of findings without a code: the tool, or the program.
 fn usual_check(tool: Option<&str>) -> &str
     ensures { result.now ≡ usual_for (option_copied tool.entry) }
 {
@@ -147,7 +147,7 @@ fn usual_check(tool: Option<&str>) -> &str
     }
 }
 
-/// The check of a finding: its code, or the usual one.
+/// The check name of a finding: its code, or else the default.
 fn check_name<'a>(usual: &'a str, finding: &'a Finding) -> &'a str
     ensures { result.now ≡ check_of usual.now (finding_parts finding.now) }
 {

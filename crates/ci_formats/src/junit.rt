@@ -34,16 +34,16 @@ pub struct CaseKey<'a> {
 #[derive(Clone, Copy)]
 pub struct Case<'a> {
     pub finding: &'a Finding,
-    /// Its number among those of its name and class, from 1.
+    /// Its number among the cases with its name and class, from 1.
     pub number: usize,
 }
 
-/// The XML of JUnit: a suite for each file, in the order of its first finding, and in it a failing
-/// case for each of its findings; where there is no finding, one case that passes.
+/// The XML of JUnit: a suite for each file, in the order of its first finding, with a failing case
+/// for each of its findings. Without any finding, one case that passes.
 ///
 /// # Errors
 ///
-/// Want of memory.
+/// Out of memory.
 #[tactic(auto, unfolding(crate::specs::Junit::junit_of))]
 pub fn junit_text(alloc: Global, findings: &[Finding]) -> Result<String, AllocError>
     ensures { IfOk result (λ text. string_bytes text ≡ junit_of (map finding_parts findings.now)) }
@@ -56,7 +56,7 @@ pub fn junit_text(alloc: Global, findings: &[Finding]) -> Result<String, AllocEr
     Ok(text)
 }
 
-/// The suite where nothing was found.
+/// The suite if nothing was found.
 const PASSING: &str = "\
     <testsuite name=\"girzohal\" tests=\"1\" failures=\"0\" errors=\"0\">\n\
     <testcase classname=\"girzohal\" name=\"no findings\"/>\n\
@@ -170,7 +170,7 @@ fn push_cases(alloc: Global, out: &mut String, cases: &[Case<'_>]) -> Result<(),
     Ok(())
 }
 
-/// Appends the case of a finding that has this number among those of its name.
+/// Appends the case of a finding with this number among the cases of its name.
 #[tactic(auto, unfolding(crate::specs::Junit::case_text))]
 fn push_case(
     alloc: Global,
@@ -188,7 +188,7 @@ fn push_case(
     out.push_str("</testcase>\n")
 }
 
-/// Appends what a case is called: its class, its file and its name.
+/// Appends the class, the file and the name of a case.
 #[tactic(auto, unfolding(crate::specs::Junit::case_attributes))]
 fn push_called(
     alloc: Global,
@@ -205,7 +205,7 @@ fn push_called(
     push_attribute(alloc, out, "name", name.as_str())
 }
 
-/// The name of a case that has this number among those of its name.
+/// The name of a case with this number among the cases of its name.
 #[tactic(auto, unfolding(crate::specs::Junit::case_name))]
 fn numbered_name(alloc: Global, number: usize, finding: &Finding) -> Result<String, AllocError>
     ensures { IfOk result (λ name. string_bytes name
@@ -220,7 +220,7 @@ fn numbered_name(alloc: Global, number: usize, finding: &Finding) -> Result<Stri
     Ok(name)
 }
 
-/// Appends the number of a case, unless it is the first of its name.
+/// Appends the number of a case, unless it is the first with its name.
 #[tactic(auto, unfolding(crate::specs::Junit::number_text))]
 fn push_number_text(out: &mut String, number: usize) -> Result<(), AllocError>
     ensures { OnOk result (string_bytes out.new ≡ string_bytes out.old ++ number_text number) }
@@ -243,7 +243,7 @@ fn code_or_finding(finding: &Finding) -> &str
     }
 }
 
-/// Appends what a case fails with.
+/// Appends the failure of a case.
 #[tactic(auto, unfolding(crate::specs::Junit::failure_element))]
 fn push_failure(alloc: Global, out: &mut String, finding: &Finding) -> Result<(), AllocError>
     ensures { OnOk result (string_bytes out.new
@@ -257,14 +257,14 @@ fn push_failure(alloc: Global, out: &mut String, finding: &Finding) -> Result<()
     out.push_str("</failure>")
 }
 
-/// A path up to its extension, if it has one.
+/// A path without its extension.
 fn stem(path: &str) -> &str
     ensures { result.now ≡ stem_of_path path.now }
 {
     &path[..stem_len(path)]
 }
 
-/// How long a path is up to its extension.
+/// The length of a path without its extension.
 fn stem_len(path: &str) -> usize
     ensures stem { take result path.now ≡ stem_of_path path.now }
     ensures bound { result ≤ length path.now }
@@ -273,7 +273,7 @@ fn stem_len(path: &str) -> usize
     stem_end(path.as_bytes())
 }
 
-/// Where the extension begins in the bytes of a path, and their end where there is none.
+/// The index of the dot of a path's extension; the length if it has no extension.
 #[tactic(auto, using(crate::proofs::StemLemmas::stem_whole))]
 fn stem_end(bytes: &[u8]) -> usize
     ensures stem { take result bytes.now ≡ stem_of_path bytes.now }
@@ -290,7 +290,8 @@ fn stem_end(bytes: &[u8]) -> usize
     bytes.len()
 }
 
-/// Whether a byte begins the extension, where bytes of a name stand before it and these behind it.
+/// Whether a byte begins the extension: `named` says that a name's byte is before it, `rest` are
+/// the bytes after it.
 fn ends_stem(byte: u8, named: bool, rest: &[u8]) -> bool
     ensures ends { result ≡ ends_stem_by byte named rest.now }
     ensures dot { result ≡ true → byte ≡ 0x2E }
@@ -298,7 +299,7 @@ fn ends_stem(byte: u8, named: bool, rest: &[u8]) -> bool
     byte == b'.' && named && !has_part_end(rest)
 }
 
-/// Whether a dot or a slash stands among these bytes.
+/// Whether a dot or a slash is among these bytes.
 fn has_part_end(bytes: &[u8]) -> bool
     ensures { result ≡ list_any is_part_end bytes.now }
 {

@@ -1,10 +1,10 @@
 //! What CI systems read, made of findings.
 //!
 //! - [`github_text`], [`gitlab_text`], [`checkstyle_text`], [`junit_text`], [`stylish_text`] and
-//!   [`problems_text`] give the text of findings in a format; [`github_line`] and [`problem_line`]
-//!   that of one.
+//!   [`problems_text`] return the text of findings in a format; [`github_line`] and
+//!   [`problem_line`] that of one finding.
 //! - [`CiFormat`] names the formats, and [`send`] writes a text to a sink.
-//! - [`xml_escape`] and [`fingerprint`] are what the texts are made with.
+//! - [`xml_escape`] and [`fingerprint`] escape texts and tell findings apart.
 #![tactic(auto)]
 
 mod checkstyle;

@@ -13,12 +13,12 @@ use oxc_protocol::{Info, InfoPosition};
 use problem_lines::write_problem;
 use std::alloc::{AllocError, Global};
 
-/// One line per finding, as `problem_lines` writes and reads it. Columns count characters here, and
-/// rows and columns that aren't known are 0.
+/// One line per finding, as `problem_lines` writes and reads it. Columns count characters; rows
+/// and columns that aren't known are 0.
 ///
 /// # Errors
 ///
-/// Want of memory.
+/// Out of memory.
 pub fn problems_text(alloc: Global, findings: &[Finding]) -> Result<String, AllocError>
     ensures { IfOk result (λ text. string_bytes text
         ≡ problems_of (map finding_parts findings.now)) }
@@ -34,7 +34,7 @@ pub fn problems_text(alloc: Global, findings: &[Finding]) -> Result<String, Allo
 ///
 /// # Errors
 ///
-/// Want of memory.
+/// Out of memory.
 pub fn problem_line(alloc: Global, finding: &Finding) -> Result<String, AllocError>
     ensures { IfOk result (λ line. string_bytes line ≡ problem_text (finding_parts finding.now)) }
 {
@@ -55,7 +55,7 @@ fn problem(alloc: Global, finding: &Finding) -> Result<Info, AllocError>
     })
 }
 
-/// A position, 0 where it isn't known.
+/// A position, with 0 for what isn't known.
 fn position_of(at: Location) -> InfoPosition
     ensures { result ≡ position_for at }
 {
@@ -65,7 +65,7 @@ fn position_of(at: Location) -> InfoPosition
     }
 }
 
-/// A copy of a text that may be missing.
+/// A copy of an optional text.
 fn copy_of(alloc: Global, text: Option<&str>) -> Result<Option<String>, AllocError>
     ensures { IfOk result (λ copy. text_bytes copy ≡ option_copied text.entry) }
 {

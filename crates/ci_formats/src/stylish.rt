@@ -29,13 +29,13 @@ pub enum Measure {
     Row,
     /// The column.
     Column,
-    /// How grave a finding is.
+    /// The severity.
     Level,
     /// The message.
     Message,
 }
 
-/// How wide the columns of a file's table are, in cells.
+/// The widths of the columns of a file's table, in cells.
 #[derive(Clone, Copy)]
 pub struct Widths {
     pub row: usize,
@@ -45,11 +45,11 @@ pub struct Widths {
 }
 
 /// A table for people: each file's name, its findings in columns below it, and an empty line; at
-/// the end how many there are. Nothing where there is no finding.
+/// the end their number. Nothing if there is no finding.
 ///
 /// # Errors
 ///
-/// Want of memory.
+/// Out of memory.
 #[tactic(auto, unfolding(crate::specs::Stylish::stylish_of))]
 pub fn stylish_text(alloc: Global, findings: &[Finding]) -> Result<String, AllocError>
     ensures { IfOk result (λ text. string_bytes text
@@ -119,7 +119,7 @@ fn push_all(out: &mut String, widths: Widths, findings: &[&Finding]) -> Result<(
     Ok(())
 }
 
-/// How wide the columns are.
+/// The widths of the columns.
 fn widths_of(findings: &[&Finding]) -> Widths
     ensures { result ≡ widths_in (map (λ it. finding_parts it.now) findings.now) }
 {
@@ -131,7 +131,7 @@ fn widths_of(findings: &[&Finding]) -> Widths
     }
 }
 
-/// How wide the widest cell of a column is.
+/// The width of the widest cell of a column.
 #[tactic(auto, using(std::proofs::lemmas::List::Sums::fold_push), unfolding(crate::specs::Stylish::widest))]
 fn widest(findings: &[&Finding], measure: Measure) -> usize
     ensures { result ≡ widest_of measure (map (λ it. finding_parts it.now) findings.now) }
@@ -143,7 +143,7 @@ fn widest(findings: &[&Finding], measure: Measure) -> usize
     most
 }
 
-/// How wide a cell of a finding is.
+/// The width of a cell of a finding.
 fn measured(finding: &Finding, measure: Measure) -> usize
     ensures { result ≡ measured_by measure (finding_parts finding.now) }
 {
@@ -171,7 +171,7 @@ fn push_row(out: &mut String, widths: Widths, finding: &Finding) -> Result<(), A
     out.push_str("\n")
 }
 
-/// Appends where a finding stands.
+/// Appends the location of a finding.
 #[tactic(auto, unfolding(crate::specs::Stylish::place_cells))]
 fn push_place(out: &mut String, widths: Widths, finding: &Finding) -> Result<(), AllocError>
     ensures { OnOk result (string_bytes out.new
@@ -192,7 +192,7 @@ fn push_place(out: &mut String, widths: Widths, finding: &Finding) -> Result<(),
     )
 }
 
-/// Appends how grave a finding is.
+/// Appends the severity of a finding.
 #[tactic(auto, unfolding(crate::specs::Stylish::level_cell))]
 fn push_level(out: &mut String, widths: Widths, finding: &Finding) -> Result<(), AllocError>
     ensures { OnOk result (string_bytes out.new
@@ -207,7 +207,7 @@ fn push_level(out: &mut String, widths: Widths, finding: &Finding) -> Result<(),
     )
 }
 
-/// Appends the code, where there is one, behind the message's column.
+/// Appends the code, if there is one, after the message's column.
 fn push_code(out: &mut String, widths: Widths, finding: &Finding) -> Result<(), AllocError>
     ensures { OnOk result (string_bytes out.new ≡ string_bytes out.old
         ++ code_cell widths (finding_parts finding.now) (finding_parts finding.now).code) }
@@ -234,7 +234,7 @@ fn push_blanks(out: &mut String, count: usize) -> Result<(), AllocError>
     Ok(())
 }
 
-/// A message without the point at its end.
+/// A message without a period at its end.
 fn pointless(message: &str) -> &str
     ensures { result.now ≡ without_point message.now }
 {
@@ -255,7 +255,7 @@ fn level_word(severity: Severity) -> &'static str
     }
 }
 
-/// Appends how many findings there are, if there are any.
+/// Appends the number of findings, if there are any.
 fn push_ending(out: &mut String, findings: &[Finding]) -> Result<(), AllocError>
     ensures { OnOk result (string_bytes out.new
         ≡ string_bytes out.old ++ ending (map finding_parts findings.now)) }
@@ -284,7 +284,7 @@ fn is_error(finding: &Finding) -> bool
     }
 }
 
-/// Appends how many findings there are, and how many of them are errors.
+/// Appends the number of findings, and how many of them are errors.
 #[tactic(auto, unfolding(crate::specs::Stylish::summary))]
 fn push_summary(out: &mut String, all: usize, errors: usize) -> Result<(), AllocError>
     ensures { OnOk result (string_bytes out.new ≡ string_bytes out.old ++ summary all errors) }
@@ -296,7 +296,7 @@ fn push_summary(out: &mut String, all: usize, errors: usize) -> Result<(), Alloc
     out.push_str(")\n")
 }
 
-/// What stands before the number of findings.
+/// The sign before the number of findings.
 fn cross() -> &'static str
     ensures { result.now ≡ cross }
 {
@@ -313,7 +313,7 @@ fn push_shares(out: &mut String, all: usize, errors: usize) -> Result<(), AllocE
     push_counted(out, all.saturating_sub(errors), "warning")
 }
 
-/// Appends a number of things.
+/// Appends a number and the name of what is counted.
 #[tactic(auto, unfolding(crate::specs::Stylish::counted))]
 fn push_counted(out: &mut String, count: usize, noun: &str) -> Result<(), AllocError>
     ensures { OnOk result (string_bytes out.new
@@ -325,7 +325,7 @@ fn push_counted(out: &mut String, count: usize, noun: &str) -> Result<(), AllocE
     out.push_str(plural(count))
 }
 
-/// What stands behind the name of a thing, where there are this many.
+/// The plural ending for this number.
 fn plural(count: usize) -> &'static str
     ensures { result.now ≡ plural_of count }
 {

@@ -9,12 +9,12 @@ use escapes::{Spelling, push_escaped};
 use itoa::Buffer;
 use std::alloc::{AllocError, Global};
 
-/// A text as it stands in XML, in an attribute or between tags. U+FFFD stands for each character
-/// that XML 1.0 can't hold.
+/// A text escaped for XML, in an attribute or between tags. U+FFFD replaces each character that
+/// XML 1.0 can't hold.
 ///
 /// # Errors
 ///
-/// Want of memory.
+/// Out of memory.
 #[tactic(auto, using(crate::proofs::XmlLemmas::xml_back, crate::proofs::XmlLemmas::xml_free))]
 pub fn xml_escape(alloc: Global, text: &str) -> Result<String, AllocError>
     ensures text { IfOk result (λ out. string_bytes out ≡ shown text.now) }
@@ -24,7 +24,7 @@ pub fn xml_escape(alloc: Global, text: &str) -> Result<String, AllocError>
     escaped(alloc, text)
 }
 
-/// The same, known by its text alone.
+/// The same, specified by its text alone.
 fn escaped(alloc: Global, text: &str) -> Result<String, AllocError>
     ensures { IfOk result (λ out. string_bytes out ≡ shown text.now) }
 {
@@ -33,7 +33,7 @@ fn escaped(alloc: Global, text: &str) -> Result<String, AllocError>
     Ok(out)
 }
 
-/// Appends a text as it stands in XML.
+/// Appends a text escaped for XML.
 pub(crate) fn push_shown(alloc: Global, out: &mut String, text: &str) -> Result<(), AllocError>
     ensures { OnOk result (string_bytes out.new ≡ string_bytes out.old ++ shown text.now) }
 {
@@ -72,7 +72,7 @@ pub(crate) fn push_number(out: &mut String, key: &str, number: usize) -> Result<
     out.push_str("\"")
 }
 
-/// A text in which U+FFFD stands for each character that XML can't hold.
+/// A text with U+FFFD instead of each character that XML can't hold.
 #[tactic(auto, unfolding(crate::specs::Xml::held))]
 fn held(alloc: Global, text: &str) -> Result<String, AllocError>
     ensures { IfOk result (λ out. string_bytes out ≡ held_text text.now) }
@@ -80,7 +80,7 @@ fn held(alloc: Global, text: &str) -> Result<String, AllocError>
     text.chars().map(held_char).collect(alloc)
 }
 
-/// The character, or U+FFFD where XML can't hold it.
+/// The character, or U+FFFD if XML can't hold it.
 fn held_char(c: char) -> char
     ensures { result ≡ held_for c }
 {
@@ -94,7 +94,7 @@ fn is_held(c: char) -> bool
     (' ' <= c && c < '\u{FFFE}') || c == '\t' || c == '\n' || c == '\r' || '\u{10000}' <= c
 }
 
-/// Texts in which entities stand for what would end them.
+/// Texts with entities instead of characters that would end them.
 struct Xml;
 
 impl Spelling for Xml {
