@@ -1,8 +1,8 @@
-//! What is written of reports for CI systems: their findings in one of the formats of `ci_formats`, with
-//! texts that can't drive a terminal, unless they are asked for as they are.
+//! The findings of reports in one of the formats of `ci_formats`. Texts are sanitized, so that
+//! they can't drive a terminal, unless the caller asks for them raw.
 //!
 //! - [`ci_text`]: the text in any format.
-//! - [`gitlab_text`]: GitLab's, which names the tool where a finding has no code.
+//! - [`gitlab_text`]: GitLab's, which names the tool if a finding has no code.
 #![tactic(auto)]
 
 mod shown;

@@ -1,4 +1,4 @@
-// What is written of reports for CI systems.
+// The texts of reports for CI systems.
 ghost use Rattle.std.specs.Prelude.{◌≡◌, IfOk, map, string_bytes};
 ghost use Rattle.std.specs.Option.{option_copied};
 ghost use Rattle.ci_findings.specs.Finding.{finding_parts};
@@ -17,7 +17,7 @@ use std::alloc::{AllocError, Global};
 ///
 /// # Errors
 ///
-/// Want of memory.
+/// Out of memory.
 #[tactic(auto, unfolding(crate::specs::Texts::ci_text))]
 pub fn ci_text(
     alloc: Global,
@@ -31,12 +31,12 @@ pub fn ci_text(
     text_in(alloc, format, &shown)
 }
 
-/// The findings of reports as a code quality report of GitLab. The check of a finding without a code
-/// is the tool that is named, whose name is shown as others are, else `girzohal`.
+/// The findings of reports as a code quality report of GitLab. The check name of a finding without
+/// a code is the tool, if one is named, sanitized as other names are; else `girzohal`.
 ///
 /// # Errors
 ///
-/// Want of memory.
+/// Out of memory.
 #[tactic(auto, unfolding(crate::specs::Texts::gitlab_text))]
 pub fn gitlab_text(
     alloc: Global,
@@ -52,7 +52,7 @@ pub fn gitlab_text(
     ci_formats::gitlab_text(alloc, name.as_deref(), &shown)
 }
 
-/// The findings of reports, whose texts can't drive a terminal, unless they are to stay raw.
+/// The findings of reports, with their texts sanitized unless `raw`.
 fn findings(alloc: Global, raw: bool, found: &FoundReports<'_>) -> Result<Vec<Finding>, AllocError>
     ensures { IfOk result (λ shown. map finding_parts shown.items
         ≡ findings_in raw found.now.found) }
@@ -61,7 +61,7 @@ fn findings(alloc: Global, raw: bool, found: &FoundReports<'_>) -> Result<Vec<Fi
     shown_findings(alloc, raw, &findings)
 }
 
-/// Findings whose texts can't drive a terminal, unless they are to stay raw.
+/// Findings with their texts sanitized unless `raw`.
 fn shown_findings(
     alloc: Global,
     raw: bool,
@@ -77,7 +77,7 @@ fn shown_findings(
     Ok(shown)
 }
 
-/// Such a finding.
+/// A finding with its texts sanitized.
 #[tactic(auto, unfolding(crate::specs::Texts::shown_finding))]
 fn shown_finding(alloc: Global, raw: bool, finding: &Finding) -> Result<Finding, AllocError>
     ensures { IfOk result (λ shown. finding_parts shown
