@@ -1,8 +1,8 @@
-//! Texts in which some bytes are spelled otherwise, so that they end nothing, and lines that are cut
-//! at such bytes.
+//! Texts with escaped bytes, and lines that are split at delimiters.
 //!
-//! - [`Spelling`] says what stands for a byte, and [`push_escaped`] appends a text so spelled;
-//!   `proofs/EscapeLemmas.antt` has what follows for its inverse and for bytes that it has none of.
+//! - [`Spelling`] gives the escape of a byte, and [`push_escaped`] appends an escaped text.
+//!   `proofs/EscapeLemmas.antt` has lemmas for its inverse and for the bytes that no such text
+//!   has.
 //! - [`cut`], [`behind`], [`without_last`] and [`number`] take a line apart.
 #![tactic(auto)]
 

@@ -1,4 +1,4 @@
-// Texts in which some bytes are spelled otherwise.
+// Texts with escaped bytes.
 ghost use Rattle.std.specs.Prelude.{◌≡◌, ◌++◌, ◌<◌, ℕ, List, Option, true, OnOk, string_bytes};
 ghost use Rattle.std.specs.List.{position};
 ghost use Rattle.std.specs.Option.{is_some, option_copied};
@@ -6,23 +6,23 @@ ghost use Rattle.escapes.specs.Escape.{IsFirstSpelled, escaped, is_spelled, spel
 
 use std::alloc::AllocError;
 
-/// What stands in a kind of text for the bytes that would end it or mean something else.
+/// The escapes of a kind of text, for the bytes that would end it or mean something else.
 pub trait Spelling {
-    /// What stands for a byte, if it is spelled otherwise.
+    /// The escape of a byte, if it has one.
     ghost spelled: { Self → ℕ → Option (List ℕ) };
 
-    /// What stands for a byte, if it is spelled otherwise.
+    /// The escape of a byte, if it has one.
     fn spelling(&self, byte: u8) -> Option<&'static str>
         ensures { option_copied result ≡ spelled self.now byte };
 
     ghost ascii: { (kind : Self) (byte : ℕ) → is_some (spelled kind byte) ≡ true → byte < 128 };
 }
 
-/// Appends a text as it is spelled. Runs that are spelled as they are, are appended as they are.
+/// Appends a text with its bytes escaped. Runs without such a byte are appended whole.
 ///
 /// # Errors
 ///
-/// Want of memory, after a first part.
+/// Out of memory, after a first part was appended.
 pub fn push_escaped<S: Spelling>(out: &mut String, kind: &S, text: &str) -> Result<(), AllocError>
     ensures { OnOk result (string_bytes out.new
         ≡ string_bytes out.old ++ escaped (S.spelled kind.now) text.now) }
@@ -36,21 +36,21 @@ pub fn push_escaped<S: Spelling>(out: &mut String, kind: &S, text: &str) -> Resu
     out.push_str(rest)
 }
 
-/// Where the first byte stands that is spelled otherwise.
+/// The index of the first byte that has an escape.
 fn first_spelled<S: Spelling>(kind: &S, text: &str) -> Option<usize>
     ensures { IsFirstSpelled (S.spelled kind.now) text.now result }
 {
     first_place(kind, text.as_bytes())
 }
 
-/// Where the first byte stands that is spelled otherwise.
+/// The index of the first byte that has an escape.
 fn first_place<S: Spelling>(kind: &S, bytes: &[u8]) -> Option<usize>
     ensures { result ≡ position (is_spelled (S.spelled kind.now)) bytes.now }
 {
     bytes.iter().position(|byte| kind.spelling(*byte).is_some())
 }
 
-/// Appends an ASCII byte as it is spelled.
+/// Appends an ASCII byte, escaped if it has an escape.
 fn push_byte<S: Spelling>(out: &mut String, kind: &S, byte: u8) -> Result<(), AllocError>
     requires { byte < 128 }
     ensures { OnOk result (string_bytes out.new
