@@ -28,14 +28,14 @@ pub enum Level {
     Error,
     /// A warning.
     Warning,
-    /// Anything less.
+    /// Anything less severe.
     Notice,
 }
 
-/// What a workflow command says.
+/// What a workflow command for an annotation says.
 #[derive(Drop)]
 pub struct Annotation {
-    /// How it is shown.
+    /// The level that it is shown at.
     pub level: Level,
     /// The file.
     pub file: Option<String>,
@@ -57,7 +57,7 @@ pub struct Annotation {
 ///
 /// # Errors
 ///
-/// Want of memory.
+/// Out of memory.
 pub fn github_text(alloc: Global, findings: &[Finding]) -> Result<String, AllocError>
     ensures { IfOk result (λ text. string_bytes text ≡ text_of (map finding_parts findings.now)) }
 {
@@ -72,7 +72,7 @@ pub fn github_text(alloc: Global, findings: &[Finding]) -> Result<String, AllocE
 ///
 /// # Errors
 ///
-/// Want of memory.
+/// Out of memory.
 pub fn github_line(alloc: Global, finding: &Finding) -> Result<String, AllocError>
     ensures { IfOk result (λ line. string_bytes line ≡ line_of (finding_parts finding.now)) }
 {
@@ -80,11 +80,11 @@ pub fn github_line(alloc: Global, finding: &Finding) -> Result<String, AllocErro
     write_annotation(alloc, &annotation)
 }
 
-/// The annotation that a finding is. It has columns only within one row, since GitHub drops others.
+/// The annotation for a finding. It has columns only within one row, since GitHub drops others.
 ///
 /// # Errors
 ///
-/// Want of memory.
+/// Out of memory.
 #[tactic(auto, unfolding(crate::specs::Annotation::annotation_for))]
 pub fn annotation_of(alloc: Global, finding: &Finding) -> Result<Annotation, AllocError>
     ensures { IfOk result (λ annotation. annotation_parts annotation
@@ -114,7 +114,7 @@ fn level_of(severity: Severity) -> Level
     }
 }
 
-/// The file of a name; none where the name is empty.
+/// The file of a name; none if the name is empty.
 fn file_of(alloc: Global, name: &str) -> Result<Option<String>, AllocError>
     ensures { IfOk result (λ file. text_bytes file ≡ file_for name.now) }
 {
@@ -125,7 +125,7 @@ fn file_of(alloc: Global, name: &str) -> Result<Option<String>, AllocError>
     }
 }
 
-/// A copy of a text that may be missing.
+/// A copy of an optional text.
 fn copy_of(alloc: Global, text: &Option<String>) -> Result<Option<String>, AllocError>
     ensures { IfOk result (λ copy. text_bytes copy ≡ text_bytes text.now) }
 {
@@ -135,7 +135,7 @@ fn copy_of(alloc: Global, text: &Option<String>) -> Result<Option<String>, Alloc
     }
 }
 
-/// A number that may be missing, as large as this machine's.
+/// An optional number as a `usize`.
 fn number_of(number: Option<u32>) -> Option<usize>
     ensures { result ≡ number }
 {
@@ -145,7 +145,7 @@ fn number_of(number: Option<u32>) -> Option<usize>
     }
 }
 
-/// The last row, where there is a first.
+/// The last row, if there is a first.
 fn end_line_of(start: Location, end: Location) -> Option<usize>
     ensures { result ≡ end_line_for start end }
 {
@@ -156,7 +156,7 @@ fn end_line_of(start: Location, end: Location) -> Option<usize>
     }
 }
 
-/// A column, where the finding stands in one row.
+/// A column, if the finding is within one row.
 fn kept_column(start: Location, end: Location, column: Option<u32>) -> Option<usize>
     ensures { result ≡ kept_columns start end column }
 {
@@ -182,7 +182,7 @@ fn is_one_row(first: Option<u32>, last: Option<u32>) -> bool
 ///
 /// # Errors
 ///
-/// Want of memory.
+/// Out of memory.
 #[tactic(auto, unfolding(crate::specs::Annotation::annotation_line))]
 pub fn write_annotation(alloc: Global, annotation: &Annotation) -> Result<String, AllocError>
     ensures { IfOk result (λ line. string_bytes line
@@ -276,7 +276,7 @@ fn push_from_end_column(
     push_text(out, started, "title=", annotation.title.as_deref())
 }
 
-/// Appends a property with a text, where it is there.
+/// Appends a property with a text, if it is there.
 #[tactic(auto, unfolding(crate::specs::Annotation::text_property))]
 fn push_text(
     out: &mut String,
@@ -295,7 +295,7 @@ fn push_text(
     push_escaped(out, &Field::Property, value)
 }
 
-/// Appends a property with a number, where it is there.
+/// Appends a property with a number, if it is there.
 #[tactic(auto, unfolding(crate::specs::Annotation::number_property))]
 fn push_number(
     out: &mut String,
@@ -314,7 +314,7 @@ fn push_number(
     out.push_str(Buffer::new().format(value))
 }
 
-/// What stands before a property: a blank before the first, else a comma.
+/// The separator before a property: a space before the first, else a comma.
 pub(crate) fn separator(started: bool) -> &'static str
     ensures { result.now ≡ separator_for started }
 {

@@ -1,9 +1,9 @@
 //! Annotations of GitHub: the workflow commands that a job prints, written and read back.
 //!
-//! - [`github_line`] and [`github_text`] give the lines of findings.
-//! - [`Annotation`] is what a line says; [`annotation_of`] a finding gives it, [`write_annotation`]
-//!   writes it and [`read_annotation`] reads it back.
-//! - [`escape`] and [`unescape`] are what its texts go through.
+//! - [`github_line`] and [`github_text`] return the lines of findings.
+//! - [`Annotation`] is what a line says: [`annotation_of`] makes one of a finding,
+//!   [`write_annotation`] writes its line and [`read_annotation`] reads it back.
+//! - [`escape`] and [`unescape`] convert its texts.
 #![tactic(auto)]
 
 mod annotation;

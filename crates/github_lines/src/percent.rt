@@ -1,4 +1,4 @@
-// Texts inside a workflow command: what is escaped in them, and turned back.
+// Texts inside a workflow command, escaped and unescaped.
 ghost use Rattle.std.specs.Prelude.{◌≡◌, ◌==◌, ◌++◌, ◌∷◌, ◌≤◌, false, IfOk, length, string_bytes};
 ghost use Rattle.std.specs.List.{list_any, position};
 ghost use Rattle.std.specs.Option.{option_copied};
@@ -38,7 +38,7 @@ impl Spelling for Field {
     }
 }
 
-/// What stands for a byte in a property alone.
+/// The escape of a byte that only properties have.
 fn own_spelling(field: Field, byte: u8) -> Option<&'static str>
     ensures { option_copied result ≡ own_spelling_by field byte }
 {
@@ -49,11 +49,11 @@ fn own_spelling(field: Field, byte: u8) -> Option<&'static str>
     }
 }
 
-/// A text as it stands in a workflow command.
+/// A text escaped for a workflow command.
 ///
 /// # Errors
 ///
-/// Want of memory.
+/// Out of memory.
 #[tactic(auto, using(crate::proofs::PercentLemmas::percent_back, crate::proofs::PercentLemmas::percent_free))]
 pub fn escape(alloc: Global, field: Field, text: &str) -> Result<String, AllocError>
     ensures text { IfOk result (λ out. string_bytes out ≡ escaped_text field text.now) }
@@ -63,7 +63,7 @@ pub fn escape(alloc: Global, field: Field, text: &str) -> Result<String, AllocEr
     escaped(alloc, field, text)
 }
 
-/// The same, known by its text alone.
+/// The same, specified by its text alone.
 fn escaped(alloc: Global, field: Field, text: &str) -> Result<String, AllocError>
     ensures { IfOk result (λ out. string_bytes out ≡ escaped_text field text.now) }
 {
@@ -72,11 +72,11 @@ fn escaped(alloc: Global, field: Field, text: &str) -> Result<String, AllocError
     Ok(out)
 }
 
-/// A text whose escapes are turned back. A `%` that begins no escape is kept.
+/// A text with its escapes decoded. A `%` that begins no escape is kept.
 ///
 /// # Errors
 ///
-/// Want of memory.
+/// Out of memory.
 pub fn unescape(alloc: Global, field: Field, text: &str) -> Result<String, AllocError>
     ensures { IfOk result (λ out. string_bytes out ≡ unescaped_text field text.now) }
 {
@@ -89,21 +89,21 @@ pub fn unescape(alloc: Global, field: Field, text: &str) -> Result<String, Alloc
     out.push_str(rest)?;
     Ok(out)
 }
-/// Where the first `%` stands.
+/// The index of the first `%`.
 fn first_percent(_field: Field, text: &str) -> Option<usize>
     ensures { IsFirstPercent _field text.now result }
 {
     first_byte(b'%', text.as_bytes())
 }
 
-/// Where a byte first stands.
+/// The index of the first such byte.
 fn first_byte(wanted: u8, bytes: &[u8]) -> Option<usize>
     ensures { result ≡ position (λ byte. byte == wanted) bytes.now }
 {
     bytes.iter().position(|byte| *byte == wanted)
 }
 
-/// Appends what the bytes behind a `%` stand for, or the `%`, and gives what follows.
+/// Appends the byte that an escape means, or its `%` if it is none, and returns what follows.
 #[tactic(auto, using(crate::proofs::PercentLemmas::meant_some, crate::proofs::PercentLemmas::meant_none))]
 fn push_meant<'a>(out: &mut String, field: Field, behind: &'a str) -> Result<&'a str, AllocError>
     ensures text { IfOk result (λ rest. string_bytes out.new ++ unescaped_text field rest.now
@@ -122,7 +122,7 @@ fn push_meant<'a>(out: &mut String, field: Field, behind: &'a str) -> Result<&'a
     }
 }
 
-/// What the first two bytes of a text stand for behind a `%`.
+/// The byte that a `%` and the first two bytes of a text mean.
 fn meaning(field: Field, behind: &str) -> Option<u8>
     ensures { result ≡ meant_at field behind.now }
 {
@@ -132,7 +132,7 @@ fn meaning(field: Field, behind: &str) -> Option<u8>
     }
 }
 
-/// What two bytes stand for behind a `%`.
+/// The byte that a `%` and these two bytes mean.
 fn meant(field: Field, a: u8, b: u8) -> Option<u8>
     ensures { result ≡ meant_by field a b }
 {
@@ -147,7 +147,7 @@ fn meant(field: Field, a: u8, b: u8) -> Option<u8>
     }
 }
 
-/// What two bytes stand for behind a `%` in a property alone.
+/// The byte that a `%` and these two bytes mean in properties only.
 fn own_meant(field: Field, a: u8, b: u8) -> Option<u8>
     ensures { result ≡ own_meant_by field a b }
 {

@@ -1,4 +1,4 @@
-// Annotations, as they are read.
+// Annotations, read.
 ghost use Rattle.std.specs.Prelude.{◌≡◌, ◌^◌, ◌<◌, IfOk, IfSome, MatchOption, length, option_map};
 ghost use Rattle.std.specs.List.{position};
 ghost use Rattle.std.specs.Option.{option_copied};
@@ -15,7 +15,7 @@ use crate::percent::{Field, unescape};
 use escapes::{behind, cut, number, without_last};
 use std::alloc::{AllocError, Global};
 
-/// The parts of a line, with their escapes.
+/// The parts of a line, still escaped.
 #[derive(Drop)]
 pub struct LineParts<'a> {
     pub level: Level,
@@ -28,14 +28,14 @@ pub struct LineParts<'a> {
     pub message: &'a str,
 }
 
-/// The annotation whose line a text is, or none, exactly where it is no annotation's.
+/// The annotation whose line a text is; none exactly if it is no annotation's line.
 ///
-/// The line has its LF. It is taken apart, its escapes are turned back, and what that gives is
-/// written again: it is an annotation's line exactly where the same comes out.
+/// The line has its LF. It is taken apart, its escapes are decoded, and the result is written
+/// again: the text is an annotation's line exactly if this gives the same text.
 ///
 /// # Errors
 ///
-/// Want of memory.
+/// Out of memory.
 pub fn read_annotation(alloc: Global, line: &str) -> Result<Option<Annotation>, AllocError>
     ensures { IfOk result (λ answer. IsRead line.now (option_map annotation_parts answer)) }
 {
@@ -51,7 +51,7 @@ pub fn read_annotation(alloc: Global, line: &str) -> Result<Option<Annotation>, 
     }
 }
 
-/// An annotation of parts whose escapes are turned back.
+/// An annotation from parts, with their escapes decoded.
 fn build(alloc: Global, parts: LineParts<'_>) -> Result<Annotation, AllocError>
     ensures { IfOk result (λ annotation. annotation_parts annotation
         ≡ unescaped (texts_of parts.entry)) }
@@ -71,7 +71,7 @@ fn build(alloc: Global, parts: LineParts<'_>) -> Result<Annotation, AllocError>
     })
 }
 
-/// The text of a property whose escapes are turned back.
+/// The text of a property, with its escapes decoded.
 fn unescape_some(alloc: Global, text: Option<&str>) -> Result<Option<String>, AllocError>
     ensures { IfOk result (λ out. text_bytes out
         ≡ option_map (unescaped_text Field.Property) (option_copied text.entry)) }
@@ -119,7 +119,7 @@ fn parts_of<'a>(level: Level, properties: &'a str, message: &'a str) -> LinePart
     }
 }
 
-/// A level, and the text behind it.
+/// A level, and the text after it.
 #[tactic(auto, unfolding(crate::specs::Read::level_at))]
 fn level_at(text: &str) -> Option<(Level, &str)>
     ensures { option_map (λ it. (it.0, it.1.now)) result ≡ level_in text.now }
@@ -133,7 +133,7 @@ fn level_at(text: &str) -> Option<(Level, &str)>
     Some((Level::Notice, behind(text, "notice")?))
 }
 
-/// A property with a text, where it stands here, and what follows.
+/// A property with a text, if it is next, and what follows.
 #[tactic(auto, unfolding(crate::specs::Read::text_at))]
 fn text_at<'a>(started: bool, key: &str, text: &'a str) -> (Option<&'a str>, &'a str)
     ensures value { option_copied result.0 ≡ (text_in started key.now text.entry.now).0 }
@@ -148,7 +148,7 @@ fn text_at<'a>(started: bool, key: &str, text: &'a str) -> (Option<&'a str>, &'a
     }
 }
 
-/// Two properties with a number each, as far as they stand here, and what follows.
+/// Two properties with a number each, as far as they are next, and what follows.
 #[tactic(auto, unfolding(crate::specs::Read::pair_at))]
 fn pair_at<'a>(
     started: bool,
@@ -167,7 +167,7 @@ fn pair_at<'a>(
     (low, high, rest)
 }
 
-/// A property with a number, where it stands here, and what follows.
+/// A property with a number, if it is next, and what follows.
 #[tactic(auto, unfolding(crate::specs::Read::number_at))]
 fn number_at<'a>(started: bool, key: &str, text: &'a str) -> (Option<usize>, &'a str)
     ensures value { result.0 ≡ (number_in started key.now text.entry.now).0 }
@@ -184,7 +184,7 @@ fn number_at<'a>(started: bool, key: &str, text: &'a str) -> (Option<usize>, &'a
     }
 }
 
-/// What stands behind a separator and a key.
+/// What follows a separator and a key, if they are next.
 #[tactic(auto, unfolding(crate::specs::Read::key_at))]
 fn behind_key<'a>(started: bool, key: &str, text: &'a str) -> Option<&'a str>
     ensures { option_copied result ≡ key_at started key.now text.entry.now }
@@ -193,7 +193,7 @@ fn behind_key<'a>(started: bool, key: &str, text: &'a str) -> Option<&'a str>
     behind(rest, key)
 }
 
-/// The text up to its first comma, and from there on.
+/// The text before its first comma, and the rest from the comma on.
 #[tactic(auto, unfolding(crate::specs::Read::before_comma, crate::specs::Read::from_comma))]
 fn to_comma(text: &str) -> (&str, &str)
     ensures front { result.0.now ≡ before_comma text.now }
@@ -202,7 +202,7 @@ fn to_comma(text: &str) -> (&str, &str)
     text.split_at(comma(text))
 }
 
-/// Where the first comma stands; the end where there is none.
+/// The index of the first comma; the length if there is none.
 fn comma(text: &str) -> usize
     ensures { IsComma text.now result }
 {
@@ -212,14 +212,14 @@ fn comma(text: &str) -> usize
     }
 }
 
-/// Where the first comma stands.
+/// The index of the first comma.
 fn find_comma(text: &str) -> Option<usize>
     ensures { MatchOption result (IsComma text.now (length text.now)) (IsComma text.now) }
 {
     first_comma(text.as_bytes())
 }
 
-/// Where the first comma stands.
+/// The index of the first comma.
 fn first_comma(bytes: &[u8]) -> Option<usize>
     ensures { result ≡ position is_comma bytes.now }
 {
