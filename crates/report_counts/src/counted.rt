@@ -10,7 +10,7 @@ use found_reports::{FoundReport, FoundReports};
 use oxc_protocol::Severity;
 use std::alloc::{AllocError, Global};
 
-/// From which severity on a report counts as something that was found.
+/// The lowest severity at which a report counts as something found.
 #[derive(Clone, Copy, PartialEq, Eq)]
 pub enum Level {
     /// Errors.
@@ -23,7 +23,7 @@ pub enum Level {
     Never,
 }
 
-/// How many reports there are of each severity.
+/// The number of reports of each severity.
 #[derive(Clone, Copy, PartialEq, Eq)]
 pub struct Counts {
     /// Errors.
@@ -34,7 +34,7 @@ pub struct Counts {
     pub notes: usize,
 }
 
-/// How many reports there are of each severity.
+/// The number of reports of each severity.
 pub fn counts_of(found: &FoundReports<'_>) -> Counts
     ensures { result ≡ counted_in found.now.found }
 {
@@ -46,7 +46,7 @@ pub fn counts_of(found: &FoundReports<'_>) -> Counts
     }
 }
 
-/// How many reports have a severity.
+/// The number of reports with a severity.
 fn count(reports: &[FoundReport], wanted: Severity) -> usize
     ensures { result ≡ count_by (λ it. is_of wanted it.diagnostic.severity) reports.now }
 {
@@ -128,12 +128,12 @@ fn reaches(at: Level, severity: Severity) -> bool
     }
 }
 
-/// The line that says how many reports there are, as `3 errors, 1 warning`, with an LF; nothing where
-/// there is none.
+/// The line with the number of reports, as `3 errors, 1 warning`, with an LF; empty if there is
+/// none.
 ///
 /// # Errors
 ///
-/// Want of memory.
+/// Out of memory.
 #[tactic(auto, unfolding(crate::specs::Counted::summary_line))]
 pub fn summary_line(alloc: Global, counts: Counts) -> Result<String, AllocError>
     ensures { IfOk result (λ text. string_bytes text ≡ summary_text counts) }
@@ -146,7 +146,7 @@ pub fn summary_line(alloc: Global, counts: Counts) -> Result<String, AllocError>
     Ok(text)
 }
 
-/// Appends how many there are of a word.
+/// Appends a number and its word.
 #[tactic(auto, unfolding(crate::specs::Counted::with_part))]
 fn push_part(text: &mut String, count: usize, word: &str) -> Result<(), AllocError>
     ensures { OnOk result (string_bytes text.new ≡ with_part (string_bytes text.old) count word.now) }
@@ -159,7 +159,7 @@ fn push_part(text: &mut String, count: usize, word: &str) -> Result<(), AllocErr
     write!(text, "{count} {word}{plural}")
 }
 
-/// Appends a comma behind a text that is something.
+/// Appends a comma to a text that isn't empty.
 fn push_comma(text: &mut String) -> Result<(), AllocError>
     ensures { OnOk result (string_bytes text.new
         ≡ string_bytes text.old ++ comma_behind (string_bytes text.old)) }
@@ -171,14 +171,14 @@ fn push_comma(text: &mut String) -> Result<(), AllocError>
     }
 }
 
-/// What a word ends in where there are so many.
+/// The plural ending for this number.
 fn plural(count: usize) -> &'static str
     ensures { result.now ≡ plural count }
 {
     if count == 1 { "" } else { "s" }
 }
 
-/// Ends a line that says something.
+/// Ends a line that isn't empty.
 fn end(text: &mut String) -> Result<(), AllocError>
     ensures { OnOk result (string_bytes text.new ≡ ended (string_bytes text.old)) }
 {
@@ -189,12 +189,11 @@ fn end(text: &mut String) -> Result<(), AllocError>
     }
 }
 
-/// The line that says that there are more reports than were drawn, with an LF; nothing where there
-/// are no more.
+/// The line that says how many reports weren't drawn, with an LF; empty if all were.
 ///
 /// # Errors
 ///
-/// Want of memory.
+/// Out of memory.
 #[tactic(auto, unfolding(crate::specs::Counted::more_line))]
 pub fn more_line(alloc: Global, count: usize) -> Result<String, AllocError>
     ensures { IfOk result (λ text. string_bytes text ≡ more_text count) }

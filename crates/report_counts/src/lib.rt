@@ -1,8 +1,8 @@
-//! How many reports were found, and whether one is at or above a level.
+//! The number of reports, and whether one is at or above a level.
 //!
-//! - [`counts_of`]: how many errors, warnings and notes there are; [`summary_line`] says it.
+//! - [`counts_of`]: the number of errors, warnings and notes; [`summary_line`]: the line about it.
 //! - [`one_reaches`]: whether one is at or above a [`Level`].
-//! - [`more_line`]: that there are more than were drawn.
+//! - [`more_line`]: the line that says how many weren't drawn.
 #![tactic(auto)]
 
 mod counted;
