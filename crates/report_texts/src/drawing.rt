@@ -1,4 +1,4 @@
-// Reports as they are drawn.
+// Reports, drawn.
 ghost use Rattle.std.specs.Prelude.{◌≡◌, ◌++◌, ◌≤◌, IfOk, IsErrOf, OnOk, length, string_bytes, take};
 ghost use Rattle.shown_reports.specs.declared.shown.ShowError.TheVariants.{TooManyFiles};
 ghost use Rattle.report_texts.specs.Texts.{drawing_text as drawing_of_all, drawings as drawings_of};
@@ -14,14 +14,14 @@ use report_counts::{counts_of, more_line, summary_line};
 use shown_reports::{ShowError, shown_reports};
 use std::alloc::{AllocError, Global};
 
-/// How wide a drawing is where nothing says it.
+/// The default width of a drawing.
 const WIDTH: usize = 80;
 
-/// The drawings of as many reports as are asked for, that there are more, and how many there are.
+/// The drawings of the first reports, up to `--most`; then the lines of [`ending_text`].
 ///
 /// # Errors
 ///
-/// `TooManyFiles` only where there are `u32::MAX` files or more, and want of memory.
+/// `TooManyFiles`, only with `u32::MAX` files or more, and out of memory.
 #[tactic(auto, unfolding(crate::specs::Texts::drawing_text))]
 pub fn drawing_text(
     alloc: Global,
@@ -37,11 +37,11 @@ pub fn drawing_text(
     Ok(text)
 }
 
-/// The drawings of the first reports, at most so many where there is a most.
+/// The drawings of the first reports, up to `--most`.
 ///
 /// # Errors
 ///
-/// `TooManyFiles` only where there are `u32::MAX` files or more, and want of memory.
+/// `TooManyFiles`, only with `u32::MAX` files or more, and out of memory.
 #[tactic(auto, unfolding(crate::specs::Texts::first_drawings))]
 pub fn first_drawings(
     alloc: Global,
@@ -57,11 +57,11 @@ pub fn first_drawings(
     drawings(alloc, asked, found, count)
 }
 
-/// That there are more reports than were drawn, and how many there are.
+/// The line that says how many reports weren't drawn, and the line with their numbers.
 ///
 /// # Errors
 ///
-/// Want of memory.
+/// Out of memory.
 #[tactic(auto, unfolding(crate::specs::Texts::ending_text))]
 pub fn ending_text(
     alloc: Global,
@@ -76,14 +76,14 @@ pub fn ending_text(
     Ok(text)
 }
 
-/// How many reports there are.
+/// The line with the numbers of reports.
 fn found_count(found: &FoundReports<'_>) -> usize
     ensures { result ≡ length found.now.found }
 {
     found.reports().len()
 }
 
-/// How many of so many reports are drawn.
+/// How many of this number of reports are drawn.
 fn drawn_count(most: Option<usize>, count: usize) -> usize
     ensures count { result ≡ drawn_of most count }
     ensures within { result ≤ count }
@@ -111,12 +111,12 @@ fn drawings(
     let first = &shown.reports[..count];
     match files_text(alloc, &handler(asked), &shown.files, first) {
         Ok(text) => Ok(text),
-        // None of the reports is refused.
+        // No report is refused.
         Err(_) => Err(ShowError::OutOfMemory),
     }
 }
 
-/// What draws the reports.
+/// The handler that draws the reports.
 fn handler(asked: &Asked) -> GraphicalReportHandler
     ensures { result ≡ handler_of asked.now }
 {
@@ -136,7 +136,7 @@ fn theme(choice: ThemeChoice) -> GraphicalTheme
     }
 }
 
-/// Appends how many reports there are.
+/// Appends the line with the numbers of reports.
 fn push_summary(
     alloc: Global,
     text: &mut String,

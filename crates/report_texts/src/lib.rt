@@ -1,10 +1,10 @@
-//! What is written of reports: drawings, JSON, a document, a SARIF log.
+//! The texts of reports: drawings, JSON, a document, a SARIF log.
 //!
-//! - [`drawing_text`]: reports drawn, and how many there are; [`first_drawings`] and [`ending_text`] are
-//!   its two parts.
+//! - [`drawing_text`]: reports drawn, and their numbers; [`first_drawings`] and [`ending_text`]
+//!   are its two parts.
 //! - [`json_text`]: each report as a line of JSON.
 //! - [`document_text`]: the reports and their files as a document.
-//! - [`sarif_text`]: the same as a SARIF log, by the tool of [`named_tool`].
+//! - [`sarif_text`]: the same as a SARIF log of the tool of [`named_tool`].
 #![tactic(auto)]
 
 mod drawing;
