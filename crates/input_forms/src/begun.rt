@@ -9,14 +9,14 @@ ghost use Rattle.input_forms.specs.Begun.{is_blank as blank};
 pub enum Begun {
     /// A JSON object.
     Object,
-    /// JSON of another kind: a list of objects, of texts, or of nothing.
+    /// Other JSON: an array that is empty, or whose first element is an object or a string.
     OtherJson,
     /// Anything else.
     Lines,
 }
 
-/// What an input begins as, behind one byte order mark and behind blanks: a `{` begins an object, and
-/// a `[` with a `{`, a `"` or a `]` behind it, blanks aside, begins other JSON.
+/// What an input begins as, after an optional byte order mark and blanks: a `{` begins an object,
+/// and a `[` with `{`, `"` or `]` as the next byte that isn't blank begins other JSON.
 #[tactic(auto, unfolding(crate::specs::Begun::begins_as))]
 pub fn begins_as(bytes: &[u8]) -> Begun
     ensures { result ≡ begins_so bytes.now }
@@ -24,7 +24,7 @@ pub fn begins_as(bytes: &[u8]) -> Begun
     begun_at(first_from(without_mark(bytes)))
 }
 
-/// What a text begins as whose first byte is no blank.
+/// What a text begins as whose first byte isn't blank.
 fn begun_at(text: &[u8]) -> Begun
     ensures { result ≡ begun_at text.now }
 {
@@ -34,7 +34,7 @@ fn begun_at(text: &[u8]) -> Begun
     }
 }
 
-/// What a text begins as that is a byte and others.
+/// What a text of this first byte and this rest begins as.
 fn begun_with(first: u8, rest: &[u8]) -> Begun
     ensures { result ≡ begun_with first rest.now }
 {
@@ -47,7 +47,7 @@ fn begun_with(first: u8, rest: &[u8]) -> Begun
     }
 }
 
-/// What a text begins as behind a bracket.
+/// What a text begins as after a `[`.
 fn in_bracket(rest: &[u8]) -> Begun
     ensures { result ≡ behind_bracket rest.now }
 {
@@ -57,7 +57,7 @@ fn in_bracket(rest: &[u8]) -> Begun
     }
 }
 
-/// A text without a byte order mark before it, which is skipped once.
+/// A text without its byte order mark; one is skipped.
 pub fn without_mark(bytes: &[u8]) -> &[u8]
     ensures { result.now ≡ behind_mark bytes.now }
 {
@@ -67,7 +67,7 @@ pub fn without_mark(bytes: &[u8]) -> &[u8]
     }
 }
 
-/// A text from its first byte on that is no blank.
+/// A text from its first byte that isn't blank.
 pub(crate) fn first_from(mut bytes: &[u8]) -> &[u8]
     ensures { result.now ≡ first_from bytes.entry.now }
 {

@@ -1,10 +1,10 @@
-//! How an input is written, as its bytes tell.
+//! The form of an input, by its bytes.
 //!
 //! - [`begins_as`]: whether it begins as a JSON object, as other JSON, or as lines.
-//! - [`first_bytes`]: whether it is lines for sure, once its first bytes came.
-//! - [`json_part`]: the JSON object among other lines.
-//! - [`has_files`]: whether a JSON object is a document of files, and no log.
-//! - [`without_mark`]: a text without a byte order mark before it.
+//! - [`first_bytes`]: whether its first bytes already settle whether it begins as lines.
+//! - [`json_part`]: the range of the JSON object among other lines.
+//! - [`has_files`]: whether a JSON object is a document of files, not a log.
+//! - [`without_mark`]: a text without its byte order mark.
 #![tactic(auto)]
 
 mod begun;

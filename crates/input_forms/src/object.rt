@@ -13,8 +13,8 @@ use serde_json::Value;
 use std::alloc::{AllocError, Global};
 use std::ops::Range;
 
-/// Where the JSON object of an input stands among other lines, in bytes: from the first `{` that
-/// begins a line to the last `}`, and the whole input where there are none.
+/// The range of bytes of the JSON object among other lines: from the first `{` that begins a line
+/// through the last `}`; the whole input if there are none.
 pub fn json_part(bytes: &[u8]) -> Range<usize>
     ensures range { (result.start ≤ result.end) × (result.end ≤ length bytes.now) }
     ensures part { IsJsonPart bytes.now result }
@@ -27,12 +27,12 @@ pub fn json_part(bytes: &[u8]) -> Range<usize>
 
 /// Whether a text is JSON that has the key `files`, as documents of files and reports do.
 ///
-/// A log costs a search for the key, and no value is made of it. Where escapes by numbers stand in
-/// it, which may spell the key otherwise, it costs a pass over its tokens.
+/// A text without the key costs a search for it. If it has `\u` escapes, which may spell the key,
+/// it costs a pass over the tokens. Only a text with such a key is parsed into a value.
 ///
 /// # Errors
 ///
-/// Want of memory.
+/// Out of memory.
 #[tactic(auto, using(crate::proofs::KeyLemmas::none_unnamed))]
 pub fn has_files(alloc: Global, text: &[u8]) -> Result<bool, AllocError>
     ensures { IfOk result (λ has. has ≡ has_key_files text.now) }
@@ -44,7 +44,7 @@ pub fn has_files(alloc: Global, text: &[u8]) -> Result<bool, AllocError>
     }
 }
 
-/// The same, by the value of the text.
+/// The same, decided by the parsed value.
 #[tactic(auto, unfolding(crate::specs::Object::has_files))]
 fn has_files_on_top(alloc: Global, text: &[u8]) -> Result<bool, AllocError>
     ensures { IfOk result (λ has. has ≡ has_key_files text.now) }
@@ -56,8 +56,8 @@ fn has_files_on_top(alloc: Global, text: &[u8]) -> Result<bool, AllocError>
     }
 }
 
-/// Whether a key of a text may be `files`: whether it stands there as it is spelled without escapes,
-/// or an escape by a number does, for no other escape is a letter.
+/// Whether a key of a text may be `files`: whether `files"` or a `\u` escape is in it, since no
+/// other escape is a letter.
 #[tactic(auto, using(crate::proofs::SpelledLemmas::none_found))]
 fn may_name_files(bytes: &[u8]) -> bool
     ensures none { result ≡ false → names_key_files bytes.now ≡ false }
@@ -65,7 +65,7 @@ fn may_name_files(bytes: &[u8]) -> bool
     memmem::find(bytes, b"files\"").is_some() || memmem::find(bytes, b"\\u").is_some()
 }
 
-/// Whether a key of a text is `files`, at any depth.
+/// Whether a text has the key `files` at any depth.
 fn names_files(alloc: Global, bytes: &[u8]) -> Result<bool, AllocError>
     ensures { IfOk result (λ named. named ≡ names_key_files bytes.now) }
 {

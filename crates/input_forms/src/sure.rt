@@ -1,4 +1,4 @@
-// Whether an input is lines, as its first bytes tell.
+// Whether an input is lines, by its first bytes.
 ghost use Rattle.std.specs.Prelude.{◌≡◌};
 ghost use Rattle.input_forms.specs.Sure.{Tells, told_by as told_so};
 ghost use Rattle.input_forms.specs.Sure.{may_become_mark as mark_to_come};
@@ -9,15 +9,15 @@ use crate::begun::{first_from, without_mark};
 /// What the first bytes of an input tell.
 #[derive(Clone, Copy, PartialEq, Eq)]
 pub enum FirstBytes {
-    /// It is lines, whatever comes behind them.
+    /// It begins as lines, whatever follows.
     SurelyLines,
-    /// That hangs on what comes behind them.
+    /// That depends on what follows.
     Open,
-    /// It is no lines, whatever comes behind them.
+    /// It doesn't begin as lines, whatever follows.
     Other,
 }
 
-/// Whether an input is lines that begins with these bytes, whatever comes behind them.
+/// Whether an input that begins with these bytes begins as lines, whatever follows.
 #[tactic(auto, using(crate::proofs::SureLemmas::mark_tells, crate::proofs::SureLemmas::others_tell))]
 pub fn first_bytes(bytes: &[u8]) -> FirstBytes
     ensures { Tells result bytes.now }
@@ -41,7 +41,7 @@ fn may_become_mark(bytes: &[u8]) -> bool
     }
 }
 
-/// What a text tells whose first byte is no blank.
+/// What a text tells whose first byte isn't blank.
 fn told_by(text: &[u8]) -> FirstBytes
     ensures { result ≡ told_so text.now }
 {
@@ -51,7 +51,7 @@ fn told_by(text: &[u8]) -> FirstBytes
     }
 }
 
-/// The same of a byte and others.
+/// The same of a text of this first byte and this rest.
 fn told_with(first: u8, rest: &[u8]) -> FirstBytes
     ensures { result ≡ with_so first rest.now }
 {
@@ -64,7 +64,7 @@ fn told_with(first: u8, rest: &[u8]) -> FirstBytes
     }
 }
 
-/// The same behind a bracket.
+/// The same after a `[`.
 fn told_in_bracket(rest: &[u8]) -> FirstBytes
     ensures { result ≡ bracket_so rest.now }
 {
