@@ -1,4 +1,4 @@
-//! What the words of `girzohal` ask for, as values: the words are read elsewhere, and the run obeys.
+//! The options of `girzohal`, as values. `girzohal_words` reads them; `girzohal_run` obeys them.
 #![tactic(auto)]
 
 use line_shapes::parse::OwnShape;
@@ -7,16 +7,16 @@ use oxc_plan::TabWidth;
 use report_counts::Level;
 use std::alloc::{AllocError, Global};
 
-/// How the input is written.
+/// The form of the input.
 #[derive(Clone, Copy, PartialEq, Eq)]
 pub enum InputForm {
-    /// As its first bytes say: a document, a SARIF log, or lines.
+    /// Decided by its first bytes: a document, a SARIF log, or lines.
     Auto,
-    /// As a document of files and reports.
+    /// A document of files and reports.
     Document,
-    /// As a SARIF log, with or without other lines around it.
+    /// A SARIF log, with or without other lines around it.
     Sarif,
-    /// As lines that a tool prints for people.
+    /// Lines that a tool prints for people.
     Lines,
 }
 
@@ -31,7 +31,7 @@ pub enum OutputForm {
     Document,
     /// A SARIF log of one run.
     Sarif,
-    /// A line for each report, as compilers write them.
+    /// A line for each report, as compilers write it.
     Problems,
     /// Annotations of GitHub's runners.
     Github,
@@ -45,10 +45,10 @@ pub enum OutputForm {
     Stylish,
 }
 
-/// Which characters a drawing is made of.
+/// The characters and colors of a drawing.
 #[derive(Clone, Copy, PartialEq, Eq)]
 pub enum ThemeChoice {
-    /// With colors where a person looks, else as `UnicodeNocolor`.
+    /// With colors if a person looks, else as `UnicodeNocolor`.
     Auto,
     /// ASCII alone, without colors.
     Plain,
@@ -58,51 +58,51 @@ pub enum ThemeChoice {
     UnicodeNocolor,
 }
 
-/// What the words ask for.
+/// The options of a run.
 #[derive(Drop)]
 pub struct Asked {
-    /// The file that is read; standard input where there is none.
+    /// The file to read; standard input if there is none.
     pub file: Option<String>,
-    /// The folder below which sources are read.
+    /// The folder in which sources are read.
     pub root: String,
-    /// Whether sources are also read that lie elsewhere.
+    /// Whether sources outside of that folder are read too.
     pub anywhere: bool,
-    /// How the input is written.
+    /// The form of the input.
     pub from: InputForm,
     /// What is written.
     pub to: OutputForm,
-    /// Which characters a drawing is made of.
+    /// The characters and colors of a drawing.
     pub theme: ThemeChoice,
-    /// How wide a drawing is, in columns; where there is none, as wide as the environment says.
+    /// The width of a drawing in columns; if there is none, the environment's.
     pub width: Option<usize>,
-    /// How far apart tab stops are, in columns.
+    /// The distance of tab stops, in columns.
     pub tabs: TabWidth,
     /// The tool that wrote the input.
     pub tool: Option<String>,
-    /// Shapes of lines of the user's own, in the order in which they are tried.
+    /// The user's own patterns of lines, in the order in which they are tried.
     pub shapes: Vec<OwnShape>,
-    /// What a column of the input counts, where it isn't as the tool counts.
+    /// What a column of the input counts; if there is none, as the tool counts.
     pub columns: Option<Unit>,
-    /// The number of the first column, 0 or 1, where it isn't the tool's.
+    /// The number of the first column, 0 or 1; if there is none, the tool's.
     pub first_column: Option<u32>,
-    /// Whether lines that are no findings are left out.
+    /// Whether lines that aren't part of findings are left out.
     pub only_findings: bool,
-    /// From which severity on reports make the exit status 1.
+    /// The lowest severity at which a report makes the exit status 1.
     pub fail_on: Level,
-    /// How many reports are drawn at most.
+    /// The maximum number of reports that are drawn.
     pub most: Option<usize>,
-    /// Whether the line that says how many reports there are is left out.
+    /// Whether the line with the numbers of reports is left out.
     pub quiet: bool,
-    /// Whether texts stay as they are, even where they drive a terminal.
+    /// Whether texts are written raw, even if they drive a terminal.
     pub raw: bool,
 }
 
 impl Asked {
-    /// What no words ask for: standard input, whatever it is, drawn.
+    /// The defaults: standard input, in any form, drawn.
     ///
     /// # Errors
     ///
-    /// Want of memory.
+    /// Out of memory.
     pub fn new(alloc: Global) -> Result<Asked, AllocError> {
         Ok(Asked {
             file: None,
