@@ -1,4 +1,4 @@
-//! Which word is wrong.
+//! The first wrong argument.
 ghost use Rattle.std.specs.Prelude.{◌≡◌, IfOk, map, option_map};
 ghost use Rattle.std.specs.Option.{option_copied};
 ghost use Rattle.girzohal_words.specs.Said.{file as file_said, said};
@@ -12,36 +12,36 @@ use crate::values::is_value;
 use girzohal_asked::InputForm;
 use std::alloc::{AllocError, Global};
 
-/// What is wrong with a word.
+/// What is wrong with an argument.
 #[derive(Clone, Copy, PartialEq, Eq)]
 pub enum WordFault<'w> {
-    /// There is no such option.
+    /// An unknown option.
     Unknown(&'w str),
-    /// No value stands behind the option.
+    /// The option's value is missing.
     Bare(&'w str),
-    /// The option stands alone, and has this value.
+    /// The option takes no value, and has this one.
     Valued(&'w str, &'w str),
-    /// The option has no such value.
+    /// The option doesn't take this value.
     Value(&'w str, &'w str),
-    /// It names a second file.
+    /// A second file.
     SecondFile(&'w str),
-    /// It asks for a second form to be written.
+    /// A second `--to`.
     SecondForm(&'w str),
     /// The columns of a SARIF log can't be counted in this unit.
     Uncounted(&'w str),
 }
 
-/// What was named before a word.
+/// What earlier arguments named.
 #[derive(Clone, Copy)]
 pub(crate) struct Named {
     /// A file.
     file: bool,
-    /// A form to be written.
+    /// A form to write.
     form: bool,
 }
 
-/// The first word that is wrong by itself, or behind what was named before: one file is read, and
-/// one form is written.
+/// The first argument that is wrong in itself, or after what earlier ones named: one file is read,
+/// and one form is written.
 pub(crate) fn first_wrong<'w>(
     alloc: Global,
     items: &[Item<'w>],
@@ -64,7 +64,7 @@ pub(crate) fn first_wrong<'w>(
     Ok(None)
 }
 
-/// What was named, where a word comes behind it.
+/// What is named after another argument.
 fn and_named(before: Named, item: Item<'_>) -> Named
     ensures { result ≡ and_named_so before (said item.entry) }
 {
@@ -81,7 +81,7 @@ fn and_named(before: Named, item: Item<'_>) -> Named
     }
 }
 
-/// What is wrong with a word, behind what was named.
+/// What is wrong with an argument, after what earlier ones named.
 fn fault_of<'w>(
     alloc: Global,
     named: Named,
@@ -119,7 +119,7 @@ fn value_fault<'w>(
     }
 }
 
-/// What is wrong with a file, behind what was named.
+/// What is wrong with a file, after what earlier arguments named.
 fn file_fault(named: Named, name: &str) -> Option<WordFault<'_>>
     ensures { option_map wrong result ≡ wrong_in named (file_said name.entry.now) }
 {
@@ -130,7 +130,7 @@ fn file_fault(named: Named, name: &str) -> Option<WordFault<'_>>
     }
 }
 
-/// That the columns of a log are to be counted in bytes or in cells.
+/// The fault of a unit that a log's columns can't be counted in: bytes or cells.
 pub(crate) fn uncounted(form: InputForm, unit: Option<&str>) -> Option<WordFault<'_>>
     ensures { option_map wrong result ≡ uncounted_in form (option_copied unit.entry) }
 {

@@ -1,4 +1,4 @@
-//! What words say, each with the word behind it where that is its value.
+//! The items that arguments say: an option takes the next argument as its value.
 ghost use Rattle.std.specs.Prelude.{◌≡◌, ◌∷◌, ◌≤◌, ◌++◌, IfOk, OnOk, length, map, string_bytes};
 ghost use Rattle.std.specs.Option.{option_copied};
 ghost use Rattle.escapes.specs.Cuts.{cut_at};
@@ -13,40 +13,40 @@ use crate::tables::SETTINGS;
 use escapes::cut;
 use std::alloc::{AllocError, Global};
 
-/// What a word says, with the word behind it where that is its value.
+/// What an argument says, together with the next one if that is its value.
 #[derive(Clone, Copy)]
 pub(crate) enum Item<'w> {
-    /// An option that stands alone.
+    /// An option without a value.
     Flag(&'w str),
     /// An option and its value.
     Setting(&'w str, &'w str),
     /// The name of a file.
     File(&'w str),
-    /// No option that there is.
+    /// An unknown option.
     Unknown(&'w str),
-    /// An option behind which its value is missing.
+    /// An option whose value is missing.
     Bare(&'w str),
-    /// An option that stands alone, with a value.
+    /// An option that takes no value, with one.
     Valued(&'w str, &'w str),
 }
 
-/// What a word is.
+/// What an argument is.
 #[derive(Clone, Copy)]
 pub(crate) enum Kind<'w> {
-    /// An option that takes the next word as its value.
+    /// An option that takes the next argument as its value.
     Takes(&'w str),
-    /// Something by itself.
+    /// An item of its own.
     Says(Item<'w>),
 }
 
-/// An item, and the words behind it.
+/// An item, and the arguments after it.
 #[derive(Clone, Copy)]
 struct Read<'w> {
     item: Item<'w>,
     rest: &'w [String],
 }
 
-/// What words say; behind `--` all are names of files.
+/// The items that arguments say; after `--` all are names of files.
 pub(crate) fn items_of<'w>(alloc: Global, words: &'w [String]) -> Result<Vec<Item<'w>>, AllocError>
     ensures { IfOk result (λ items. map said items.items ≡ said_by (map string_bytes words.now)) }
 {
@@ -75,7 +75,7 @@ fn push_files<'w>(items: &mut Vec<Item<'w>>, names: &'w [String]) -> Result<(), 
     Ok(())
 }
 
-/// The item that begins with a word of this kind, and the words behind it.
+/// The item that begins with an argument of this kind, and the arguments after it.
 fn read_item<'w>(kind: Kind<'w>, rest: &'w [String]) -> Read<'w>
     ensures said { said_behind (kind_said kind.entry) (map string_bytes rest.now)
         ≡ said result.item ∷ said_by (map string_bytes result.rest.now) }
@@ -96,7 +96,7 @@ fn read_item<'w>(kind: Kind<'w>, rest: &'w [String]) -> Read<'w>
     }
 }
 
-/// What a word is.
+/// What an argument is.
 #[tactic(auto, unfolding(crate::specs::Said::kind_of))]
 fn kind_of(word: &str) -> Kind<'_>
     ensures { kind_said result ≡ kind_meant word.now }
@@ -112,7 +112,7 @@ fn kind_of(word: &str) -> Kind<'_>
     }
 }
 
-/// A word in which an option and its value stand round an equals sign.
+/// An argument that is an option, an equals sign and a value.
 fn parted(word: &str) -> Item<'_>
     ensures { said result ≡ said_parted word.now (cut_at 0x3D word.now) }
 {
@@ -123,7 +123,7 @@ fn parted(word: &str) -> Item<'_>
     }
 }
 
-/// Whether a word doesn't begin with a hyphen, or is one.
+/// Whether an argument doesn't begin with a hyphen, or is just a hyphen.
 fn is_file(word: &str) -> bool
     ensures { result ≡ is_no_option word.now }
 {
@@ -140,7 +140,7 @@ fn is_setting(name: &str) -> bool
     wanted_of(name).is_some()
 }
 
-/// What is wanted as the value of an option, if it has one.
+/// The value that an option expects, in words, if it takes one.
 #[tactic(auto, unfolding(crate::specs::Said::settings))]
 pub fn wanted_of(name: &str) -> Option<&'static str>
     ensures { option_copied result ≡ wanted_for name.now }
@@ -148,7 +148,7 @@ pub fn wanted_of(name: &str) -> Option<&'static str>
     wanted_in(&SETTINGS, name)
 }
 
-/// What is wanted as the value of an option, among the rows of a table.
+/// The value that an option expects, from the rows of a table.
 fn wanted_in(mut rows: &[(&'static str, &'static str)], name: &str) -> Option<&'static str>
     ensures { option_copied result
         ≡ wanted_among (map (λ row. (row.0.now, row.1.now)) rows.entry.now) name.now }
@@ -162,7 +162,7 @@ fn wanted_in(mut rows: &[(&'static str, &'static str)], name: &str) -> Option<&'
     None
 }
 
-/// Whether an option stands alone.
+/// Whether an option takes no value.
 #[tactic(auto, unfolding(crate::specs::Said::is_flag))]
 fn is_flag(name: &str) -> bool
     ensures { result ≡ stands_alone name.now }

@@ -1,10 +1,10 @@
-//! The words of the program `girzohal`, read: what they ask for, or which of them is wrong.
+//! The arguments of the program `girzohal`, read: what they ask for, or the first wrong one.
 //!
 //! - `tables`: the options that have a value
-//! - `items`: what each word says, with the word behind it where that is its value
+//! - `items`: what each argument says, with the next one if that is its value
 //! - `values`: what the values of options mean
-//! - `faults`: the first word that is wrong
-//! - `reading`: what right words ask for
+//! - `faults`: the first wrong argument
+//! - `reading`: what arguments ask for if none is wrong
 #![tactic(auto)]
 
 mod faults;

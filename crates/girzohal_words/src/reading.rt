@@ -1,4 +1,4 @@
-//! What words ask for.
+//! What arguments ask for.
 ghost use Rattle.std.specs.Prelude.{◌≡◌, ◌++◌, IfOk, OnOk, codes, map, option_and_then, option_map};
 ghost use Rattle.std.specs.Prelude.{string_bytes, unwrap_or};
 ghost use Rattle.std.specs.Option.{option_copied, option_or};
@@ -40,21 +40,21 @@ use oxc_plan::TabWidth;
 use report_counts::Level;
 use std::alloc::{AllocError, Global};
 
-/// What words ask for.
+/// What arguments ask for.
 #[derive(Drop)]
 pub enum Request {
-    /// What the words are.
+    /// The help.
     Help,
-    /// Which version this is.
+    /// The version.
     Version,
     /// A run.
     Run(Asked),
 }
 
-/// Why words ask for nothing.
+/// Why arguments ask for nothing.
 #[derive(Clone, Copy, PartialEq, Eq)]
 pub enum Refusal<'w> {
-    /// A word is wrong.
+    /// An argument is wrong.
     Fault(WordFault<'w>),
     /// There was no memory left.
     OutOfMemory,
@@ -71,13 +71,13 @@ impl<'w> From<AllocError> for Refusal<'w> {
     }
 }
 
-/// What words ask for. Options come in any order; the last value of one counts, but all shapes; a
-/// value is the next word, or stands behind `=`; behind `--` all words are files, of which there is
-/// one at most.
+/// What arguments ask for. Options come in any order, and the last value of an option counts, but
+/// each of `--shape`. A value is the next argument, or follows `=`. After `--` all arguments are
+/// files, of which there may be one.
 ///
 /// # Errors
 ///
-/// The first word that is wrong. Help and version are told even then.
+/// The first wrong argument, unless help or the version is asked for; and out of memory.
 pub fn read_words<'w>(alloc: Global, words: &'w [String]) -> Result<Request, Refusal<'w>>
     ensures { Reads (said_by (map string_bytes words.now)) result }
 {
@@ -113,14 +113,14 @@ fn asks_version(items: &[Item<'_>]) -> bool
     has_flag(items, "--version") || has_flag(items, "-V")
 }
 
-/// Whether the line that says how many reports there are is left out.
+/// Whether the line with the numbers of reports is left out.
 fn is_quiet(items: &[Item<'_>]) -> bool
     ensures { result ≡ quiet_asked (map said items.now) }
 {
     has_flag(items, "--quiet") || has_flag(items, "-q")
 }
 
-/// The first wrong word; and where none is wrong by itself, a unit that the form can't count.
+/// The first wrong argument; if none is wrong in itself, a unit that the form can't count.
 #[tactic(auto, unfolding(crate::specs::Reads::wrong_word))]
 fn wrong_word<'w>(alloc: Global, items: &[Item<'w>]) -> Result<Option<WordFault<'w>>, AllocError>
     ensures { IfOk result (λ fault. option_map wrong fault ≡ wrong_word_of (map said items.now)) }
@@ -131,7 +131,7 @@ fn wrong_word<'w>(alloc: Global, items: &[Item<'w>]) -> Result<Option<WordFault<
     }
 }
 
-/// What right words ask for.
+/// What arguments ask for if none is wrong.
 fn asked(alloc: Global, items: &[Item<'_>]) -> Result<Asked, AllocError>
     ensures { IfOk result (λ asked. Asks (map said items.now) asked) }
 {
@@ -156,7 +156,7 @@ fn asked(alloc: Global, items: &[Item<'_>]) -> Result<Asked, AllocError>
     })
 }
 
-/// The folder below which sources are read.
+/// The folder in which sources are read.
 fn root_in(alloc: Global, value: Option<&str>) -> Result<String, AllocError>
     ensures { IfOk result (λ root. string_bytes root
         ≡ unwrap_or (option_copied value.entry) (codes ".")) }
@@ -167,7 +167,7 @@ fn root_in(alloc: Global, value: Option<&str>) -> Result<String, AllocError>
     }
 }
 
-/// A text of its own.
+/// A copy of a text.
 fn owned(alloc: Global, text: Option<&str>) -> Result<Option<String>, AllocError>
     ensures { IfOk result (λ own. option_map string_bytes own ≡ option_copied text.entry) }
 {
@@ -177,7 +177,7 @@ fn owned(alloc: Global, text: Option<&str>) -> Result<Option<String>, AllocError
     }
 }
 
-/// The form in which an input is read: as was asked for, else as the tool writes that was named.
+/// The form in which an input is read: of `--from`, else of `--tool`.
 #[tactic(auto, unfolding(crate::specs::Reads::form_in))]
 fn form_in(items: &[Item<'_>]) -> InputForm
     ensures { result ≡ form_meant (map said items.now) }
@@ -254,7 +254,7 @@ fn most_in(value: Option<&str>) -> Option<usize>
     number(value?)
 }
 
-/// The shapes of all `--shape`, in their order.
+/// The patterns of all `--shape`, in their order.
 #[tactic(auto, unfolding(crate::specs::Reads::shapes_in))]
 fn shapes_in(alloc: Global, items: &[Item<'_>]) -> Result<Vec<OwnShape>, AllocError>
     ensures { IfOk result (λ shapes. map own_parts shapes.items ≡ shapes_of (map said items.now)) }
@@ -268,7 +268,7 @@ fn shapes_in(alloc: Global, items: &[Item<'_>]) -> Result<Vec<OwnShape>, AllocEr
     Ok(shapes)
 }
 
-/// Appends the shape that a value is, if there is one.
+/// Appends the pattern of an item, if it is a `--shape`.
 fn push_shape(
     alloc: Global,
     shapes: &mut Vec<OwnShape>,
@@ -283,7 +283,7 @@ fn push_shape(
     }
 }
 
-/// Appends a shape, if there is one.
+/// Appends a pattern, if there is one.
 fn push_own(shapes: &mut Vec<OwnShape>, shape: Option<OwnShape>) -> Result<(), AllocError>
     ensures { OnOk result (map own_parts shapes.new.items
         ≡ map own_parts shapes.old.items ++ shapes_by (option_map own_parts shape)) }
@@ -297,7 +297,7 @@ fn push_own(shapes: &mut Vec<OwnShape>, shape: Option<OwnShape>) -> Result<(), A
     }
 }
 
-/// The value that an option is given last.
+/// The last value of an option.
 #[tactic(auto, using(crate::proofs::SaidLemmas::last_rules), unfolding(crate::specs::Reads::last_value))]
 fn last_value<'w>(items: &[Item<'w>], name: &str) -> Option<&'w str>
     ensures { option_copied result ≡ last_value_of name.now (map said items.now) }
@@ -311,7 +311,7 @@ fn last_value<'w>(items: &[Item<'w>], name: &str) -> Option<&'w str>
     last
 }
 
-/// The value of an option, if an item sets it, else another one.
+/// The value of an option if an item sets it, else the value before.
 fn value_or<'w>(item: Item<'w>, name: &str, other: Option<&'w str>) -> Option<&'w str>
     ensures { option_copied result
         ≡ option_or (value_of name.now (said item.entry)) (option_copied other.entry) }
@@ -332,7 +332,7 @@ fn value_under<'w>(item: Item<'w>, name: &str) -> Option<&'w str>
     }
 }
 
-/// Whether an option that stands alone is there.
+/// Whether an option without a value is there.
 fn has_flag(items: &[Item<'_>], name: &str) -> bool
     ensures { result ≡ has_flag_of name.now (map said items.now) }
 {
@@ -346,7 +346,7 @@ fn has_flag(items: &[Item<'_>], name: &str) -> bool
     false
 }
 
-/// Whether an item is an option of this name that stands alone.
+/// Whether an item is the option of this name, without a value.
 fn is_named(item: Item<'_>, name: &str) -> bool
     ensures { result ≡ is_named_so name.now (said item.entry) }
 {

@@ -1,6 +1,6 @@
-//! The options that have a value, all of them in this file.
+//! The options that take a value.
 
-/// Each option that has a value, and what is wanted as its value.
+/// Each option that takes a value, and what it expects.
 pub(crate) const SETTINGS: [(&str, &str); 12] = [
     ("--from", "auto, document, sarif or lines"),
     (

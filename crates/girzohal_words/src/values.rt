@@ -21,7 +21,7 @@ use oxc_plan::TabWidth;
 use report_counts::Level;
 use std::alloc::{AllocError, Global};
 
-/// Whether an option has such a value.
+/// Whether an option takes this value.
 #[tactic(auto, unfolding(crate::specs::Values::is_value))]
 pub(crate) fn is_value(alloc: Global, name: &str, value: &str) -> Result<bool, AllocError>
     ensures { IfOk result (λ is. is ≡ is_value_meant name.now value.now) }
@@ -134,7 +134,7 @@ pub(crate) fn first_named(value: &str) -> Option<u32>
     }
 }
 
-/// How far apart tab stops are.
+/// The distance of tab stops.
 #[tactic(auto, unfolding(crate::specs::Values::tabs_named))]
 pub(crate) fn tabs_named(value: &str) -> Option<TabWidth>
     ensures { result ≡ tabs_meant value.now }
@@ -152,7 +152,7 @@ fn tab_width(columns: usize) -> Option<TabWidth>
     }
 }
 
-/// How wide a drawing is; none where the environment is to say it.
+/// The width of a drawing; none if the environment decides.
 #[tactic(auto, unfolding(crate::specs::Values::width_named))]
 pub(crate) fn width_named(value: &str) -> Option<Option<usize>>
     ensures { result ≡ width_meant value.now }
@@ -169,7 +169,7 @@ fn positive(number: usize) -> Option<usize>
     if number == 0 { None } else { Some(number) }
 }
 
-/// Whether something is known of a tool.
+/// Whether a tool is known.
 #[tactic(auto, unfolding(crate::specs::Values::is_tool))]
 fn is_tool(alloc: Global, tool: &str) -> Result<bool, AllocError>
     ensures { IfOk result (λ is. is ≡ is_known_tool tool.now) }
@@ -180,7 +180,7 @@ fn is_tool(alloc: Global, tool: &str) -> Result<bool, AllocError>
     has_lines(alloc, tool)
 }
 
-/// Whether something is known of the lines or of the columns of a tool.
+/// Whether the lines or the columns of a tool are known.
 fn has_lines(alloc: Global, tool: &str) -> Result<bool, AllocError>
     ensures { IfOk result (λ is. is ≡ lines_known tool.now) }
 {
@@ -191,8 +191,7 @@ fn has_lines(alloc: Global, tool: &str) -> Result<bool, AllocError>
     }
 }
 
-/// The form in which a tool writes: `sarif` is the name of those that write logs, and all others
-/// that are known write lines.
+/// The form in which a tool writes: `sarif` means a log, and all other known tools write lines.
 #[tactic(auto, unfolding(crate::specs::Values::form_of_tool))]
 pub(crate) fn form_of_tool(tool: &str) -> InputForm
     ensures { result ≡ form_written tool.now }
@@ -203,7 +202,7 @@ pub(crate) fn form_of_tool(tool: &str) -> InputForm
     }
 }
 
-/// The shape that a text is, if it is one.
+/// The pattern that a text is, if it is one.
 #[tactic(auto, unfolding(crate::specs::Values::shape_named))]
 pub(crate) fn shape_named(alloc: Global, value: &str) -> Result<Option<OwnShape>, AllocError>
     ensures { IfOk result (λ shape. option_map own_parts shape ≡ shape_meant value.now) }
