@@ -8,8 +8,8 @@ use std::alloc::{AllocError, Global};
 /// Why nothing is made of an input.
 #[derive(Drop)]
 pub(crate) enum Fault {
-    /// The input isn't of its form: what the error output is told, which ends in the line that says
-    /// why.
+    /// The input isn't of its form: the text for the error output, which ends in the line that
+    /// says why.
     NoForm(Vec<u8>),
     /// There was no memory left.
     OutOfMemory,
@@ -34,13 +34,14 @@ impl From<ShowError> for Fault {
 
     fn from(error: ShowError) -> Fault {
         match error {
-            // More files than have numbers would take more memory than there is.
+            // So many files would take more memory than there is, so the status stays that of
+            // memory.
             ShowError::TooManyFiles | ShowError::OutOfMemory => Fault::OutOfMemory,
         }
     }
 }
 
-/// That an input isn't of its form.
+/// The fault of an input that isn't of its form, with this reason.
 pub(crate) fn no_form(alloc: Global, text: &str) -> Fault
     ensures { Says (λ line. line ≡ codes "girzohal: " ++ text.now ++ codes "\n") result }
 {

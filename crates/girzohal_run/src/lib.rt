@@ -1,16 +1,16 @@
 //! The run of the program `girzohal`, over any source, store and sinks.
 //!
-//! - [`run`]: an input is read, and what is made of it is written.
-//! - [`Status`]: what a run ended with, and its exit status.
+//! - [`run`]: reads an input and writes the output.
+//! - [`Status`]: how a run ended, and its exit status.
 //!
-//! A run goes through the modules in this order:
+//! Modules, in the order in which a run uses them:
 //!
 //! - `program`: the run itself
 //! - `making`: what is made of an input, in its form
-//! - `object`, `logs`: of a JSON object, which is a document or a log
-//! - `lines`: of lines that a tool prints for people
-//! - `opening`, `live`: of an input whose lines are written as they come
-//! - `texts`: what is written of reports
+//! - `object`, `logs`: the same for a JSON object, which is a document or a log
+//! - `lines`: the same for lines that a tool prints for people
+//! - `opening`, `live`: the same for lines that are written as they come
+//! - `texts`: the texts of reports
 //! - `fault`: why nothing is made
 //! - `status`: how a run ended
 #![tactic(auto)]

@@ -59,14 +59,14 @@ fn is_drawing(form: OutputForm) -> bool
     }
 }
 
-/// Whether drawings or annotations are written: of lines they are as the lines come.
+/// Whether drawings or annotations are written: for lines, that is done as the lines come.
 pub(crate) fn is_live(form: OutputForm) -> bool
     ensures { result ≡ is_live_form form }
 {
     is_drawing(form) || annotates(form)
 }
 
-/// Lines as they are drawn.
+/// The drawing of lines.
 fn drawn<S: Store>(alloc: Global, asked: &Asked, bytes: &[u8], store: &S) -> Result<Made, Fault>
     ensures drawn { IfOk result (λ it. IsDrawn (S.told store.now) asked.now bytes.now
         (string_bytes it.written.text) it.aside.items it.written.reached) }
@@ -114,7 +114,7 @@ fn list_lines<S: Store>(
     write_pieces(alloc, asked, &lines, &pieces, &sources)
 }
 
-/// The lines of a text that came whole: a last LF ends one, and begins none.
+/// The lines of a whole text: a last LF ends a line, and begins none.
 #[tactic(auto, unfolding(drawn_lines::specs::Text::lines_in_text))]
 fn text_lines<'a>(alloc: Global, text: &'a [u8]) -> Result<Vec<&'a [u8]>, AllocError>
     ensures { IfOk result (λ lines. map (λ line. line.now) lines.items
@@ -136,7 +136,7 @@ fn without_lf(text: &[u8]) -> &[u8]
     }
 }
 
-/// What is made of the pieces of lines, with these sources.
+/// What is made of the blocks of lines, with these sources.
 fn write_pieces(
     alloc: Global,
     asked: &Asked,

@@ -20,19 +20,19 @@ use oxc_protocol::{Failed, Sink, write_all};
 use source_store::Store;
 use std::alloc::Global;
 
-/// How far an input is written.
+/// The state of an input that is written as it comes.
 #[derive(Drop)]
 pub(crate) struct Live {
-    /// What is to come.
+    /// The reader of what is to come.
     coming: Coming,
-    /// How many bytes came since something was known.
+    /// How many bytes came since the last known block.
     quiet: usize,
-    /// Whether the error output failed. It is told nothing any more, so that what it received is a
-    /// first part of what stands aside.
+    /// Whether the error output failed. It then gets nothing more: otherwise it could miss a part
+    /// and receive the rest, and no contract could say what it has.
     deaf: bool,
 }
 
-/// Writes an input as it comes, of which these bytes came already.
+/// Writes an input as it comes, after these bytes, which were read already.
 pub(crate) fn run_lines<I: Source, S: Store, O: Sink, E: Sink>(
     alloc: Global,
     asked: &Asked,
@@ -124,7 +124,7 @@ fn draw_all<I: Source, S: Store, O: Sink, E: Sink>(
     out_of_memory(live.deaf, err)
 }
 
-/// Goes on by the bytes that came, and writes what is known now.
+/// Takes the bytes that came, and writes what is known now.
 fn go_on<S: Store, O: Sink, E: Sink>(
     alloc: Global,
     asked: &Asked,
@@ -156,7 +156,8 @@ fn go_on<S: Store, O: Sink, E: Sink>(
     }
 }
 
-/// Writes what is known now, where so many bytes came since something was: first what stands aside.
+/// Writes what is known now: first the text for the error output, then that for the output.
+/// `quiet` is how many bytes came since the last known block.
 fn write<O: Sink, E: Sink>(
     come: Come,
     deaf: bool,
@@ -189,7 +190,7 @@ fn write<O: Sink, E: Sink>(
     }
 }
 
-/// How many bytes came since something was known, where so many came since something was before.
+/// How many bytes came since the last known block, which may be the one that came now.
 fn quiet_behind(come: &Come, quiet: usize) -> usize
     ensures { result ≡ quiet_of come.now quiet }
 {
@@ -200,7 +201,7 @@ fn quiet_behind(come: &Come, quiet: usize) -> usize
     }
 }
 
-/// Goes on, unless more came than a run holds since something was known.
+/// Goes on, unless more than the limit came since the last known block.
 fn limited<E: Sink>(live: Live, err: &mut E) -> Result<Live, Status>
     ensures { (told : Told) (asked : AskedFor) (input out : Device) (heard : Since)
         → Goes told asked input out (device_since E.received E.faults heard err.old) live
@@ -217,7 +218,7 @@ fn limited<E: Sink>(live: Live, err: &mut E) -> Result<Live, Status>
     Ok(live)
 }
 
-/// Writes what is left.
+/// Writes what is left at the end of the input.
 fn end<S: Store, O: Sink, E: Sink>(
     alloc: Global,
     asked: &Asked,
@@ -256,7 +257,7 @@ fn end<S: Store, O: Sink, E: Sink>(
     }
 }
 
-/// Tells the error output a text, unless it failed before; and gives whether it has.
+/// Writes a text to the error output, unless it failed before, and returns whether it has failed.
 fn hear<E: Sink>(deaf: bool, err: &mut E, text: &str) -> bool
     ensures { (heard : Since) (before : List ℕ)
         → Hears deaf (device_since E.received E.faults heard err.old) before
@@ -271,8 +272,8 @@ fn hear<E: Sink>(deaf: bool, err: &mut E, text: &str) -> bool
     }
 }
 
-/// Says why nothing more is written, unless the error output failed before, and gives the status
-/// that stands for it.
+/// Writes to the error output why nothing more is written, unless it failed before, and returns
+/// the status.
 fn say<E: Sink>(deaf: bool, err: &mut E, line: &str, status: Status) -> Status
     ensures told { (heard : Since) (before : List ℕ)
         → Hears deaf (device_since E.received E.faults heard err.old) before
@@ -283,7 +284,7 @@ fn say<E: Sink>(deaf: bool, err: &mut E, line: &str, status: Status) -> Status
     status
 }
 
-/// Says that there is no memory left.
+/// Writes that there is no memory left.
 fn out_of_memory<E: Sink>(deaf: bool, err: &mut E) -> Status
     ensures { (told : Told) (asked : AskedFor) (input out : Device) (heard : Since)
         → Stays told asked input out

@@ -1,4 +1,4 @@
-// What is written of a SARIF log.
+// The output for a SARIF log.
 ghost use Rattle.std.specs.Prelude.{◌≡◌, IfErr, IfOk, string_bytes};
 ghost use Rattle.girzohal_run.specs.Logs.{IsNoLog, NamesPlace, ReadsLog, log_columns as columns_of};
 ghost use Rattle.girzohal_run.specs.Logs.{fault_line, harmless_path as harmless_path_of, no_log_line};
@@ -15,7 +15,7 @@ use sarif::{ColumnKind, LogError, names_of, read_log, reports_of};
 use source_store::{Spelling, Store, gather};
 use std::alloc::{AllocError, Global};
 
-/// What is written of a log, before which this stands.
+/// The output for a log, after `before`.
 pub(crate) fn write_log<S: Store>(
     alloc: Global,
     asked: &Asked,
@@ -42,7 +42,7 @@ pub(crate) fn write_log<S: Store>(
     write(alloc, asked, &found)
 }
 
-/// What columns of a log count.
+/// The unit of a log's columns.
 fn log_columns(unit: Option<Unit>) -> Option<ColumnKind>
     ensures { result ≡ columns_of unit }
 {
@@ -53,7 +53,7 @@ fn log_columns(unit: Option<Unit>) -> Option<ColumnKind>
     }
 }
 
-/// Where reading as JSON stopped.
+/// Where the JSON parser stopped.
 fn no_json(alloc: Global, line: usize, column: usize) -> Fault
     ensures { Says NamesPlace result }
 {
@@ -63,7 +63,7 @@ fn no_json(alloc: Global, line: usize, column: usize) -> Fault
     }
 }
 
-/// What was wanted of a log; a path holds the log's own keys, which are made harmless.
+/// What was expected in a log, and where. A path has the log's own keys, so it is sanitized.
 fn no_log(alloc: Global, path: &str, wanted: &str) -> Fault
     ensures { Says (λ said. said ≡ no_log_line path.now wanted.now) result }
 {
@@ -73,7 +73,7 @@ fn no_log(alloc: Global, path: &str, wanted: &str) -> Fault
     }
 }
 
-/// A path that can't drive a terminal.
+/// A path, sanitized.
 fn harmless_path(alloc: Global, path: &str) -> Result<String, AllocError>
     ensures { IfOk result (λ out. string_bytes out ≡ harmless_path_of path.now) }
 {

@@ -12,7 +12,7 @@ use line_shapes::tables::Unit;
 use source_store::Store;
 use std::alloc::Global;
 
-/// What is written of an input.
+/// The output for an input.
 #[derive(Drop)]
 pub(crate) struct Written {
     /// The text.
@@ -21,16 +21,16 @@ pub(crate) struct Written {
     pub(crate) reached: bool,
 }
 
-/// What is made of an input.
+/// What is made of an input: its output, and the rest.
 #[derive(Drop)]
 pub(crate) struct Made {
     /// What is written.
     pub(crate) written: Written,
-    /// What is none of its reports.
+    /// The part of the input that is none of its reports, for the error output.
     pub(crate) aside: Vec<u8>,
 }
 
-/// What is made of an input, in the form that was asked for.
+/// What is made of an input in the form that was asked for.
 pub(crate) fn make<S: Store>(
     alloc: Global,
     asked: &Asked,
@@ -56,7 +56,8 @@ pub(crate) fn make<S: Store>(
     }
 }
 
-/// How a JSON object is read that may be a document or a log: no log's columns count bytes or cells.
+/// How a JSON object is read that may be a document or a log. A log's columns can't count bytes or
+/// cells.
 fn object_form(columns: Option<Unit>) -> ObjectForm
     ensures { result ≡ form_of_object columns }
 {

@@ -1,4 +1,4 @@
-// What is made of a JSON object: of a document, or of a log.
+// What is made of a JSON object, which is a document or a log.
 ghost use Rattle.std.specs.Prelude.{◌≡◌, ◌≤◌, ◌++◌, IfErr, IfOk, length};
 ghost use Rattle.std.specs.Prelude.{string_bytes};
 ghost use Rattle.input_forms.specs.Object.{has_files as key_files};
@@ -29,7 +29,7 @@ use std::ops::Range;
 /// How a JSON object is read.
 #[derive(Clone, Copy)]
 pub(crate) enum ObjectForm {
-    /// As a document where it has the key `files`, else as a log.
+    /// As a document if it has the key `files`, else as a log.
     Keyed,
     /// As a document.
     AsDocument,
@@ -62,7 +62,7 @@ pub(crate) fn make_object<S: Store>(
     }
 }
 
-/// A fault whose line is told behind a text.
+/// A fault with a text before its line.
 fn told_behind(alloc: Global, text: &[u8], fault: Fault) -> Fault
     ensures { IsToldBehind text.now fault result }
 {
@@ -75,7 +75,7 @@ fn told_behind(alloc: Global, text: &[u8], fault: Fault) -> Fault
     }
 }
 
-/// Two texts as one.
+/// Two texts joined.
 fn joined(alloc: Global, first: &[u8], second: &[u8]) -> Result<Vec<u8>, AllocError>
     ensures { IfOk result (λ all. all.items ≡ first.now ++ second.now) }
 {
@@ -85,7 +85,7 @@ fn joined(alloc: Global, first: &[u8], second: &[u8]) -> Result<Vec<u8>, AllocEr
     Ok(all)
 }
 
-/// What stands around a range; a byte order mark is nothing.
+/// What is around a range, without a byte order mark at the start.
 fn around(alloc: Global, bytes: &[u8], range: Range<usize>) -> Result<Vec<u8>, AllocError>
     requires start { range.start ≤ length bytes.now }
     requires end { range.end ≤ length bytes.now }
@@ -98,7 +98,7 @@ fn around(alloc: Global, bytes: &[u8], range: Range<usize>) -> Result<Vec<u8>, A
     )
 }
 
-/// What is written of a JSON object in a form, before which this stands.
+/// The output for a JSON object in a form, after `before`.
 fn write_part<S: Store>(
     alloc: Global,
     form: ObjectForm,
@@ -119,7 +119,7 @@ fn write_part<S: Store>(
     }
 }
 
-/// What is written of a JSON object: of a document where it has the key `files`, else of a log.
+/// The output for a JSON object: a document if it has the key `files`, else a log.
 fn write_keyed<S: Store>(
     alloc: Global,
     asked: &Asked,
@@ -140,7 +140,7 @@ fn write_keyed<S: Store>(
     }
 }
 
-/// What is written of a document.
+/// The output for a document.
 fn write_document(alloc: Global, asked: &Asked, part: &[u8]) -> Result<Written, Fault>
     ensures written { IfOk result (λ it. Writes (ReadsDocument part.now) asked.now
         (string_bytes it.text) it.reached) }
@@ -156,7 +156,7 @@ fn write_document(alloc: Global, asked: &Asked, part: &[u8]) -> Result<Written, 
     }
 }
 
-/// What is written of reports.
+/// The output for reports.
 pub(crate) fn write(
     alloc: Global,
     asked: &Asked,
@@ -171,7 +171,7 @@ pub(crate) fn write(
     Ok(Written { text, reached })
 }
 
-/// Why an object is no document; a log is none where its columns are to count what it can't.
+/// Why an object isn't a document. With columns that a log can't have, a log isn't read either.
 fn no_document(columns: Option<Unit>) -> &'static str
     ensures { result.now ≡ said_of_none columns }
 {
@@ -183,7 +183,7 @@ fn no_document(columns: Option<Unit>) -> &'static str
     }
 }
 
-/// That a report of a document is refused, and why.
+/// The line that says which report of a document has an error, and why.
 fn refused(alloc: Global, error: ReportError) -> Fault
     ensures { Says (λ line. line ≡ refusal_line error) result }
 {
@@ -193,7 +193,8 @@ fn refused(alloc: Global, error: ReportError) -> Fault
     }
 }
 
-/// Why a report is refused, in the words of the error.
+/// The error of a report, in the same words as the error type prints. What `thiserror` prints has
+/// no contract, so the words are here a second time.
 fn refusal_text(alloc: Global, error: ReportError) -> Result<String, AllocError>
     ensures { IfOk result (λ why. string_bytes why ≡ refusal_text_of error) }
 {

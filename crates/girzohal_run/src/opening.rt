@@ -1,4 +1,4 @@
-// How an input is read: whole, or line by line as it comes.
+// How an input is read: whole, or as it comes.
 ghost use Rattle.std.specs.Prelude.{◌≡◌, true};
 ghost use Rattle.girzohal_run.specs.Opens.{HasOpeningCause, Opens};
 ghost use Rattle.girzohal_run.specs.Opens.{may_begin};
@@ -10,20 +10,20 @@ use input_forms::{FirstBytes, first_bytes};
 use oxc_protocol::Failed;
 use std::alloc::Global;
 
-/// The most bytes that a run reads at once, 64 MiB.
+/// The maximum number of bytes that a run holds of its input, 64 MiB.
 pub(crate) const LIMIT: usize = 67_108_864;
 
-/// How many bytes are read at a time.
+/// How many bytes one read may give.
 pub(crate) const CHUNK: usize = 65_536;
 
-/// What the first bytes of an input came to.
+/// What the first bytes of an input decided.
 #[derive(Drop)]
 pub(crate) enum Opening {
-    /// It is lines that are written as they come; these came.
+    /// It is lines that are written as they come; these bytes were read.
     Lines(Vec<u8>),
-    /// It is read whole; these came.
+    /// It is read whole; these bytes were read.
     Whole(Vec<u8>),
-    /// It goes on past the limit, and nothing is told by it.
+    /// It goes on past the limit, and its form is still open.
     TooLong,
     /// It failed.
     Fault,
@@ -31,7 +31,7 @@ pub(crate) enum Opening {
     OutOfMemory,
 }
 
-/// Reads as much of an input as tells how it is read.
+/// Reads an input until it is known how it is read.
 pub(crate) fn open<I: Source>(alloc: Global, asked: &Asked, input: &mut I) -> Opening
     ensures opens { Opens asked.now (I.left input.old) (I.left input.new) result }
     ensures cause { HasOpeningCause (I.faults input.old) (I.faults input.new) result }
@@ -46,7 +46,7 @@ pub(crate) fn open<I: Source>(alloc: Global, asked: &Asked, input: &mut I) -> Op
     }
 }
 
-/// The same of an input whose first bytes tell its form.
+/// The same for an input whose first bytes decide its form.
 fn begin<I: Source>(alloc: Global, asked: &Asked, input: &mut I) -> Opening
     requires { may_begin asked.now ≡ true }
     ensures opens { Opens asked.now (I.left input.old) (I.left input.new) result }

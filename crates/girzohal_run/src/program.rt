@@ -15,9 +15,9 @@ use oxc_protocol::{Failed, Sink, write_all};
 use source_store::Store;
 use std::alloc::{AllocError, Global};
 
-/// Reads an input to its end and writes what was asked for of the reports that it means, with the
-/// sources that a store has, to `out`; what is none of them goes to `err`, and a line that says why
-/// nothing is written. Of lines drawings and annotations are written as the lines come.
+/// Reads an input to its end and writes its reports to `out` as `asked` says, with the sources of
+/// a store. The rest of the input goes to `err`, and so does the line that says why nothing is
+/// written. Drawings and annotations of lines are written as the lines come.
 pub fn run<I: Source, S: Store, O: Sink, E: Sink>(
     alloc: Global,
     asked: &Asked,
@@ -26,15 +26,15 @@ pub fn run<I: Source, S: Store, O: Sink, E: Sink>(
     out: &mut O,
     err: &mut E,
 ) -> Status
-    // What each status means: with `Clean` and `Reached` the output received exactly what is made of
-    // the reports that the whole input means, with what the store gave, which is what it tells where
-    // it tells something; `Reached` exactly where one is at or above the level.
+    // What each status means. With `Clean` and `Reached` the output received exactly what is made
+    // of the reports of the whole input, with the texts that the store gave; they are those that
+    // it tells, if it tells any. `Reached` exactly if a report is at or above the level.
     ensures means { Means result asked.now (device I.left I.faults input.old input.new)
         (S.told store.now) (device O.received O.faults out.old out.new)
         (device E.received E.faults err.old err.new) }
 
-    // Of an input that isn't lines that are written as they come: with every status but `Clean`,
-    // `Reached` and `SinkFault` the output is as it was, whether it tells what it received or not.
+    // If the input isn't lines that are written as they come: with every status but `Clean`,
+    // `Reached` and `SinkFault` the output is unchanged, whether it tells what it received or not.
     ensures untouched { NeverComes asked.now (I.left input.old)
         → IsUntouched result out.old out.new }
 {
@@ -47,7 +47,7 @@ pub fn run<I: Source, S: Store, O: Sink, E: Sink>(
     }
 }
 
-/// The same of an input that is read whole, of which these bytes came already.
+/// The same for an input that is read whole, after these bytes, which were read already.
 fn run_whole<I: Source, S: Store, O: Sink, E: Sink>(
     alloc: Global,
     asked: &Asked,
@@ -76,7 +76,7 @@ fn run_whole<I: Source, S: Store, O: Sink, E: Sink>(
     }
 }
 
-/// Bytes, and others behind them.
+/// Bytes, and others after them.
 fn with_rest(bytes: Vec<u8>, rest: Vec<u8>) -> Result<Vec<u8>, AllocError>
     ensures { IfOk result (λ all. all.items ≡ bytes.items ++ rest.items) }
 {
@@ -88,7 +88,7 @@ fn with_rest(bytes: Vec<u8>, rest: Vec<u8>) -> Result<Vec<u8>, AllocError>
     Ok(all)
 }
 
-/// Writes what was asked for of the reports that bytes mean.
+/// Writes what was asked for of the reports in these bytes.
 fn show<S: Store, O: Sink, E: Sink>(
     alloc: Global,
     asked: &Asked,
@@ -126,7 +126,7 @@ fn send<O: Sink, E: Sink>(made: &Made, out: &mut O, err: &mut E) -> Status
     }
 }
 
-/// Says why nothing is written, and gives the status that stands for it.
+/// Writes why nothing is written, and returns the status.
 pub(crate) fn fail<E: Sink>(err: &mut E, line: &str, status: Status) -> Status
     ensures told { IsTold (device E.received E.faults err.old err.new) line.now }
     ensures status { result ≡ status }
@@ -135,7 +135,7 @@ pub(crate) fn fail<E: Sink>(err: &mut E, line: &str, status: Status) -> Status
     status
 }
 
-/// Writes bytes to a sink. One that fails receives a first part of them, and nothing else changes.
+/// Writes bytes to a sink. A sink that fails received a first part of them; nothing else changes.
 pub(crate) fn tell<E: Sink>(err: &mut E, bytes: &[u8])
     ensures { IsTold (device E.received E.faults err.old err.new) bytes.now }
 {

@@ -1,13 +1,13 @@
-// What a run ended with.
+// How a run ended.
 
-/// What a run ended with; its [`code`](Status::code) is the program's exit status.
+/// How a run ended; its [`code`](Status::code) is the program's exit status.
 #[derive(Clone, Copy, PartialEq, Eq)]
 pub enum Status {
     /// All was written, and no report is at or above the level.
     Clean,
     /// All was written, and a report is at or above the level.
     Reached,
-    /// The words ask for nothing that can be done.
+    /// An argument is wrong.
     Usage,
     /// The input isn't of its form.
     NoForm,
@@ -17,7 +17,7 @@ pub enum Status {
     SinkFault,
     /// There was no memory left.
     OutOfMemory,
-    /// The input is longer than a run reads, or a piece of lines is that are written as they come.
+    /// The input is longer than the limit, or so is a part of lines that are written as they come.
     InputTooLong,
 }
 

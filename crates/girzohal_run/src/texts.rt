@@ -1,4 +1,4 @@
-// What is written of reports.
+// The texts of reports.
 ghost use Rattle.std.specs.Prelude.{IfErr, IfOk, string_bytes};
 ghost use Rattle.girzohal_run.specs.Made.{IsFree};
 ghost use Rattle.girzohal_run.specs.Texts.{IsText};
@@ -10,7 +10,7 @@ use girzohal_asked::{Asked, OutputForm};
 use report_texts::{document_text, drawing_text, json_text, named_tool, sarif_text};
 use std::alloc::Global;
 
-/// What is written of reports, as it was asked for.
+/// The text of reports in the form that was asked for.
 pub(crate) fn text_of(
     alloc: Global,
     asked: &Asked,
