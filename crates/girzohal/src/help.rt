@@ -1,4 +1,4 @@
-// What the program says of itself.
+// The program's help and version.
 
 /// What `--help` prints.
 pub(crate) const HELP: &str = "girzohal: draws what compilers and linters found, with the sources
@@ -81,5 +81,5 @@ isn't of its form, 4 a read failed, 5 a write failed, 6 no memory, 7 more than
 /// What `--version` prints.
 pub(crate) const VERSION: &str = "girzohal 0.1.0";
 
-/// What stands below the line that says what is wrong with the words.
+/// The line below the one that says which argument is wrong.
 pub(crate) const MORE: &str = "girzohal: --help says what the words are";

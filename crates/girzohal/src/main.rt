@@ -1,12 +1,12 @@
-//! The program `girzohal`: what linters and compilers found, drawn with the sources, or in the forms that
-//! other programs read.
+//! The program `girzohal`: what linters and compilers found, drawn with the sources, or in the
+//! forms that other programs read.
 //!
-//! [`run`](girzohal_run::run) is the whole run over any source, store and sinks; `main` reads the words
-//! and gives it the standard streams and the disk. Besides there are:
+//! [`run`](girzohal_run::run) is the whole run over any source, store and sinks. `main` reads the
+//! arguments and calls it with the standard streams and the disk. The other modules:
 //!
-//! - `help`: what the program says of itself
-//! - `words`: why words ask for nothing
-//! - `surroundings`: what the environment says of colors and width
+//! - `help`: the help and the version
+//! - `words`: the error for a wrong argument
+//! - `surroundings`: colors and width from the environment
 #![tactic(auto)]
 
 mod help;
@@ -48,7 +48,7 @@ fn main(rt: HostRuntime) -> ExitCode {
     }
 }
 
-/// Says what was asked.
+/// Writes the help or the version.
 fn tell(rt: &HostRuntime, text: &str) -> ExitCode {
     match println!(rt; "{text}") {
         Ok(()) => ExitCode::SUCCESS,
@@ -56,7 +56,7 @@ fn tell(rt: &HostRuntime, text: &str) -> ExitCode {
     }
 }
 
-/// Does what the words ask for, with the streams and the disk of the system.
+/// Runs with these options, over the streams and the disk of the system.
 fn obey(rt: &HostRuntime, alloc: Global, mut asked: Asked) -> ExitCode {
     let around = Surroundings::of(rt, rt.stdout().is_terminal());
     asked.theme = around.theme(asked.theme);
@@ -74,7 +74,7 @@ fn obey(rt: &HostRuntime, alloc: Global, mut asked: Asked) -> ExitCode {
     read_file(rt, alloc, &asked, file, &store)
 }
 
-/// Runs over a file, or says why it isn't read.
+/// Runs over a file, or writes why it isn't read.
 fn read_file(
     rt: &HostRuntime,
     alloc: Global,
@@ -102,7 +102,7 @@ fn why_closed(kind: ErrorKind) -> &'static str {
     }
 }
 
-/// The absolute path, without links, of what is a folder.
+/// The absolute path of a folder, without links.
 fn folder_at(rt: &HostRuntime, alloc: Global, path: &str) -> Option<String> {
     let real = rt.canonicalize(alloc, path).ok()?;
     match rt.metadata(real.as_path().as_str()) {
@@ -111,7 +111,7 @@ fn folder_at(rt: &HostRuntime, alloc: Global, path: &str) -> Option<String> {
     }
 }
 
-/// The file that is read; none where it is standard input.
+/// The file to read; none for standard input.
 fn file_in(asked: &Asked) -> Option<&str> {
     match asked.file.as_deref() {
         Some("-") | None => None,
@@ -119,7 +119,7 @@ fn file_in(asked: &Asked) -> Option<&str> {
     }
 }
 
-/// Says why a file isn't read, whose name can't drive a terminal.
+/// Writes why a file isn't read, with its name sanitized.
 fn refuse_file(rt: &HostRuntime, alloc: Global, file: &str, why: &str) -> ExitCode {
     let Ok(name) = harmless(alloc, Kind::Name, file) else {
         return ExitCode::from(Status::OutOfMemory.code());
@@ -141,7 +141,7 @@ fn start<I: Source>(
     ExitCode::from(run(alloc, asked, input, store, &mut out, &mut err).code())
 }
 
-/// Says which word is wrong, and why.
+/// Writes which argument is wrong, and why.
 fn refuse(rt: &HostRuntime, alloc: Global, fault: WordFault<'_>) -> ExitCode {
     let Ok(lines) = lines_of(alloc, fault) else {
         return ExitCode::from(Status::OutOfMemory.code());

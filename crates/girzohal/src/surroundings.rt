@@ -1,11 +1,11 @@
-// What the environment says of colors and of the width.
+// Colors and width from the environment.
 use girzohal_asked::ThemeChoice;
 use std::env;
 
-/// How wide a drawing is where nothing says it, in columns.
+/// The default width of a drawing, in columns.
 const WIDTH: usize = 80;
 
-/// What the environment says.
+/// The environment.
 #[derive(Clone, Copy)]
 pub(crate) struct Surroundings {
     /// Whether the output is a terminal.
@@ -24,7 +24,7 @@ impl Surroundings {
     ghost use Rattle.std.specs.Prelude.{◌≡◌, ◌≢◌, IfSome};
     ghost use Rattle.girzohal_asked.specs.declared.ThemeChoice.TheVariants.{Auto};
 
-    /// What the environment of the program says.
+    /// The environment of the program.
     pub(crate) fn of(rt: &HostRuntime, terminal: bool) -> Surroundings {
         let columns = match env::var(rt, "COLUMNS") {
             Ok(text) => width_in(text.as_str()),
@@ -39,8 +39,8 @@ impl Surroundings {
         }
     }
 
-    /// The theme of a choice: of `Auto` one with colors where they are forced, or where a person looks
-    /// who doesn't refuse them.
+    /// The theme of a choice. For `Auto` it has colors if they are forced, or if the output is a
+    /// terminal and they aren't turned off.
     pub(crate) fn theme(self, choice: ThemeChoice) -> ThemeChoice
         ensures asked { choice ≢ Auto → result ≡ choice }
         ensures settled { result ≢ Auto }
@@ -67,7 +67,7 @@ impl Surroundings {
     }
 }
 
-/// The width that a text says.
+/// The width that a text is.
 fn width_in(text: &str) -> Option<usize> {
     match text.parse::<usize>() {
         Ok(width) if width > 0 => Some(width),
@@ -75,8 +75,8 @@ fn width_in(text: &str) -> Option<usize> {
     }
 }
 
-/// Whether a variable is set to something that is neither empty nor this text. What is no UTF-8 is
-/// something.
+/// Whether a variable is set to something that is neither empty nor this text. A value that isn't
+/// UTF-8 counts as something.
 fn is_set_but(rt: &HostRuntime, name: &str, text: &str) -> bool {
     match env::var(rt, name) {
         Ok(value) => !value.as_str().is_empty() && value.as_str() != text,

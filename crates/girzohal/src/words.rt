@@ -1,11 +1,11 @@
-// Why words ask for nothing, as it is told.
+// The error for a wrong argument.
 use crate::help::MORE;
 use girzohal_words::{WordFault, wanted_of};
 use harmless::{Kind, harmless};
 use line_shapes::parse::{ShapeError, parse};
 use std::alloc::{AllocError, Global};
 
-/// The two lines that say which word is wrong, and why.
+/// The two lines that say which argument is wrong, and why.
 pub(crate) fn lines_of(alloc: Global, fault: WordFault<'_>) -> Result<String, AllocError> {
     let why = why(alloc, fault)?;
     let line = harmless(alloc, Kind::Name, why.as_str())?;
@@ -13,7 +13,7 @@ pub(crate) fn lines_of(alloc: Global, fault: WordFault<'_>) -> Result<String, Al
     format!(in alloc; "girzohal: {line}\n{more}\n")
 }
 
-/// Which word is wrong, and why.
+/// Which argument is wrong, and why.
 fn why(alloc: Global, fault: WordFault<'_>) -> Result<String, AllocError> {
     match fault {
         WordFault::Unknown(word) => format!(in alloc; "{word}: there is no such option"),
@@ -44,12 +44,12 @@ fn why(alloc: Global, fault: WordFault<'_>) -> Result<String, AllocError> {
     }
 }
 
-/// What is wanted as the value of an option.
+/// The value that an option expects.
 fn wanted(name: &str) -> &'static str {
     wanted_of(name).unwrap_or("a value")
 }
 
-/// Why a text is no shape.
+/// Why a text isn't a pattern.
 fn shape_fault(alloc: Global, text: &str) -> &'static str {
     match parse(alloc, text) {
         Err(ShapeError::Unclosed) => "wanted a brace that closes",
