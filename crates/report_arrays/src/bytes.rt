@@ -1,4 +1,4 @@
-// Whether bytes are UTF-8. ASCII is passed by large blocks, at less cost than judging characters.
+// Whether bytes are UTF-8. ASCII is skipped in large blocks, which costs less than `simdutf8`.
 ghost use Rattle.std.specs.Prelude.{◌≡◌, ◌<◌, ◌≤◌, ◌||◌, length, take, true, false, nat_le, nat_lt};
 ghost use Rattle.std.specs.Prelude.{IsTrue, MatchOption};
 ghost use Rattle.std.specs.Str.{IsAscii, IsCharBoundary, is_utf8 as utf8};
@@ -7,10 +7,10 @@ use simdutf8::is_utf8;
 use std::simd::prelude::*;
 use std::str::from_utf8_unchecked;
 
-/// How many bytes are looked at before it is asked whether one of them isn't ASCII.
+/// The size of a block that is ASCII or not.
 const BLOCK: usize = 512;
 
-/// How many bytes are judged as characters, at most, before ASCII is sought again.
+/// The maximum number of bytes that `simdutf8` checks before blocks are tried again.
 const PART: usize = 1024;
 
 /// The bytes as a text, if they are UTF-8.
@@ -25,7 +25,7 @@ pub(crate) fn as_text(bytes: &[u8]) -> Option<&str>
     }
 }
 
-/// Whether the bytes are UTF-8: each part that isn't ASCII, and begins and ends with a character.
+/// Whether the bytes are UTF-8: checks each part that isn't ASCII, cut between characters.
 fn is_utf8_by_parts(bytes: &[u8]) -> bool
     ensures { result ≡ utf8 bytes.now }
 {
@@ -41,7 +41,7 @@ fn is_utf8_by_parts(bytes: &[u8]) -> bool
     true
 }
 
-/// Where a part ends that begins there: before a character, or at the bytes' end.
+/// Where a part ends that begins there: before a character, or at the end of the bytes.
 fn part_end(bytes: &[u8], start: usize) -> usize
     requires { start ≤ length bytes.now }
     ensures behind { start ≤ result }
@@ -69,7 +69,7 @@ fn begins_character(byte: u8) -> bool
     byte < 128 || byte >= 192
 }
 
-/// How many bytes lie in whole blocks of ASCII at the front.
+/// The number of bytes in whole blocks of ASCII at the start.
 fn ascii_blocks(bytes: &[u8]) -> usize
     ensures within { result ≤ length bytes.now }
     ensures ascii { IsAscii (take result bytes.now) }

@@ -1,4 +1,4 @@
-// The first of the arrays' elements that is wrong.
+// The first wrong element of the arrays.
 ghost use Rattle.std.specs.Prelude.{◌≡◌, Some, None, MatchResult, length, not};
 ghost use Rattle.std.specs.Str.{is_utf8};
 ghost use Rattle.std.specs.List.{position};
@@ -11,20 +11,20 @@ use crate::labels::has_labels;
 use crate::shapes::{File, Label, Report};
 use crate::texts::{is_filled, is_optional, is_short_text, is_text};
 
-/// The first argument that is wrong. The arrays are judged in this order, each by its elements'
-/// order.
+/// The first wrong argument. The arrays are checked in this order, each in the order of its
+/// elements.
 #[derive(Clone, Copy, PartialEq, Eq)]
 pub enum Wrong {
-    /// The texts are no UTF-8.
+    /// The texts aren't UTF-8.
     InTexts,
-    /// A file whose name is no text, or whose source is none of fewer than `u32::MAX` bytes. More
-    /// than `u32::MAX` files are wrong as a whole, before any of them is looked at: the place is
-    /// `usize::MAX`.
+    /// A file whose name isn't a text, or whose source isn't a text of fewer than `u32::MAX`
+    /// bytes. More than `u32::MAX` files are wrong as a whole, before any of them is checked: the
+    /// index is `usize::MAX`.
     InFile(usize),
-    /// A report on a file that isn't there, of an unknown severity, without a message, with a text
-    /// that is none, with an empty scope or number, or with labels outside their list.
+    /// A report on a file that isn't there, of an unknown severity, without a message, with a
+    /// range that isn't a text, with an empty scope or number, or with labels outside their list.
     InReport(usize),
-    /// A label with a range that is neither a text nor the one that stands for none.
+    /// A label whose text is neither a text nor the range for no text.
     InLabel(usize),
 }
 
@@ -32,8 +32,8 @@ pub enum Wrong {
 ///
 /// # Errors
 ///
-/// The first argument that is wrong: the texts, then the files, the reports and the labels, whether
-/// a report names them or not. Where a label stands in its file's source isn't judged here.
+/// The first wrong argument: the texts, then the files, the reports and the labels, whether a
+/// report names them or not. A label's range in its file's source isn't checked here.
 pub fn read_texts<'a>(
     texts: &'a [u8],
     files: &[File],
@@ -70,7 +70,7 @@ fn first_wrong(texts: &str, files: &[File], reports: &[Report], labels: &[Label]
     }
 }
 
-/// More than `u32::MAX` files are wrong as a whole: the last have no number.
+/// More than `u32::MAX` files are wrong as a whole: the last ones would have no number.
 fn wrong_file(texts: &str, files: &[File]) -> Option<usize>
     ensures { result ≡ wrong_file texts.now files.now }
 {

@@ -4,7 +4,7 @@ ghost use Rattle.report_arrays.specs.Labels.{has_labels, labels_of};
 
 use crate::shapes::{Label, Report};
 
-/// The labels of a report; none where they stand outside the list.
+/// The labels of a report; none if they are outside the list.
 pub fn report_labels<'a>(labels: &'a [Label], report: &Report) -> &'a [Label]
     ensures { result.now ≡ labels_of labels.now report.now }
 {
@@ -15,7 +15,7 @@ pub fn report_labels<'a>(labels: &'a [Label], report: &Report) -> &'a [Label]
     }
 }
 
-/// Whether the report's labels stand in a list so long.
+/// Whether the report's labels are within a list of this length.
 pub(crate) fn has_labels(labels: usize, report: &Report) -> bool
     ensures { result ≡ has_labels labels report.now }
 {

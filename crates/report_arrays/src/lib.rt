@@ -1,12 +1,10 @@
-//! Reports in plain arrays: which element is the first that is wrong, and what ranges of a buffer
-//! of texts mean.
+//! Reports in plain arrays: the first wrong element, and what ranges of a buffer of texts mean.
 //!
-//! Callers in C hand over numbers. All texts stand in one buffer of bytes, and files, reports and
-//! labels name them by ranges of it. [`read_texts`] judges the arrays; [`text`], [`optional_text`]
-//! and [`report_labels`] read them, and every number means something, so they ask nothing of their
-//! caller.
+//! Callers in C pass numbers. All texts are in one buffer of bytes; files, reports and labels have
+//! ranges of it. [`read_texts`] checks the arrays. [`text`], [`optional_text`] and
+//! [`report_labels`] read them; every number means something, so these calls have no condition.
 //!
-//! Data goes through the modules in this order:
+//! Modules, in the order in which data uses them:
 //!
 //! - `shapes`: the elements of the arrays, as C lays them out;
 //! - `texts`: a range of the buffer as a text;

@@ -15,13 +15,13 @@ pub struct Text {
 #[repr(C)]
 #[derive(Clone, Copy)]
 pub struct File {
-    /// What it is called in the drawing.
+    /// Its name in the drawing.
     pub name: Text,
-    /// What it holds.
+    /// Its source.
     pub source: Text,
 }
 
-/// A label: a part of its file's source, and what is said of it.
+/// A label: a range of its file's source, and its text.
 #[repr(C)]
 #[derive(Clone, Copy)]
 pub struct Label {
@@ -29,9 +29,9 @@ pub struct Label {
     pub start: u32,
     /// The byte past its last.
     pub end: u32,
-    /// What it says, or no text.
+    /// Its text, or no text.
     pub text: Text,
-    /// Whether the report points at it first of all: any number but 0 says so.
+    /// Whether it is primary: any number but 0.
     pub primary: u32,
 }
 
@@ -39,24 +39,24 @@ pub struct Label {
 #[repr(C)]
 #[derive(Clone, Copy)]
 pub struct Report {
-    /// The file's place in the list of files, from 0.
+    /// The file's index in the list of files, from 0.
     pub file: u32,
     /// 0: advice; 1: a warning; 2: an error.
     pub severity: u32,
-    /// What is reported.
+    /// The message.
     pub message: Text,
     /// The first part of its code, or no text; never empty.
     pub scope: Text,
     /// The second part of its code, or no text; never empty.
     pub number: Text,
-    /// How to mend it, or no text.
+    /// The help, or no text.
     pub help: Text,
-    /// What else there is to know, or no text.
+    /// The note, or no text.
     pub note: Text,
-    /// Where more is said, or no text.
+    /// The URL, or no text.
     pub url: Text,
-    /// Its first label's place in the list of labels, from 0.
+    /// Its first label's index in the list of labels, from 0.
     pub first_label: usize,
-    /// How many labels it has, from the first on.
+    /// How many labels it has.
     pub labels: usize,
 }

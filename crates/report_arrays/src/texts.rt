@@ -18,7 +18,7 @@ fn is_boundary(texts: &str, at: usize) -> bool
     }
 }
 
-/// Whether a text lies in the buffer and cuts no character.
+/// Whether a text is in the buffer and cuts no character.
 #[tactic(auto, unfolding(crate::specs::Texts::is_text))]
 pub(crate) fn is_text(texts: &str, range: Text) -> bool
     ensures { result ≡ is_text texts.now range }
@@ -58,7 +58,7 @@ pub(crate) fn is_short_text(texts: &str, range: Text) -> bool
     is_text(texts, range) && range.end - range.start < u32::MAX as usize
 }
 
-/// The text at a range; the empty one where the range is wrong.
+/// The text at a range; the empty text if the range is wrong.
 #[tactic(auto, unfolding(crate::specs::Texts::is_text), using(crate::proofs::Boundaries::boundary_said))]
 pub fn text(texts: &str, range: Text) -> &str
     ensures { result.now ≡ text_of texts.now range }
