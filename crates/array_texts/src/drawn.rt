@@ -18,15 +18,14 @@ use render_files::ReportError;
 use report_arrays::{File, Label, Report, optional_text, report_labels, text};
 use std::alloc::{AllocError, Global};
 
-/// The drawings of the reports that arrays say, one after another.
+/// The drawings of the reports in arrays, one after another.
 ///
-/// Every number means something, so that nothing is asked of the arrays. Want of memory is told for
-/// a source that 32 bits don't reach, too.
+/// Every number means something, so the arrays have no condition. A source of `u32::MAX` bytes or
+/// more counts as out of memory.
 ///
 /// # Errors
 ///
-/// The refusals of [`ReportError`], by the first report that has a fault, and want of memory; never
-/// `SinkFault`.
+/// The [`ReportError`] of the first report that has one, and out of memory; never `SinkFault`.
 pub fn arrays_text(
     alloc: Global,
     handler: &GraphicalReportHandler,
@@ -47,10 +46,10 @@ pub fn arrays_text(
     }
 }
 
-/// How many bytes of room are taken at first for each drawing.
+/// How many bytes are reserved for each drawing.
 const GUESS: usize = 256;
 
-/// The drawings of reports of which none is refused.
+/// The drawings of reports without errors.
 fn draw_all(
     alloc: Global,
     handler: &GraphicalReportHandler,
@@ -81,7 +80,7 @@ fn draw_all(
     Ok(text)
 }
 
-/// Readers that were told where the labels of reports start.
+/// Readers that know where the labels of reports start.
 fn readers_for<'a>(
     alloc: Global,
     sources: &'a Sources<'a>,
@@ -100,8 +99,8 @@ fn readers_for<'a>(
     Ok(readers)
 }
 
-/// Appends the drawing of a report that isn't refused. Want of memory is told for a source that 32
-/// bits don't reach, too, which right arrays never have.
+/// Appends the drawing of a report without an error. A source of `u32::MAX` bytes or more, which
+/// checked arrays never have, counts as out of memory.
 #[tactic(auto, unfolding(crate::specs::Values::report))]
 fn push_drawing<'a>(
     alloc: Global,
@@ -137,7 +136,7 @@ fn push_drawing<'a>(
     readers.draw(handler, out, report.file, &view)
 }
 
-/// The code of a report, as it is shown.
+/// The code of a report, as shown.
 fn code_of(alloc: Global, texts: &str, report: &Report) -> Result<Option<String>, AllocError>
     ensures { IfOk result (λ code. text_bytes code ≡ shown_code
         (optional_of texts.now report.now.scope) (optional_of texts.now report.now.number)) }

@@ -10,7 +10,7 @@ use oxc_span::LabeledSpan;
 use report_arrays::{Label, Text, optional_text};
 use std::alloc::{AllocError, Global};
 
-/// The labels of a source. One that has no place there stands at its beginning.
+/// The labels of a source. A label without a position there is put at its beginning.
 pub(crate) fn placed(
     alloc: Global,
     source: &str,
@@ -46,7 +46,7 @@ fn placed_label(
     })
 }
 
-/// A text of its own, where there is one.
+/// A copy of an optional text.
 fn owned(alloc: Global, texts: &str, range: Text) -> Result<Option<String>, AllocError>
     ensures { IfOk result (λ it. text_bytes it ≡ optional_of texts.now range) }
 {
@@ -56,7 +56,7 @@ fn owned(alloc: Global, texts: &str, range: Text) -> Result<Option<String>, Allo
     }
 }
 
-/// The offset of a label's start, or none where it has none.
+/// The offset of a label's start, if it has one.
 pub(crate) fn start_of(source: &str, label: &Label) -> Option<u32>
     ensures { result ≡ boundary_of source.now label.now.start }
 {
@@ -70,7 +70,7 @@ pub(crate) fn end_of(source: &str, label: &Label) -> Option<u32>
     boundary_at(source, label.end)
 }
 
-/// The number itself, where no character is cut there.
+/// The number itself, if no character is cut there.
 #[tactic(auto, using(render_files::proofs::Offsets::boundary_there, render_files::proofs::Offsets::no_boundary_there))]
 fn boundary_at(text: &str, offset: u32) -> Option<u32>
     ensures { result ≡ boundary_of text.now offset }

@@ -1,13 +1,13 @@
-//! Reports in plain arrays, drawn where they stand: of what they say the text of a label and a code
-//! are copied before it is drawn, and nothing else.
+//! Reports in plain arrays, drawn without a copy of them: only the text of a label and the code
+//! are copied before they are drawn.
 //!
-//! [`arrays_text`] gives what `render_files` would draw of the files and reports that the arrays
-//! say, and refuses what it would refuse.
+//! [`arrays_text`] returns what `render_files` would draw of the files and reports in the arrays,
+//! and has the same errors.
 //!
-//! Data goes through the modules in this order:
+//! Modules, in the order in which data uses them:
 //!
-//! - `sources`: the files that the arrays say;
-//! - `refusals`: the first report that is refused;
+//! - `sources`: the files in the arrays;
+//! - `refusals`: the first report with an error;
 //! - `labels`: labels at their offsets;
 //! - `readers`: reports drawn by one scanner for each file;
 //! - `drawn`: the drawings of all reports.

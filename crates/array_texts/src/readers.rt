@@ -1,4 +1,4 @@
-// Reports drawn by scanners that are kept, one for each file.
+// Reports drawn by one kept scanner for each file.
 ghost use Rattle.std.specs.Prelude.{◌≡◌, ◌<◌, ◌≤◌, ◌++◌, All, IfOk, IfSome, OnOk, length};
 ghost use Rattle.std.specs.Prelude.{string_bytes};
 ghost use Rattle.codespan.specs.Texts.{text_of};
@@ -14,11 +14,11 @@ use std::alloc::{AllocError, Global};
 use std::collections::BTreeMap;
 use std::marker::Model;
 
-/// Scanners of files, which read one row round a span. Contracts see the files.
+/// Scanners of files, which read one row around a span. Contracts see the files.
 ///
-/// The scanner of a file is made for the first report on it, and kept for the reports to come. It
-/// begins to keep rows at the least place that was told of the file, so that reports in any order
-/// find the rows that they show.
+/// The scanner of a file is made for the first report on it, and kept for later reports. It keeps
+/// rows from the smallest offset that was given for the file, so that reports in any order find
+/// the rows that they show.
 #[derive(Drop)]
 pub(crate) struct Readers<'a> {
     sources: &'a Sources<'a>,
@@ -53,7 +53,7 @@ impl<'a> Readers<'a> {
         }
     }
 
-    /// Tells that a label of a file starts there.
+    /// Notes that a label of a file starts there.
     pub(crate) fn tell(&mut self, file: u32, start: u32) -> Result<(), AllocError>
         ensures { self.new ≡ self.old }
     {
@@ -94,7 +94,7 @@ impl<'a> Readers<'a> {
         Ok(())
     }
 
-    /// A scanner of a file, which keeps rows from the least place on that was told.
+    /// A scanner of a file, which keeps rows from the smallest given offset.
     fn new_reader(&self, file: u32) -> Result<SpanScanner<'a>, AllocError>
         requires held { file < length self.now }
         requires fits { length (text_of self.now file) < 4294967295 }

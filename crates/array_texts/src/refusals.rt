@@ -1,4 +1,4 @@
-// The first report that is refused.
+// The first report with an error.
 ghost use Rattle.std.specs.Prelude.{◌≡◌, map};
 ghost use Rattle.array_texts.specs.Values.{label as label_of, report as report_of};
 ghost use Rattle.render_files.specs.Refusal.{first_at, outside as outside_of, refusal_of};
@@ -9,7 +9,7 @@ use crate::sources::Sources;
 use render_files::ReportError;
 use report_arrays::{Label, Report, report_labels};
 
-/// Why the first report that is refused is so, if one is.
+/// The error of the first report that has one.
 #[tactic(auto, unfolding(render_files::specs::Refusal::refusal_of))]
 pub(crate) fn first_refusal(
     sources: &Sources<'_>,
@@ -48,7 +48,7 @@ fn refusal_in(
     }
 }
 
-/// The first label one of whose ends is no place in the source.
+/// The first label with a start or an end that is no position in the source.
 fn first_outside(source: &str, texts: &str, report: usize, labels: &[Label]) -> Option<ReportError>
     ensures { result ≡ first_at (outside_of source.now report) 0
         (map (label_of texts.now) labels.now) }

@@ -1,4 +1,4 @@
-// The files that the arrays say.
+// The files in the arrays.
 ghost use Rattle.std.specs.Prelude.{◌≡◌, ◌<◌, length, map, nat_lt};
 ghost use Rattle.codespan.specs.Texts.{name_of, text_of};
 ghost use Rattle.array_texts.specs.Values.{named};
@@ -6,7 +6,7 @@ ghost use Rattle.array_texts.specs.Values.{named};
 use report_arrays::{File, text};
 use std::marker::Model;
 
-/// Files by their numbers, which are places in an array. Contracts see their names and sources.
+/// Files by their numbers, which are indexes in an array. Contracts see their names and sources.
 #[derive(Drop)]
 pub(crate) struct Sources<'a> {
     texts: &'a str,
