@@ -1,4 +1,4 @@
-// What a call leaves in the answer and in the buffer.
+// What a call writes to the answer and to the buffer.
 ghost use Rattle.std.specs.Prelude.{◌≡◌, ◌⊎◌, length, take};
 ghost use Rattle.std.specs.Str.{IsUtf8};
 ghost use Rattle.girzohal_c.specs.Answers.{needs, no_answer as none_of};
@@ -10,7 +10,7 @@ use crate::shapes::Answer;
 use render_files::ReportError;
 use report_arrays::Wrong;
 
-/// Replies with a text, or with why there is none, and gives the status.
+/// Replies with a text, or with the reason that there is none, and returns the status.
 pub(crate) fn reply_with(made: Result<String, Fault>, out: &mut [u8], answer: &mut Answer) -> u32
     ensures told { Tells made (reply result answer.new out.old out.new) }
     ensures kept { (result ≡ 0) ⊎ (out.new ≡ out.old) }
@@ -37,7 +37,7 @@ pub(crate) fn reply_with(made: Result<String, Fault>, out: &mut [u8], answer: &m
     }
 }
 
-/// Writes a text to the beginning of a buffer, if it fits, and tells its length.
+/// Writes a text to the beginning of a buffer if it fits, and its length to the answer.
 #[tactic(auto, using(crate::proofs::Written::written_is_utf8))]
 fn give_text(text: &str, out: &mut [u8], answer: &mut Answer) -> u32
     ensures given { Gives text.now (reply result answer.new out.old out.new) }
@@ -63,7 +63,7 @@ fn give_bytes(text: &[u8], out: &mut [u8], answer: &mut Answer) -> u32
     0
 }
 
-/// An answer that says nothing beside the status.
+/// An answer that says nothing but the status.
 fn no_answer() -> Answer
     ensures { result ≡ none_of }
 {
@@ -97,7 +97,7 @@ fn wrong_answer(argument: Argument) -> Answer
     }
 }
 
-/// Why a report is refused.
+/// The error of a report.
 fn refused_answer(why: ReportError) -> Answer
     ensures { result ≡ refused_of why }
 {

@@ -1,4 +1,4 @@
-// The text of what the arguments mean, or why there is none.
+// The text of what the arguments mean, or the reason that there is none.
 ghost use Rattle.std.specs.Prelude.{map};
 ghost use Rattle.render_files.specs.Given.{given_report};
 ghost use Rattle.array_texts.specs.Values.{named, report as report_of};
@@ -15,7 +15,7 @@ use render_files::{FileReport, ReportError, files_json, files_text};
 use report_arrays::{File, Label, Report, Wrong, read_texts};
 use std::alloc::Global;
 
-/// An argument that is wrong.
+/// A wrong argument.
 #[derive(Clone, Copy, PartialEq, Eq)]
 pub(crate) enum Argument {
     /// The texts, or an element of the arrays.
@@ -24,20 +24,21 @@ pub(crate) enum Argument {
     InLook(usize),
 }
 
-/// Why there is no text.
+/// The reason that there is no text.
 #[derive(Clone, Copy, PartialEq, Eq)]
 pub(crate) enum Fault {
     /// An argument is wrong.
     IsWrong(Argument),
-    /// The bytes are no document.
+    /// The bytes aren't a document.
     IsNoDocument,
-    /// A report is refused.
+    /// A report has an error.
     IsRefused(ReportError),
-    /// There was no memory.
+    /// There was no memory left.
     WantsMemory,
 }
 
-/// The text of what the arrays mean. Every argument is judged before memory is asked for.
+/// The text of what the arrays mean. Every argument is checked before memory is asked for, so that
+/// a wrong one is found without memory too.
 #[tactic(auto, unfolding(crate::specs::Meaning::wrong))]
 pub(crate) fn draw_arrays(
     alloc: Global,
@@ -65,7 +66,7 @@ pub(crate) fn draw_arrays(
     }
 }
 
-/// The text of what a document means. The look is judged before the document is read.
+/// The text of what a document means. The look is checked before the document is read.
 pub(crate) fn draw_document(alloc: Global, document: &[u8], look: &Look) -> Result<String, Fault>
     ensures { Makes look.now (document_meaning document.now look.now) result }
 {
@@ -85,8 +86,8 @@ pub(crate) fn draw_document(alloc: Global, document: &[u8], look: &Look) -> Resu
     }
 }
 
-/// The text of what arrays say of which none is wrong: drawn where it stands, or as JSON by way of
-/// files and reports of their own.
+/// The text of checked arrays: drawn without a copy of them, or as JSON by way of copied files and
+/// reports.
 fn draw_right(
     alloc: Global,
     texts: &str,

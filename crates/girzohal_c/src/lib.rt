@@ -1,14 +1,14 @@
 //! Drawings of diagnostics for callers in C.
 //!
-//! Every argument is tested here, so the calls ask nothing of their caller but what C's slices owe.
-//! No pointer is kept, and nothing has to be freed.
+//! Every argument is checked here, so the calls have no condition but C's own on slices. No
+//! pointer is kept, and there is nothing to free.
 //!
-//! Data goes through the modules in this order:
+//! Modules, in the order in which data uses them:
 //!
 //! - `shapes`: the look and the answer, as C lays them out;
-//! - `style`: what a look says, or which of its numbers is wrong;
-//! - `values`: what the elements of the arrays say, as files of a database and reports on them;
-//! - `drawing`: the text of what the arguments mean, or why there is none;
+//! - `style`: the style of a look, or which of its numbers is wrong;
+//! - `values`: the arrays as files of a database and reports on them;
+//! - `drawing`: the text of what the arguments mean, or the reason that there is none;
 //! - `answers`: the status, the answer and the buffer.
 #![tactic(auto)]
 
@@ -29,11 +29,11 @@ pub use crate::shapes::{Answer, Look};
 use report_arrays::{File, Label, Report};
 use std::alloc::Global;
 
-/// Writes reports that stand in plain arrays into the caller's buffer, and gives the status.
+/// Writes the reports in plain arrays into the caller's buffer, and returns the status.
 ///
-/// 0: the text was written; 1: a report is refused; 2: an argument is wrong; 6: memory is wanting;
-/// 10: the buffer is too small. With every status but 0 the buffer is as it was, and past the text
-/// it always is.
+/// 0: the text was written; 1: a report has an error; 2: an argument is wrong; 6: out of memory;
+/// 10: the buffer is too small. With every status but 0 the buffer is unchanged, and after the
+/// text it always is.
 #[unsafe(no_mangle)]
 #[tactic(auto, using(crate::proofs::Replying::tells_replies))]
 pub extern "C" fn girzohal_draw(
@@ -58,11 +58,10 @@ pub extern "C" fn girzohal_draw(
     )
 }
 
-/// Writes the reports of a document into the caller's buffer, and gives the status.
+/// Writes the reports of a document into the caller's buffer, and returns the status.
 ///
-/// The document is JSON of the form that `docs/DOCUMENT.md` states. The statuses are those of
-/// [`girzohal_draw`], of whose arguments the look alone can be wrong here, and 3: the bytes are no
-/// document.
+/// The document is JSON as `docs/DOCUMENT.md` states. The statuses are those of [`girzohal_draw`],
+/// and 3: the bytes aren't a document. Only the look can be a wrong argument here.
 #[unsafe(no_mangle)]
 #[tactic(auto, using(crate::proofs::Replying::tells_replies))]
 pub extern "C" fn girzohal_document(

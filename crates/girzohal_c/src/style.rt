@@ -1,4 +1,4 @@
-// What a look says, or which of its numbers is wrong.
+// The style of a look, or which of its numbers is wrong.
 ghost use Rattle.std.specs.Prelude.{◌≡◌, Some, None, MatchResult};
 ghost use Rattle.girzohal_c.specs.Meaning.{wrong_look};
 ghost use Rattle.girzohal_c.specs.Replies.{theme_of as theme_by, handler_of as handler_by};
@@ -8,7 +8,7 @@ use crate::shapes::Look;
 use oxc_handlers::{GraphicalReportHandler, GraphicalTheme};
 use oxc_plan::TabWidth;
 
-/// What reports are written as.
+/// The form that reports are written in.
 #[derive(Clone, Copy, PartialEq, Eq)]
 pub(crate) enum Form {
     /// Each is drawn.
@@ -24,11 +24,11 @@ pub(crate) struct Style {
     pub(crate) form: Form,
 }
 
-/// The style that a look asks for.
+/// The style of a look.
 ///
 /// # Errors
 ///
-/// The first field of the look that is wrong, from 0.
+/// The first wrong field of the look, from 0.
 pub(crate) fn style_of(look: &Look) -> Result<Style, usize>
     ensures { MatchResult result
         (λ style. IsStyleOf look.now style × (wrong_look look.now ≡ None))

@@ -1,4 +1,4 @@
-// The files and reports that arrays say, as the renderer takes them.
+// The files and reports of the arrays, as the renderer takes them.
 ghost use Rattle.std.specs.Prelude.{◌≡◌, ◌++◌, ◌∷◌, [], IfOk, OnOk, map, option_map, string_bytes};
 ghost use Rattle.std.specs.Option.{option_copied};
 ghost use Rattle.oxc_span.specs.Views.{text_bytes};
@@ -15,8 +15,8 @@ use render_files::{FileReport, LabelPlace, PlaceLabel};
 use report_arrays::{File, Label, Report, Text, optional_text, report_labels, text};
 use std::alloc::{AllocError, Global};
 
-/// The files. Want of memory is told for what the database can't hold, too, which right arrays
-/// never have.
+/// The files. What the database can't hold, which checked arrays never have, counts as out of
+/// memory.
 pub(crate) fn files_of(
     alloc: Global,
     texts: &str,
@@ -90,7 +90,7 @@ fn diagnostic_of(alloc: Global, texts: &str, report: &Report) -> Result<OxcDiagn
     diagnostic(alloc, parts)
 }
 
-/// A diagnostic of these parts.
+/// A diagnostic from these parts.
 fn diagnostic(alloc: Global, parts: OxcDiagnosticInner) -> Result<OxcDiagnostic, AllocError>
     ensures { IfOk result (λ it. it ≡ inner_parts parts) }
 {
@@ -129,7 +129,7 @@ fn severity_of(number: u32) -> Severity
     }
 }
 
-/// A text of its own, where there is one.
+/// A copy of an optional text.
 fn owned(alloc: Global, texts: &str, range: Text) -> Result<Option<String>, AllocError>
     ensures bytes { IfOk result (λ it. text_bytes it ≡ optional_of texts.now range) }
     ensures mapped { IfOk result (λ it. option_map string_bytes it ≡ optional_of texts.now range) }
