@@ -52,7 +52,8 @@ pub fn render_with_source_code<T: SourceCode>(
     render_source(alloc, &diagnostic, &code, &source)
 }
 
-/// The report of a diagnostic with a borrowed source; `code` is its code.
+/// The report of a diagnostic with a borrowed source; `code` is its code. (The view is made here,
+/// since a `&dyn Diagnostic` can't be made of a type that names a type parameter.)
 fn render_source<'a>(
     alloc: Global,
     diagnostic: &'a OxcDiagnostic,

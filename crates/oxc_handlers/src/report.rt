@@ -354,8 +354,8 @@ impl GraphicalReportHandler {
     }
 }
 
-/// Whether a view can be drawn; the scanner is used again or replaced as in
-/// [`render_view`](GraphicalReportHandler::render_view). It allocates no memory.
+/// Whether a view can be drawn: the checks of [`render_view`](GraphicalReportHandler::render_view),
+/// for lists. The scanner is used again or replaced as there. It allocates no memory.
 pub(crate) fn judge<'a>(
     alloc: Global,
     view: &DiagnosticView<'a>,
@@ -506,7 +506,8 @@ fn write_title_indent(
     Ok(())
 }
 
-/// Appends the text of the title, in the style of its severity.
+/// Appends the text of the title, in the style of its severity. The style's escapes belong to the
+/// text that is filled.
 #[tactic(auto, unfolding(crate::specs::Report::title_of, crate::specs::Theme::styled))]
 fn write_title_text(
     out: &mut String,

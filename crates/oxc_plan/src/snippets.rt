@@ -308,7 +308,8 @@ fn bare_row<'a>(alloc: Global, row: &Row<'a>) -> RowPlan<'a>
     }
 }
 
-/// The plan of a row that at most the label at this index in label order meets.
+/// The plan of a row that at most the label at this index in label order meets. (The usual case has
+/// its own code, which makes no lists of indices.)
 fn plan_alone<'a>(
     alloc: Global,
     row: &Row<'a>,

@@ -4,7 +4,7 @@ ghost use Rattle.std.specs.Prelude.{◌≡◌, ℕ, ◌≤◌, SomeIff};
 use std::marker::Model;
 
 /// The distance between tab stops, in columns: from 1 to 16, 4 by default. Contracts see it as that
-/// number.
+/// number. (The upper bound keeps a text's width linear in its bytes.)
 #[derive(Clone, Copy, Debug, PartialEq, Eq)]
 pub struct TabWidth {
     width: usize,

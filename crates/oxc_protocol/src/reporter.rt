@@ -43,8 +43,9 @@ pub trait DiagnosticReporter {
     ) -> Result<Option<String>, AllocError>
         ensures { IfOk result (λ text. finishes self.old counts.now (text_bytes text) self.new) };
 
-    /// Whether a very long line of a text may be replaced by a warning that the file is minified. A
-    /// reporter whose texts are read by programs returns false.
+    /// Whether a very long line of a text may be replaced by a warning that the file is minified;
+    /// true by default. A reporter whose texts are read by programs returns false, and states
+    /// `lacks_fallback`.
     fn supports_minified_file_fallback(&self) -> bool
         ensures { result ≡ false → lacks_fallback self.now }
     {

@@ -145,7 +145,9 @@ pub fn column_seen(len: usize, starts: &[u32], heads: &[u32], row: usize, offset
 }
 
 /// The end of the window of a span that ends within the source. The guess is how many breaks start
-/// before the span's end.
+/// before the span's end. (That number plus `after` plus 1 is the row, counted from the first row
+/// held, at whose start the window ends, so whether the last byte is in a break needn't be tested.
+/// A sum past `usize` is cut: past the last row, a row starts at the source's end.)
 #[tactic(auto, using(crate::proofs::StartsLemmas::seen_saturated), unfolding(crate::specs::Seen::end_seen))]
 pub fn end_seen(
     len: usize,

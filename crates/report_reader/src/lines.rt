@@ -47,7 +47,8 @@ fn first_byte(text: &str) -> u8
     }
 }
 
-/// The head that a line states.
+/// The head that a line states. It is read from the right, so that a name may hold colons and
+/// brackets.
 #[tactic(auto, unfolding(crate::specs::Reading::head_in))]
 pub(crate) fn head_of(alloc: Global, text: &str) -> Result<SeenHead, AllocError>
     ensures { IfOk result (λ head. head_model head ≡ head_in text.now) }
