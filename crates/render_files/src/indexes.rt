@@ -53,7 +53,8 @@ impl<'a> Offsets<'a> {
         self.files.contains(file)
     }
 
-    /// The offset of a label's start; none if it isn't a boundary.
+    /// The offset of a label's start; none if the source has no such row and column, or no boundary
+    /// there.
     pub(crate) fn start_of(
         &mut self,
         file: FileId,
@@ -69,7 +70,8 @@ impl<'a> Offsets<'a> {
         }
     }
 
-    /// The offset of a label's end; none if it isn't a boundary.
+    /// The offset of a label's end; none if the source has no such row and column, or no boundary
+    /// there.
     pub(crate) fn end_of(
         &mut self,
         file: FileId,

@@ -73,7 +73,7 @@ fn place_report(
     }
 }
 
-/// The offsets of a label, or the error of the first of its ends that isn't a boundary.
+/// The offsets of a label, or the error if its start, else its end, has no offset.
 fn judge_positions(
     offsets: &mut Offsets<'_>,
     report: usize,
