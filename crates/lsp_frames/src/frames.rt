@@ -1,45 +1,45 @@
-// Frames, read as their bytes come.
+// Reads frames from bytes as they come.
 ghost use Rattle.std.specs.Prelude.{◌≡◌, ◌≤◌, ◌<◌, length};
 ghost use Rattle.lsp_frames.specs.Run.{start};
 
 use crate::head::{Head, START, Step, Why, read_byte};
 use std::alloc::Global;
 
-/// Where a reader is.
+/// The state of a reader.
 #[derive(Clone, Copy)]
 pub enum State {
-    /// In a head, of which so much is read.
+    /// In a head, of which this has been read.
     InHead(Head),
-    /// In a body, of which one byte is awaited, and so many more.
+    /// In a body; this many bytes are missing after the next one.
     InBody(u32),
-    /// Behind a byte that can be of no frame.
+    /// After a byte that no frame can have.
     Dead(Why),
 }
 
-/// A reader of frames, which holds what is not whole yet.
+/// A reader of frames. It holds the frame that isn't whole yet.
 #[derive(Drop)]
 pub struct Frames {
     state: State,
     body: Vec<u8>,
 }
 
-/// What a call came to.
+/// The result of a call.
 #[derive(Drop)]
 pub enum End {
-    /// The bytes are used up, and no message is whole.
+    /// All bytes are used, and no message is whole.
     More,
     /// The body of a whole message.
     Message(Vec<u8>),
-    /// The next byte is the first that can be of no frame.
+    /// The next byte is the first that no frame can have.
     Refused(Why),
-    /// The next byte found no room; the call may be made again.
+    /// Out of memory at the next byte; the call may be repeated.
     OutOfMemory,
 }
 
-/// What a call came to, and how many bytes it used.
+/// The result of a call, and how many bytes it used.
 #[derive(Drop)]
 pub struct Taken {
-    /// How many of the bytes were used: the call behind it takes those from there on.
+    /// How many of the bytes were used; the next call takes those after them.
     pub used: usize,
     /// A message, no message yet, or why there is none.
     pub end: End,
@@ -58,10 +58,10 @@ impl Frames {
         }
     }
 
-    /// Reads up to the end of the next message, or of the bytes, and says how many it used. Call it
-    /// again with the bytes behind those. Behind a refused byte each call is refused; after want of
-    /// memory the same call can be made again, with the bytes that weren't used.
-    /// Memory is taken for bytes that came alone, never for a length that is told.
+    /// Reads up to the end of the next message, or of the bytes, and returns how many it used. Call
+    /// it again with the bytes after those. After a rejected byte each call gives the same error;
+    /// after out of memory, the call can be repeated with the unused bytes. Memory is taken only
+    /// for bytes that arrived, never for a length that a head claims.
     pub fn next(&mut self, alloc: Global, bytes: &[u8]) -> Taken
         ensures within { result.used ≤ length bytes.now }
         ensures ends { Ends result.end (shown self.old) bytes.now result.used (shown self.new) }
@@ -83,7 +83,7 @@ impl Frames {
         }
     }
 
-    /// Reads one byte of a head, or all that there is of a body.
+    /// Reads one byte of a head, or as much as there is of a body.
     fn advance(&mut self, alloc: Global, bytes: &[u8]) -> Taken
         requires { 0 < length bytes.now }
         ensures within { result.used ≤ length bytes.now }
@@ -145,7 +145,7 @@ impl Frames {
         }
     }
 
-    /// Reads what there is of a body.
+    /// Reads as much as there is of a body.
     fn advance_body(&mut self, alloc: Global, more: u32, bytes: &[u8]) -> Taken
         requires first { 0 < length bytes.now }
         requires state { self.old.state ≡ State.InBody more }

@@ -8,36 +8,36 @@ pub const LONGEST_HEAD: usize = 4096;
 /// How many bytes a body may have. Parsed JSON takes up to 18 times the memory of its text.
 pub const LONGEST_BODY: u32 = 8_388_608;
 
-/// The one name that counts, in small letters.
+/// The one header name that is read, in lower case.
 const NAME: [u8; 14] = [
     b'c', b'o', b'n', b't', b'e', b'n', b't', b'-', b'l', b'e', b'n', b'g', b't', b'h',
 ];
 
-/// Where in a head the next byte stands.
+/// Where in a head the next byte is.
 #[derive(Clone, Copy)]
 pub enum Place {
     /// At the beginning of a line.
     Line,
-    /// Behind so many bytes of the name `Content-Length`.
+    /// After this many bytes of the name `Content-Length`.
     Name(usize),
     /// In another name.
     Other,
     /// In the value of another header.
     Value,
-    /// Behind the CR of a header.
+    /// After the CR of a header.
     LineEnd,
-    /// Behind the colon of `Content-Length`.
+    /// After the colon of `Content-Length`.
     Spaces,
-    /// Behind digits that write this number.
+    /// After digits that write this number.
     Digits(u32),
-    /// Behind the CR of the empty line, where the body has this length.
+    /// After the CR of the empty line; the body has this length.
     HeadEnd(u32),
 }
 
-/// What is read of a head.
+/// What has been read of a head.
 #[derive(Clone, Copy)]
 pub struct Head {
-    /// Where in it the next byte stands.
+    /// Where in it the next byte is.
     pub place: Place,
     /// The body's length, once it has been read.
     pub length: Option<u32>,
@@ -45,10 +45,10 @@ pub struct Head {
     pub count: usize,
 }
 
-/// Why a byte is refused.
+/// Why a byte is rejected.
 #[derive(Clone, Copy)]
 pub enum Why {
-    /// No frame begins so.
+    /// No frame begins like this.
     NoFrame,
     /// The head is longer than `LONGEST_HEAD`.
     LongHead,
@@ -61,21 +61,21 @@ pub enum Why {
 pub enum Step {
     /// The head goes on.
     On(Head),
-    /// The head ends here, and so many bytes follow.
+    /// The head ends here, and this many bytes follow.
     Begins(u32),
-    /// No frame has the byte there.
+    /// No frame has the byte here.
     Fault(Why),
 }
 
-/// Before the first byte of a frame.
+/// The state before the first byte of a frame.
 pub const START: Head = Head {
     place: Place::Line,
     length: None,
     count: 0,
 };
 
-/// Reads a byte of a head: where it leads, the length of the body that begins behind it, or why
-/// no frame has it there.
+/// Reads a byte of a head: the next state, the length of the body that begins after it, or why no
+/// frame has it there.
 #[tactic(auto, unfolding(crate::specs::Frame::head_step))]
 pub fn read_byte(head: Head, byte: u8) -> Step
     ensures { result ≡ head_step head byte }
@@ -86,7 +86,7 @@ pub fn read_byte(head: Head, byte: u8) -> Step
     step_at(head.place, head.length, head.count + 1, byte)
 }
 
-/// What a byte means at a place, where it is the `count`-th of its head.
+/// What a byte means at a place, if it is the `count`-th of its head.
 fn step_at(place: Place, length: Option<u32>, count: usize, byte: u8) -> Step
     ensures { result ≡ place_step place length count byte }
 {
@@ -193,7 +193,7 @@ fn at_head_end(number: u32, byte: u8) -> Step
     }
 }
 
-/// A head goes on.
+/// The step to another state of the head.
 fn on(place: Place, length: Option<u32>, count: usize) -> Step
     ensures { result ≡ Step.On (record { place = place; length = length; count = count }) }
 {
@@ -204,7 +204,7 @@ fn on(place: Place, length: Option<u32>, count: usize) -> Step
     })
 }
 
-/// Where in a name one more byte leads.
+/// The place after one more byte of a name.
 fn place_of_name(matched: usize, byte: u8) -> Place
     ensures { result ≡ name_place matched byte }
 {
@@ -215,7 +215,7 @@ fn place_of_name(matched: usize, byte: u8) -> Place
     }
 }
 
-/// The colon behind a name.
+/// The colon after a name.
 fn colon(matched: usize, length: Option<u32>, count: usize) -> Step
     ensures { result ≡ colon_step matched length count }
 {

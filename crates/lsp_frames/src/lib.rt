@@ -1,8 +1,9 @@
-//! The frames of the Language Server Protocol's base protocol: each message stands behind a head that
-//! tells its length in bytes.
+//! The frames of the Language Server Protocol's base protocol: each message comes after a head with
+//! its length in bytes.
 //!
 //! - [`write_frame`]: the frame of a body.
-//! - [`Frames`]: a reader that takes bytes as they come, however they are cut, and gives whole bodies.
+//! - [`Frames`]: a reader that takes bytes as they come, however they are split, and gives whole
+//!   bodies.
 #![tactic(auto)]
 
 mod frames;

@@ -1,4 +1,4 @@
-// Frames, written.
+// Writes frames.
 ghost use Rattle.std.specs.Prelude.{◌≡◌, ◌≤◌, IfOk, length};
 ghost use Rattle.lsp_frames.specs.Run.{frame};
 ghost use Rattle.lsp_frames.specs.Written.{CanEnd, CutsAgree, FramesAreRead, IsWhole};
@@ -8,12 +8,12 @@ use crate::head::LONGEST_BODY;
 use itoa::Buffer;
 use std::alloc::{AllocError, Global};
 
-/// The frame of a body: its length in bytes, and the body. A body of more than [`LONGEST_BODY`]
-/// bytes gets a frame that [`Frames`](crate::Frames) refuses.
+/// The frame of a body: its length in bytes, and the body. [`Frames`](crate::Frames) rejects the
+/// frame of a body of more than [`LONGEST_BODY`] bytes.
 ///
 /// # Errors
 ///
-/// Want of memory.
+/// Out of memory.
 pub fn write_frame(alloc: Global, body: &[u8]) -> Result<Vec<u8>, AllocError>
     ensures frame { IfOk result (λ bytes. bytes.items ≡ frame body.now) }
     ensures read { length body.now ≤ LONGEST_BODY
@@ -23,7 +23,7 @@ pub fn write_frame(alloc: Global, body: &[u8]) -> Result<Vec<u8>, AllocError>
     Ok(bytes)
 }
 
-/// The same, known by its bytes alone.
+/// The same, with a contract about its bytes alone.
 fn framed(alloc: Global, body: &[u8]) -> Result<Vec<u8>, AllocError>
     ensures { IfOk result (λ bytes. bytes.items ≡ frame body.now) }
 {
@@ -35,9 +35,9 @@ fn framed(alloc: Global, body: &[u8]) -> Result<Vec<u8>, AllocError>
     Ok(bytes)
 }
 
-/// What holds of all lists of bytes: however they are cut, the same bodies come; frames are read as
-/// their bodies; behind a refused byte no body comes; and where none was refused the bytes can go on
-/// to whole frames, if a head has 40 bytes left below its bound.
+/// Laws of all lists of bytes: however they are split, the same bodies come; frames are read as
+/// their bodies; after a rejected byte no body comes; and bytes of which none was rejected can go
+/// on to whole frames, if a head has 40 bytes left below its bound.
 pub fn laws()
     ensures cuts { CutsAgree }
     ensures frames { FramesAreRead }

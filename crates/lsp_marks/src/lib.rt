@@ -1,5 +1,5 @@
-//! Marks in a text that move with it: where an offset, or a range, lies after a part of the text gave
-//! way to another text.
+//! Marks in a text that move with it: where an offset, or a range, is after a range of the text was
+//! replaced.
 #![tactic(auto)]
 
 ghost use Rattle.std.specs.Prelude.{◌≡◌, ◌+◌, ◌-◌, ◌^◌, ◌<◌, ◌≤◌, ℕ, IfOk, All};
@@ -9,14 +9,14 @@ ghost use Rattle.lsp_marks.specs.Moved.{StaysInside, moved_mark, moved_offset};
 
 use std::alloc::{AllocError, Global};
 
-/// A change: a range of bytes, from 0, gives way to so many bytes.
+/// A change: a range of bytes, from 0, is replaced by `inserted` bytes.
 #[derive(Clone, Copy)]
 pub struct Change {
     /// Where the range starts.
     pub start: usize,
     /// Where it ends.
     pub end: usize,
-    /// How many bytes come in its place.
+    /// How many bytes replace it.
     pub inserted: usize,
 }
 
@@ -29,9 +29,9 @@ pub struct Mark {
     pub end: usize,
 }
 
-/// Where an offset lies after a change: in front of the replaced part where it was, behind it moved
-/// by the difference in length, and in it where the part begins. Just where the part begins counts
-/// as in front of it, and just where it ends as behind it, unless it is empty.
+/// Where an offset is after a change. Before the replaced range it stays, after it it shifts by the
+/// difference in length, and inside it goes to the range's start. An offset exactly at the range's
+/// start counts as before it, one exactly at its end as after it, unless the range is empty.
 pub fn move_offset(change: Change, offset: usize) -> usize
     requires ordered { change.start ≤ change.end }
     requires fits { offset + change.inserted < 2 ^ 64 }
@@ -51,7 +51,7 @@ pub fn move_offset(change: Change, offset: usize) -> usize
     }
 }
 
-/// Where a mark lies after a change, or none where it is empty now and was not before.
+/// Where a mark is after a change; `None` if it is empty now and wasn't before.
 pub fn move_mark(change: Change, mark: Mark) -> Option<Mark>
     requires ordered { change.start ≤ change.end }
     requires room { HasRoom change mark }
@@ -65,11 +65,11 @@ pub fn move_mark(change: Change, mark: Mark) -> Option<Mark>
     Some(Mark { start, end })
 }
 
-/// The marks after a change, in their order, without those that became empty.
+/// The marks after a change, in order, without those that became empty.
 ///
 /// # Errors
 ///
-/// Want of memory.
+/// Out of memory.
 pub fn move_marks(alloc: Global, change: Change, marks: &[Mark]) -> Result<Vec<Mark>, AllocError>
     requires ordered { change.start ≤ change.end }
     requires room { All (HasRoom change) marks.now }
@@ -81,8 +81,8 @@ pub fn move_marks(alloc: Global, change: Change, marks: &[Mark]) -> Result<Vec<M
         .collect(alloc)
 }
 
-/// What holds of all changes: offsets keep their order; the text before an offset that stays, and
-/// behind one that shifts, is what it was; and where characters start, they start after the change.
+/// Laws of all changes: offsets keep their order; the text before an offset that stays, and after
+/// one that shifts, is the same; and boundaries of characters stay boundaries.
 pub fn laws()
     ensures order { MovesInOrder }
     ensures text { MovesWithText }
