@@ -6,28 +6,29 @@ ghost use Rattle.lsp_diagnostics.specs.Seen.{head_label as head_label_of, head_p
 
 use oxc_span::LabeledSpan;
 
-/// The place of the first primary label.
+/// The index of the first primary label.
 fn primary_place(labels: &[LabeledSpan]) -> Option<usize>
     ensures { result ≡ position (λ label. label.primary) labels.now }
 {
     labels.iter().position(|label| label.primary())
 }
 
-/// The place of the label that a diagnostic is about.
+/// The index of the head label; 0 if no label is primary.
 fn head_place(labels: &[LabeledSpan]) -> usize
     ensures { result ≡ head_place_of labels.now }
 {
     primary_place(labels).unwrap_or(0)
 }
 
-/// The label that a diagnostic is about: the first primary one, else the first, if there is one.
+/// The label that a diagnostic is about: the first primary one, else the first; `None` without
+/// labels.
 pub fn head_label(labels: &[LabeledSpan]) -> Option<&LabeledSpan>
     ensures { option_copied result ≡ head_label_of labels.now }
 {
     labels.get(head_place(labels))
 }
 
-/// The labels before that one, and those behind it.
+/// The labels before that one, and those after it.
 pub(crate) fn others(labels: &[LabeledSpan]) -> (&[LabeledSpan], &[LabeledSpan])
     ensures before { result.0.now ≡ take (head_place_of labels.now) labels.now }
     ensures behind { result.1.now ≡ drop (head_place_of labels.now + 1) labels.now }

@@ -1,7 +1,7 @@
-// What holds of all ranges.
+// A law of all ranges.
 ghost use Rattle.lsp_diagnostics.specs.Ordered.{RangesAreOrdered};
 
-/// No client is told a range whose end comes before its start.
+/// No range for a client ends before it starts.
 pub fn ranges_are_ordered()
     ensures { RangesAreOrdered }
 {}

@@ -1,8 +1,8 @@
-//! Diagnostics as the Language Server Protocol writes them: what a client is told of one file, in
-//! the units in which it counts.
+//! Diagnostics as the Language Server Protocol writes them: what a client gets for one file, in its
+//! position encoding.
 //!
 //! - [`publish`]: the parameters of `textDocument/publishDiagnostics` as a text; [`published`]: the
-//!   same as a value, for whoever puts them into a message.
+//!   same as a value, to put into a message.
 #![tactic(auto)]
 
 mod heads;

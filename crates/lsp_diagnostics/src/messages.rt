@@ -1,4 +1,4 @@
-// What a client is told in words.
+// The messages of diagnostics for a client.
 ghost use Rattle.std.specs.Prelude.{◌≡◌, ◌++◌, All, IfOk, OnOk, decimal, string_bytes};
 ghost use Rattle.std.specs.Option.{option_copied};
 ghost use Rattle.oxc_protocol.specs.Views.{inner_parts};
@@ -17,14 +17,14 @@ use oxc_span::LabeledSpan;
 use std::alloc::{AllocError, Global};
 use text_places::Place;
 
-/// What a label says: its text, or the diagnostic's message.
+/// The text of a label, or else the diagnostic's message.
 pub fn said<'a>(label: &'a LabeledSpan, message: &'a str) -> &'a str
     ensures { result.now ≡ said_of message.now label.now }
 {
     label.label().unwrap_or(message)
 }
 
-/// The message that a client is told.
+/// The message for the client.
 pub fn message_of(
     alloc: Global,
     file: &OpenFile<'_>,
@@ -54,7 +54,7 @@ fn message_of_parts(
     Ok(text)
 }
 
-/// Appends a part of the message, if it is there.
+/// Appends a further text of the diagnostic, if there is one.
 #[tactic(auto, unfolding(crate::specs::Messages::part_text))]
 fn push_part(out: &mut String, part: Option<&str>) -> Result<(), AllocError>
     ensures { OnOk result (string_bytes out.new
@@ -67,7 +67,7 @@ fn push_part(out: &mut String, part: Option<&str>) -> Result<(), AllocError>
     out.push_str(part)
 }
 
-/// Appends the labels that the client can't show.
+/// Appends the other labels, if the client doesn't show them.
 fn push_more(
     out: &mut String,
     file: &OpenFile<'_>,
@@ -103,7 +103,7 @@ fn push_lines(
     Ok(())
 }
 
-/// Appends a label as a line: where it starts, and what it says.
+/// Appends a label as a line: where it starts, and its text.
 #[tactic(auto, unfolding(crate::specs::Messages::label_line))]
 fn push_line(
     out: &mut String,
@@ -120,7 +120,7 @@ fn push_line(
     out.push_str(said(label, message))
 }
 
-/// Appends a place as people read it, both numbers from 1.
+/// Appends a position with both numbers from 1.
 #[tactic(auto, unfolding(crate::specs::Messages::place_text))]
 fn push_place(out: &mut String, place: Place) -> Result<(), AllocError>
     ensures { OnOk result (string_bytes out.new ≡ string_bytes out.old ++ place_text place) }

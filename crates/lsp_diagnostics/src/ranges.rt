@@ -41,7 +41,7 @@ pub fn label_range(
     range_value(alloc, start, end)
 }
 
-/// A range from one place to another.
+/// A range from one position to another.
 #[tactic(auto, unfolding(crate::specs::Diagnostics::range_value))]
 pub fn range_value(alloc: Global, start: Place, end: Place) -> Result<Value, AllocError>
     ensures { IfOk result (λ value. view value ≡ ranges start end) }

@@ -1,4 +1,4 @@
-// What a client is told of a file.
+// What a client gets for a file.
 ghost use Rattle.std.specs.Prelude.{◌≡◌, ◌≤◌, ◌++◌, ◌↔◌, All, codes, IfOk, IsTrue, OnOk, Some};
 ghost use Rattle.std.specs.Prelude.{map, string_bytes};
 ghost use Rattle.std.specs.Option.{option_copied};
@@ -34,27 +34,27 @@ use text_places::{Encoding, Place, TextPlaces};
 pub struct OpenFile<'a> {
     /// Its URI.
     pub uri: &'a str,
-    /// The version of its text, where the client is to know it.
+    /// The version of its text, if the client gets it.
     pub version: Option<i32>,
-    /// The units in which the client counts.
+    /// The client's position encoding.
     pub encoding: Encoding,
     /// Whether the client shows related information.
     pub related: bool,
-    /// The text and its places.
+    /// The text with the index of its positions.
     pub places: &'a TextPlaces,
 }
 
-/// The parameters of `textDocument/publishDiagnostics` for all diagnostics on a file, as JSON.
+/// The parameters of `textDocument/publishDiagnostics` for all diagnostics of a file, as JSON.
 ///
-/// A diagnostic has the range of its head label, the first primary one or else the first, or that of
-/// the text's beginning without labels. Its scope is the source, its number the code. Help and note
-/// stand behind its message, each on lines of its own. Its other labels are related information;
-/// where the client shows none, each is a line behind the message, `LINE:CHARACTER: TEXT` from 1.
-/// Labels are by bytes of the text.
+/// A diagnostic has the range of its head label, which is the first primary one or else the first;
+/// without labels it has the empty range at the text's beginning. Its scope is the source, its
+/// number the code. Help and note follow its message, each on lines of its own. Its other labels
+/// are related information; if the client shows none, each is a line at the end of the message,
+/// `LINE:CHARACTER: TEXT` from 1. Labels count bytes of the text.
 ///
 /// # Errors
 ///
-/// Want of memory.
+/// Out of memory.
 pub fn publish(
     alloc: Global,
     file: &OpenFile<'_>,
@@ -73,7 +73,7 @@ pub fn publish(
 ///
 /// # Errors
 ///
-/// Want of memory.
+/// Out of memory.
 pub fn published(
     alloc: Global,
     file: &OpenFile<'_>,
@@ -88,8 +88,8 @@ pub fn published(
     Ok(value)
 }
 
-/// Whether the labels of diagnostics stand in a text: each ends within it, and starts and ends
-/// between characters.
+/// Whether the labels of diagnostics fit a text: each ends within it, and starts and ends between
+/// characters.
 pub fn all_stand(text: &str, diagnostics: &[OxcDiagnostic]) -> bool
     ensures { IsTrue result ↔ All (StandIn text.now) diagnostics.now }
 {
@@ -123,7 +123,7 @@ fn published_members(
     Ok(Value::Object(members))
 }
 
-/// The version, where the client is to know it.
+/// Adds the version, if the client gets it.
 #[tactic(auto, unfolding(crate::specs::Diagnostics::some_version))]
 fn put_version(
     alloc: Global,
@@ -204,7 +204,7 @@ fn first_members(
     Ok(members)
 }
 
-/// The number of a severity: 1 an error, 2 a warning, 3 information.
+/// The number of a severity: 1 error, 2 warning, 3 information.
 fn severity_number(severity: Severity) -> u32
     ensures { result ≡ number_of severity }
 {
@@ -215,7 +215,7 @@ fn severity_number(severity: Severity) -> u32
     }
 }
 
-/// The range of the head label, and of the text's beginning without labels.
+/// The range of the head label; without labels the empty range at the text's beginning.
 #[tactic(auto, unfolding(crate::specs::Diagnostics::head_range))]
 fn head_range(
     alloc: Global,
@@ -234,7 +234,7 @@ fn head_range(
     }
 }
 
-/// The members that a diagnostic may lack.
+/// Adds the optional members of a diagnostic.
 #[tactic(auto, unfolding(crate::specs::Diagnostics::more_members))]
 fn put_more(
     alloc: Global,
@@ -254,7 +254,7 @@ fn put_more(
     Ok(())
 }
 
-/// A text under a key, where there is one.
+/// Adds a text under a key, if there is one.
 fn put_text(
     alloc: Global,
     members: &mut Map<String, Value>,
@@ -272,7 +272,7 @@ fn put_text(
     put(members, alloc, key, Value::String(text))
 }
 
-/// A link to what a code means, where there is one.
+/// Adds a link to what a code means, if there is one.
 fn put_link(
     alloc: Global,
     members: &mut Map<String, Value>,
@@ -289,7 +289,7 @@ fn put_link(
     put(members, alloc, "codeDescription", link)
 }
 
-/// The other labels, where the client shows them and there is one.
+/// Adds the other labels, if the client shows them and there are any.
 #[tactic(auto, unfolding(crate::specs::Diagnostics::related_values))]
 fn put_related(
     alloc: Global,
@@ -311,7 +311,7 @@ fn put_related(
     put(members, alloc, "relatedInformation", values)
 }
 
-/// All labels but the head one as related information.
+/// All labels except the head label, as related information.
 fn related_values(
     alloc: Global,
     file: &OpenFile<'_>,
@@ -347,7 +347,7 @@ fn push_related(
     Ok(())
 }
 
-/// A label as related information: where it stands, and what it says.
+/// A label as related information: its location and its text.
 #[tactic(auto, unfolding(crate::specs::Diagnostics::related_value))]
 fn related_value(
     alloc: Global,
@@ -367,7 +367,7 @@ fn related_value(
     Ok(Value::Object(members))
 }
 
-/// Where a label stands: the file, and the range in it.
+/// The location of a label: the file, and the range in it.
 fn location_value(
     alloc: Global,
     file: &OpenFile<'_>,
