@@ -19,11 +19,11 @@ use serde_json::{Value, json};
 use std::alloc::{AllocError, Global};
 use text_places::Encoding;
 
-/// The JSON text of what goes to the client.
+/// The JSON text of an answer.
 ///
 /// # Errors
 ///
-/// Want of memory.
+/// Out of memory.
 pub fn answer_text(alloc: Global, answer: Answer) -> Result<String, AllocError>
     ensures { IfOk result (λ text. read (string_bytes text) ≡ Some (value_of_answer answer)) }
 {
@@ -32,7 +32,7 @@ pub fn answer_text(alloc: Global, answer: Answer) -> Result<String, AllocError>
     Ok(text)
 }
 
-/// What goes to the client, as a value.
+/// An answer as a value.
 fn answer_value(alloc: Global, answer: Answer) -> Result<Value, AllocError>
     ensures { IfOk result (λ value. view value ≡ value_of_answer answer) }
 {
@@ -59,7 +59,7 @@ fn answer_value(alloc: Global, answer: Answer) -> Result<Value, AllocError>
     }
 }
 
-/// What a request is answered.
+/// The answer to a request.
 fn answered_value(alloc: Global, id: Id, answer: Value) -> Result<Value, AllocError>
     ensures { IfOk result (λ value. view value ≡ value_of_answered id (view answer)) }
 {
@@ -85,8 +85,8 @@ fn some_id(id: Option<Id>) -> Value
     }
 }
 
-/// What the server can do: documents are opened, changed in parts, saved and closed, and places
-/// count as the client wants.
+/// What the server can do: documents are opened, changed by ranges, saved and closed, and positions
+/// count in the agreed encoding.
 fn capabilities_value(alloc: Global, wanted: Wanted) -> Result<Value, AllocError>
     ensures { IfOk result (λ value. view value ≡ value_of_wanted wanted) }
 {
@@ -166,7 +166,7 @@ fn log_value(alloc: Global, message: String) -> Result<Value, AllocError>
     })
 }
 
-/// Why a notification was left out, in words.
+/// Why a notification had no effect, as a text.
 fn refused_text(alloc: Global, refused: Refused) -> Result<String, AllocError>
     ensures { IfOk result (λ text. string_bytes text ≡ text_of_refused refused) }
 {

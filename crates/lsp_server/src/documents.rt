@@ -22,13 +22,13 @@ use text_size::TextSize;
 
 /// An open document, and the findings in its text, which move with it.
 ///
-/// Contracts see the client's document and the findings. Their labels stand in the text.
+/// Contracts see the client's document and the findings, whose labels fit the text.
 #[derive(Drop)]
 pub struct OpenText {
     client: ClientText,
     found: Vec<OxcDiagnostic>,
-    /// The document once more, in which the next changes are made, so that nothing is lost where
-    /// memory is wanted behind them. There is none before the first change.
+    /// A second copy of the document. The next changes are made in it, so that nothing is lost if
+    /// memory runs out after them. There is none before the first change.
     spare: Option<ClientText>,
 }
 
@@ -45,12 +45,12 @@ impl Model for OpenText {
         × IfSome s.spare (IsSpareOf s.client) };
 }
 
-/// What changes come to.
+/// The result of changes.
 #[derive(Drop)]
 enum Edit {
     /// The document after all of them, and the findings in it.
     Made(ClientText, Vec<OxcDiagnostic>),
-    /// The first that can't be made, and why.
+    /// The first change that can't be made, and why.
     Faulty(Refusal),
 }
 
@@ -59,7 +59,7 @@ impl OpenText {
     ///
     /// # Errors
     ///
-    /// Want of memory.
+    /// Out of memory.
     pub fn open(
         alloc: Global,
         encoding: Encoding,
@@ -84,7 +84,7 @@ impl OpenText {
         &self.client
     }
 
-    /// The findings. Their labels stand in the text.
+    /// The findings. Their labels fit the text.
     pub fn found(&self) -> &[OxcDiagnostic]
         ensures found { result.now ≡ self.now.found }
         ensures stand { All (StandIn self.now.client.text) result.now }
@@ -92,12 +92,12 @@ impl OpenText {
         &self.found
     }
 
-    /// Shows other findings, and gives what is told of them; none where one of their labels doesn't
-    /// stand in the text.
+    /// Shows other findings, and returns what to publish; `None` if one of their labels doesn't fit
+    /// the text.
     ///
     /// # Errors
     ///
-    /// Want of memory: all is as it was.
+    /// Out of memory: nothing changes.
     pub fn show(
         &mut self,
         alloc: Global,
@@ -118,12 +118,13 @@ impl OpenText {
         Ok(Some(Answer::Published(params)))
     }
 
-    /// Makes the changes of a notification, each on the text that the one before left, and gives the
-    /// findings as they moved; or names the first change that can't be made, and all is as it was.
+    /// Makes the changes of a notification, each on the text that the one before left, and returns
+    /// the moved findings to publish; or names the first change that can't be made, and nothing
+    /// changes.
     ///
     /// # Errors
     ///
-    /// Want of memory: all is as it was.
+    /// Out of memory: the document and its findings don't change.
     pub fn change(
         &mut self,
         alloc: Global,
@@ -152,7 +153,7 @@ impl OpenText {
     }
 }
 
-/// A document under another version: the spare one, or a copy.
+/// The document with another version: the spare copy, or a new one.
 fn at_version(
     alloc: Global,
     client: &ClientText,
@@ -173,7 +174,7 @@ fn at_version(
     Ok(copy)
 }
 
-/// A document after changes that were made in its spare one, if there is memory for them.
+/// A document with these changes made, if there is memory for them. It becomes the spare copy.
 fn caught_up(client: ClientText, changes: &[Change]) -> Option<ClientText>
     ensures made { IfSome result (λ it. AllChange client.encoding client.text changes.now it.text) }
     ensures encoding { IfSome result (λ it. it.encoding ≡ client.encoding) }
@@ -188,7 +189,7 @@ fn caught_up(client: ClientText, changes: &[Change]) -> Option<ClientText>
     Some(client)
 }
 
-/// Makes a change, the only one of a list, under the version that there is.
+/// Makes a change, the only one of a list; the version stays.
 fn make_one(client: &mut ClientText, change: &Change, one: &[Change]) -> Result<(), Refusal>
     requires { one.now ≡ change.now ∷ [] }
     ensures text { OnOk result
@@ -199,8 +200,8 @@ fn make_one(client: &mut ClientText, change: &Change, one: &[Change]) -> Result<
     Ok(())
 }
 
-/// A document after changes, each made on the text that the one before left, or the first that can't
-/// be made. Findings move with each.
+/// A document after changes, each made on the text that the one before left, or the first change
+/// that can't be made. Findings move with each change.
 fn edited(
     alloc: Global,
     client: ClientText,
@@ -228,7 +229,7 @@ fn edited(
     Ok(Edit::Made(client, found))
 }
 
-/// Where a change lies: the bytes from the one offset to the other.
+/// The range of a change in bytes: its start and its end.
 fn place_of(client: &ClientText, range: Option<(Place, Place)>) -> (TextSize, TextSize)
     ensures { IsWhere client.now.encoding client.now.text range result.0 result.1 }
 {
@@ -239,8 +240,8 @@ fn place_of(client: &ClientText, range: Option<(Place, Place)>) -> (TextSize, Te
     }
 }
 
-/// Makes a change, the only one of a list, and moves the findings with it. Where it can't be made,
-/// the answer says why.
+/// Makes a change, the only one of a list, and moves the findings with it. If it can't be made, the
+/// result says why.
 fn edit_one(
     alloc: Global,
     client: &mut ClientText,
@@ -271,7 +272,7 @@ fn edit_one(
     Ok(None)
 }
 
-/// Why changes were refused, where that isn't want of memory.
+/// Why changes can't be made, or the error if memory ran out.
 fn cause_of(refusal: Refusal) -> Result<Option<Fault>, AllocError>
     ensures { IfOk result (λ fault. fault ≡ Some refusal.fault) }
 {

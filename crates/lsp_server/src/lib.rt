@@ -1,9 +1,9 @@
 //! A language server that shows in an editor what tools found: its state, what each message of a
-//! client does to it, and what it is answered.
+//! client does to it, and its answers.
 //!
-//! - [`message_in`]: the message that a body holds.
-//! - [`Server`]: the open documents, and how far the session is. [`Server::take`] takes a message;
-//!   [`Server::show`] shows findings in a document, which then move with its text.
+//! - [`message_in`]: the message in a body.
+//! - [`Server`]: the open documents, and the phase of the session. [`Server::take`] takes a
+//!   message; [`Server::show`] shows findings in a document, which then move with its text.
 //! - [`answer_text`]: an answer as JSON.
 #![tactic(auto)]
 

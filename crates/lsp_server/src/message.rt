@@ -1,4 +1,4 @@
-// What a client sends, and what it is answered.
+// Messages of the client, and the answers.
 ghost use Rattle.std.specs.Prelude.{◌≤◌};
 ghost use Rattle.serde_json.specs.Data.{depth};
 ghost use Rattle.serde_json.specs.View.{view};
@@ -10,15 +10,15 @@ use text_places::Encoding;
 /// A message of the client.
 #[derive(Drop)]
 pub enum Message {
-    /// A request, which wants one answer.
+    /// A request, which needs one answer.
     Request(Id, Method),
-    /// A notification, which wants none.
+    /// A notification, which needs none.
     Notification(Notice),
-    /// Bytes that are no JSON text.
+    /// Bytes that are no JSON.
     NoJson,
 }
 
-/// What a request goes by.
+/// The id of a request.
 #[derive(Drop)]
 pub enum Id {
     /// A number.
@@ -27,12 +27,12 @@ pub enum Id {
     Text(String),
 }
 
-/// What a client asks for when it begins.
+/// What a client asks for in `initialize`.
 #[derive(Clone, Copy)]
 pub struct Wanted {
-    /// The units in which it counts: the first of its list that is known, and else UTF-16 units.
+    /// The position encoding: the first of its list that is known, or else UTF-16.
     pub encoding: Encoding,
-    /// Whether it named them by the older key `offsetEncoding`.
+    /// Whether it used the older key `offsetEncoding`.
     pub is_older: bool,
     /// Whether it shows related information.
     pub related: bool,
@@ -41,60 +41,60 @@ pub struct Wanted {
 /// What server and client agreed on.
 #[derive(Clone, Copy)]
 pub struct Agreed {
-    /// The units in which places count.
+    /// The position encoding.
     pub encoding: Encoding,
     /// Whether the client shows related information.
     pub related: bool,
 }
 
-/// What a request asks for.
+/// The method of a request.
 #[derive(Clone, Copy)]
 pub enum Method {
-    /// To begin.
+    /// `initialize`.
     Initialize(Wanted),
-    /// To end.
+    /// `shutdown`.
     Shutdown,
     /// Anything else.
     Unknown,
 }
 
-/// What a notification tells.
+/// The content of a notification.
 #[derive(Drop)]
 pub enum Notice {
-    /// The session is over.
+    /// `exit`: the session is over.
     Exit,
-    /// A document is open: its URI, version and text.
+    /// A document was opened: its URI, version and text.
     Opened(String, i32, String),
-    /// A document changed: its URI, its new version, and the changes.
+    /// A document was changed: its URI, its new version, and the changes.
     Changed(String, i32, Vec<Change>),
-    /// A document is saved.
+    /// A document was saved.
     Saved,
-    /// A document is closed.
+    /// A document was closed.
     Closed(String),
-    /// A change that isn't of its form.
+    /// A malformed change.
     Malformed,
     /// Anything else.
     Unknown,
 }
 
-/// What goes to the client.
+/// What is sent to the client.
 #[derive(Drop)]
 pub enum Answer {
     /// What the server can do.
     Capabilities(Id, Wanted),
-    /// That it was done.
+    /// The answer to `shutdown`.
     Null(Id),
-    /// What is wrong with a request, or with bytes that are none.
+    /// An error: of a request with this id, or of bytes that are no JSON.
     Error(Option<Id>, Code),
     /// The parameters of `textDocument/publishDiagnostics`.
     Published(Params),
-    /// A notification that was left out.
+    /// A notification that had no effect.
     Refused(Refused),
     /// A line for the client's log.
     Logged(String),
 }
 
-/// Parameters as JSON, which don't nest deep.
+/// Parameters as JSON, with a bound on how deep they nest.
 #[derive(Drop)]
 pub struct Params {
     /// The value.
@@ -102,28 +102,28 @@ pub struct Params {
     ghost shallow: { depth (view value) ≤ 8 },
 }
 
-/// Why a notification was left out.
+/// Why a notification had no effect.
 #[derive(Clone, Copy, PartialEq, Eq)]
 pub enum Refused {
     /// Its document isn't open.
     NotOpen,
     /// The text would have `u32::MAX` bytes or more.
     TooLong,
-    /// It isn't of its form.
+    /// It is malformed.
     Malformed,
     /// One of its changes can't be made.
     Faulty(Refusal),
 }
 
-/// An error's number.
+/// The number of an error.
 #[derive(Clone, Copy)]
 pub enum Code {
     /// -32700: no JSON.
     ParseError,
-    /// -32600: not at this time.
+    /// -32600: not in this phase.
     InvalidRequest,
     /// -32601: an unknown method.
     MethodNotFound,
-    /// -32002: the session hasn't begun.
+    /// -32002: before `initialize`.
     NotInitialized,
 }

@@ -27,7 +27,7 @@ fn mark_of(label: &LabeledSpan) -> Mark
     }
 }
 
-/// Where a label's range lies after a change, or none where it became empty.
+/// Where a label's range is after a change; `None` if it became empty.
 fn moved_mark_of(change: Change, label: &LabeledSpan) -> Option<Mark>
     requires { CanMove change label.now }
     ensures value { result ≡ moved_mark change (mark_in label.now) }
@@ -36,11 +36,11 @@ fn moved_mark_of(change: Change, label: &LabeledSpan) -> Option<Mark>
     move_mark(change, mark_of(label))
 }
 
-/// A label after a change, or none where it became empty.
+/// A label after a change; `None` if it became empty.
 ///
 /// # Errors
 ///
-/// Want of memory.
+/// Out of memory.
 #[tactic(auto, unfolding(crate::specs::Moved::moved_label))]
 pub fn moved_label(
     alloc: Global,
@@ -66,7 +66,7 @@ pub fn moved_label(
     }
 }
 
-/// The labels after a change, in their order, without those that became empty.
+/// The labels after a change, in order, without those that became empty.
 fn moved_labels(
     alloc: Global,
     change: Change,
@@ -114,11 +114,11 @@ fn head_goes(change: Change, labels: &[LabeledSpan]) -> bool
     }
 }
 
-/// A finding after a change: its labels move. It goes with its head label.
+/// A finding after a change: its labels move. It is dropped if its head label became empty.
 ///
 /// # Errors
 ///
-/// Want of memory.
+/// Out of memory.
 #[tactic(auto, unfolding(crate::specs::Moved::moved_diagnostic))]
 pub fn moved_diagnostic(
     alloc: Global,
@@ -138,11 +138,11 @@ pub fn moved_diagnostic(
     Ok(Some(copy))
 }
 
-/// Findings after a change, in their order.
+/// Findings after a change, in order.
 ///
 /// # Errors
 ///
-/// Want of memory.
+/// Out of memory.
 pub fn moved_all(
     alloc: Global,
     change: Change,
@@ -158,7 +158,7 @@ pub fn moved_all(
     Ok(moved)
 }
 
-/// Appends a finding as it is after a change, unless it went.
+/// Appends a finding as it is after a change, unless it is dropped.
 fn push_diagnostic(
     alloc: Global,
     change: Change,
@@ -178,11 +178,11 @@ fn push_diagnostic(
     }
 }
 
-/// Findings as values of their own.
+/// Copies of findings.
 ///
 /// # Errors
 ///
-/// Want of memory.
+/// Out of memory.
 pub fn copied_all(alloc: Global, found: &[OxcDiagnostic]) -> Result<Vec<OxcDiagnostic>, AllocError>
     ensures { IfOk result (λ copies. copies.items ≡ found.now) }
 {

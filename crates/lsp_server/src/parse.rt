@@ -1,4 +1,4 @@
-// A message's JSON.
+// Reads a message's JSON.
 ghost use Rattle.std.specs.Prelude.{◌≡◌, codes, IfOk, map, option_map, Some, string_bytes};
 ghost use Rattle.std.specs.Option.{option_copied};
 ghost use Rattle.serde_json.specs.View.{items_view, view};
@@ -17,14 +17,14 @@ use serde_json::Value;
 use std::alloc::{AllocError, Global};
 use text_places::{Encoding, Place};
 
-/// The message that a body holds.
+/// The message in a body.
 ///
-/// JSON without a method, or with an id that is no integer and no text, is a notification of
-/// nothing. A `didChange` that isn't of its form is [`Notice::Malformed`].
+/// JSON without a method, or with an id that is neither an integer nor a string, is a notification
+/// without effect. A malformed `didChange` is [`Notice::Malformed`].
 ///
 /// # Errors
 ///
-/// Want of memory.
+/// Out of memory.
 pub fn message_in(alloc: Global, body: &[u8]) -> Result<Message, AllocError>
     ensures { IfOk result (λ message. IsReadAs message body.now) }
 {
@@ -40,7 +40,7 @@ pub fn message_in(alloc: Global, body: &[u8]) -> Result<Message, AllocError>
     }
 }
 
-/// The message that a value is.
+/// The message that a value means.
 #[tactic(auto, unfolding(crate::specs::Meant::said_in))]
 fn message_of(alloc: Global, value: &Value) -> Result<Message, AllocError>
     ensures { IfOk result (λ message. said_by message ≡ Some (said_in (view value.now))) }
@@ -64,7 +64,7 @@ fn notification(alloc: Global, method: &str, params: Option<&Value>) -> Result<M
     Ok(Message::Notification(notice))
 }
 
-/// A request of this method, if its id is one.
+/// A request of this method, if its id is valid.
 fn request(
     alloc: Global,
     id: &Value,
@@ -80,7 +80,7 @@ fn request(
     }
 }
 
-/// A request's name.
+/// The id of a request; `None` if it is neither an integer nor a string.
 fn id_of(alloc: Global, value: &Value) -> Result<Option<Id>, AllocError>
     ensures { IfOk result (λ id. option_map name_of id ≡ name_in (view value.now)) }
 {
@@ -94,7 +94,7 @@ fn id_of(alloc: Global, value: &Value) -> Result<Option<Id>, AllocError>
     Ok(Some(Id::Text(text)))
 }
 
-/// What a request asks for.
+/// The method of a request.
 #[tactic(auto, unfolding(crate::specs::Meant::method_of))]
 fn method_of(method: &str, params: Option<&Value>) -> Method
     ensures { result ≡ method_named method.now (option_map view (option_copied params.entry)) }
@@ -106,7 +106,7 @@ fn method_of(method: &str, params: Option<&Value>) -> Method
     }
 }
 
-/// What a client can do, as it says when it begins.
+/// The client's capabilities in `initialize`.
 #[tactic(auto, unfolding(crate::specs::Meant::wanted_of))]
 fn wanted_in(capabilities: Option<&Value>) -> Wanted
     ensures { result ≡ wanted_of (option_map view (option_copied capabilities.entry)) }
@@ -169,7 +169,7 @@ fn first_known(names: &[Value]) -> Option<Encoding>
     None
 }
 
-/// The encoding of a name.
+/// The encoding with a name.
 fn encoding_of(name: &Value) -> Option<Encoding>
     ensures { result ≡ encoding_in (view name.now) }
 {
@@ -181,7 +181,7 @@ fn encoding_of(name: &Value) -> Option<Encoding>
     }
 }
 
-/// What a notification tells.
+/// The content of a notification.
 #[tactic(auto, unfolding(crate::specs::Meant::event_in))]
 fn notice_of(alloc: Global, method: &str, params: Option<&Value>) -> Result<Notice, AllocError>
     ensures { IfOk result (λ notice. event_of notice
@@ -197,7 +197,7 @@ fn notice_of(alloc: Global, method: &str, params: Option<&Value>) -> Result<Noti
     }
 }
 
-/// A document that is opened.
+/// A document that was opened.
 #[tactic(auto, unfolding(crate::specs::Meant::opened_in))]
 fn opened(alloc: Global, document: Option<&Value>) -> Result<Notice, AllocError>
     ensures { IfOk result (λ notice. event_of notice
@@ -214,7 +214,7 @@ fn opened(alloc: Global, document: Option<&Value>) -> Result<Notice, AllocError>
     Ok(Notice::Opened(uri, version_in(document), text))
 }
 
-/// A document that is closed.
+/// A document that was closed.
 fn closed(alloc: Global, document: Option<&Value>) -> Result<Notice, AllocError>
     ensures { IfOk result (λ notice. event_of notice ≡ closed_by
         (text_under (codes "uri") (option_map view (option_copied document.entry)))) }
@@ -226,7 +226,7 @@ fn closed(alloc: Global, document: Option<&Value>) -> Result<Notice, AllocError>
     Ok(Notice::Closed(uri))
 }
 
-/// A document that changes.
+/// A document that was changed.
 #[tactic(auto, unfolding(crate::specs::Meant::changed_in))]
 fn changed(
     alloc: Global,
@@ -247,7 +247,7 @@ fn changed(
     Ok(Notice::Changed(uri, version_in(document), changes))
 }
 
-/// The changes that a notification tells, or none where they aren't of their form.
+/// The changes of a notification; `None` if they are malformed.
 fn changes_at(alloc: Global, params: Option<&Value>) -> Result<Option<Vec<Change>>, AllocError>
     ensures { IfOk result (λ it. option_map (λ changes. map change_said changes.items) it
         ≡ changes_under (option_map view (option_copied params.entry))) }
@@ -258,7 +258,7 @@ fn changes_at(alloc: Global, params: Option<&Value>) -> Result<Option<Vec<Change
     }
 }
 
-/// The changes of a list, or none where one isn't of its form.
+/// The changes of a list; `None` if one is malformed.
 fn changes_of(alloc: Global, values: &[Value]) -> Result<Option<Vec<Change>>, AllocError>
     ensures { IfOk result (λ it. option_map (λ changes. map change_said changes.items) it
         ≡ changes_in (items_view values.now)) }
@@ -273,7 +273,7 @@ fn changes_of(alloc: Global, values: &[Value]) -> Result<Option<Vec<Change>>, Al
     Ok(Some(changes))
 }
 
-/// A change: a text, and the range that it replaces, or the whole without one.
+/// A change: a text, and the range that it replaces, or the whole text if there is no range.
 #[tactic(auto, unfolding(crate::specs::Meant::change_in))]
 fn change_of(alloc: Global, value: &Value) -> Result<Option<Change>, AllocError>
     ensures { IfOk result (λ change. option_map change_said change ≡ change_in (view value.now)) }
@@ -288,7 +288,8 @@ fn change_of(alloc: Global, value: &Value) -> Result<Option<Change>, AllocError>
     Ok(Some(Change { range, text }))
 }
 
-/// The part that gives way: the whole where no range is told.
+/// The replaced range: `Some(None)`, the whole text, if there is no range; `None` if the range is
+/// malformed.
 fn part_of(value: Option<&Value>) -> Option<Option<(Place, Place)>>
     ensures { result ≡ part_in (option_map view (option_copied value.entry)) }
 {
@@ -298,7 +299,7 @@ fn part_of(value: Option<&Value>) -> Option<Option<(Place, Place)>>
     }
 }
 
-/// The places of a range's ends.
+/// The positions of a range's ends.
 #[tactic(auto, unfolding(crate::specs::Meant::range_in))]
 fn range_of(value: &Value) -> Option<(Place, Place)>
     ensures { result ≡ range_in (view value.now) }
@@ -317,7 +318,7 @@ fn place_of(value: Option<&Value>) -> Option<Place>
     Some(Place { line, unit })
 }
 
-/// A number of 32 bits; a larger one is as good as the largest.
+/// A number of 32 bits; a larger one is read as the largest.
 fn number_at(value: Option<&Value>, key: &str) -> Option<u32>
     ensures { result ≡ count_under key.now (option_map view (option_copied value.entry)) }
 {
@@ -332,7 +333,7 @@ fn text_at<'a>(value: Option<&'a Value>, key: &str) -> Option<&'a str>
     member(value, key)?.as_str()
 }
 
-/// A document's version, 0 where it has none that is known.
+/// A document's version; 0 if it has none, or one that isn't an integer of 32 bits.
 fn version_in(document: Option<&Value>) -> i32
     ensures { result ≡ version_under (option_map view (option_copied document.entry)) }
 {
@@ -342,7 +343,7 @@ fn version_in(document: Option<&Value>) -> i32
     }
 }
 
-/// A number where it has 32 bits, and else 0.
+/// A number if it has 32 bits, else 0.
 fn small_version(number: i64) -> i32
     ensures { result ≡ small number }
 {

@@ -1,4 +1,4 @@
-// What a client is told of a document's findings.
+// The parameters that publish a document's findings.
 ghost use Rattle.std.specs.Prelude.{◌≡◌, [], All, IfOk};
 ghost use Rattle.serde_json.specs.View.{view};
 ghost use Rattle.lsp_diagnostics.specs.Diagnostics.{published_value};
@@ -13,7 +13,7 @@ use oxc_protocol::OxcDiagnostic;
 use std::alloc::{AllocError, Global};
 use text_places::TextPlaces;
 
-/// What a client is told of an open document.
+/// The findings of an open document, as parameters.
 pub(crate) fn published_open(
     alloc: Global,
     agreed: Agreed,
@@ -36,7 +36,7 @@ pub(crate) fn published_open(
     Ok(Params { value })
 }
 
-/// What a client is told of a closed document.
+/// The empty list for a closed document, as parameters.
 pub(crate) fn published_none(alloc: Global, agreed: Agreed, uri: &str) -> Result<Params, AllocError>
     ensures { IfOk result (λ params. view params.value
         ≡ published_value (seen_closed agreed uri.now) []) }

@@ -20,20 +20,20 @@ use std::alloc::{AllocError, Global};
 use std::collections::BTreeMap;
 use text_places::Encoding;
 
-/// How far a session is.
+/// The phase of a session.
 #[derive(Clone, Copy)]
 pub enum Phase {
-    /// It hasn't begun.
+    /// Before `initialize`.
     New,
-    /// It runs.
+    /// After `initialize`.
     Running,
-    /// The client announced its end.
+    /// After `shutdown`.
     ShutDown,
-    /// It is over; true where its end was announced.
+    /// After `exit`; true if `shutdown` came before it.
     Exited(bool),
 }
 
-/// The open documents, how far the session is, and what was agreed on.
+/// The open documents, the phase of the session, and what was agreed on.
 #[derive(Drop)]
 pub struct Server {
     phase: Phase,
@@ -60,11 +60,11 @@ impl Server {
         }
     }
 
-    /// Takes a message, and gives what it is answered, or what is told of it.
+    /// Takes a message, and returns what to send for it.
     ///
     /// # Errors
     ///
-    /// Want of memory: all is as it was.
+    /// Out of memory: nothing that contracts see of the server changes.
     pub fn take(&mut self, alloc: Global, message: Message) -> Result<Option<Answer>, AllocError>
         ensures step { IfOk result (IsStep self.old message self.new) }
         ensures once { IfOk result (λ told. answered told ≡ asked message) }
@@ -80,11 +80,11 @@ impl Server {
         }
     }
 
-    /// Takes messages, one behind another, and gives what is answered and told, in their order.
+    /// Takes messages in order, and returns what to send for them, in order.
     ///
     /// # Errors
     ///
-    /// Want of memory, at some message.
+    /// Out of memory at some message; those before it have been taken.
     pub fn take_each(
         &mut self,
         alloc: Global,
@@ -104,12 +104,12 @@ impl Server {
         Ok(answers)
     }
 
-    /// Shows findings in an open document, in place of those that it shows, and gives what is told
-    /// of it; none where it isn't open, or where a label doesn't stand in its text.
+    /// Replaces the findings that an open document shows, and returns what to publish; `None` if
+    /// the document isn't open, or if a label doesn't fit its text.
     ///
     /// # Errors
     ///
-    /// Want of memory: all is as it was.
+    /// Out of memory: nothing that contracts see of the server changes.
     pub fn show(
         &mut self,
         alloc: Global,
@@ -141,7 +141,7 @@ impl Server {
     ///
     /// # Errors
     ///
-    /// Want of memory.
+    /// Out of memory.
     pub fn uris(&self, alloc: Global) -> Result<Vec<String>, AllocError>
         ensures { IfOk result (λ uris. map string_bytes uris.items ≡ open_uris self.now) }
     {
@@ -152,21 +152,21 @@ impl Server {
         Ok(uris)
     }
 
-    /// Whether the session runs: the client said `initialize`, and neither `shutdown` nor `exit`.
+    /// Whether the session runs: after `initialize`, and before `shutdown` and `exit`.
     pub fn is_running(&self) -> bool
         ensures { result ≡ is_running self.now.phase }
     {
         matches!(self.phase, Phase::Running)
     }
 
-    /// Whether the client said `exit`.
+    /// Whether `exit` came.
     pub fn is_ended(&self) -> bool
         ensures { IsTrue result ↔ IsExit self.now.phase }
     {
         matches!(self.phase, Phase::Exited(_))
     }
 
-    /// Whether it said `shutdown` before that.
+    /// Whether `shutdown` came before `exit`.
     pub fn is_well_ended(&self) -> bool
         ensures { IsTrue result ↔ (self.now.phase ≡ Phase.Exited true) }
     {
@@ -273,7 +273,7 @@ impl Server {
         Ok(None)
     }
 
-    /// Puts a document in place of the one of its URI.
+    /// Inserts a document under its URI; an older one is replaced.
     fn insert(&mut self, uri: String, document: OpenText) -> Result<(), AllocError>
         ensures only { OnOk result (OnlyAt (string_bytes uri) (Some document)
             (document_of self.old) (document_of self.new)) }
@@ -285,7 +285,7 @@ impl Server {
         Ok(())
     }
 
-    /// Closes a document, and tells that nothing is found in it.
+    /// Closes a document, and publishes an empty list.
     fn close(&mut self, alloc: Global, uri: &str) -> Result<Answer, AllocError>
         ensures told { IfOk result (λ told. IsClosed self.old.agreed uri.now
             (document_of self.old) (document_of self.new) (Some told)) }
@@ -323,11 +323,11 @@ impl Server {
     }
 }
 
-/// Appends what is told, if there is any.
+/// Appends what to send, if there is anything.
 ///
 /// # Errors
 ///
-/// Want of memory.
+/// Out of memory.
 pub fn add_told(answers: &mut Vec<Answer>, told: Option<Answer>) -> Result<(), AllocError>
     ensures { OnOk result (answers.new.items ≡ answers.old.items ++ option_to_list told) }
 {
