@@ -24,12 +24,12 @@ use std::alloc::{AllocError, Global};
 use tool_lines::lines::{lines_of, pieces_of};
 use tool_lines::paint::without_paint;
 
-/// The findings of a log in a file with this URI and text. Their labels stand in the text; one whose
-/// labels don't has none.
+/// The findings of a log in a file with this URI and text. A finding whose labels don't all fit the
+/// text is given without labels.
 ///
 /// # Errors
 ///
-/// Want of memory.
+/// Out of memory.
 pub fn found_in(
     alloc: Global,
     asked: Asked<'_>,
@@ -93,7 +93,7 @@ fn found_in_lines(
     Ok(shown)
 }
 
-/// The name of the tool, empty where none is named.
+/// The name of the tool; empty if none is named.
 fn tool_name(asked: Asked<'_>) -> &str
     ensures { result.now ≡ name_of asked.entry.tool }
 {
@@ -103,7 +103,7 @@ fn tool_name(asked: Asked<'_>) -> &str
     }
 }
 
-/// How columns count: as the words say, as the tool does, and else characters from 1.
+/// How columns count: as the options say, else as the tool does, else characters from 1.
 fn columns_of(asked: Asked<'_>) -> Columns
     ensures { result ≡ columns_meant asked.entry }
 {
@@ -120,7 +120,7 @@ fn columns_of(asked: Asked<'_>) -> Columns
     }
 }
 
-/// What columns of a log count, where the words say it and logs can count it.
+/// What the columns of a SARIF log count, if the options name a unit that such logs can have.
 fn log_columns(unit: Option<Unit>) -> Option<ColumnKind>
     ensures { result ≡ columns_of_log unit }
 {
@@ -131,7 +131,7 @@ fn log_columns(unit: Option<Unit>) -> Option<ColumnKind>
     }
 }
 
-/// The one file that is open, as a store: a path that means it has its text.
+/// The one open file, as a store: each path that means it has its text.
 #[derive(Drop)]
 struct OpenFile<'a> {
     path: &'a str,
@@ -154,7 +154,7 @@ impl<'a> Store for OpenFile<'a> {
     }
 }
 
-/// What is shown of reports: those on the file, each with its labels where they stand in the text.
+/// The diagnostics of the reports on the file, each without labels if they don't fit the text.
 fn shown_of(
     alloc: Global,
     spelling: Spelling,
@@ -207,7 +207,7 @@ fn add(shown: &mut Vec<OxcDiagnostic>, one: Option<OxcDiagnostic>) -> Result<(),
     }
 }
 
-/// What is shown of a report; nothing where it is on another file.
+/// The diagnostic of a report; `None` if it is on another file.
 #[tactic(auto, unfolding(crate::specs::Found::pick))]
 fn picked_one(
     alloc: Global,
@@ -229,7 +229,7 @@ fn picked_one(
     Ok(Some(shown))
 }
 
-/// A finding with its labels, where they stand in the text, and else without.
+/// A finding, without its labels if they don't all fit the text.
 fn fitted(alloc: Global, it: &OxcDiagnostic, text: &str) -> Result<OxcDiagnostic, AllocError>
     ensures { IfOk result (IsFitted text.now it.now) }
 {

@@ -1,4 +1,4 @@
-// A log, read.
+// Reads a log.
 ghost use Rattle.std.specs.Prelude.{◌≡◌, IfOk, string_bytes};
 ghost use Rattle.input_forms.specs.Begun.{behind_mark};
 ghost use Rattle.girzohal_lsp.specs.Logs.{IsLines, IsRead, IsSarif, NamesPlace};
@@ -10,23 +10,22 @@ use input_forms::{Begun, begins_as, without_mark};
 use sarif::{Log, LogError, log_in, read_log};
 use std::alloc::{AllocError, Global};
 
-/// A log that was read.
+/// A log.
 #[derive(Drop)]
 pub enum LogFile {
     /// A SARIF log.
     Sarif(Log),
     /// What a tool printed for people.
     Lines(Vec<u8>),
-    /// No log, and why.
+    /// Why there is no log.
     Fault(String),
 }
 
-/// Reads the bytes of a log, in the form that was asked for. One byte order mark before them is
-/// skipped.
+/// Reads the bytes of a log in a format. One byte order mark before them is skipped.
 ///
 /// # Errors
 ///
-/// Want of memory.
+/// Out of memory.
 pub fn read_bytes(alloc: Global, form: Form, bytes: Vec<u8>) -> Result<LogFile, AllocError>
     ensures { IfOk result (IsRead form bytes.items) }
 {
@@ -44,7 +43,7 @@ pub fn read_bytes(alloc: Global, form: Form, bytes: Vec<u8>) -> Result<LogFile, 
     }
 }
 
-/// The lines in bytes, which are copied where a mark stands before them.
+/// The lines of a log. The bytes are copied if they begin with a byte order mark.
 fn lines_in(alloc: Global, bytes: Vec<u8>) -> Result<LogFile, AllocError>
     ensures { IfOk result (IsLines (behind_mark bytes.items)) }
 {
@@ -55,7 +54,7 @@ fn lines_in(alloc: Global, bytes: Vec<u8>) -> Result<LogFile, AllocError>
     Ok(LogFile::Lines(rest))
 }
 
-/// The SARIF log in bytes, or why there is none.
+/// The SARIF log in the bytes, or why there is none.
 fn sarif_in(alloc: Global, bytes: &[u8]) -> Result<LogFile, AllocError>
     ensures { IfOk result (IsSarif bytes.now) }
 {
@@ -78,7 +77,7 @@ fn sarif_in(alloc: Global, bytes: &[u8]) -> Result<LogFile, AllocError>
     }
 }
 
-/// Where reading as JSON stopped.
+/// The message with the place where reading as JSON stopped.
 fn no_json(alloc: Global, line: usize, column: usize) -> Result<String, AllocError>
     ensures { IfOk result (λ why. NamesPlace (string_bytes why)) }
 {
@@ -86,7 +85,7 @@ fn no_json(alloc: Global, line: usize, column: usize) -> Result<String, AllocErr
     Ok(why)
 }
 
-/// What was wanted, and where.
+/// The message with what was expected, and where.
 fn fault_text(alloc: Global, path: &str, wanted: &str) -> Result<String, AllocError>
     ensures { IfOk result (λ why. string_bytes why ≡ fault_meant path.now wanted.now) }
 {

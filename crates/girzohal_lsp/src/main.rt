@@ -1,12 +1,12 @@
 //! The program `girzohal_lsp`: a language server over standard input and output that shows in an
-//! editor what a linter's log says of the files that are open.
+//! editor what a linter's log says about the open files.
 //!
 //! `girzohal_lsp [--from auto|lines|sarif] [--tool NAME] [--columns bytes|characters|utf16|cells]
-//! [--first-column 0|1] LOG`. LOG is read when a file is opened, and anew when one is saved.
+//! [--first-column 0|1] LOG`. LOG is read when a file is opened, and again when one is saved.
 //!
-//! - `words`: what the words ask for
-//! - `log`: a log, read
-//! - `found`: the findings that a log has for it
+//! - `words`: the options
+//! - `log`: reads a log
+//! - `found`: the findings of a log for an open file
 //! - `serve`: messages in, answers out
 #![tactic(auto)]
 
@@ -50,7 +50,7 @@ fn main(rt: HostRuntime) -> ExitCode {
     }
 }
 
-/// The words behind the program's name.
+/// The arguments without the program's name.
 fn words_given(rt: &HostRuntime) -> io::Result<Vec<String>> {
     let mut args = env::args(rt)?;
     let _program = args.next();

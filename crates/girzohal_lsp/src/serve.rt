@@ -26,12 +26,12 @@ struct Session<'a> {
     server: Server,
 }
 
-/// Serves until the client says `exit` or ends its input, and tells whether it said `shutdown`
-/// before. A read that was interrupted is made again.
+/// Serves until the client sends `exit` or ends its input, and returns whether `shutdown` came
+/// before `exit`. An interrupted read is repeated.
 ///
 /// # Errors
 ///
-/// A fault of a stream, bytes that are of no frame, or want of memory.
+/// A stream failed, bytes are of no frame, or out of memory.
 pub fn serve<F: Files + Alloc, R: Read, W: Write>(
     rt: &F,
     alloc: Global,
@@ -61,7 +61,7 @@ pub fn serve<F: Files + Alloc, R: Read, W: Write>(
     Ok(session.server.is_well_ended())
 }
 
-/// Takes the messages that end in these bytes; false where the session is over.
+/// Takes the messages that end in these bytes; false once the session is over.
 fn take_all<F: Files + Alloc, W: Write>(
     rt: &F,
     frames: &mut Frames,
@@ -87,7 +87,7 @@ fn take_all<F: Files + Alloc, W: Write>(
     Ok(true)
 }
 
-/// Takes one message; false where the session is over.
+/// Takes one message; false once the session is over.
 fn handle<F: Files + Alloc, W: Write>(
     rt: &F,
     session: &mut Session<'_>,
@@ -101,8 +101,8 @@ fn handle<F: Files + Alloc, W: Write>(
     Ok(!session.server.is_ended())
 }
 
-/// Takes the message that a body holds, looks up the findings that it asks for where the session
-/// runs, and gives what is answered and told.
+/// Takes the message in a body, looks up the findings that it needs if the session runs, and
+/// returns what to send.
 fn answers_to<F: Files + Alloc>(
     rt: &F,
     session: &mut Session<'_>,
@@ -124,7 +124,7 @@ fn answers_to<F: Files + Alloc>(
     Ok(answers)
 }
 
-/// Which documents findings are looked up for.
+/// The documents for which findings are looked up.
 #[derive(Drop)]
 enum Wanted {
     None,
@@ -132,7 +132,7 @@ enum Wanted {
     All,
 }
 
-/// The document that is opened, or all where one is saved.
+/// The document that was opened, or all if one was saved.
 fn wanted_by(alloc: Global, message: &Message) -> Result<Wanted, AllocError>
     ensures { IfOk result (λ wanted. (server : ServerSeen)
         → wanted_uris wanted server ≡ uris_of message.now server) }
@@ -147,7 +147,7 @@ fn wanted_by(alloc: Global, message: &Message) -> Result<Wanted, AllocError>
     }
 }
 
-/// Looks up the findings in the documents that are wanted, and adds what is told of them.
+/// Looks up the findings in these documents, and appends what to send.
 fn look_up<F: Files + Alloc>(
     rt: &F,
     session: &mut Session<'_>,
@@ -175,7 +175,7 @@ fn look_up<F: Files + Alloc>(
     }
 }
 
-/// Reads the log, shows what it has for each of these documents, and adds what is told of them.
+/// Reads the log, shows its findings in each of these documents, and appends what to send.
 fn show_all<F: Files + Alloc>(
     rt: &F,
     session: &mut Session<'_>,
@@ -197,7 +197,7 @@ fn show_all<F: Files + Alloc>(
     Ok(())
 }
 
-/// What is told of a log that is none.
+/// The message for the client if there is no log.
 fn told_of_fault(
     alloc: Global,
     asked: Asked<'_>,
@@ -215,7 +215,7 @@ fn told_of_fault(
     Ok(Some(Answer::Logged(text)))
 }
 
-/// Shows in each of these documents what a log has for it, and adds what is told of them.
+/// Shows the findings of a log in each of these documents, and appends what to send.
 fn refresh_all(
     alloc: Global,
     asked: Asked<'_>,
@@ -237,12 +237,12 @@ fn refresh_all(
     Ok(())
 }
 
-/// Shows in an open document what a log has for it, in place of what it shows, and gives what is
-/// told of it; nothing where it isn't open.
+/// Replaces what an open document shows by the findings of a log for it, and returns what to
+/// publish; `None` if the document isn't open.
 ///
 /// # Errors
 ///
-/// Want of memory: all is as it was.
+/// Out of memory: nothing that contracts see of the server changes.
 pub fn refresh(
     alloc: Global,
     asked: Asked<'_>,
@@ -267,7 +267,7 @@ pub fn refresh(
     Ok(told)
 }
 
-/// Reads the log's file; a fault of it is told, and ends nothing.
+/// Reads the log's file. If that fails, the result says so, and the session goes on.
 fn log_file<F: Files + Alloc>(
     rt: &F,
     alloc: Global,

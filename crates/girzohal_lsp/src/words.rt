@@ -1,4 +1,4 @@
-// What the words ask for.
+// The options.
 ghost use Rattle.std.specs.Prelude.{◌≡◌, ◌∷◌, ◌≤◌, [], IfOk, IfSome, MatchOption, is_some, length};
 ghost use Rattle.std.specs.Prelude.{map, string_bytes};
 ghost use Rattle.std.specs.List.{list_all};
@@ -19,54 +19,55 @@ use std::alloc::{AllocError, Global};
 /// How a log is written.
 #[derive(Clone, Copy)]
 pub enum Form {
-    /// As its first bytes say: a SARIF log where they begin a JSON object, and else lines.
+    /// As its first bytes say: a SARIF log if they begin a JSON object, an error for other JSON,
+    /// else lines.
     Auto,
-    /// As lines that a tool prints for people.
+    /// Lines that a tool prints for people.
     Lines,
-    /// As a SARIF log, with or without other lines around it.
+    /// A SARIF log, with or without other lines around it.
     Sarif,
 }
 
-/// What the words ask for.
+/// The options, and the log's path.
 #[derive(Clone, Copy)]
 pub struct Asked<'a> {
     /// How the log is written.
     pub from: Form,
     /// The tool that wrote it.
     pub tool: Option<&'a str>,
-    /// What its columns count, where that isn't as the tool counts.
+    /// What its columns count, if not what the tool's do.
     pub columns: Option<Unit>,
-    /// The number of the first column, where it isn't the tool's.
+    /// The number of the first column, if not the tool's.
     pub first_column: Option<u32>,
     /// The log's path.
     pub log: &'a str,
 }
 
-/// What a word says, with the word behind it where that is its value.
+/// An argument, with the next one if that is its value.
 #[derive(Clone, Copy)]
 enum Item<'a> {
-    /// A setting and its value.
+    /// An option and its value.
     Setting(&'a str, &'a str),
-    /// A setting behind which its value is missing.
+    /// An option without a value: the last argument.
     Bare(&'a str),
     /// A path.
     Path(&'a str),
 }
 
-/// An item, and the words behind it.
+/// An item, and the arguments after it.
 #[derive(Clone, Copy)]
 struct Read<'a> {
     item: Item<'a>,
     rest: &'a [String],
 }
 
-/// What the words ask for: settings, each a name and the word behind it, and one path. The last
-/// value of a setting counts. None where a word is wrong, a value is missing, there is no path, an
-/// empty or a second one, or where a SARIF log is to count in bytes or in cells.
+/// Reads the arguments: options, each a name and a value, and one path. The last value of an option
+/// counts. `None` if an argument is unknown, a value is missing or unknown, there is no path, an
+/// empty path or a second one, or if a SARIF log should count in bytes or in cells.
 ///
 /// # Errors
 ///
-/// Want of memory.
+/// Out of memory.
 #[tactic(auto, unfolding(crate::specs::Words::asks_something))]
 pub fn read_words(alloc: Global, words: &[String]) -> Result<Option<Asked<'_>>, AllocError>
     ensures asked { IfOk result (λ it. IfSome it (Asks (said_by (map string_bytes words.now)))) }
@@ -94,7 +95,7 @@ pub fn read_words(alloc: Global, words: &[String]) -> Result<Option<Asked<'_>>, 
     }
 }
 
-/// What words say; the word behind a name is its value, whatever it is.
+/// The items of the arguments. The argument after a name is its value, whatever it is.
 fn items_of<'a>(alloc: Global, words: &'a [String]) -> Result<Vec<Item<'a>>, AllocError>
     ensures { IfOk result (λ items. map said items.items ≡ said_by (map string_bytes words.now)) }
 {
@@ -108,7 +109,7 @@ fn items_of<'a>(alloc: Global, words: &'a [String]) -> Result<Vec<Item<'a>>, All
     Ok(items)
 }
 
-/// The item that begins with this word, and the words behind it.
+/// The item that begins with this argument, and the arguments after it.
 fn read_item<'a>(word: &'a str, rest: &'a [String]) -> Read<'a>
     ensures said { said_by (word.now ∷ map string_bytes rest.now)
         ≡ said result.item ∷ said_by (map string_bytes result.rest.now) }
@@ -138,7 +139,7 @@ fn is_name(word: &str) -> bool
     word.as_bytes().starts_with(b"--")
 }
 
-/// Whether each name is that of a setting, and has a value of its kind.
+/// Whether all options are known and have valid values.
 fn are_right(alloc: Global, items: &[Item<'_>]) -> Result<bool, AllocError>
     ensures { IfOk result (λ are. are ≡ list_all is_right_said (map said items.now)) }
 {
@@ -162,7 +163,7 @@ fn is_right(alloc: Global, item: Item<'_>) -> Result<bool, AllocError>
     }
 }
 
-/// Whether there is such a setting, and the value is one of its kind.
+/// Whether there is such an option, and the value is valid for it.
 #[tactic(auto, unfolding(crate::specs::Words::is_value))]
 fn is_value(alloc: Global, name: &str, value: &str) -> Result<bool, AllocError>
     ensures { IfOk result (λ is. is ≡ is_value_meant name.now value.now) }
@@ -176,7 +177,7 @@ fn is_value(alloc: Global, name: &str, value: &str) -> Result<bool, AllocError>
     }
 }
 
-/// Whether something is known of a tool; `sarif` is the name of those that write logs.
+/// Whether a tool is known; `sarif` is the name of those that write logs.
 #[tactic(auto, unfolding(crate::specs::Words::is_tool))]
 fn is_tool(alloc: Global, tool: &str) -> Result<bool, AllocError>
     ensures { IfOk result (λ is. is ≡ is_known_tool tool.now) }
@@ -187,7 +188,7 @@ fn is_tool(alloc: Global, tool: &str) -> Result<bool, AllocError>
     has_lines(alloc, tool)
 }
 
-/// Whether the shapes of a tool's lines are known, or how its columns count.
+/// Whether the patterns of a tool's lines are known, or how its columns count.
 fn has_lines(alloc: Global, tool: &str) -> Result<bool, AllocError>
     ensures { IfOk result (λ is. is ≡ lines_known tool.now) }
 {
@@ -234,7 +235,7 @@ fn first_named(value: &str) -> Option<u32>
     }
 }
 
-/// The one path; none where there are none or more, or where it is empty.
+/// The only path; `None` if there is none, if there are several, or if it is empty.
 fn one_path<'a>(items: &[Item<'a>]) -> Option<&'a str>
     ensures path { IfSome result (λ path. paths_in (map said items.now) ≡ path.now ∷ []) }
     ensures some { is_some result ≡ is_one_path (paths_in (map said items.now)) }
@@ -247,7 +248,7 @@ fn one_path<'a>(items: &[Item<'a>]) -> Option<&'a str>
     }
 }
 
-/// The first path, and the items behind it.
+/// The first path, and the items after it.
 fn next_path<'a, 'b>(items: &'b [Item<'a>]) -> Option<(&'a str, &'b [Item<'a>])>
     ensures { MatchOption result (paths_in (map said items.now) ≡ [])
         (λ it. paths_in (map said items.now) ≡ it.0.now ∷ paths_in (map said it.1.now)) }
@@ -262,7 +263,7 @@ fn next_path<'a, 'b>(items: &'b [Item<'a>]) -> Option<(&'a str, &'b [Item<'a>])>
     None
 }
 
-/// The form that is named, else that of the tool.
+/// The format that is named, else that of the tool.
 #[tactic(auto, unfolding(crate::specs::Words::form_in))]
 fn form_in(items: &[Item<'_>]) -> Form
     ensures { result ≡ form_said (map said items.now) }
@@ -273,7 +274,7 @@ fn form_in(items: &[Item<'_>]) -> Form
         .unwrap_or(by_tool)
 }
 
-/// The form in which a tool writes, where that is a log.
+/// The format in which a tool writes; `Auto` if that isn't known.
 #[tactic(auto, unfolding(crate::specs::Words::form_of_tool))]
 fn form_of_tool(tool: Option<&str>) -> Form
     ensures { result ≡ form_written (option_copied tool.entry) }
@@ -284,7 +285,7 @@ fn form_of_tool(tool: Option<&str>) -> Form
     }
 }
 
-/// The value that a setting is given last.
+/// The last value of an option.
 #[tactic(auto, using(crate::proofs::WordsLemmas::last_value_more), unfolding(crate::specs::Words::last_value))]
 fn last_value<'a>(items: &[Item<'a>], name: &str) -> Option<&'a str>
     ensures { option_copied result ≡ last_value_of name.now (map said items.now) }
@@ -298,7 +299,7 @@ fn last_value<'a>(items: &[Item<'a>], name: &str) -> Option<&'a str>
     last
 }
 
-/// The value of a setting, if an item gives it, else another one.
+/// The value of an option, if this item gives it, else `other`.
 fn value_or<'a>(item: Item<'a>, name: &str, other: Option<&'a str>) -> Option<&'a str>
     ensures { option_copied result
         ≡ option_or (value_of name.now (said item.entry)) (option_copied other.entry) }
@@ -309,7 +310,7 @@ fn value_or<'a>(item: Item<'a>, name: &str, other: Option<&'a str>) -> Option<&'
     }
 }
 
-/// Whether columns can count so: those of a SARIF log count no bytes and no cells.
+/// Whether columns can count like this: those of a SARIF log don't count bytes or cells.
 fn can_count(from: Form, columns: Option<Unit>) -> bool
     ensures { result ≡ counts_so from columns }
 {
