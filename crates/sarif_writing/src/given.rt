@@ -1,4 +1,4 @@
-//! Where tools put reports that have no label.
+//! The locations that tools report for reports without labels.
 ghost use Rattle.std.specs.Prelude.{◌≡◌, ◌<◌, IfOk, OnOk, codes, length, option_map};
 ghost use Rattle.serde_json.specs.View.{members_view, view};
 ghost use Rattle.documents.specs.Written.{put_some, whole_number};
@@ -11,7 +11,7 @@ use found_reports::GivenPlace;
 use serde_json::{Map, Value, json, put};
 use std::alloc::{AllocError, Global};
 
-/// A file, and where in it the tool puts a report.
+/// A file, and the reported location in it.
 #[tactic(auto, unfolding(crate::specs::Written::bare_location))]
 pub(crate) fn bare_location(
     alloc: Global,
@@ -30,7 +30,7 @@ pub(crate) fn bare_location(
     json!(in alloc; {"physicalLocation": place})
 }
 
-/// The region of a place, where it has a row.
+/// The region of a location, if it has a row.
 fn put_region(
     alloc: Global,
     members: &mut Map<String, Value>,
@@ -48,7 +48,7 @@ fn put_region(
     put(members, alloc, "region", given_region(alloc, row, place)?)
 }
 
-/// From a row on, as far as the tool gave more.
+/// A region from a row on, with what else the tool reported.
 #[tactic(auto, unfolding(crate::specs::Written::given_region))]
 fn given_region(alloc: Global, row: u32, place: GivenPlace) -> Result<Value, AllocError>
     ensures { IfOk result (λ value. view value ≡ region_meant row place) }
@@ -61,7 +61,7 @@ fn given_region(alloc: Global, row: u32, place: GivenPlace) -> Result<Value, All
     Ok(Value::Object(members))
 }
 
-/// A number under a key, where one was given.
+/// A number under a key, if there is one.
 fn put_number(
     alloc: Global,
     members: &mut Map<String, Value>,
@@ -78,7 +78,7 @@ fn put_number(
     }
 }
 
-/// A row or a column; 0 says nothing.
+/// A row or a column; 0 is none.
 fn counted(number: Option<u32>) -> Option<u32>
     ensures { result ≡ counted_as number }
 {

@@ -2,10 +2,10 @@
 //!
 //! A log goes through the modules in this order:
 //!
-//! - `rules`: the rules of reports, each once, and their places
-//! - `places`: where labels stand, in rows and columns
-//! - `given`: where tools put reports that have no label
-//! - `results`: what each report says
+//! - `rules`: the rules of reports, each once, and their indexes
+//! - `places`: the locations of labels, in rows and columns
+//! - `given`: the reported locations of reports without labels
+//! - `results`: the results of reports
 //! - `written`: the log, and its text
 #![tactic(auto)]
 

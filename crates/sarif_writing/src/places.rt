@@ -1,4 +1,4 @@
-//! Where labels stand, in rows and columns.
+//! The locations of labels, in rows and columns.
 ghost use Rattle.std.specs.Prelude.{◌≡◌, ◌<◌, IfOk, OnOk, All, codes, map, option_map, length};
 ghost use Rattle.std.specs.Prelude.{slice_get};
 ghost use Rattle.std.specs.List.{remove};
@@ -26,8 +26,8 @@ use source_location::{LineIndex, SourceLocation};
 use std::alloc::{AllocError, Global};
 use text_size::TextSize;
 
-/// Where a report stands: the label at its head, or its file and where its tool puts it there, and
-/// the other labels behind it.
+/// The location of a report: the first primary label, else the first label, else its file with the
+/// reported location; and the other labels after it.
 #[tactic(auto, unfolding(crate::specs::Written::place_members))]
 pub(crate) fn put_places(
     alloc: Global,
@@ -63,7 +63,7 @@ fn one(alloc: Global, value: Value) -> Result<Value, AllocError>
     Ok(Value::Array(values))
 }
 
-/// An array under a key, where it isn't empty.
+/// An array under a key, if it isn't empty.
 #[tactic(auto, using(crate::proofs::ListLemmas::some_values, crate::proofs::ListLemmas::no_values))]
 fn put_array(
     alloc: Global,
@@ -81,7 +81,7 @@ fn put_array(
     put(members, alloc, key, Value::Array(values))
 }
 
-/// Takes the value at a place out of a list.
+/// Removes the value at an index from a list.
 #[tactic(auto, using(crate::proofs::ListLemmas::one_taken))]
 fn take_at(values: &mut Vec<Value>, place: usize) -> Option<Value>
     ensures taken { option_map view result ≡ slice_get (map view values.old.items) place }
@@ -94,7 +94,7 @@ fn take_at(values: &mut Vec<Value>, place: usize) -> Option<Value>
     }
 }
 
-/// The place of the first primary label, else 0.
+/// The index of the first primary label, else 0.
 #[tactic(auto, using(crate::proofs::ListLemmas::head_found))]
 fn head_place(labels: &[LabeledSpan]) -> usize
     ensures { result ≡ head_meant labels.now }
@@ -147,7 +147,7 @@ fn label_location(
     Ok(Value::Object(members))
 }
 
-/// What a label says, where it says something.
+/// The message of a label, if it has one.
 fn put_message(
     alloc: Global,
     members: &mut Map<String, Value>,

@@ -1,4 +1,4 @@
-//! What reports say, as results.
+//! The results of reports.
 ghost use Rattle.std.specs.Prelude.{◌≡◌, ◌<◌, All, IfOk, None, OnOk, codes, length, map};
 ghost use Rattle.std.specs.Prelude.{option_map, slice_index_or};
 ghost use Rattle.serde_json.specs.View.{members_view, view};
@@ -24,8 +24,7 @@ use serde_json::{Map, Value, put};
 use source_location::LineIndex;
 use std::alloc::{AllocError, Global};
 
-/// The results of reports on files that are indexed, with their labels and the places that their
-/// tool gave them.
+/// The results of reports on indexed files, with their labels and reported locations.
 #[tactic(auto, using(crate::proofs::StandingLemmas::each_stands, crate::proofs::BesideLemmas::more_results))]
 pub(crate) fn results_of(
     alloc: Global,
@@ -54,7 +53,7 @@ pub(crate) fn results_of(
     Ok(values)
 }
 
-/// The place of the report with a number; none past their end.
+/// The reported location of the report with a number; none past their end.
 fn place_at(places: &[Option<GivenPlace>], at: usize) -> Option<GivenPlace>
     ensures { result ≡ slice_index_or places.now at None }
 {
@@ -124,7 +123,7 @@ fn said_members(
     Ok(members)
 }
 
-/// The place of a rule, where there is one.
+/// The index of a rule, if there is one.
 fn put_place(
     alloc: Global,
     members: &mut Map<String, Value>,

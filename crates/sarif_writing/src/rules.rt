@@ -19,14 +19,14 @@ use serde_json::{Map, Value, put};
 use std::alloc::{AllocError, Global};
 use std::collections::BTreeMap;
 
-/// Rules, each once, and the place of each by its text.
+/// Rules, each once, and the index of each by its text.
 #[derive(Drop)]
 pub(crate) struct Rules {
     pub(crate) values: Vec<Value>,
     pub(crate) places: BTreeMap<String, usize>,
 }
 
-/// The rules of reports, each once, in the order in which they come.
+/// The rules of reports, each once, in the order of first use.
 #[tactic(auto, using(crate::proofs::RuleLemmas::no_places))]
 pub(crate) fn rules_of(alloc: Global, reports: &[FileReport]) -> Result<Rules, AllocError>
     ensures rules { IfOk result (λ rules. map view rules.values.items
@@ -42,7 +42,7 @@ pub(crate) fn rules_of(alloc: Global, reports: &[FileReport]) -> Result<Rules, A
 }
 
 impl Rules {
-    /// Adds the rules of reports that aren't there.
+    /// Adds the rules of reports that are new.
     #[tactic(auto, unfolding(crate::specs::Rules::and_rules))]
     fn push_all(&mut self, alloc: Global, mut reports: &[FileReport]) -> Result<(), AllocError>
         requires { ArePlaces (map view self.old.values.items) self.old.places }
@@ -57,7 +57,7 @@ impl Rules {
         Ok(())
     }
 
-    /// Adds the rule of a report, if it has one that isn't there.
+    /// Adds the rule of a report, if it has a new one.
     fn push_rule(&mut self, alloc: Global, said: &OxcDiagnosticInner) -> Result<(), AllocError>
         requires { ArePlaces (map view self.old.values.items) self.old.places }
         ensures rules { OnOk result (map view self.new.values.items
@@ -74,7 +74,7 @@ impl Rules {
         self.push(text, rule)
     }
 
-    /// Adds a rule, by its text, that isn't there.
+    /// Adds a rule that is new, by its text.
     #[tactic(auto, using(crate::proofs::RuleLemmas::pushed_places))]
     fn push(&mut self, text: String, rule: Value) -> Result<(), AllocError>
         requires places { ArePlaces (map view self.old.values.items) self.old.places }
@@ -90,7 +90,7 @@ impl Rules {
         Ok(())
     }
 
-    /// The place of the rule that has the text.
+    /// The index of the rule with this text.
     fn place_of(&self, text: &str) -> Option<usize>
         requires { ArePlaces (map view self.now.values.items) self.now.places }
         ensures { result ≡ place_from 0 (map view self.now.values.items) text.now }
@@ -98,7 +98,7 @@ impl Rules {
         self.places.get(text).copied()
     }
 
-    /// The place of the rule of a report.
+    /// The index of the rule of a report.
     pub(crate) fn place_for(
         &self,
         alloc: Global,
@@ -151,7 +151,7 @@ fn rule_value(alloc: Global, number: Option<&str>, url: Option<&str>) -> Result<
     Ok(Value::Object(members))
 }
 
-/// A text under a key, where there is one.
+/// A text under a key, if there is one.
 pub(crate) fn put_text(
     alloc: Global,
     members: &mut Map<String, Value>,

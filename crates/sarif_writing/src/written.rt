@@ -25,15 +25,16 @@ use serde_json::{Value, json};
 use source_location::LineIndex;
 use std::alloc::{AllocError, Global};
 
-/// The text without spaces of the SARIF log of one run that these files and reports are.
+/// The SARIF log of one run that these files and reports are, as text without spaces.
 ///
-/// Each file stands in it with its text. A report's label is the first primary one, else the first;
-/// the others are related locations. Rows and columns count from 1, and a column counts characters.
-/// A number and a URL together are a rule, which stands there once. Scope, help and note don't.
+/// Each file is in it with its text. A report's location is its first primary label, else its
+/// first label; the others are related locations. Rows and columns start at 1, and a column counts
+/// characters. A number and a URL together are a rule; each rule is written once. Scope, help and
+/// note aren't written.
 ///
 /// # Errors
 ///
-/// The first report that has a fault decides, as [`ReportError`] says. `OutOfMemory` may come
+/// The error of the first report that has one, as [`ReportError`] says. `OutOfMemory` may come
 /// before any other error, and `SinkFault` never comes.
 #[tactic(auto, using(crate::proofs::BesideLemmas::log_alone))]
 pub fn write_log(
@@ -51,11 +52,11 @@ pub fn write_log(
     write_log_with(alloc, tool, files, &[], reports, &[])
 }
 
-/// The same of files of which some weren't read, and of reports that their tool puts at a place.
+/// [`write_log`], but some files may be unread, and reports may have reported locations.
 ///
-/// A file that is `unread`, by its number, stands in the log without a text. A report without labels
-/// has the rows and columns that stand among `places` at its number, where there is a row; 0 says
-/// nothing. A file past the end of `unread` was read, and a report past that of `places` has none.
+/// A file that is `unread`, by its number, is in the log without a text. A report without labels
+/// has the rows and columns of `places` at its number, if there is a row; 0 is none. A file past
+/// the end of `unread` was read, and a report past the end of `places` has no location.
 ///
 /// # Errors
 ///
@@ -162,7 +163,7 @@ fn indexes_of(alloc: Global, files: &Files<String>) -> Result<Vec<LineIndex>, Al
     Ok(indexes)
 }
 
-/// Each file, with its text where it was read.
+/// Each file, with its text if it was read.
 #[tactic(auto, using(crate::proofs::BesideLemmas::more_files))]
 fn artifacts_of(
     alloc: Global,
@@ -183,7 +184,7 @@ fn artifacts_of(
     Ok(values)
 }
 
-/// Whether the file with a number is unread; past their end none is.
+/// Whether the file with a number is unread; past the end of `unread` none is.
 fn is_unread(unread: &[bool], index: usize) -> bool
     ensures { result ≡ slice_index_or unread.now index false }
 {
