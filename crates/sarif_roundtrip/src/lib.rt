@@ -1,8 +1,8 @@
-//! SARIF logs that are written, and what is read of them.
+//! SARIF logs that are written and read back.
 //!
 //! [`written_log`] gives the log of files and reports on them, as `sarif_writing` writes it, and
-//! promises what `sarif_log` and `sarif` read of it: the log that they are, as `specs/Meant.antt`
-//! says, and the same reports.
+//! promises what `sarif_log` and `sarif` read: the log that `specs/Meant.antt` defines, and the
+//! same reports.
 #![tactic(auto)]
 
 ghost use Rattle.std.specs.Prelude.{◌≡◌, ◌<◌, ◌≤◌, All, IfOk, length, map, string_bytes};
@@ -25,8 +25,8 @@ use sarif_writing::write_log;
 use std::alloc::Global;
 
 /// The text of the log of one run that these files and reports are, as [`write_log`] writes it.
-/// `sarif_log::read_log` reads it as the log that is meant, and of that `sarif::reports_of` gives
-/// these reports, as `specs/Reports.antt` says.
+/// `sarif_log::read_log` reads it as this log, and `sarif::reports_of` gives these reports of it,
+/// as `specs/Reports.antt` defines.
 ///
 /// # Errors
 ///
@@ -50,7 +50,7 @@ pub fn written_log(
     Ok(text)
 }
 
-/// Looks at each text, which is UTF-8 and has no rows or columns past 32 bits.
+/// Checks that each text is UTF-8 and has no rows or columns past 32 bits.
 #[tactic(auto, using(crate::proofs::SmallLemmas::no_sources))]
 fn look_at(files: &Files<String>)
     ensures sources { All IsSource files.now }
