@@ -38,7 +38,7 @@ pub enum Kind {
     InParentheses,
     /// Small letters, digits and `_`.
     InCode,
-    /// What joins words to a code: `-`, `_`, `/` and `:`.
+    /// What joins the words of a code: `-`, `_`, `/` and `:`.
     Joint,
 }
 
@@ -78,7 +78,7 @@ pub fn is_in(kind: Kind, byte: u8) -> bool
     }
 }
 
-/// The byte at a place, or NUL.
+/// The byte at an offset, or NUL.
 pub fn byte_at(text: &[u8], at: usize) -> u8
     ensures { result ≡ slice_index text.now at }
 {
@@ -93,7 +93,7 @@ pub fn run(kind: Kind, text: &[u8]) -> usize
     text.iter().take_while(|byte| is_in(kind, **byte)).count()
 }
 
-/// The same, in bytes, where there is one at least.
+/// The same, or none for 0 bytes.
 pub fn run_of(kind: Kind, text: &[u8]) -> Option<usize>
     ensures value { result ≡ some_run (prefix_len (belongs kind) text.now) }
     ensures within { IfSome result (λ n. n ≤ length text.now) }
@@ -116,7 +116,7 @@ pub fn begins_with(mut text: &[u8], mut word: &[u8]) -> bool
     true
 }
 
-/// The decimal number that a text begins with, and its length.
+/// The decimal number at the beginning of a text, and its length.
 pub fn number_at(text: &[u8]) -> Option<(usize, u32)>
     ensures value { result ≡ number_there text.now }
     ensures within { IfSome result (λ n. n.0 ≤ length text.now) }
@@ -126,7 +126,7 @@ pub fn number_at(text: &[u8]) -> Option<(usize, u32)>
     Some((count, value))
 }
 
-/// The number that digits write, without a leading zero.
+/// The number of these digits, without a leading zero.
 fn value_of(digits: &[u8]) -> Option<u32>
     ensures { result ≡ value_in digits.now }
 {
@@ -137,7 +137,7 @@ fn value_of(digits: &[u8]) -> Option<u32>
     }
 }
 
-/// The number that digits write.
+/// The number of these digits.
 #[tactic(auto, using(crate::proofs::BytesLemmas::value_grows))]
 fn value_from(mut digits: &[u8]) -> Option<u32>
     ensures { result ≡ small (value_written 0 digits.entry.now) }
@@ -153,7 +153,7 @@ fn value_from(mut digits: &[u8]) -> Option<u32>
     Some(value as u32)
 }
 
-/// Whether there is a byte, and a zero only by itself.
+/// Whether there is a digit, and no leading zero but in `0`.
 fn leads_well(digits: &[u8]) -> bool
     ensures { result ≡ leads_as_number digits.now }
 {
@@ -164,7 +164,7 @@ fn leads_well(digits: &[u8]) -> bool
     }
 }
 
-/// How many bytes the capital letters and digits have that a text begins with, one to six of each.
+/// The length of the capital letters and digits, one to six of each, at the beginning of a text.
 pub fn capitals_and_digits(text: &[u8]) -> Option<usize>
     ensures value { result ≡ number_length text.now }
     ensures within { IfSome result (λ n. n ≤ length text.now) }
@@ -184,7 +184,7 @@ pub fn capitals_and_digits(text: &[u8]) -> Option<usize>
     }
 }
 
-/// How many bytes the words have, joined by `/`, that a text begins with.
+/// The length of the words, joined by `/`, at the beginning of a text.
 pub fn cop_len(text: &[u8]) -> Option<usize>
     ensures value { result ≡ cop_length text.now }
     ensures within { IfSome result (λ n. n ≤ length text.now) }
@@ -197,7 +197,7 @@ pub fn cop_len(text: &[u8]) -> Option<usize>
     }
 }
 
-/// Whether a text is two words or more, joined by a byte.
+/// Whether a text is two or more words, joined by a byte.
 pub fn are_joined(text: &[u8], separator: u8) -> bool
     ensures { result ≡ are_joined_words separator text.now }
 {
@@ -243,7 +243,7 @@ pub fn trimmed(text: &[u8]) -> &[u8]
     &text[..text.len() - end_run(Kind::Blank, text)]
 }
 
-/// A text without its last byte, where it is this one.
+/// A text without its last byte, if it is this one.
 pub fn before_last(text: &[u8], byte: u8) -> Option<&[u8]>
     requires { 1 ≤ byte }
     ensures { option_copied result ≡ before_last_byte byte text.now }

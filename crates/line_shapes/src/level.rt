@@ -1,4 +1,4 @@
-//! Level words, and how grave what has them is.
+//! Level words, and their severities.
 ghost use Rattle.std.specs.Prelude.{◌≡◌, ◌≤◌, ◌||◌, ◌==◌, not, slice_index, IfSome, length, map};
 ghost use Rattle.line_shapes.specs.Bytes.{is_in as belongs};
 ghost use Rattle.line_shapes.specs.declared.bytes.Kind.TheVariants.{Word};
@@ -10,7 +10,7 @@ ghost use Rattle.line_shapes.specs.Level.{stands as word_stands};
 use crate::bytes::{Kind, begins_with, is_in};
 use crate::tables::LEVEL_WORDS;
 
-/// How grave a finding is.
+/// The severity of a finding.
 #[derive(Clone, Copy, PartialEq, Eq)]
 pub enum Severity {
     Error,
@@ -18,24 +18,24 @@ pub enum Severity {
     Advice,
 }
 
-/// A level that stands in a text.
+/// A level word in a text.
 #[derive(Clone, Copy, PartialEq, Eq)]
 pub struct Level {
-    /// How many bytes its word has.
+    /// The length of the word in bytes.
     pub length: usize,
     pub severity: Severity,
-    /// It belongs to what was said before.
+    /// Whether it belongs to the finding before it.
     pub aside: bool,
 }
 
-/// Whether a word stands at the beginning of a text, with no letter, digit, `_` or `-` behind it.
+/// Whether a text begins with a word that no letter, digit, `_` or `-` follows.
 fn stands(text: &[u8], word: &[u8]) -> bool
     ensures value { result ≡ word_stands text.now word.now }
 {
     begins_with(text, word) && ends_there(text, word.len())
 }
 
-/// Whether no letter, digit, `_` or `-` stands at a place.
+/// Whether there is no letter, digit, `_` or `-` at an offset.
 fn ends_there(text: &[u8], at: usize) -> bool
     ensures { let next = slice_index text.now at in
         result ≡ not (belongs Word next || next == 0x2D) }
@@ -48,7 +48,7 @@ fn ends_there(text: &[u8], at: usize) -> bool
     }
 }
 
-/// The level whose word stands at the beginning of a text.
+/// The level of the word at the beginning of a text.
 #[tactic(auto, unfolding(crate::specs::Level::level_words))]
 pub fn level_at(text: &[u8]) -> Option<Level>
     ensures value { result ≡ level_there text.now }
@@ -57,7 +57,7 @@ pub fn level_at(text: &[u8]) -> Option<Level>
     level_among(&LEVEL_WORDS, text)
 }
 
-/// The level of the first word of a table that stands at the beginning of a text.
+/// The level of the first word of a table that a text begins with.
 #[tactic(auto, using(crate::proofs::BytesLemmas::word_within))]
 fn level_among(mut words: &[(&[u8], Severity, bool)], text: &[u8]) -> Option<Level>
     ensures value { result ≡ level_in (map (λ word. (word.0.now, word.1, word.2)) words.entry.now)
@@ -77,7 +77,7 @@ fn level_among(mut words: &[(&[u8], Severity, bool)], text: &[u8]) -> Option<Lev
     None
 }
 
-/// How grave a letter is.
+/// The severity of a letter.
 pub fn letter_severity(letter: u8) -> Option<Severity>
     ensures { result ≡ severity_of_letter letter }
 {
@@ -89,7 +89,7 @@ pub fn letter_severity(letter: u8) -> Option<Severity>
     }
 }
 
-/// How grave a small letter is.
+/// The severity of a small letter.
 pub fn small_severity(letter: u8) -> Option<Severity>
     ensures { result ≡ severity_of_small letter }
 {

@@ -1,4 +1,4 @@
-//! The shapes of the lines that tools print for people, as a table of data.
+//! The patterns of the lines that tools print for people, as a table of data.
 #![tactic(auto)]
 
 pub mod bytes;

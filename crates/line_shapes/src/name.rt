@@ -22,7 +22,7 @@ pub enum NameKind {
     OneWord,
 }
 
-/// Whether a text begins with a name that ends here, at so many bytes.
+/// Whether the first `end` bytes of a text are a name.
 pub fn is_name(text: &[u8], end: usize, kind: NameKind) -> bool
     requires { end ≤ length text.now }
     ensures { result ≡ is_name_there kind text.now end }
@@ -48,7 +48,7 @@ pub fn is_angle(text: &[u8]) -> bool
     }
 }
 
-/// How many bytes the name in angles has that a text begins with, or 0: `<stdin>`.
+/// The length of the name in angles at the beginning of a text, or 0: `<stdin>`.
 pub fn angle_len(text: &[u8]) -> usize
     ensures value { result ≡ angle_length text.now }
     ensures within { result ≤ length text.now }
@@ -87,7 +87,7 @@ pub fn ends_name(text: &[u8]) -> bool
     is_lettered(text) && !is_hour(text)
 }
 
-/// Whether a letter stands behind the last blank.
+/// Whether there is a letter after the last blank.
 fn is_lettered(mut text: &[u8]) -> bool
     ensures { result ≡ ends_lettered (reverse text.entry.now) }
 {
@@ -103,7 +103,7 @@ fn is_lettered(mut text: &[u8]) -> bool
     false
 }
 
-/// Whether a text ends as a date does whose hour begins: a digit, `T` and digits.
+/// Whether a text ends like a date up to its hour: a digit, `T` and digits.
 fn is_hour(text: &[u8]) -> bool
     ensures { result ≡ ends_hour text.now }
 {
@@ -122,7 +122,7 @@ fn ends_date(text: &[u8]) -> bool
     }
 }
 
-/// The first place, in bytes, at which a name can't go on.
+/// The first offset, in bytes, at which a name can't go on.
 #[tactic(auto, unfolding(crate::specs::Name::first_fault))]
 pub fn first_fault(text: &[u8], kind: NameKind) -> usize
     ensures { result ≡ fault_first kind text.now }
@@ -149,7 +149,7 @@ fn fault(text: &[u8], word: bool, file: bool) -> Option<usize>
     (0..text.len()).position(|at| is_fault(text, at, word, file))
 }
 
-/// Whether a name can't go on with the byte at this place.
+/// Whether a name can't go on with the byte at this offset.
 fn is_fault(text: &[u8], at: usize, word: bool, file: bool) -> bool
     requires { at < length text.now }
     ensures { result ≡ is_fault_there word file text.now at }
@@ -163,7 +163,7 @@ fn is_fault(text: &[u8], at: usize, word: bool, file: bool) -> bool
             )
 }
 
-/// Whether a name can't go on with a byte behind another.
+/// Whether a name can't go on with a byte after another.
 fn stops(byte: u8, last: u8, word: bool) -> bool
     ensures { result ≡ stops_name word byte last }
 {

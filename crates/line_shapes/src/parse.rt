@@ -1,4 +1,4 @@
-//! Shapes read from their texts.
+//! Reads patterns from their texts.
 ghost use Rattle.std.specs.Prelude.{◌≡◌, Ok, map};
 ghost use Rattle.line_shapes.specs.Parse.{Gives, GivesShape, finished, inside, item_among};
 ghost use Rattle.line_shapes.specs.Parse.{item_named as item_named_so, out_of_braces};
@@ -11,23 +11,23 @@ use crate::part::{Figure, Part};
 use crate::shape::Shape;
 use std::alloc::Global;
 
-/// Why a text is no shape.
+/// Why a text is no pattern.
 #[derive(Clone, Copy, PartialEq, Eq)]
 pub enum ShapeError {
     /// A brace is not closed.
     Unclosed,
-    /// What stands in braces is no part.
+    /// There is no token of this name.
     Unknown,
     /// There are two names.
     TwoNames,
     /// There is no name.
     NoName,
-    /// Something stands behind the message.
+    /// There is something after the message.
     BehindMessage,
     OutOfMemory,
 }
 
-/// A shape that owns its parts.
+/// A pattern that owns its tokens.
 #[derive(Drop)]
 pub struct OwnShape {
     pub lead: Vec<Part>,
@@ -36,7 +36,7 @@ pub struct OwnShape {
 }
 
 impl OwnShape {
-    /// The shape.
+    /// The pattern, borrowed.
     pub fn shape(&self) -> Shape<'_>
         ensures lead { result.lead.now ≡ self.now.lead.items }
         ensures kind { result.kind ≡ self.now.kind }
@@ -50,14 +50,14 @@ impl OwnShape {
     }
 }
 
-/// What stands in a shape.
+/// An item of a pattern.
 #[derive(Clone, Copy, PartialEq, Eq)]
 pub enum Item {
     One(Part),
     Name(NameKind),
 }
 
-/// What may stand in braces.
+/// The names that braces may hold.
 pub const ITEMS: [(&[u8], Item); 15] = [
     (b"line", Item::One(Part::Decimal(Figure::Line))),
     (b"column", Item::One(Part::Decimal(Figure::Column))),
@@ -76,7 +76,7 @@ pub const ITEMS: [(&[u8], Item); 15] = [
     (b"word", Item::Name(NameKind::OneWord)),
 ];
 
-/// How far a text is read.
+/// The state of the reader.
 #[derive(Drop)]
 pub struct Reader {
     lead: Vec<Part>,
@@ -86,15 +86,15 @@ pub struct Reader {
     ended: bool,
     /// A run of blanks was begun.
     blank: bool,
-    /// What stands behind the brace that is open.
+    /// The name after the brace that is open.
     open: Option<Vec<u8>>,
 }
 
-/// Reads a shape.
+/// Reads a pattern.
 ///
 /// # Errors
 ///
-/// The first thing that is wrong with it, and want of memory.
+/// The first error in it, or out of memory.
 pub fn parse(alloc: Global, text: &str) -> Result<OwnShape, ShapeError>
     ensures { GivesShape result (shape_of text.now) }
 {
@@ -166,7 +166,7 @@ fn outside(alloc: Global, mut reader: Reader, byte: u8) -> Result<Reader, ShapeE
     )
 }
 
-/// Puts in what stands in braces.
+/// Appends the item with this name.
 fn put_named(reader: Reader, name: &[u8]) -> Result<Reader, ShapeError>
     ensures { Gives result (put_found (item_named_so name.now) (reading reader)) }
 {
@@ -176,7 +176,7 @@ fn put_named(reader: Reader, name: &[u8]) -> Result<Reader, ShapeError>
     }
 }
 
-/// What is named so.
+/// The item with this name.
 #[tactic(auto, unfolding(crate::specs::Parse::items))]
 fn item_named(name: &[u8]) -> Option<Item>
     ensures { result ≡ item_named_so name.now }
@@ -184,7 +184,7 @@ fn item_named(name: &[u8]) -> Option<Item>
     item_in(&ITEMS, name)
 }
 
-/// What is named so in a table.
+/// The item with this name in a table.
 fn item_in(mut items: &[(&[u8], Item)], name: &[u8]) -> Option<Item>
     ensures { result ≡ item_among (map (λ item. (item.0.now, item.1)) items.entry.now) name.now }
 {
@@ -211,7 +211,7 @@ pub fn same(mut text: &[u8], mut other: &[u8]) -> bool
     other.is_empty()
 }
 
-/// Puts an item behind those that were read.
+/// Appends an item.
 fn put(mut reader: Reader, item: Item) -> Result<Reader, ShapeError>
     ensures { Gives result (put_item item (reading reader)) }
 {
@@ -228,7 +228,7 @@ fn put(mut reader: Reader, item: Item) -> Result<Reader, ShapeError>
     }
 }
 
-/// Puts a part behind those that were read.
+/// Appends a token.
 fn put_part(mut reader: Reader, part: Part) -> Result<Reader, ShapeError>
     ensures { Gives result (Ok (with_part part (reading reader))) }
 {
@@ -244,7 +244,7 @@ fn put_part(mut reader: Reader, part: Part) -> Result<Reader, ShapeError>
     }
 }
 
-/// The shape, once all is read.
+/// The pattern, once all is read.
 fn finish(reader: Reader) -> Result<OwnShape, ShapeError>
     ensures { GivesShape result (finished (reading reader)) }
 {

@@ -1,4 +1,4 @@
-//! The parts of a shape, and what they find in a text.
+//! The tokens of a pattern, and what they find in a text.
 ghost use Rattle.std.specs.Prelude.{◌≡◌, ◌≤◌, length, slice_index, option_map};
 ghost use Rattle.std.specs.Option.{option_copied};
 ghost use Rattle.line_shapes.specs.declared.part.Part.TheVariants.{Decimal, Level, Program};
@@ -12,7 +12,7 @@ ghost use Rattle.line_shapes.specs.Part.{with_code, with_letter};
 use crate::bytes::{Kind, capitals_and_digits, cop_len, is_in, is_letter, number_at, run, run_of};
 use crate::level::{Severity, letter_severity, level_at, small_severity};
 
-/// A part of a shape. Each ends in one place at most.
+/// A token of a pattern. Each can end at one place only.
 #[derive(Clone, Copy, PartialEq, Eq)]
 pub enum Part {
     /// This byte.
@@ -41,7 +41,7 @@ pub enum Part {
     Message,
 }
 
-/// What a number counts.
+/// What a number means.
 #[derive(Clone, Copy, PartialEq, Eq)]
 pub enum Figure {
     Line,
@@ -50,23 +50,23 @@ pub enum Figure {
     EndColumn,
 }
 
-/// What the parts of a shape found in a text.
+/// What the tokens of a pattern found in a text.
 #[derive(Clone, Copy, Drop)]
 pub struct Found<'a> {
-    /// The text behind the parts so far.
+    /// The text after the tokens so far.
     pub rest: &'a [u8],
     pub line: Option<u32>,
     pub column: Option<u32>,
     pub end_line: Option<u32>,
     pub end_column: Option<u32>,
-    /// How grave the level word is.
+    /// The severity of the level word.
     pub severity: Option<Severity>,
-    /// How grave a letter says that it is.
+    /// The severity of a letter.
     pub initial: Option<Severity>,
-    /// The level word belongs to what was said before.
+    /// Whether the level word belongs to the finding before it.
     pub aside: bool,
     pub code: Option<&'a [u8]>,
-    /// The code is a number.
+    /// Whether the code is a number.
     pub numbered: bool,
     pub message: Option<&'a [u8]>,
 }
@@ -92,8 +92,7 @@ impl<'a> Found<'a> {
     }
 }
 
-/// What is found once the parts of a shape were taken one after another, or none where one doesn't
-/// fit.
+/// What the tokens of a pattern find one after another, or none if one doesn't match.
 #[inline(always)]
 #[tactic(auto, using(crate::proofs::PartLemmas::not_begun))]
 pub fn fit<'a>(parts: &[Part], found: Found<'a>) -> Option<Found<'a>>
@@ -106,8 +105,8 @@ pub fn fit<'a>(parts: &[Part], found: Found<'a>) -> Option<Found<'a>>
     }
 }
 
-/// Whether the parts of a shape may stand at the beginning of a text, as far as bytes, blanks,
-/// numbers and programs tell: it looks no further than to the first part of another kind.
+/// Whether the tokens of a pattern may match the beginning of a text, judged by bytes, blanks,
+/// numbers and programs; the first token of another kind ends the look.
 #[inline(always)]
 pub fn begins(mut parts: &[Part], mut text: &[u8]) -> bool
     ensures { result ≡ may_begin parts.entry.now text.entry.now }
@@ -125,7 +124,7 @@ pub fn begins(mut parts: &[Part], mut text: &[u8]) -> bool
     true
 }
 
-/// Whether the end of a part is found without more than its text.
+/// Whether the end of a token is known from its text alone.
 fn is_quick(part: Part) -> bool
     ensures { result ≡ ends_quickly part }
 {
@@ -135,7 +134,7 @@ fn is_quick(part: Part) -> bool
     )
 }
 
-/// The text behind such a part that a text begins with.
+/// The text after such a token at its beginning.
 fn past<'a>(part: Part, text: &'a [u8]) -> Option<&'a [u8]>
     ensures { option_copied result ≡ past_part part text.entry.now }
 {
@@ -168,7 +167,7 @@ fn past_run<'a>(kind: Kind, begins: bool, text: &'a [u8]) -> Option<&'a [u8]>
     }
 }
 
-/// The same as `fit`, part by part.
+/// The same as `fit`, token by token.
 #[inline(never)]
 fn fit_all<'a>(mut parts: &[Part], mut found: Found<'a>) -> Option<Found<'a>>
     ensures { option_map seen result ≡ fits_there parts.entry.now (seen found.entry) }
@@ -180,7 +179,7 @@ fn fit_all<'a>(mut parts: &[Part], mut found: Found<'a>) -> Option<Found<'a>>
     Some(found)
 }
 
-/// What is found once a part was taken.
+/// What is found with one more token.
 fn taken<'a>(part: Part, found: Found<'a>) -> Option<Found<'a>>
     ensures { option_map seen result ≡ taken_by part (seen found.entry) }
 {
@@ -212,7 +211,7 @@ fn first_of(text: &[u8]) -> u8
     }
 }
 
-/// What was found, with the text behind so many more bytes.
+/// What was found, with the text after `count` more bytes.
 fn behind<'a>(found: Found<'a>, count: usize) -> Found<'a>
     requires { count ≤ length found.rest.now }
     ensures { seen result ≡ seen_behind count (seen found.entry) }

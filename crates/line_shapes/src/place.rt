@@ -1,4 +1,4 @@
-//! Where a finding is: a lead, a name, and what stands behind it.
+//! The location of a finding: a prefix, a name, and a suffix.
 ghost use Rattle.std.specs.Prelude.{◌≡◌, ◌≤◌, ◌<◌, nat_le, if◌then◌else◌, false};
 ghost use Rattle.std.specs.Prelude.{Some, None, option_map, option_and_then, length, take};
 ghost use Rattle.std.specs.Prelude.{drop, slice_index, map};
@@ -20,14 +20,14 @@ use crate::part::{Found, Part, begins, fit};
 use crate::tables::{AFTERS, LEADS};
 use memchr::memchr3;
 
-/// A name, and what was found round it.
+/// A name, and what was found before and after it.
 #[derive(Clone, Copy, Drop)]
 pub struct Placed<'a> {
     pub name: &'a [u8],
     pub found: Found<'a>,
 }
 
-/// The place of a line.
+/// The location in a line.
 pub fn place(line: &[u8]) -> Option<Placed<'_>>
     ensures place { option_map placed result ≡ place_there line.now }
     ensures least { IsLeastPlace line.now (option_map placed result) }
@@ -35,7 +35,7 @@ pub fn place(line: &[u8]) -> Option<Placed<'_>>
     placed_in(line)
 }
 
-/// The same, where a figure is looked for first.
+/// The same, after a look for a location number.
 #[tactic(auto, unfolding(crate::specs::Place::leads), using(crate::proofs::FigureLemmas::no_place_there))]
 fn placed_in(line: &[u8]) -> Option<Placed<'_>>
     ensures { option_map placed result ≡ place_there line.now }
@@ -47,7 +47,7 @@ fn placed_in(line: &[u8]) -> Option<Placed<'_>>
     }
 }
 
-/// Whether a digit stands before `:`, `,` or `)` in a text, as one does in each place.
+/// Whether a text has a digit right before `:`, `,` or `)`, as each location does.
 #[tactic(auto, using(crate::proofs::FigureLemmas::one_more))]
 pub fn has_figure(mut text: &[u8]) -> bool
     ensures { result ≡ figure_in text.entry.now }
@@ -62,14 +62,14 @@ pub fn has_figure(mut text: &[u8]) -> bool
     found
 }
 
-/// Whether a digit stands before a byte that ends a number in places.
+/// Whether `last` is a digit and `byte` ends a number in locations.
 fn ends_figure(last: u8, byte: u8) -> bool
     ensures { result ≡ figure_ends last byte }
 {
     is_in(Kind::Digit, last) && ends_number(byte)
 }
 
-/// The place behind the first of these leads that has any.
+/// The location after the first of these prefixes that has one.
 fn in_leads<'a>(mut leads: &[(&str, &[Part], NameKind)], line: &'a [u8]) -> Option<Placed<'a>>
     ensures { option_map placed result
         ≡ place_in_leads (map (λ lead. (lead.1.now, lead.2)) leads.entry.now) line.now }
@@ -83,7 +83,7 @@ fn in_leads<'a>(mut leads: &[(&str, &[Part], NameKind)], line: &'a [u8]) -> Opti
     None
 }
 
-/// The place behind a lead.
+/// The location after a prefix.
 #[tactic(auto, using(crate::proofs::PartLemmas::not_begun))]
 fn behind_lead<'a>(lead: &[Part], kind: NameKind, line: &'a [u8]) -> Option<Placed<'a>>
     ensures { option_map placed result
@@ -98,7 +98,7 @@ fn behind_lead<'a>(lead: &[Part], kind: NameKind, line: &'a [u8]) -> Option<Plac
     }
 }
 
-/// The place behind a lead that has the shortest name.
+/// The location after a prefix with the shortest name.
 #[tactic(auto, using(crate::proofs::PlaceLemmas::angled_lead))]
 fn in_lead<'a>(begun: Found<'a>, kind: NameKind) -> Option<Placed<'a>>
     ensures { option_map placed result ≡ place_in_lead kind (seen begun.entry) }
@@ -110,7 +110,7 @@ fn in_lead<'a>(begun: Found<'a>, kind: NameKind) -> Option<Placed<'a>>
     }
 }
 
-/// The same of a name in angles, of which there is one at most.
+/// The same for a name in angles; there is at most one.
 #[tactic(auto, unfolding(crate::specs::Place::afters, crate::specs::Place::in_angles))]
 fn in_angles<'a>(begun: Found<'a>) -> Option<Placed<'a>>
     ensures { option_map placed result ≡ angled_place (seen begun.entry) }
@@ -125,7 +125,7 @@ fn in_angles<'a>(begun: Found<'a>) -> Option<Placed<'a>>
     }
 }
 
-/// The same of a text that begins with no angle.
+/// The same for a text that doesn't begin with an angle.
 fn in_text<'a>(begun: Found<'a>, kind: NameKind) -> Option<Placed<'a>>
     requires { begins_angle begun.rest.now ≡ false }
     ensures { option_map placed result ≡ place_in_lead kind (seen begun.entry) }
@@ -141,8 +141,8 @@ fn in_text<'a>(begun: Found<'a>, kind: NameKind) -> Option<Placed<'a>>
     None
 }
 
-/// The place whose name ends here, where all before it goes on a name. Where it doesn't, no longer
-/// text does.
+/// The location whose name ends at `end`, if a name can go on until there. If it can't, no longer
+/// text is a name.
 fn within<'a>(text: &'a [u8], end: usize, kind: NameKind, found: Found<'a>) -> Option<Placed<'a>>
     requires { end ≤ length text.now }
     ensures { option_map placed result
@@ -160,7 +160,7 @@ fn within<'a>(text: &'a [u8], end: usize, kind: NameKind, found: Found<'a>) -> O
     }
 }
 
-/// What is found behind a name that may end here.
+/// What is found after a name that may end here.
 #[tactic(auto, using(crate::proofs::PlaceLemmas::not_followed))]
 fn at_end<'a>(begun: Found<'a>, end: usize, kind: NameKind) -> Option<Found<'a>>
     requires { end < length begun.rest.now }
@@ -173,7 +173,7 @@ fn at_end<'a>(begun: Found<'a>, end: usize, kind: NameKind) -> Option<Found<'a>>
     }
 }
 
-/// The same, of any end.
+/// The same for any end.
 #[tactic(auto, unfolding(crate::specs::Place::found_at, crate::specs::Place::afters))]
 fn found_at<'a>(begun: Found<'a>, end: usize, kind: NameKind) -> Option<Found<'a>>
     requires { end < length begun.rest.now }
@@ -193,7 +193,7 @@ fn found_at<'a>(begun: Found<'a>, end: usize, kind: NameKind) -> Option<Found<'a
     }
 }
 
-/// Whether a name may begin as a text does, and end here.
+/// Whether a text begins like a name, and the name may end here.
 fn may_name(text: &[u8], end: usize, kind: NameKind) -> bool
     requires { end ≤ length text.now }
     ensures { result ≡ may_be_name kind text.now end }
@@ -201,7 +201,7 @@ fn may_name(text: &[u8], end: usize, kind: NameKind) -> bool
     begins_name(text, kind) && ends_name(&text[..end])
 }
 
-/// Whether a text goes on behind its first byte as what stands behind a name does.
+/// Whether a text goes on after its first byte like a suffix of `AFTERS`.
 fn is_followed(text: &[u8]) -> bool
     ensures { result ≡ may_follow (drop 1 text.now) }
 {
@@ -226,14 +226,14 @@ fn is_bracket(byte: u8) -> bool
     byte == b'(' || byte == b'['
 }
 
-/// Whether a text begins with a number that ends as in places.
+/// Whether a text begins with a number that ends as in locations.
 fn begins_number(text: &[u8]) -> bool
     ensures { result ≡ numbers_end text.now }
 {
     is_in(Kind::Digit, byte_at(text, 0)) && ends_number(byte_at(text, run(Kind::Digit, text)))
 }
 
-/// The same of blanks.
+/// The same for blanks.
 fn begins_blanks(text: &[u8]) -> bool
     ensures { result ≡ blanks_end text.now }
 {
@@ -252,7 +252,7 @@ fn opens_place(byte: u8) -> bool
     byte == b'l' || byte == b'('
 }
 
-/// The first place from here on of a byte with which what stands behind a name begins.
+/// The first offset from `from` on with a byte that begins a suffix of `AFTERS`.
 fn next_mark(text: &[u8], from: usize) -> Option<usize>
     ensures { IsNextMark text.now from result }
 {
@@ -266,7 +266,7 @@ fn next_mark(text: &[u8], from: usize) -> Option<usize>
     }
 }
 
-/// What the first of these shapes that fits finds.
+/// What the first of these patterns that matches finds.
 pub fn first_fit<'a>(mut shapes: &[(&str, &[Part])], found: Found<'a>) -> Option<Found<'a>>
     ensures { option_map seen result
         ≡ fits_first (map (λ shape. shape.1.now) shapes.entry.now) (seen found.entry) }
@@ -280,7 +280,7 @@ pub fn first_fit<'a>(mut shapes: &[(&str, &[Part])], found: Found<'a>) -> Option
     None
 }
 
-/// The same as `fit`. What was found so far isn't copied for a shape that can't begin.
+/// The same as `fit`, without a copy of what was found if the pattern can't begin.
 #[tactic(auto, using(crate::proofs::PartLemmas::not_begun))]
 fn fit_begun<'a>(shape: &[Part], found: &Found<'a>) -> Option<Found<'a>>
     ensures { option_map seen result ≡ fits_there shape.now (seen found.now) }

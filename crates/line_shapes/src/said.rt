@@ -1,4 +1,4 @@
-//! What a finding says: how grave it is, its code and its message.
+//! What a finding says: its severity, its code and its message.
 ghost use Rattle.std.specs.Prelude.{◌≡◌, ◌≤◌, option_map, unwrap_or};
 ghost use Rattle.std.specs.Prelude.{map, length, Some, None, [], IsTrue, not, ◌==◌};
 ghost use Rattle.std.specs.List.{list_all, list_any, prefix_len};
@@ -38,13 +38,13 @@ use crate::tables::{Manner, RESTS};
 #[derive(Clone, Copy, Drop)]
 pub struct Statement<'a> {
     pub severity: Severity,
-    /// It belongs to what was said before.
+    /// Whether it belongs to the finding before it.
     pub aside: bool,
     pub code: Option<&'a [u8]>,
     pub message: &'a [u8],
 }
 
-/// How grave a message is known to be, and whether its code may be any in parentheses.
+/// A severity, if it is known, and whether any code in parentheses counts.
 #[derive(Clone, Copy, Drop)]
 struct Leveled<'a> {
     severity: Option<Severity>,
@@ -52,7 +52,7 @@ struct Leveled<'a> {
     message: &'a [u8],
 }
 
-/// What is found behind a place, of the first rest that is the whole text.
+/// What is found after a location, by the first row of `RESTS` that matches the whole text.
 #[tactic(auto, unfolding(crate::specs::Said::rests))]
 pub fn said<'a>(found: Found<'a>) -> Option<(Found<'a>, Manner)>
     ensures { option_map (λ it. (seen it.0, it.1)) result ≡ said_there (seen found.entry) }
@@ -60,7 +60,7 @@ pub fn said<'a>(found: Found<'a>) -> Option<(Found<'a>, Manner)>
     first_whole(&RESTS, found)
 }
 
-/// What the first of these rests finds that is the whole text.
+/// What the first of these rows that matches the whole text finds.
 fn first_whole<'a>(
     mut rests: &[(&str, &[Part], Manner)],
     found: Found<'a>,
@@ -77,7 +77,7 @@ fn first_whole<'a>(
     None
 }
 
-/// What a shape finds that is the whole text.
+/// What a pattern finds, if it matches the whole text.
 pub fn whole<'a>(shape: &[Part], found: Found<'a>) -> Option<Found<'a>>
     ensures { option_map seen result ≡ fits_whole shape.now (seen found.entry) }
 {
@@ -89,7 +89,7 @@ pub fn whole<'a>(shape: &[Part], found: Found<'a>) -> Option<Found<'a>>
     }
 }
 
-/// What a finding says of which these parts were found.
+/// What a finding says, from what its tokens found.
 pub fn meant<'a>(found: Found<'a>, manner: Manner) -> Statement<'a>
     ensures { words result ≡ meant_by manner (seen found.entry) }
 {
@@ -100,7 +100,7 @@ pub fn meant<'a>(found: Found<'a>, manner: Manner) -> Statement<'a>
     }
 }
 
-/// The message, or the empty text.
+/// The message, or an empty text.
 fn message_of<'a>(found: Found<'a>) -> &'a [u8]
     ensures { result.now ≡ unwrap_or (seen found.entry).message [] }
 {
@@ -110,7 +110,7 @@ fn message_of<'a>(found: Found<'a>) -> &'a [u8]
     }
 }
 
-/// How grave the level word, the letter or the stars say that it is.
+/// The severity of the level word, the letter or the stars.
 fn first_severity(found: Found<'_>, manner: Manner) -> Option<Severity>
     ensures { result ≡ severity_first manner (seen found.entry) }
 {
@@ -122,7 +122,7 @@ fn first_severity(found: Found<'_>, manner: Manner) -> Option<Severity>
     }
 }
 
-/// What it says where a code stands before the message.
+/// What it says, with a code before the message.
 fn coded<'a>(found: Found<'a>, code: &'a [u8], message: &'a [u8], manner: Manner) -> Statement<'a>
     ensures { words result ≡ coded_words manner
         (seen found.entry) code.entry.now message.entry.now }
@@ -143,7 +143,7 @@ fn graded(first: Option<Severity>, second: Option<Severity>) -> Severity
     first.or(second).unwrap_or(Severity::Warning)
 }
 
-/// What it says where none does: a level and a code may stand behind the message.
+/// What it says without a code before the message: a level and a code may follow the message.
 fn uncoded<'a>(found: Found<'a>, message: &'a [u8], manner: Manner) -> Statement<'a>
     ensures { words result ≡ uncoded_words manner (seen found.entry) message.entry.now }
 {
@@ -157,7 +157,7 @@ fn uncoded<'a>(found: Found<'a>, message: &'a [u8], manner: Manner) -> Statement
     )
 }
 
-/// A message without the level in brackets behind it, where no other level was found.
+/// A message without the level in brackets after it, if no other level was found.
 fn take_level<'a>(first: Option<Severity>, boxed: bool, message: &'a [u8]) -> Leveled<'a>
     ensures { leveled_parts result ≡ leveled_by first boxed message.entry.now }
 {
@@ -182,7 +182,7 @@ fn take_level<'a>(first: Option<Severity>, boxed: bool, message: &'a [u8]) -> Le
     }
 }
 
-/// How grave a text is that is a level word.
+/// The severity of a text that is a level word.
 fn word_severity(text: &[u8]) -> Option<Severity>
     ensures { result ≡ severity_of_word text.now }
 {
@@ -194,7 +194,7 @@ fn word_severity(text: &[u8]) -> Option<Severity>
     }
 }
 
-/// What it says, with the code behind the message, if there is one.
+/// What it says, with the code after the message, if there is one.
 fn with_code<'a>(
     leveled: Leveled<'a>,
     aside: bool,
@@ -221,7 +221,7 @@ fn with_code<'a>(
     }
 }
 
-/// A severity, or error where a message alone names one, else warning.
+/// A severity, or error if a message alone names one, else warning.
 fn last_severity(severity: Option<Severity>, alone: bool, message: &[u8]) -> Severity
     ensures { result ≡ finally severity alone message.now }
 {
@@ -232,7 +232,7 @@ fn last_severity(severity: Option<Severity>, alone: bool, message: &[u8]) -> Sev
     }
 }
 
-/// Whether what stands before the first colon ends in `error`.
+/// Whether the text before the first colon ends in `error`.
 fn names_error(message: &[u8]) -> bool
     ensures { result ≡ tells_error message.now }
 {
@@ -240,7 +240,7 @@ fn names_error(message: &[u8]) -> bool
     count < message.len() && ends_in_error(trimmed(&message[..count]))
 }
 
-/// How many bytes stand before the first colon.
+/// The number of bytes before the first colon.
 fn before_colon(message: &[u8]) -> usize
     ensures value { result ≡ prefix_len (λ byte. not (byte == 0x3A)) message.now }
     ensures within { result ≤ length message.now }
@@ -254,7 +254,7 @@ fn ends_in_error(text: &[u8]) -> bool
     text.ends_with(b"error") || text.ends_with(b"Error")
 }
 
-/// How grave a number with one letter is.
+/// The severity of a number with one letter.
 fn number_severity(code: &[u8], numbered: bool, manner: Manner) -> Option<Severity>
     ensures { result ≡ severity_of_number manner numbered code.now }
 {
@@ -265,7 +265,7 @@ fn number_severity(code: &[u8], numbered: bool, manner: Manner) -> Option<Severi
     }
 }
 
-/// How grave the letter of a number is.
+/// The severity of the letter of a number.
 fn letter_severity(letter: u8, colon: bool) -> Option<Severity>
     ensures { result ≡ severity_of_letter colon letter }
 {
@@ -276,7 +276,7 @@ fn letter_severity(letter: u8, colon: bool) -> Option<Severity>
     }
 }
 
-/// Whether a code begins with this, with more behind.
+/// Whether a code begins with this, and goes on.
 fn tells(front: &[u8], code: &[u8]) -> bool
     ensures value { result ≡ tells_severity front.now code.now }
     ensures within { IsTrue result → length front.now ≤ length code.now }
@@ -284,7 +284,7 @@ fn tells(front: &[u8], code: &[u8]) -> bool
     begins_with(code, front) && front.len() < code.len()
 }
 
-/// How grave a code says that it is.
+/// The severity that a code names.
 fn code_severity(code: &[u8]) -> Option<Severity>
     ensures { result ≡ severity_of_code code.now }
 {
@@ -297,7 +297,7 @@ fn code_severity(code: &[u8]) -> Option<Severity>
     }
 }
 
-/// A code without that.
+/// A code without the severity that it begins with.
 fn bare_code(code: &[u8]) -> &[u8]
     ensures { result.now ≡ code_alone code.now }
 {
@@ -310,8 +310,8 @@ fn bare_code(code: &[u8]) -> &[u8]
     }
 }
 
-/// The message without the code that stands behind it, and the code. `boxed` says that any code in
-/// parentheses counts.
+/// The message without the code after it, and the code. With `boxed`, any code in parentheses
+/// counts.
 pub fn code_behind(text: &[u8], boxed: bool) -> Option<(&[u8], &[u8])>
     ensures { option_map text_parts result ≡ code_there boxed text.now }
 {
@@ -321,7 +321,7 @@ pub fn code_behind(text: &[u8], boxed: bool) -> Option<(&[u8], &[u8])>
     }
 }
 
-/// The same of a code in parentheses.
+/// The same for a code in parentheses.
 fn in_parentheses(text: &[u8], boxed: bool) -> Option<(&[u8], &[u8])>
     ensures { option_map text_parts result ≡ code_in_parentheses boxed text.now }
 {
@@ -333,7 +333,7 @@ fn in_parentheses(text: &[u8], boxed: bool) -> Option<(&[u8], &[u8])>
     }
 }
 
-/// Whether what stands in parentheses looks as a code.
+/// Whether a text in parentheses looks like a code.
 fn is_code(code: &[u8]) -> bool
     ensures { result ≡ looks_as_code code.now }
 {
@@ -387,7 +387,7 @@ fn is_number(code: &[u8]) -> bool
     }
 }
 
-/// A last part in brackets, without the blanks before it, and what stands before those.
+/// The text in brackets at the end, and the text before it without trailing blanks.
 fn closed(text: &[u8], kind: Kind, opening: u8, closing: u8) -> Option<(&[u8], &[u8])>
     requires opening { 1 ≤ opening }
     requires closing { 1 ≤ closing }
@@ -405,7 +405,7 @@ fn opened(inner: &[u8], kind: Kind, opening: u8) -> Option<(&[u8], &[u8])>
     set_apart(before_last(front, opening)?, code)
 }
 
-/// A code, and what stands before the blanks before it.
+/// A code, and the text before it without trailing blanks.
 fn set_apart<'a>(front: &'a [u8], code: &'a [u8]) -> Option<(&'a [u8], &'a [u8])>
     ensures { option_map text_parts result ≡ apart code.entry.now front.entry.now }
 {

@@ -1,4 +1,4 @@
-//! Shapes of a tool's or the user's own.
+//! Patterns of a tool's or the user's own.
 ghost use Rattle.std.specs.Prelude.{◌≡◌, ◌≤◌, ◌<◌, IfOk, option_map, length, map};
 ghost use Rattle.std.specs.List.{filter_map};
 ghost use Rattle.line_shapes.specs.Part.{seen};
@@ -12,7 +12,7 @@ use crate::part::{Found, Part, begins, fit};
 use crate::place::Placed;
 use crate::said::whole;
 
-/// A shape of whole lines: what stands before the name, what the name is, and what stands behind
+/// A pattern of whole lines: the tokens before the name, the kind of name, and the tokens after
 /// it.
 #[derive(Clone, Copy, Drop)]
 pub struct Shape<'s> {
@@ -21,7 +21,7 @@ pub struct Shape<'s> {
     pub after: &'s [Part],
 }
 
-/// The place of a line, of the first of these shapes that it fits.
+/// The location in a line, by the first of these patterns that matches.
 pub fn first_own<'a>(mut shapes: &[Shape<'_>], line: &'a [u8]) -> Option<Placed<'a>>
     ensures { option_map placed result ≡ own_among (map shape_parts shapes.entry.now) line.now }
 {
@@ -34,7 +34,7 @@ pub fn first_own<'a>(mut shapes: &[Shape<'_>], line: &'a [u8]) -> Option<Placed<
     None
 }
 
-/// The place of a line that is these parts, a name, and those parts, with the shortest name.
+/// The location in a line that matches a pattern, with the shortest name.
 #[tactic(auto, using(crate::proofs::PartLemmas::not_begun))]
 pub fn named<'a>(
     lead: &[Part],
@@ -52,7 +52,7 @@ pub fn named<'a>(
     }
 }
 
-/// The place behind the lead.
+/// The location after the prefix.
 fn named_behind<'a>(kind: NameKind, after: &[Part], begun: Found<'a>) -> Option<Placed<'a>>
     ensures { option_map placed result ≡ first_own_place kind after.now (seen begun.entry) }
 {
@@ -66,7 +66,7 @@ fn named_behind<'a>(kind: NameKind, after: &[Part], begun: Found<'a>) -> Option<
     None
 }
 
-/// The place whose name ends here.
+/// The location whose name ends here.
 #[tactic(auto, unfolding(crate::specs::Shape::own_at))]
 fn named_at<'a>(kind: NameKind, after: &[Part], begun: Found<'a>, end: usize) -> Option<Placed<'a>>
     requires { end ≤ length begun.rest.now }

@@ -1,40 +1,39 @@
-//! The shapes of the lines that tools print, all of them in this file: a tool that prints a shape
-//! of its own wants a row here and nothing else. Beside each row stands the text that it is read
-//! from (`parse` says what may stand in one); a test reads the texts and compares them with the
-//! rows.
+//! The patterns of the lines that tools print, all in this file: for a tool with a pattern of its
+//! own, add a row here. Each row has the text from which it is read (`parse` defines these texts);
+//! a test reads the texts and compares them with the rows.
 use crate::level::Severity;
 use crate::name::NameKind;
 use crate::part::{Figure, Part};
 
-/// What the columns of a place count.
+/// What columns count.
 #[derive(Clone, Copy, PartialEq, Eq)]
 pub enum Unit {
     Bytes,
     Characters,
-    /// Units of UTF-16: a character past U+FFFF is two.
+    /// Units of UTF-16: a character past U+FFFF counts as two.
     Utf16,
-    /// Cells of a terminal, with a tab stop each 8.
+    /// Cells of a terminal, with a tab stop every 8.
     Cells,
 }
 
-/// What the way in which something is said tells besides its parts.
+/// What the way in which something is said tells besides its tokens.
 #[derive(Clone, Copy, PartialEq, Eq)]
 pub enum Manner {
     Plain,
-    /// With a rule behind the level.
+    /// With a rule after the level.
     Ruled,
-    /// The code or the level stands in brackets.
+    /// The code or the level is in brackets.
     Boxed,
-    /// A number with a colon behind it.
+    /// A number with a colon after it.
     Colon,
-    /// Behind three stars, as `make` has it.
+    /// After three stars, as `make` prints.
     Stars,
-    /// A message, and neither a level nor a code before it.
+    /// A message, with neither a level nor a code before it.
     Alone,
 }
 
-/// The level words in small letters, how grave each is, and whether it belongs to what was said
-/// before. Where one begins with another, it stands first.
+/// The level words in small letters, their severities, and whether they belong to the finding
+/// before. If one begins with another, it comes first.
 pub const LEVEL_WORDS: [(&[u8], Severity, bool); 30] = [
     (b"error", Severity::Error, false),
     (b"warning", Severity::Warning, false),
@@ -73,7 +72,7 @@ pub const LEVEL_WORDS: [(&[u8], Severity, bool); 30] = [
     (b"\xE2\x84\xB9", Severity::Advice, false),
 ];
 
-/// What may stand before a name, and what the name is then.
+/// What may come before a name, and the kind of name that follows.
 pub const LEADS: [(&str, &[Part], NameKind); 4] = [
     (
         "[{level}] ",
@@ -94,7 +93,7 @@ pub const LEADS: [(&str, &[Part], NameKind); 4] = [
     (" ", &[Part::Blanks], NameKind::OneWord),
 ];
 
-/// What may stand behind a name.
+/// What may come after a name.
 pub const AFTERS: [(&str, &[Part]); 13] = [
     (
         ":{line}:{column}:{endline}:{endcolumn}: ",
@@ -280,7 +279,7 @@ pub const AFTERS: [(&str, &[Part]); 13] = [
     ),
 ];
 
-/// What may stand behind a place, and the way in which it says something.
+/// What may come after a location, and the way in which it says something.
 pub const RESTS: [(&str, &[Part], Manner); 16] = [
     (
         "{level}[{rule}]: {message}",
@@ -451,7 +450,7 @@ pub const RESTS: [(&str, &[Part], Manner); 16] = [
     ("{message}", &[Part::Message], Manner::Alone),
 ];
 
-/// What may stand behind a place whose message stands below.
+/// What may come after a location whose message is below.
 pub const BARE: [(&str, &[Part]); 3] = [
     (
         "{level}:{~}",
@@ -495,7 +494,7 @@ pub const UNDER: [Part; 8] = [
     Part::Message,
 ];
 
-/// A line whose place stands on the next one.
+/// A line whose location is on the next line.
 pub const ANNOUNCED: [(&str, &[Part]); 3] = [
     (
         "{level}[{rule}]: {message}",
@@ -522,7 +521,7 @@ pub const ANNOUNCED: [(&str, &[Part]); 3] = [
 /// The line below an announced one, as a text.
 pub const ARROW_TEXT: &str = "{~}--> {name}:{line}:{column}";
 
-/// What stands before the name in the line below an announced one.
+/// The tokens before the name in the line below an announced one.
 pub const ARROW: [Part; 5] = [
     Part::AnyBlanks,
     Part::Byte(b'-'),
@@ -531,7 +530,7 @@ pub const ARROW: [Part; 5] = [
     Part::Blanks,
 ];
 
-/// What stands behind it.
+/// The tokens after it.
 pub const ARROW_PLACE: [Part; 4] = [
     Part::Byte(b':'),
     Part::Decimal(Figure::Line),
@@ -539,8 +538,8 @@ pub const ARROW_PLACE: [Part; 4] = [
     Part::Decimal(Figure::Column),
 ];
 
-/// The shapes of tools that have to be named: the tool, the text, what stands before the name, what
-/// the name is, and what stands behind it. They are whole lines, and are tried in this order.
+/// The patterns of tools that have to be named: the tool, the text, the tokens before the name,
+/// the kind of name, and the tokens after it. They match whole lines, and are tried in this order.
 pub const TOOL_SHAPES: [(&str, &str, &[Part], NameKind, &[Part]); 12] = [
     (
         "dotenv-linter",
@@ -722,8 +721,8 @@ pub const TOOL_SHAPES: [(&str, &str, &[Part], NameKind, &[Part]); 12] = [
     ),
 ];
 
-/// What the columns of a named tool count, the number of the first, and whether an end column is
-/// that of the last character, not of what stands behind it.
+/// What the columns of a named tool count, the number of the first column, and whether an end
+/// column is that of the last character, not of the one after it.
 pub const TOOL_COLUMNS: [(&str, Unit, u32, bool); 14] = [
     ("clang", Unit::Bytes, 1, true),
     ("gcc", Unit::Cells, 1, true),

@@ -1,4 +1,4 @@
-//! What is known of tools that are named.
+//! What is known of named tools.
 ghost use Rattle.std.specs.Prelude.{◌≡◌, ◌++◌, IfOk, map};
 ghost use Rattle.line_shapes.specs.Shape.{shape_parts};
 ghost use Rattle.line_shapes.specs.Tools.{columns_among, columns_of, shapes_among};
@@ -17,16 +17,16 @@ pub struct Columns {
     pub unit: Unit,
     /// The number of the first.
     pub first: u32,
-    /// An end column is that of the last character, not of what stands behind it.
+    /// Whether an end column is that of the last character, not of the one after it.
     pub with_end: bool,
 }
 
-/// The shapes of a tool that has to be named, in the order in which they are tried; none where the
-/// name is that of no such tool.
+/// The patterns of a tool that has to be named, in the order in which they are tried; none if
+/// there is no such tool.
 ///
 /// # Errors
 ///
-/// Want of memory.
+/// Out of memory.
 #[tactic(auto, unfolding(crate::specs::Tools::tools))]
 pub fn tool_shapes(alloc: Global, tool: &str) -> Result<Vec<Shape<'static>>, AllocError>
     ensures { IfOk result (λ shapes. map shape_parts shapes.items ≡ shapes_meant tool.now) }
@@ -34,7 +34,7 @@ pub fn tool_shapes(alloc: Global, tool: &str) -> Result<Vec<Shape<'static>>, All
     shapes_named(alloc, &TOOL_SHAPES, tool.as_bytes())
 }
 
-/// The shapes of the rows that have this name.
+/// The patterns of the rows with this name.
 #[tactic(auto, using(crate::proofs::ToolsLemmas::one_more, crate::proofs::ToolsLemmas::no_more))]
 fn shapes_named(
     alloc: Global,
@@ -65,7 +65,7 @@ fn shapes_named(
     Ok(shapes)
 }
 
-/// What the columns of a tool count; none where nothing is known of it.
+/// What the columns of a tool count; none if the tool is unknown.
 #[tactic(auto, unfolding(crate::specs::Tools::tool_columns))]
 pub fn columns_of_tool(tool: &str) -> Option<Columns>
     ensures { result ≡ columns_of tool.now }
@@ -73,7 +73,7 @@ pub fn columns_of_tool(tool: &str) -> Option<Columns>
     columns_named(&TOOL_COLUMNS, tool.as_bytes())
 }
 
-/// The columns of the first row that has this name.
+/// The columns of the first row with this name.
 fn columns_named(mut rows: &[(&str, Unit, u32, bool)], name: &[u8]) -> Option<Columns>
     ensures { result ≡ columns_among (map (λ row. (row.0.now, row.1, row.2, row.3)) rows.entry.now)
         name.now }
