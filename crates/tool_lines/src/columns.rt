@@ -1,4 +1,4 @@
-//! What stands below a heading is set in columns: the last one is the code.
+//! Lines below a heading are set in columns; the last column is the code.
 ghost use Rattle.std.specs.Prelude.{◌≡◌, ◌≤◌, ◌<◌, ◌+◌, IfSome, length, slice_index};
 ghost use Rattle.std.specs.List.{position, range_with_len};
 ghost use Rattle.line_shapes.specs.Said.{words};
@@ -14,7 +14,7 @@ ghost use Rattle.tool_lines.specs.Columns.{with_column as with_last_column};
 use line_shapes::bytes::{Kind, is_in, run};
 use line_shapes::said::Statement;
 
-/// What a line says, with the code that blanks set apart from the message.
+/// What a line says, with the code that blanks separate from the message.
 #[tactic(auto, unfolding(crate::specs::Columns::with_column))]
 pub fn with_column<'a>(says: Statement<'a>) -> Statement<'a>
     ensures { words result ≡ with_last_column (words says.entry) }
@@ -32,7 +32,7 @@ pub fn with_column<'a>(says: Statement<'a>) -> Statement<'a>
     }
 }
 
-/// A text up to its first tab, or the first of two blanks in it.
+/// A text up to its first tab or its first two blanks.
 fn column(text: &[u8]) -> &[u8]
     ensures { result.now ≡ first_column text.now }
 {
@@ -42,7 +42,7 @@ fn column(text: &[u8]) -> &[u8]
     }
 }
 
-/// What stands behind a gap.
+/// The text after a gap.
 fn behind_gap(text: &[u8], at: usize) -> &[u8]
     requires { at ≤ length text.now }
     ensures { result.now ≡ behind_first_gap at text.now }
@@ -51,7 +51,7 @@ fn behind_gap(text: &[u8], at: usize) -> &[u8]
     rest.split_at(run(Kind::Blank, rest)).1
 }
 
-/// Where a tab stands first behind something else than a blank, or two spaces.
+/// The offset of the first tab after a byte that isn't blank, or of the first two spaces.
 fn gap(text: &[u8]) -> Option<usize>
     ensures value { result ≡ first_gap text.now }
     ensures within { IfSome result (λ at. at ≤ length text.now) }
@@ -59,7 +59,7 @@ fn gap(text: &[u8]) -> Option<usize>
     (0..text.len()).position(|at| is_gap(text, at))
 }
 
-/// Whether a tab or two spaces stand at a place, and no blank before it.
+/// Whether there is a tab or two spaces at an offset, and no blank before it.
 fn is_gap(text: &[u8], at: usize) -> bool
     requires { at < length text.now }
     ensures { result ≡ is_gap_there text.now at }
@@ -67,7 +67,7 @@ fn is_gap(text: &[u8], at: usize) -> bool
     !is_in(Kind::Blank, text[at.saturating_sub(1)]) && opens_gap(text, at)
 }
 
-/// Whether a tab or two spaces stand at a place.
+/// Whether there is a tab or two spaces at an offset.
 fn opens_gap(text: &[u8], at: usize) -> bool
     requires { at < length text.now }
     ensures { result ≡ gap_opens text.now at }
@@ -85,7 +85,7 @@ fn is_space_at(text: &[u8], at: usize) -> bool
     }
 }
 
-/// Where a tab stands first, or the first of two blanks.
+/// The offset of the first tab or the first two blanks.
 fn parting(text: &[u8]) -> Option<usize>
     ensures value { result ≡ first_parting text.now }
     ensures within { IfSome result (λ at. at ≤ length text.now) }
@@ -93,7 +93,7 @@ fn parting(text: &[u8]) -> Option<usize>
     (0..text.len()).position(|at| is_parting(text, at))
 }
 
-/// Whether a tab stands at a place, or two blanks.
+/// Whether there is a tab or two blanks at an offset.
 fn is_parting(text: &[u8], at: usize) -> bool
     requires { at < length text.now }
     ensures { result ≡ is_parting_there text.now at }

@@ -1,4 +1,4 @@
-//! What the lines behind a finding add to it.
+//! What the other lines of a block add to its finding.
 ghost use Rattle.std.specs.Prelude.{◌≡◌, ◌-◌, ◌++◌, if◌then◌else◌, [], Some, None, IfOk, IfSome};
 ghost use Rattle.std.specs.Prelude.{◌<◌, ◌≤◌, ◌==◌, not, length, map, take, drop, option_to_list};
 ghost use Rattle.std.specs.Prelude.{slice_index};
@@ -23,19 +23,19 @@ use std::alloc::{AllocError, Global};
 /// Which lines add something, and what.
 #[derive(Clone, Copy, PartialEq, Eq)]
 pub enum Way {
-    /// Each that is more than a gutter: its text.
+    /// Each line that is more than a gutter: its text.
     Plain,
-    /// Each of two spaces and a small letter: its text.
+    /// Each line that begins with two spaces and a small letter: its text.
     Symbol,
-    /// Each that is a note or a help: what it says.
+    /// Each line that is a note or a help: its text.
     Noted,
 }
 
-/// What the lines behind the first one of a piece add to its finding.
+/// What the lines after the first one of a block add to its finding.
 ///
 /// # Errors
 ///
-/// Want of memory.
+/// Out of memory.
 pub fn details<'a>(
     alloc: Global,
     sort: Sort,
@@ -55,8 +55,8 @@ pub fn details<'a>(
     }
 }
 
-/// The same of a trail: what stands before the row that is marked, and the symbols behind the last
-/// marks; or all of it.
+/// The same for a trail: the lines before the row that has markers, and the symbols after the last
+/// markers; or all lines.
 fn inline_details<'a>(alloc: Global, lines: &[&'a [u8]]) -> Result<Vec<&'a [u8]>, AllocError>
     ensures { IfOk result (λ texts.
         map (λ text. text.now) texts.items
@@ -68,7 +68,7 @@ fn inline_details<'a>(alloc: Global, lines: &[&'a [u8]]) -> Result<Vec<&'a [u8]>
     }
 }
 
-/// The same where marks stand here.
+/// The same, with markers at this index.
 #[tactic(auto, using(crate::proofs::DetailsLemmas::both_parts))]
 fn around<'a>(alloc: Global, lines: &[&'a [u8]], at: usize) -> Result<Vec<&'a [u8]>, AllocError>
     requires { at ≤ length lines.now }
@@ -81,7 +81,7 @@ fn around<'a>(alloc: Global, lines: &[&'a [u8]], at: usize) -> Result<Vec<&'a [u
     Ok(all)
 }
 
-/// Where the first marks stand.
+/// The index of the first markers.
 fn marks_at(mut lines: &[&[u8]]) -> Option<usize>
     ensures value { result ≡ marks_from 0 (map (λ line. line.now) lines.entry.now) }
     ensures within { IfSome result (λ at. at < length lines.entry.now) }
@@ -106,7 +106,7 @@ fn before<'l, 'a>(lines: &'l [&'a [u8]], at: usize) -> &'l [&'a [u8]]
     lines.split_at(at.saturating_sub(1)).0
 }
 
-/// The lines behind the last marks.
+/// The lines after the last markers.
 fn behind_marks<'l, 'a>(mut lines: &'l [&'a [u8]]) -> &'l [&'a [u8]]
     ensures { map (λ line. line.now) result.now
         ≡ behind_from [] (map (λ line. line.now) lines.entry.now) }
@@ -125,7 +125,7 @@ fn newer<'l, 'a>(marks: bool, rest: &'l [&'a [u8]], behind: &'l [&'a [u8]]) -> &
     if marks { rest } else { behind }
 }
 
-/// Puts what each of these lines adds behind some texts.
+/// Appends what each of these lines adds.
 #[tactic(auto, using(crate::proofs::DetailsLemmas::kept_step, crate::proofs::DetailsLemmas::kept_end))]
 fn collect<'a>(
     mut texts: Vec<&'a [u8]>,
@@ -144,7 +144,7 @@ fn collect<'a>(
     Ok(texts)
 }
 
-/// Puts a text behind others, if there is one.
+/// Appends a text, if there is one.
 fn kept<'a>(mut texts: Vec<&'a [u8]>, text: Option<&'a [u8]>) -> Result<Vec<&'a [u8]>, AllocError>
     ensures { IfOk result (λ all.
         map (λ text. text.now) all.items
@@ -224,7 +224,7 @@ fn unequalled(line: &[u8]) -> &[u8]
     }
 }
 
-/// What stands behind `note: ` or `help: `.
+/// The text after `note: ` or `help: `.
 fn note_of(text: &[u8]) -> Option<&[u8]>
     ensures { option_copied result ≡ note_in text.now }
 {
@@ -242,8 +242,8 @@ fn unled(text: &[u8]) -> &[u8]
     text.split_at(run(Kind::Blank, text)).1
 }
 
-/// The column of the first `^` below the row that a trail shows, from 0, in characters: where
-/// neither the row nor its marks have a gutter.
+/// The column of the first `^` below the row that a trail shows, from 0, in characters, if neither
+/// the row nor its markers have a gutter.
 pub fn caret(sort: Sort, lines: &[&[u8]]) -> Option<usize>
     ensures { result ≡ caret_there sort (map (λ line. line.now) lines.now) }
 {
@@ -253,7 +253,7 @@ pub fn caret(sort: Sort, lines: &[&[u8]]) -> Option<usize>
     }
 }
 
-/// The same of the lines of a trail, of which the first is no marks.
+/// The same for the lines of a trail; the first of them isn't markers.
 fn caret_below(lines: &[&[u8]]) -> Option<usize>
     ensures { result ≡ caret_of (map (λ line. line.now) lines.now) }
 {
@@ -263,7 +263,7 @@ fn caret_below(lines: &[&[u8]]) -> Option<usize>
     }
 }
 
-/// The same of lines.
+/// The same for lines.
 fn caret_among(mut lines: &[&[u8]]) -> Option<usize>
     ensures { result ≡ caret_from (map (λ line. line.now) lines.entry.now) }
 {
@@ -276,7 +276,7 @@ fn caret_among(mut lines: &[&[u8]]) -> Option<usize>
     None
 }
 
-/// The first of these lines, if it is marks.
+/// The first of these lines, if it is markers.
 fn first_marks<'a>(lines: &[&'a [u8]]) -> Option<&'a [u8]>
     ensures { option_copied result ≡ first_marks_of (map (λ line. line.now) lines.now) }
 {
@@ -286,7 +286,7 @@ fn first_marks<'a>(lines: &[&'a [u8]]) -> Option<&'a [u8]>
     }
 }
 
-/// The column of the first `^` of marks below a row.
+/// The column of the first `^` of markers below a row.
 fn caret_under(row: &[u8], marks: &[u8]) -> Option<usize>
     ensures { result ≡ caret_in row.now marks.now }
 {
@@ -298,7 +298,7 @@ fn caret_under(row: &[u8], marks: &[u8]) -> Option<usize>
     }
 }
 
-/// How many bytes stand before the first `^`. In marks without a gutter each byte is a character.
+/// The number of bytes before the first `^`. In markers without a gutter each byte is a character.
 fn before_caret(marks: &[u8]) -> usize
     ensures value { result ≡ prefix_len (λ byte. not (byte == 0x5E)) marks.now }
     ensures within { result ≤ length marks.now }

@@ -1,4 +1,4 @@
-//! What tools print for people: the findings in their lines.
+//! Finds the findings in what tools print for people.
 #![tactic(auto)]
 
 pub mod columns;

@@ -1,4 +1,4 @@
-//! What begins at a line, and the pieces of a text: runs of its lines.
+//! What begins at a line, and the blocks of a text: runs of its lines.
 ghost use Rattle.std.specs.Prelude.{◌≡◌, ◌≤◌, ◌+◌, ◌∷◌, ◌++◌, [], drop, Some, None, IfOk};
 ghost use Rattle.std.specs.Prelude.{option_map, option_and_then, map, length};
 ghost use Rattle.std.specs.Option.{option_copied, is_some};
@@ -36,13 +36,12 @@ use line_shapes::tables::{ANNOUNCED, ARROW, ARROW_PLACE, BARE, Manner, UNDER};
 use memchr::memchr;
 use std::alloc::{AllocError, Global};
 
-/// A finding: where it is, and what its lines say as far as it is read from the line where it
-/// begins and the next one.
+/// A finding: its location, and what it says in its first line and the next one.
 #[derive(Clone, Copy, Drop)]
 pub struct Finding<'a> {
     /// The name of its file, and the rows and columns.
     pub place: Placed<'a>,
-    /// How grave it is, its code and its message.
+    /// Its severity, its code and its message.
     pub says: Statement<'a>,
 }
 
@@ -55,36 +54,36 @@ pub enum Sort {
     Heading,
     /// A finding below a heading.
     Below,
-    /// A finding whose place stands on the next line.
+    /// A finding whose location is on the next line.
     Announced,
-    /// A finding whose place stands before it.
+    /// A finding whose location is before its message.
     Inline,
 }
 
 /// What begins at a line, with its finding.
 #[derive(Clone, Copy, Drop)]
 pub struct Begun<'a> {
-    /// What it is.
+    /// Its kind.
     pub sort: Sort,
-    /// Its finding, where it is one.
+    /// Its finding, if it is one.
     pub finding: Option<Finding<'a>>,
 }
 
-/// A piece: so many lines.
+/// A block: a run of lines.
 #[derive(Clone, Copy, Drop)]
 pub struct Piece<'a> {
-    /// How many lines it has, the first one among them.
+    /// The number of its lines, with the first one.
     pub lines: usize,
     /// What begins at its first line.
     pub begun: Begun<'a>,
 }
 
-/// The pieces of a text. `shapes` are shapes of a tool's or the user's own, which go before all
+/// The blocks of a text. `shapes` are patterns of a tool's or the user's own; they come before all
 /// others.
 ///
 /// # Errors
 ///
-/// Want of memory. Nothing is refused.
+/// Out of memory, and nothing else.
 #[tactic(auto, using(crate::proofs::LinesLemmas::joined_runs))]
 pub fn read_lines<'a>(
     alloc: Global,
@@ -102,11 +101,11 @@ pub fn read_lines<'a>(
     pieces_of(alloc, lines.as_slice(), shapes)
 }
 
-/// The lines of a text, which LF ends. A CR before it is dropped.
+/// The lines of a text, which end with LF. A CR before it is dropped.
 ///
 /// # Errors
 ///
-/// Want of memory.
+/// Out of memory.
 pub fn lines_of<'a>(alloc: Global, text: &'a [u8]) -> Result<Vec<&'a [u8]>, AllocError>
     ensures { IfOk result (λ lines. map (λ line. line.now) lines.items ≡ lines_in text.entry.now) }
 {
@@ -120,7 +119,7 @@ pub fn lines_of<'a>(alloc: Global, text: &'a [u8]) -> Result<Vec<&'a [u8]>, Allo
     Ok(lines)
 }
 
-/// The first line, and the text behind its LF.
+/// The first line, and the text after its LF.
 #[tactic(auto, using(crate::proofs::LinesLemmas::line_cut, crate::proofs::LinesLemmas::line_last))]
 fn first_line(text: &[u8]) -> (&[u8], Option<&[u8]>)
     ensures lines { lines_in text.now ≡ result.0.now ∷ lines_behind (option_copied result.1) }
@@ -142,11 +141,11 @@ pub fn without_cr(line: &[u8]) -> &[u8]
     }
 }
 
-/// The pieces of these lines.
+/// The blocks of these lines.
 ///
 /// # Errors
 ///
-/// Want of memory.
+/// Out of memory.
 pub fn pieces_of<'a>(
     alloc: Global,
     lines: &[&'a [u8]],
@@ -168,7 +167,7 @@ pub fn pieces_of<'a>(
     Ok(pieces)
 }
 
-/// All but so many of the first lines.
+/// The lines after the first `count`.
 pub fn after<'l, 'a>(lines: &'l [&'a [u8]], count: usize) -> &'l [&'a [u8]]
     requires { count ≤ length lines.now }
     ensures lines { result.now ≡ drop count lines.now }
@@ -177,7 +176,7 @@ pub fn after<'l, 'a>(lines: &'l [&'a [u8]], count: usize) -> &'l [&'a [u8]]
     lines.split_at(count).1
 }
 
-/// The name for the lines behind a piece.
+/// The heading for the lines after a block.
 fn next_name<'a>(name: Option<&'a [u8]>, sort: Sort, lines: &[&'a [u8]]) -> Option<&'a [u8]>
     ensures { option_copied result
         ≡ name_behind sort (option_copied name.entry) (map (λ line. line.now) lines.now) }
@@ -192,7 +191,7 @@ fn next_name<'a>(name: Option<&'a [u8]>, sort: Sort, lines: &[&'a [u8]]) -> Opti
     }
 }
 
-/// The piece that begins with the first of these lines. `name` is that of the heading above.
+/// The block that begins with the first of these lines. `name` is the heading above.
 fn next_piece<'a>(shapes: &[Shape<'_>], name: Option<&'a [u8]>, lines: &[&'a [u8]]) -> Piece<'a>
     requires { 1 ≤ length lines.now }
     ensures piece { piece_parts result
@@ -232,7 +231,7 @@ fn first_of<'a>(lines: &[&'a [u8]]) -> Option<&'a [u8]>
     }
 }
 
-/// How many lines belong to what begins on the line before.
+/// How many of these lines belong to the block that began on the line before.
 fn behind(shapes: &[Shape<'_>], sort: Sort, lines: &[&[u8]]) -> usize
     ensures value { result
         ≡ behind_there (map shape_parts shapes.now) sort (map (λ line. line.now) lines.now) }
@@ -248,7 +247,7 @@ fn behind(shapes: &[Shape<'_>], sort: Sort, lines: &[&[u8]]) -> usize
     }
 }
 
-/// How many lines trail a finding.
+/// How many of these lines trail a finding.
 fn trail_len(shapes: &[Shape<'_>], mut lines: &[&[u8]]) -> usize
     ensures value { result
         ≡ trail_length (map shape_parts shapes.now) (map (λ line. line.now) lines.entry.now) }
@@ -265,7 +264,7 @@ fn trail_len(shapes: &[Shape<'_>], mut lines: &[&[u8]]) -> usize
     count
 }
 
-/// How many lines there are before an empty one, or one whose place stands below.
+/// How many lines come before an empty one, or one whose location is below.
 fn announced_len(mut lines: &[&[u8]]) -> usize
     ensures value { result ≡ announced_length (map (λ line. line.now) lines.entry.now) }
     ensures within { result ≤ length lines.entry.now }
@@ -281,14 +280,14 @@ fn announced_len(mut lines: &[&[u8]]) -> usize
     count
 }
 
-/// Whether a line, which has this one behind it, trails what stands before it.
+/// Whether a line, before this next one, is in the trail of the lines above.
 pub fn in_trail(shapes: &[Shape<'_>], line: &[u8], next: Option<&[u8]>) -> bool
     ensures { result ≡ trails (map shape_parts shapes.now) line.now (option_copied next.entry) }
 {
     may_trail(line, next) && matches!(what_begins(shapes, line, next).sort, Sort::Kept)
 }
 
-/// Whether it looks so.
+/// Whether it looks like that.
 fn may_trail(line: &[u8], next: Option<&[u8]>) -> bool
     ensures { result ≡ may_trail_there line.now (option_copied next.entry) }
 {
@@ -307,7 +306,7 @@ fn is_before_marks(next: Option<&[u8]>) -> bool
     }
 }
 
-/// What begins at a line that has this one behind it.
+/// What begins at a line before this next one.
 #[tactic(auto, using(crate::proofs::PlainLemmas::begins_nothing))]
 pub fn what_begins<'a>(shapes: &[Shape<'_>], line: &'a [u8], next: Option<&'a [u8]>) -> Begun<'a>
     ensures { begun_parts result
@@ -323,14 +322,14 @@ pub fn what_begins<'a>(shapes: &[Shape<'_>], line: &'a [u8], next: Option<&'a [u
     }
 }
 
-/// Whether nothing begins at a line, by what stands in each place.
+/// Whether nothing begins at a line, judged by quick checks.
 fn is_plain(line: &[u8], next: Option<&[u8]>) -> bool
     ensures { result ≡ plain line.now (option_copied next.entry) }
 {
     !has_figure(line) && !is_placing(next)
 }
 
-/// Whether a line may have the place of what stands before it, by what it begins with.
+/// Whether a line may have the location of the line above, judged by how it begins.
 fn is_placing(next: Option<&[u8]>) -> bool
     ensures { result ≡ places (option_copied next.entry) }
 {
@@ -340,7 +339,7 @@ fn is_placing(next: Option<&[u8]>) -> bool
     }
 }
 
-/// The same of any lines.
+/// The same for any lines.
 #[inline(never)]
 #[tactic(auto, unfolding(crate::specs::Lines::begun))]
 fn begun_at<'a>(shapes: &[Shape<'_>], line: &'a [u8], next: Option<&'a [u8]>) -> Begun<'a>
@@ -371,7 +370,7 @@ fn begun_at<'a>(shapes: &[Shape<'_>], line: &'a [u8], next: Option<&'a [u8]>) ->
     }
 }
 
-/// The finding of a line whose place stands on the next one.
+/// The finding of a line whose location is on the next one.
 pub fn announced<'a>(line: &'a [u8], next: Option<&'a [u8]>) -> Option<Finding<'a>>
     ensures { option_map finding_parts result ≡ announced_there line.entry.now
         (option_copied next.entry) }
@@ -382,7 +381,7 @@ pub fn announced<'a>(line: &'a [u8], next: Option<&'a [u8]>) -> Option<Finding<'
     }
 }
 
-/// The same of two lines.
+/// The same for two lines.
 #[tactic(auto, unfolding(crate::specs::Lines::announced_by))]
 fn announced_by<'a>(line: &'a [u8], next: &'a [u8]) -> Option<Finding<'a>>
     ensures { option_map finding_parts result ≡ announced_pair line.entry.now next.entry.now }
@@ -405,7 +404,7 @@ fn uncoloned(line: &[u8]) -> &[u8]
     }
 }
 
-/// What the first of these shapes finds that is the whole text.
+/// What the first of these patterns that matches the whole text finds.
 fn whole_among<'a>(mut shapes: &[(&str, &[Part])], found: Found<'a>) -> Option<Found<'a>>
     ensures { option_map seen result
         ≡ whole_in (map (λ shape. shape.1.now) shapes.entry.now) (seen found.entry) }
@@ -419,7 +418,7 @@ fn whole_among<'a>(mut shapes: &[(&str, &[Part])], found: Found<'a>) -> Option<F
     None
 }
 
-/// Whether a line is a name for the lines below it.
+/// Whether a line is a heading for the lines below it.
 fn is_heading(line: &[u8], next: Option<&[u8]>) -> bool
     ensures { result ≡ heads line.now (option_copied next.entry) }
 {
@@ -429,7 +428,7 @@ fn is_heading(line: &[u8], next: Option<&[u8]>) -> bool
     }
 }
 
-/// What is found in a line below a heading.
+/// The finding in a line below a heading.
 #[tactic(auto, unfolding(crate::specs::Lines::below))]
 fn below(line: &[u8]) -> Option<Found<'_>>
     ensures { option_map seen result ≡ below_there line.now }
@@ -437,7 +436,7 @@ fn below(line: &[u8]) -> Option<Found<'_>>
     whole(&UNDER, Found::before(line))
 }
 
-/// The finding in a line, if there is a heading above and it fits.
+/// The finding in a line, if there is a heading above and the line matches.
 pub fn below_at<'a>(name: Option<&'a [u8]>, line: &'a [u8]) -> Option<Finding<'a>>
     ensures { option_map finding_parts result
         ≡ below_name (option_copied name.entry) line.entry.now }
@@ -450,7 +449,7 @@ pub fn below_at<'a>(name: Option<&'a [u8]>, line: &'a [u8]) -> Option<Finding<'a
     })
 }
 
-/// The finding whose place stands in a line before what it says.
+/// The finding of a line with its location before its message.
 fn inline<'a>(shapes: &[Shape<'_>], line: &'a [u8], next: Option<&[u8]>) -> Option<Finding<'a>>
     ensures { option_map finding_parts result
         ≡ inline_there (map shape_parts shapes.now) line.entry.now (option_copied next.entry) }
@@ -473,7 +472,7 @@ fn is_above_text(next: Option<&[u8]>) -> bool
     }
 }
 
-/// The finding of a line with a place; `below` says that more stands below.
+/// The finding of a line with a location; `below` says whether there is more below.
 fn told<'a>(place: Placed<'a>, line: &[u8], below: bool) -> Option<Finding<'a>>
     ensures { option_map finding_parts result ≡ told_by below line.now (placed_parts place.entry) }
 {
@@ -488,7 +487,7 @@ fn told<'a>(place: Placed<'a>, line: &[u8], below: bool) -> Option<Finding<'a>>
     spoken(place, line)
 }
 
-/// The same where its message stands below, behind a level, a code or both.
+/// The same if its message is below, and a level, a code or both are in this line.
 #[tactic(auto, unfolding(crate::specs::Lines::bare))]
 fn bare<'a>(place: Placed<'a>) -> Option<Finding<'a>>
     ensures { option_map finding_parts result ≡ bare_there (placed_parts place.entry) }
@@ -506,7 +505,7 @@ fn finding_of<'a>(name: &'a [u8], found: Found<'a>, manner: Manner) -> Finding<'
     }
 }
 
-/// The same where it stands below a level, a code, and another code in brackets.
+/// The same if its message is below a level, a code, and another code in brackets.
 #[tactic(auto, unfolding(crate::specs::Lines::coded_below))]
 fn coded_below<'a>(place: Placed<'a>) -> Option<Finding<'a>>
     ensures { option_map finding_parts result ≡ coded_there (placed_parts place.entry) }
@@ -555,7 +554,7 @@ fn is_ruled(manner: Manner) -> bool
     matches!(manner, Manner::Ruled)
 }
 
-/// The same where it stands behind the place.
+/// The same if its message is after the location.
 #[tactic(auto, unfolding(crate::specs::Lines::spoken))]
 fn spoken<'a>(place: Placed<'a>, line: &[u8]) -> Option<Finding<'a>>
     ensures { option_map finding_parts result ≡ spoken_there line.now (placed_parts place.entry) }

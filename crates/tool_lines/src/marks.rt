@@ -1,4 +1,4 @@
-//! Lines that belong to others: marks, gutters, and what is indented.
+//! Lines that belong to others: markers, gutters, and indented lines.
 ghost use Rattle.std.specs.Prelude.{◌≡◌, ◌≤◌, IfSome, length};
 ghost use Rattle.std.specs.List.{list_all, list_any};
 ghost use Rattle.tool_lines.specs.Marks.{are_marks as are_marks_there, body as body_of};
@@ -20,7 +20,7 @@ pub fn begins_blank(line: &[u8]) -> bool
     }
 }
 
-/// How many bytes the gutter has: blanks, digits, blanks, and a `|`.
+/// The length of the gutter: blanks, digits, blanks, and a `|`.
 pub fn gutter(line: &[u8]) -> Option<usize>
     ensures value { result ≡ gutter_there line.now }
     ensures within { IfSome result (λ n. n ≤ length line.now) }
@@ -46,7 +46,7 @@ pub fn is_numbered(line: &[u8]) -> bool
     1 <= digits && 1 <= spaces && end < line.len() && line[end] == b'|'
 }
 
-/// Whether a line marks a place of the row above it.
+/// Whether a line is markers of the row above it.
 pub fn are_marks(line: &[u8]) -> bool
     ensures { result ≡ are_marks_there line.now }
 {
@@ -56,7 +56,7 @@ pub fn are_marks(line: &[u8]) -> bool
     }
 }
 
-/// Whether a text is a row of marks.
+/// Whether a text is a row of markers.
 fn is_marked(body: &[u8]) -> bool
     ensures { result ≡ body_of body.now }
 {
@@ -96,7 +96,7 @@ fn starts_marks(line: &[u8]) -> bool
     }
 }
 
-/// Whether a line is indented text, and no marks.
+/// Whether a line is indented text, and no markers.
 pub fn is_text(line: &[u8]) -> bool
     ensures { result ≡ is_text_there line.now }
 {

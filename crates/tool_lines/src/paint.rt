@@ -1,4 +1,4 @@
-//! Texts without the colors and links that tools write to terminals.
+//! Texts without the colors and links that tools write for terminals.
 ghost use Rattle.std.specs.Prelude.{◌≡◌, ◌≤◌, ◌<◌, ◌+◌, ◌^◌, ◌++◌, ◌==◌};
 ghost use Rattle.std.specs.Prelude.{Some, not, IfOk, length, count_by};
 ghost use Rattle.std.specs.List.{prefix_len};
@@ -13,12 +13,12 @@ use line_shapes::bytes::{Kind, is_in};
 use memchr::memchr;
 use std::alloc::{AllocError, Global};
 
-/// A text without its paint: colors, which are ESC `[`, digits and `;`, and `m` or `K`; and what
-/// opens and closes links, ESC `]8;` up to BEL or ESC `\`. It has as many LF as before.
+/// A text without its ANSI escapes: colors (ESC `[`, digits and `;`, and `m` or `K`), and the
+/// start and end of links (ESC `]8;` up to BEL or ESC `\`). It has as many LF as before.
 ///
 /// # Errors
 ///
-/// Want of memory.
+/// Out of memory.
 #[tactic(auto, using(crate::proofs::PaintLemmas::plain_end, crate::proofs::PaintLemmas::lines_kept))]
 pub fn without_paint(alloc: Global, text: &[u8]) -> Result<Vec<u8>, AllocError>
     ensures text { IfOk result (λ plain. plain.items ≡ unpainted text.now) }
@@ -35,7 +35,7 @@ pub fn without_paint(alloc: Global, text: &[u8]) -> Result<Vec<u8>, AllocError>
     Ok(plain)
 }
 
-/// Keeps what stands before the first ESC, and goes past the paint that begins with it, or past it.
+/// Keeps the text before the first ESC, and skips the ANSI escape there, or keeps that ESC.
 fn past<'a>(plain: &mut Vec<u8>, text: &'a [u8], at: usize) -> Result<&'a [u8], AllocError>
     requires { IsFirstByte (is_byte 0x1B) text.now (Some at) }
     ensures left { IfOk result (λ rest. plain.new.items ++ unpainted rest.now
@@ -48,7 +48,7 @@ fn past<'a>(plain: &mut Vec<u8>, text: &'a [u8], at: usize) -> Result<&'a [u8], 
     Ok(rest)
 }
 
-/// The text behind the paint that a text begins with. Where there is none, the first byte is kept.
+/// The text after the ANSI escape at its beginning. If there is none, the first byte is kept.
 fn keep_or_skip<'a>(plain: &mut Vec<u8>, text: &'a [u8]) -> Result<&'a [u8], AllocError>
     requires { 1 ≤ length text.now }
     ensures left { IfOk result (λ rest. plain.new.items ++ unpainted rest.now
@@ -68,7 +68,7 @@ fn keep_or_skip<'a>(plain: &mut Vec<u8>, text: &'a [u8]) -> Result<&'a [u8], All
     }
 }
 
-/// How many bytes the color or the link takes that a text begins with, or 0.
+/// The length of the color or link at the beginning of a text, or 0.
 fn paint_len(text: &[u8]) -> usize
     ensures value { result ≡ paint_length text.now }
     ensures within { result ≤ length text.now }
@@ -80,7 +80,7 @@ fn paint_len(text: &[u8]) -> usize
     }
 }
 
-/// The same of a color, behind its first two bytes.
+/// The same for a color, after its first two bytes.
 fn color_len(rest: &[u8]) -> usize
     requires { length rest.now < 2 ^ 63 }
     ensures value { result ≡ color_length rest.now }
@@ -96,7 +96,7 @@ fn color_run(rest: &[u8]) -> usize
     rest.iter().take_while(|byte| is_color_byte(**byte)).count()
 }
 
-/// How long the color is, where its last byte stands here.
+/// The length of the color, if its last byte is here.
 fn color_end(count: usize, rest: &[u8]) -> usize
     requires small { length rest.now < 2 ^ 63 }
     requires here { count ≤ length rest.now }
@@ -122,7 +122,7 @@ fn is_color_byte(byte: u8) -> bool
     is_in(Kind::Digit, byte) || byte == b';'
 }
 
-/// The same of a link, behind its first four bytes.
+/// The same for a link, after its first four bytes.
 fn link_len(rest: &[u8]) -> usize
     requires { length rest.now < 2 ^ 63 }
     ensures value { result ≡ link_length rest.now }
@@ -139,7 +139,7 @@ fn link_run(rest: &[u8]) -> usize
     rest.iter().take_while(|byte| !ends_link(**byte)).count()
 }
 
-/// How long the link is, where this ends it.
+/// The length of the link, if this ends it.
 fn link_end(count: usize, rest: &[u8]) -> usize
     requires { count + length rest.now < 2 ^ 63 }
     ensures value { result ≡ link_ends count rest.now }
@@ -152,7 +152,7 @@ fn link_end(count: usize, rest: &[u8]) -> usize
     }
 }
 
-/// Whether a byte ends a link, or stands in none.
+/// Whether a byte ends a link, or can't be in one.
 fn ends_link(byte: u8) -> bool
     ensures { result ≡ ends_a_link byte }
 {

@@ -1,4 +1,4 @@
-//! When a message alone, without a level or a code, makes a finding of a line that has a place.
+//! When a message without a level or a code makes a line with a location a finding.
 ghost use Rattle.std.specs.Prelude.{◌≡◌, ◌≤◌, length, ◌-◌};
 ghost use Rattle.std.specs.List.{list_any};
 ghost use Rattle.std.specs.Option.{is_some};
@@ -24,7 +24,7 @@ use line_shapes::part::Found;
 use line_shapes::place::Placed;
 use line_shapes::tables::Manner;
 
-/// Whether what was found behind the place of a line makes a finding of it.
+/// Whether what was found after the location of a line makes it a finding.
 pub fn speaks(line: &[u8], place: Placed<'_>, found: Found<'_>, manner: Manner) -> bool
     ensures { result ≡ speaks_there line.now (placed_parts place.entry) (seen found.entry) manner }
 {
@@ -37,7 +37,7 @@ fn is_alone(manner: Manner) -> bool
     matches!(manner, Manner::Alone)
 }
 
-/// The same of a message alone.
+/// The same for a message alone.
 fn speaks_alone(line: &[u8], place: Placed<'_>, found: Found<'_>) -> bool
     ensures { result ≡ alone_there line.now (placed_parts place.entry) (seen found.entry) }
 {
@@ -45,7 +45,7 @@ fn speaks_alone(line: &[u8], place: Placed<'_>, found: Found<'_>) -> bool
     !is_wide(line, at) && is_telling(line, at, place.name, found)
 }
 
-/// Whether a message names a level, or stands behind a place and a name that are plain.
+/// Whether a message names a level, or comes after a plain location and name.
 fn is_telling(line: &[u8], at: usize, name: &[u8], found: Found<'_>) -> bool
     ensures { result ≡ telling line.now at name.now (seen found.entry) }
 {
@@ -58,21 +58,21 @@ fn is_plainly_placed(line: &[u8], at: usize, name: &[u8]) -> bool
     !is_parenthesized(line, at) && is_plain_name(name)
 }
 
-/// Whether two spaces stand before a place of a line.
+/// Whether there are two spaces before an offset of a line.
 fn is_wide(line: &[u8], at: usize) -> bool
     ensures { result ≡ wide_before line.now at }
 {
     byte_at(line, at.saturating_sub(1)) == b' ' && byte_at(line, at.saturating_sub(2)) == b' '
 }
 
-/// Whether a parenthesis, a colon and a byte stand before a place of a line.
+/// Whether there are a parenthesis, a colon and a byte before an offset of a line.
 fn is_parenthesized(line: &[u8], at: usize) -> bool
     ensures { result ≡ in_parentheses_before line.now at }
 {
     byte_at(line, at.saturating_sub(3)) == b')' && byte_at(line, at.saturating_sub(2)) == b':'
 }
 
-/// Whether a name has no blank, and doesn't end in a digit but in an extension.
+/// Whether a name has no blank, and ends in a digit only in an extension.
 fn is_plain_name(name: &[u8]) -> bool
     ensures { result ≡ plainly_named name.now }
 {
@@ -97,7 +97,7 @@ fn ends_in_digit(name: &[u8]) -> bool
     is_in(Kind::Digit, byte_at(name, name.len().saturating_sub(1)))
 }
 
-/// Whether letters and digits stand at the end behind a dot, a letter first.
+/// Whether a text ends in a dot, a letter, and letters and digits.
 fn has_extension(name: &[u8]) -> bool
     ensures { result ≡ extended name.now }
 {
