@@ -50,7 +50,7 @@ pub fn written_log(
     Ok(text)
 }
 
-/// Checks that each text is UTF-8 and has no rows or columns past 32 bits.
+/// Visits each text; each is UTF-8 and has no rows or columns past 32 bits.
 #[tactic(auto, using(crate::proofs::SmallLemmas::no_sources))]
 fn look_at(files: &Files<String>)
     ensures sources { All IsSource files.now }
