@@ -38,7 +38,7 @@ pub enum Kind {
     InParentheses,
     /// Small letters, digits and `_`.
     InCode,
-    /// What joins the words of a code: `-`, `_`, `/` and `:`.
+    /// Joins words in a code: `-`, `_`, `/` and `:`.
     Joint,
 }
 
@@ -184,7 +184,7 @@ pub fn capitals_and_digits(text: &[u8]) -> Option<usize>
     }
 }
 
-/// The length of the words, joined by `/`, at the beginning of a text.
+/// The length of words, joined by `/`, at the beginning of a text.
 pub fn cop_len(text: &[u8]) -> Option<usize>
     ensures value { result ≡ cop_length text.now }
     ensures within { IfSome result (λ n. n ≤ length text.now) }
