@@ -1,4 +1,4 @@
-//! Where the run of lines ends that belongs to what begins at a line.
+//! Where the lines of a block end.
 ghost use Rattle.std.specs.Prelude.{◌≡◌, ◌≤◌, ◌+◌, if◌then◌else◌, IfSome, None, Some, map, length};
 ghost use Rattle.std.specs.Prelude.{option_map};
 ghost use Rattle.line_shapes.specs.Shape.{shape_parts};
@@ -22,7 +22,7 @@ pub(crate) fn first_of(lines: &[Vec<u8>]) -> Option<&[u8]>
     }
 }
 
-/// How many lines belong to what begins on the line before, if no line behind these can change it.
+/// How many lines belong to what begins on the line before, if no later line can change it.
 pub(crate) fn run_end(shapes: &[Shape<'_>], sort: Sort, lines: &[Vec<u8>]) -> Option<usize>
     ensures value { result
         ≡ run_ends (map shape_parts shapes.now) sort (map (λ line. line.items) lines.now) }
@@ -38,7 +38,7 @@ pub(crate) fn run_end(shapes: &[Shape<'_>], sort: Sort, lines: &[Vec<u8>]) -> Op
     }
 }
 
-/// The same of the lines behind an arrow, the arrow among those that belong.
+/// The same for the lines from an arrow on; the arrow counts.
 fn announced_end(mut lines: &[Vec<u8>]) -> Option<usize>
     ensures value { result ≡ announced_ends 1 (map (λ line. line.items) lines.entry.now) }
     ensures within { IfSome result (λ count. count ≤ 1 + length lines.entry.now) }
@@ -54,7 +54,7 @@ fn announced_end(mut lines: &[Vec<u8>]) -> Option<usize>
     None
 }
 
-/// The same of a trail.
+/// The same for a trail.
 fn trail_end(shapes: &[Shape<'_>], mut lines: &[Vec<u8>]) -> Option<usize>
     ensures value { result
         ≡ trail_ends (map shape_parts shapes.now) 0 (map (λ line. line.items) lines.entry.now) }
@@ -80,14 +80,14 @@ fn unless_open(ends: bool, count: usize) -> Option<usize>
     if ends { Some(count) } else { None }
 }
 
-/// Whether a line ends each trail, whatever stands behind it.
+/// Whether a line ends each trail, whatever follows.
 pub(crate) fn ends_trails(shapes: &[Shape<'_>], line: &[u8]) -> bool
     ensures { result ≡ ends_all_trails (map shape_parts shapes.now) line.now }
 {
     line.is_empty() || !matches!(what_begins(shapes, line, None).sort, Sort::Kept)
 }
 
-/// Whether what belongs to a piece of this sort ends at a line, whatever stands behind it.
+/// Whether a block of this kind ends at a line, whatever follows.
 pub fn ends_at(shapes: &[Shape<'_>], sort: Sort, line: &[u8]) -> bool
     ensures { result ≡ ends_at_line (map shape_parts shapes.now) sort line.now }
 {
@@ -98,7 +98,7 @@ pub fn ends_at(shapes: &[Shape<'_>], sort: Sort, line: &[u8]) -> bool
     }
 }
 
-/// How many lines belong to what begins on the line before, where no line is to come.
+/// How many lines belong to what begins on the line before, if no line follows these.
 pub(crate) fn behind(shapes: &[Shape<'_>], sort: Sort, lines: &[Vec<u8>]) -> usize
     ensures value { result
         ≡ behind_there (map shape_parts shapes.now) sort (map (λ line. line.items) lines.now) }

@@ -1,8 +1,8 @@
-//! The pieces of lines that come one at a time.
+//! The blocks of lines that come one at a time.
 //!
-//! [`Lines`] takes lines as they come, gives each piece as soon as no line to come can change it,
-//! and holds no more than the piece in hand and a line. [`ends_at`] tells whether the line behind a
-//! piece is its end, whatever comes.
+//! [`Lines`] takes lines as they come, gives each block as soon as no later line can change it,
+//! and holds only the current block and one more line. [`ends_at`] says whether a block ends at a
+//! line, whatever follows.
 #![tactic(auto)]
 
 mod ends;

@@ -1,4 +1,4 @@
-//! Lines that are held until their pieces are known.
+//! Lines that are held until their blocks are known.
 ghost use Rattle.std.specs.Prelude.{◌≡◌, ◌≤◌, ◌+◌, ◌∷◌, ◌++◌, ◌&&◌, true, false, [], drop, None};
 ghost use Rattle.std.specs.Prelude.{if◌then◌else◌, IfSome, is_ok, option_map, map, length, slice_get};
 ghost use Rattle.std.specs.Option.{option_copied, is_some};
@@ -14,25 +14,24 @@ use line_shapes::shape::Shape;
 use std::alloc::{AllocError, Global};
 use tool_lines::lines::{Begun, Finding, Piece, Sort, announced, below_at, in_trail, what_begins};
 
-/// The lines whose pieces aren't known yet, of an output that comes line by line.
+/// The lines whose blocks aren't known yet, of an output that comes line by line.
 ///
-/// After each line that is fed, [`Lines::known`] is asked until it gives none; behind the last
-/// line, [`Lines::last`]. A piece that was given is let go by [`Lines::pass`], and its lines with
-/// it.
+/// After each line, call [`Lines::known`] until it gives none; after the last line,
+/// [`Lines::last`]. Drop each block that was given, with its lines, by [`Lines::pass`].
 #[derive(Drop)]
 pub struct Lines<'s> {
     shapes: &'s [Shape<'s>],
-    /// The heading of the lines that come.
+    /// The heading of the next lines.
     name: Option<Vec<u8>>,
     held: Vec<Vec<u8>>,
-    /// That no piece is known is known.
+    /// Whether it is known that no block is known.
     quiet: bool,
     ghost unknown: { (quiet
         && is_some (known_piece (map shape_parts shapes.now) (option_map (λ line. line.items) name)
         (map (λ line. line.items) held.items))) ≡ false },
 }
 
-/// The piece that begins with the first of these lines, if no line behind them can change it.
+/// The block that begins with the first of these lines, if no later line can change it.
 fn known_among<'h>(
     shapes: &[Shape<'_>],
     name: Option<&'h [u8]>,
@@ -67,7 +66,7 @@ fn below<'h>(finding: Finding<'h>) -> Piece<'h>
     }
 }
 
-/// The same of a line that stands below no heading.
+/// The same for a line that isn't below a heading.
 fn known_behind<'h>(shapes: &[Shape<'_>], line: &'h [u8], lines: &'h [Vec<u8>]) -> Option<Piece<'h>>
     ensures piece { option_map piece_parts result
         ≡ piece_behind (map shape_parts shapes.now) line.entry.now
@@ -87,7 +86,8 @@ fn known_behind<'h>(shapes: &[Shape<'_>], line: &'h [u8], lines: &'h [Vec<u8>]) 
 impl<'s> Lines<'s> {
     ghost use Rattle.fed_lines.specs.Held.{held_lines, held_name, held_shapes};
 
-    /// No lines yet. `shapes` are shapes of a tool's or the user's own, which go before all others.
+    /// No lines yet. `shapes` are patterns of a tool's or the user's own; they come before all
+    /// others.
     pub fn new(alloc: Global, shapes: &'s [Shape<'s>]) -> Lines<'s>
         ensures shapes { held_shapes result ≡ map shape_parts shapes.now }
         ensures name { held_name result ≡ None }
@@ -101,11 +101,11 @@ impl<'s> Lines<'s> {
         }
     }
 
-    /// Takes the next line, without its break.
+    /// Adds the next line, without its break.
     ///
     /// # Errors
     ///
-    /// Want of memory: the line isn't taken, and all is as it was.
+    /// Out of memory; then the line isn't added, and nothing has changed.
     #[tactic(auto, using(crate::proofs::FeedLemmas::unknown_so))]
     pub fn feed(&mut self, line: Vec<u8>) -> Result<(), AllocError>
         ensures shapes { held_shapes self.new ≡ held_shapes self.old }
@@ -120,7 +120,7 @@ impl<'s> Lines<'s> {
         Ok(())
     }
 
-    /// Whether no piece is known, and this line behind the others makes none known.
+    /// Whether no block is known, and this line after the others makes none known.
     #[tactic(auto, using(crate::proofs::FeedLemmas::not_any))]
     fn stays_quiet(&self, line: &[u8]) -> bool
         ensures { result ≡ true
@@ -137,8 +137,8 @@ impl<'s> Lines<'s> {
         &self.held
     }
 
-    /// The next piece, if no line to come can change it. Without one, what is held is a piece and
-    /// at most one line behind it.
+    /// The next block, if no later line can change it. Without one, the held lines are a block and
+    /// at most one line after it.
     #[tactic(auto, using(crate::proofs::FeedLemmas::known_rules))]
     pub fn known(&self) -> Option<Piece<'_>>
         ensures piece { option_map piece_parts result
@@ -158,7 +158,7 @@ impl<'s> Lines<'s> {
         known_among(self.shapes, lent(&self.name), self.held.as_slice())
     }
 
-    /// The next piece, where no line is to come.
+    /// The next block, if no line follows.
     pub fn last(&self) -> Option<Piece<'_>>
         ensures piece { option_map piece_parts result
             ≡ last_piece (held_shapes self.now) (held_name self.now) (held_lines self.now) }
@@ -168,7 +168,7 @@ impl<'s> Lines<'s> {
         last_among(self.shapes, lent(&self.name), self.held.as_slice())
     }
 
-    /// Lets a piece of this sort and so many lines go.
+    /// Drops a block of this kind with this number of lines.
     pub fn pass(&mut self, sort: Sort, lines: usize)
         requires some { 1 ≤ lines }
         requires within { lines ≤ length (held_lines self.old) }
@@ -201,7 +201,7 @@ fn lent(name: &Option<Vec<u8>>) -> Option<&[u8]>
     }
 }
 
-/// The piece that begins with the first of these lines, where no line is to come.
+/// The block that begins with the first of these lines, if no line follows.
 fn last_among<'h>(
     shapes: &[Shape<'_>],
     name: Option<&'h [u8]>,
@@ -228,7 +228,7 @@ fn last_among<'h>(
     }
 }
 
-/// Whether the first piece of these lines is as little known with this line behind them.
+/// Whether the first block of these lines stays unknown with this line after them.
 fn stays_open(shapes: &[Shape<'_>], lines: &[Vec<u8>], line: &[u8]) -> bool
     ensures { result ≡ true
         → StaysOpen (map shape_parts shapes.now) (map (λ line. line.items) lines.now) line.now }
@@ -257,7 +257,7 @@ fn goes_on(shapes: &[Shape<'_>], sort: Sort, last: &[u8], line: &[u8]) -> bool
     }
 }
 
-/// Takes the first of these lines out.
+/// Removes the first of these lines.
 fn take_first(lines: &mut Vec<Vec<u8>>) -> Option<Vec<u8>>
     ensures first { option_map (λ line. line.items) result
         ≡ slice_get (map (λ line. line.items) lines.old.items) 0 }
@@ -271,7 +271,7 @@ fn take_first(lines: &mut Vec<Vec<u8>>) -> Option<Vec<u8>>
     }
 }
 
-/// Lets the first of these lines go.
+/// Drops the first of these lines.
 #[tactic(auto, using(crate::proofs::FeedLemmas::turned_away))]
 fn drop_first(lines: &mut Vec<Vec<u8>>, count: usize)
     requires { count ≤ length lines.old.items }

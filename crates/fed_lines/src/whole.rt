@@ -1,4 +1,4 @@
-//! All pieces of lines that come one at a time: they are those of the whole.
+//! All blocks of lines that come one at a time: they are those of the whole.
 ghost use Rattle.std.specs.Prelude.{◌≡◌, ◌≤◌, ◌++◌, List, ℕ, IfOk, IfSome, option_map, map, length};
 ghost use Rattle.line_shapes.specs.Shape.{shape_parts};
 ghost use Rattle.fed_lines.specs.Feed.{AreCut, IsFed, IsNoneKnown, Leaves, cut_of, known_piece};
@@ -10,22 +10,22 @@ use line_shapes::shape::Shape;
 use std::alloc::{AllocError, Global};
 use tool_lines::lines::Sort;
 
-/// What a piece takes of the lines: so many, and what it is.
+/// A block: what begins it, and how many lines it has.
 #[derive(Clone, Copy, PartialEq, Eq)]
 pub struct Cut {
     /// What begins at its first line.
     pub sort: Sort,
-    /// How many lines it has.
+    /// The number of its lines.
     pub lines: usize,
 }
 
-/// Feeds these lines one at a time, and lets each piece go as soon as it is known. Whatever stands
-/// behind the lines, the first pieces of the whole are those that were let go, and of what is held no
-/// piece is known.
+/// Feeds these lines one at a time, and drops each block as soon as it is known. Whatever follows,
+/// the first blocks of the whole are those that were dropped, and no block of the held lines is
+/// known.
 ///
 /// # Errors
 ///
-/// Want of memory.
+/// Out of memory.
 pub fn fed<'s>(
     alloc: Global,
     shapes: &'s [Shape<'s>],
@@ -47,11 +47,11 @@ pub fn fed<'s>(
     Ok((held, cuts))
 }
 
-/// How these lines are cut that are fed one at a time: as where all of them are read at once.
+/// How lines are split that are fed one at a time: as if all of them were read at once.
 ///
 /// # Errors
 ///
-/// Want of memory.
+/// Out of memory.
 pub fn cut_as_they_come(
     alloc: Global,
     shapes: &[Shape<'_>],
@@ -65,7 +65,7 @@ pub fn cut_as_they_come(
     Ok(cuts)
 }
 
-/// Lets all pieces go that are known.
+/// Drops all blocks that are known.
 fn give_known(held: &mut Lines<'_>, cuts: &mut Vec<Cut>) -> Result<(), AllocError>
     ensures shapes { IfOk result (λ _. held_shapes held.new ≡ held_shapes held.old) }
     ensures first { IfOk result (λ _. (whole extra : List (List ℕ))
@@ -82,7 +82,7 @@ fn give_known(held: &mut Lines<'_>, cuts: &mut Vec<Cut>) -> Result<(), AllocErro
     Ok(())
 }
 
-/// Lets all pieces go, where no line is to come.
+/// Drops all blocks, if no line follows.
 fn give_last(held: &mut Lines<'_>, cuts: &mut Vec<Cut>) -> Result<(), AllocError>
     ensures { IfOk result (λ _. (whole : List (List ℕ))
         → IsFed (held_shapes held.old) whole cuts.old.items
@@ -95,7 +95,7 @@ fn give_last(held: &mut Lines<'_>, cuts: &mut Vec<Cut>) -> Result<(), AllocError
     Ok(())
 }
 
-/// Lets the next piece go, if no line to come can change it.
+/// Drops the next block, if no later line can change it.
 fn pass_known(held: &mut Lines<'_>) -> Option<Cut>
     ensures cut { result ≡ option_map cut_of
         (known_piece (held_shapes held.old) (held_name held.old) (held_lines held.old)) }
@@ -115,7 +115,7 @@ fn pass_known(held: &mut Lines<'_>) -> Option<Cut>
     Some(cut)
 }
 
-/// The same where no line is to come.
+/// The same if no line follows.
 fn pass_last(held: &mut Lines<'_>) -> Option<Cut>
     ensures cut { result ≡ option_map cut_of
         (last_piece (held_shapes held.old) (held_name held.old) (held_lines held.old)) }
