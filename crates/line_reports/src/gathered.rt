@@ -1,4 +1,4 @@
-//! The reports of pieces, gathered with their files.
+//! The reports of blocks, with their files.
 ghost use Rattle.std.specs.Prelude.{◌≡◌, ◌++◌, ◌∷◌, [], ◌<◌, IfOk, IfSome, OnOk, None, Some, map};
 ghost use Rattle.std.specs.Prelude.{length, option_map, string_bytes};
 ghost use Rattle.std.specs.Str.Lossy.{utf8_lossy};
@@ -29,15 +29,15 @@ use std::collections::BTreeMap;
 use std::ops::Range;
 use tool_lines::lines::Piece;
 
-/// The reports that pieces mean, which begin with the first of these lines.
+/// The reports of blocks, which begin with the first of these lines.
 ///
-/// A finding whose row is there in its file's text has its span as the primary label; the notes
-/// behind it that have a span in the same file are labels too, and each other note is a report
-/// behind it. A finding without a span has no label, and keeps the place that its tool gave.
+/// A finding whose row is in its file's text has its span as the primary label. The notes after it
+/// with a span in the same file are labels too; each other note is a report after it. A finding
+/// without a span has no label, and keeps its reported location.
 ///
 /// # Errors
 ///
-/// Want of memory. Nothing is refused.
+/// Out of memory, and nothing else.
 #[tactic(auto, unfolding(crate::specs::Reports::reports_in))]
 pub fn reports_of<'s, S: Sources>(
     alloc: Global,
@@ -60,7 +60,7 @@ pub fn reports_of<'s, S: Sources>(
 #[derive(Drop)]
 struct Gathered<'s> {
     found: FoundReports<'s>,
-    /// Of each file the text with its rows, if it has one.
+    /// For each file its text with its rows, if it has one.
     texts: Vec<Option<RowText<'s>>>,
     /// The numbers of files by their names.
     numbers: BTreeMap<String, usize>,
@@ -80,7 +80,7 @@ impl<'s> Gathered<'s> {
         }
     }
 
-    /// Pushes the reports of findings and their notes.
+    /// Adds the reports of findings and their notes.
     fn push_groups<S: Sources>(
         &mut self,
         alloc: Global,
@@ -103,7 +103,7 @@ impl<'s> Gathered<'s> {
         Ok(())
     }
 
-    /// Pushes the reports of a finding and its notes.
+    /// Adds the reports of a finding and its notes.
     #[tactic(auto, unfolding(crate::specs::Reports::group_reports))]
     fn push_group<S: Sources>(
         &mut self,
@@ -132,7 +132,7 @@ impl<'s> Gathered<'s> {
         }
     }
 
-    /// The same of a finding that has this span in this file.
+    /// The same for a finding that has this span in this file.
     #[tactic(auto, using(crate::proofs::NumberLemmas::marked_rules))]
     fn push_marked<S: Sources>(
         &mut self,
@@ -164,7 +164,7 @@ impl<'s> Gathered<'s> {
         self.push_others(alloc, sources, columns, marks.as_slice())
     }
 
-    /// Pushes the reports of the notes that are no labels.
+    /// Adds the reports of the notes that are no labels.
     fn push_others<S: Sources>(
         &mut self,
         alloc: Global,
@@ -192,7 +192,7 @@ impl<'s> Gathered<'s> {
         Ok(())
     }
 
-    /// Pushes the reports of findings, each by itself.
+    /// Adds the reports of findings, each alone.
     fn push_each<S: Sources>(
         &mut self,
         alloc: Global,
@@ -218,7 +218,7 @@ impl<'s> Gathered<'s> {
         Ok(())
     }
 
-    /// Pushes the report of a finding by itself.
+    /// Adds the report of a finding alone.
     fn push_alone<S: Sources>(
         &mut self,
         alloc: Global,
@@ -240,7 +240,7 @@ impl<'s> Gathered<'s> {
         self.push_in(alloc, columns, file, told)
     }
 
-    /// Pushes the report of a finding by itself, which is in this file.
+    /// Adds the report of a finding alone, which is in this file.
     #[tactic(auto, using(crate::proofs::NumberLemmas::alone_rules))]
     fn push_in(
         &mut self,
@@ -343,7 +343,7 @@ impl<'s> Gathered<'s> {
         }
     }
 
-    /// The number of the file of a name, which is added where it isn't there.
+    /// The number of the file of a name, which is added if it isn't there.
     #[tactic(auto, using(crate::proofs::NumberLemmas::listed_there))]
     fn file<S: Sources>(
         &mut self,
@@ -446,7 +446,7 @@ fn row_text<'s>(
     }
 }
 
-/// The label of a finding by itself.
+/// The label of a finding alone.
 fn own_labels(alloc: Global, span: &Option<Range<usize>>) -> Result<Vec<LabeledSpan>, AllocError>
     requires { IfSome span.now FitsLabel }
     ensures { IfOk result (λ labels. labels.items ≡ labels_by span.now) }
@@ -457,7 +457,7 @@ fn own_labels(alloc: Global, span: &Option<Range<usize>>) -> Result<Vec<LabeledS
     }
 }
 
-/// The place that a finding without a span keeps.
+/// The location that a finding without a span keeps.
 fn kept_place(told: &Told<'_>, span: &Option<Range<usize>>) -> Option<GivenPlace>
     ensures { result ≡ place_kept (told_parts told.now) span.now }
 {

@@ -1,8 +1,8 @@
-//! What the lines of a tool report: the findings of pieces as reports on files.
+//! The findings in the lines of a tool, as reports on files.
 //!
-//! - [`reports_of`]: the reports that pieces mean, with their spans in the files' texts.
-//! - [`names_of`]: the names that it asks for, to be read before.
-//! - [`RowText`]: a text with its rows, in which [`Spot`]s stand.
+//! - [`reports_of`]: the reports of blocks, with their spans in the files' texts.
+//! - [`names_of`]: the names whose texts it looks up, to be read before.
+//! - [`RowText`]: a text with its rows, for the spans of [`Spot`]s.
 #![tactic(auto)]
 
 mod gathered;

@@ -28,7 +28,7 @@ impl<'s> RowText<'s> {
     ///
     /// # Errors
     ///
-    /// Want of memory.
+    /// Out of memory.
     pub fn new(alloc: Global, text: &'s str) -> Result<Self, AllocError>
         requires { Fits text.now }
         ensures { IfOk result (λ it. it.text.now ≡ text.entry.now) }
@@ -37,7 +37,7 @@ impl<'s> RowText<'s> {
         Ok(RowText { text, rows })
     }
 
-    /// The span of a spot, in bytes; none where its row isn't there.
+    /// The span of a spot, in bytes; none if its row isn't there.
     #[tactic(auto, unfolding(crate::specs::Span::span_in))]
     pub fn span(&self, columns: Columns, spot: Spot) -> Option<Range<usize>>
         ensures value { result ≡ span_of columns self.now.text.now spot }
@@ -54,7 +54,7 @@ impl<'s> RowText<'s> {
         })
     }
 
-    /// The row of a number, from 1.
+    /// The row with a number, from 1.
     fn row(&self, number: Option<u32>) -> Option<Row>
         ensures value { result ≡ row_numbered (rows_in breaks self.now.text.now) number }
         ensures stands { IfSome result (IsRowOf self.now.text.now) }
@@ -68,7 +68,7 @@ impl<'s> RowText<'s> {
         }
     }
 
-    /// The end that the tool gave.
+    /// The end that the tool reported.
     #[tactic(auto, unfolding(crate::specs::Span::end_of))]
     fn end(&self, columns: Columns, place: GivenPlace) -> Option<usize>
         ensures value { result
