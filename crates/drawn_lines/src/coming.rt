@@ -22,20 +22,20 @@ use tool_lines::lines::pieces_of;
 pub struct Coming {
     held: HeldLines,
     tally: Tally,
-    /// At how many lines they are looked at next.
+    /// The number of lines at which they are checked next.
     wait: usize,
 }
 
 /// What is written of lines that came.
 #[derive(Drop)]
 pub struct Come {
-    /// What is to come.
+    /// The state for the next bytes.
     pub coming: Coming,
-    /// What is written of what is known now.
+    /// What is written of the blocks that are known now.
     pub text: String,
-    /// The lines of it that stand aside.
+    /// Its kept lines for standard error, beside annotations.
     pub aside: String,
-    /// Whether pieces were let go.
+    /// Whether blocks were given.
     pub known: bool,
 }
 
@@ -44,7 +44,7 @@ pub struct Come {
 pub struct Ended {
     /// What is written at the end.
     pub text: String,
-    /// The lines of it that stand aside.
+    /// Its kept lines for standard error, beside annotations.
     pub aside: String,
     /// Whether a report is at or above the level.
     pub reached: bool,
@@ -77,16 +77,15 @@ impl Coming {
         }
     }
 
-    /// Takes the bytes that come next, and gives what is written of what is known now and wasn't
-    /// before, the pieces that no line to come changes or adds to; and the lines of it that stand
-    /// aside.
+    /// Takes the next bytes, and gives what is newly written: the blocks that no later line
+    /// changes or adds to; and beside annotations, the kept lines for standard error.
     ///
-    /// A piece that goes on for more than 64 lines isn't looked at again with each of them, but once
-    /// there are an eighth more.
+    /// A block of more than 64 lines isn't checked again with each line, but once it has grown by
+    /// an eighth.
     ///
     /// # Errors
     ///
-    /// Want of memory. `u32::MAX` files or more, or reports past counting, count as it.
+    /// Out of memory; also `u32::MAX` files or more, or more reports than can be counted.
     pub fn with_bytes<S: Store>(
         self,
         alloc: Global,
@@ -110,12 +109,12 @@ impl Coming {
         cut(alloc, asked, shapes, store, held, tally)
     }
 
-    /// What is written of what is left, and behind drawings how many reports there were; and the
-    /// lines of it that stand aside.
+    /// What is written of the remaining lines, and after drawings how many reports there were; and
+    /// beside annotations, the kept lines for standard error.
     ///
     /// # Errors
     ///
-    /// As of [`Coming::with_bytes`].
+    /// As for [`Coming::with_bytes`].
     pub fn ended<S: Store>(
         self,
         alloc: Global,
@@ -172,13 +171,13 @@ fn unchanged(alloc: Global, held: HeldLines, tally: Tally, wait: usize) -> Come
 /// What is known of lines that are held.
 #[derive(Drop)]
 enum Look {
-    /// Nothing that wasn't.
+    /// Nothing new.
     Nothing(Tally),
-    /// The pieces of so many of the first lines, which are drawn.
+    /// The blocks of this number of first lines are drawn.
     Known(Drawn, usize),
 }
 
-/// Draws the pieces that are known, and lets their lines go.
+/// Draws the blocks that are known, and drops their lines.
 fn cut<S: Store>(
     alloc: Global,
     asked: &Asked,
@@ -202,7 +201,7 @@ fn cut<S: Store>(
     }
 }
 
-/// Lets the first lines go, which are drawn.
+/// Drops the first lines, which are drawn.
 fn without_first(held: HeldLines, drawn: Drawn, count: usize) -> Come
     ensures lines { map (λ line. line.items) result.coming.held.lines.items
         ≡ drop count (map (λ line. line.items) held.lines.items) }
@@ -238,7 +237,7 @@ fn without_first(held: HeldLines, drawn: Drawn, count: usize) -> Come
     }
 }
 
-/// Draws the pieces that are known.
+/// Draws the blocks that are known.
 fn look_at<S: Store>(
     alloc: Global,
     asked: &Asked,
@@ -264,7 +263,7 @@ fn look_at<S: Store>(
     }
 }
 
-/// At how many lines so many are looked at again: below 64 with each line that comes.
+/// The number of lines at which these are checked again: below 64 with each line that comes.
 fn next_look(lines: usize) -> usize {
     let more = if lines < 64 { 0 } else { lines / 8 };
     lines.saturating_add(1).saturating_add(more)

@@ -4,7 +4,7 @@ ghost use Rattle.drawn_lines.specs.Lines.{annotates as are_annotated, has_colors
 
 use girzohal_asked::{OutputForm, ThemeChoice};
 
-/// Whether annotations are written, and lines that are no findings stand aside.
+/// Whether annotations are written, and lines that are no findings go to standard error.
 pub fn annotates(form: OutputForm) -> bool
     ensures { result ≡ are_annotated form }
 {

@@ -1,4 +1,4 @@
-// Lines out of bytes that come.
+// Lines of bytes as they come.
 ghost use Rattle.std.specs.Prelude.{◌≡◌, ◌∷◌, ◌++◌, [], ℕ, List, All, true, false, IfOk, IfSome};
 ghost use Rattle.std.specs.Prelude.{MatchOption, drop, map};
 ghost use Rattle.memchr.specs.Find.{is_byte};
@@ -12,25 +12,25 @@ use std::alloc::{AllocError, Global};
 use tool_lines::lines::without_cr;
 use tool_lines::paint::without_paint;
 
-/// Lines that came, and what came of the next one.
+/// Lines that came, and the beginning of the next one.
 #[derive(Drop)]
 pub(crate) struct HeldLines {
     /// The lines as they are read.
     pub(crate) lines: Vec<Vec<u8>>,
     /// The same lines as they came.
     pub(crate) came: Vec<Vec<u8>>,
-    /// What came of the next one; or all that came, while that may be part of a byte order mark.
+    /// The beginning of the next line; or all bytes, while they may be part of a byte order mark.
     pub(crate) tail: Vec<u8>,
-    /// Whether lines are cut: a byte order mark before them is skipped.
+    /// Whether lines are split: a byte order mark before them is skipped.
     pub(crate) begun: bool,
 }
 
-/// The lines of a text without a byte order mark and its paint, each without a CR at its end. A last
-/// LF ends a line, and begins none.
+/// The lines of a text without a byte order mark and ANSI escapes, each without a CR at its end. A
+/// last LF ends a line, and begins none.
 ///
 /// # Errors
 ///
-/// Want of memory.
+/// Out of memory.
 #[tactic(auto, using(crate::proofs::PlainLemmas::lines_are))]
 pub fn lines_of(alloc: Global, text: &[u8]) -> Result<Vec<Vec<u8>>, AllocError>
     ensures lines { IfOk result (λ lines. map (λ line. line.items) lines.items
@@ -55,7 +55,7 @@ impl HeldLines {
         }
     }
 
-    /// The same with the bytes that came next.
+    /// The same with the next bytes.
     pub(crate) fn with_bytes(self, alloc: Global, bytes: &[u8]) -> Result<HeldLines, AllocError>
         ensures came { IfOk result (λ next. (more : List ℕ)
             → came_to_come next more ≡ came_to_come self (bytes.now ++ more)) }
@@ -68,7 +68,7 @@ impl HeldLines {
         }
     }
 
-    /// The same with the first bytes, once they are as many as a byte order mark has.
+    /// The same with the first bytes, once there are as many as a byte order mark has.
     fn with_first(self, alloc: Global, bytes: &[u8]) -> Result<HeldLines, AllocError>
         requires { self.begun ≡ false }
         ensures came { IfOk result (λ next. (more : List ℕ)
@@ -117,7 +117,7 @@ impl HeldLines {
         held.with_more(alloc, without_mark(&tail))
     }
 
-    /// The same with the bytes that came next, where lines are cut.
+    /// The same with the next bytes, if lines are split.
     fn with_more(self, alloc: Global, bytes: &[u8]) -> Result<HeldLines, AllocError>
         ensures came { IfOk result (λ next. (more : List ℕ)
             → goes_on next more ≡ goes_on self (bytes.now ++ more)) }
@@ -183,7 +183,7 @@ impl HeldLines {
         })
     }
 
-    /// All the lines, where nothing comes any more.
+    /// All the lines, if nothing follows.
     pub(crate) fn ended(self, alloc: Global) -> Result<HeldLines, AllocError>
         ensures came { IfOk result (λ all. map (λ line. line.items) all.came.items
             ≡ came_to_come self []) }
@@ -195,7 +195,7 @@ impl HeldLines {
         self.cut_first(alloc)?.with_end(alloc)
     }
 
-    /// The same, where lines are cut.
+    /// The same, if lines are split.
     #[tactic(auto, using(crate::proofs::HeldLemmas::ended_none))]
     fn with_end(self, alloc: Global) -> Result<HeldLines, AllocError>
         ensures came { IfOk result (λ all. map (λ line. line.items) all.came.items
@@ -238,7 +238,7 @@ fn without_mark(text: &[u8]) -> &[u8]
     }
 }
 
-/// What stands before the first LF of a text, and what stands behind it.
+/// The text before the first LF, and the text after it.
 #[tactic(auto, using(crate::proofs::HeldLemmas::cut_rules))]
 fn cut_line<'a>(text: &'a [u8]) -> Option<(&'a [u8], &'a [u8])>
     ensures whole { IfSome result (λ cut. text.entry.now ≡ cut.0.now ++ 0x0A ∷ cut.1.now) }
@@ -251,7 +251,7 @@ fn cut_line<'a>(text: &'a [u8]) -> Option<(&'a [u8], &'a [u8])>
     }
 }
 
-/// A line without its paint and a CR at its end.
+/// A line without its ANSI escapes and a CR at its end.
 #[tactic(auto, unfolding(crate::specs::Text::read_line))]
 pub(crate) fn read_line(alloc: Global, line: &[u8]) -> Result<Vec<u8>, AllocError>
     ensures { IfOk result (λ text. text.items ≡ line_read line.now) }
@@ -270,11 +270,11 @@ fn without_its_cr(line: Vec<u8>) -> Vec<u8>
     text
 }
 
-/// Lines, lent.
+/// Lines, borrowed.
 ///
 /// # Errors
 ///
-/// Want of memory.
+/// Out of memory.
 pub fn lent(alloc: Global, lines: &[Vec<u8>]) -> Result<Vec<&[u8]>, AllocError>
     ensures { IfOk result (λ lent. map (λ line. line.now) lent.items
         ≡ map (λ line. line.items) lines.now) }
@@ -286,7 +286,7 @@ pub fn lent(alloc: Global, lines: &[Vec<u8>]) -> Result<Vec<&[u8]>, AllocError>
     Ok(lent)
 }
 
-/// Lets the first of these lines go, at most all.
+/// Drops the first of these lines, at most all.
 #[tactic(auto, using(crate::proofs::HeldLemmas::first_gone))]
 pub(crate) fn drop_first(lines: &mut Vec<Vec<u8>>, count: usize)
     ensures { map (λ line. line.items) lines.new.items

@@ -19,18 +19,18 @@ use shown_reports::shown_text;
 use std::alloc::{AllocError, Global};
 use tool_lines::lines::{Piece, Sort, without_cr};
 
-/// How far lines are kept: the text, and the lines that are left.
+/// The text of the kept lines so far, and the lines that are left.
 #[derive(Drop)]
 struct KeptLines<'l, 'a> {
     text: String,
     left: &'l [&'a [u8]],
 }
 
-/// The lines of pieces that are kept, without their paint.
+/// The lines of blocks that are kept, without their ANSI escapes.
 ///
 /// # Errors
 ///
-/// Want of memory.
+/// Out of memory.
 pub fn kept_text(
     alloc: Global,
     asked: &Asked,
@@ -53,7 +53,7 @@ pub fn kept_text(
     Ok(text)
 }
 
-/// Goes on by a piece: its lines are appended, if it is kept.
+/// Appends the lines of the next block, if it is kept.
 fn keep_next<'l, 'a>(
     alloc: Global,
     asked: &Asked,
@@ -79,7 +79,7 @@ fn keep_next<'l, 'a>(
     Ok(KeptLines { text, left })
 }
 
-/// The first lines of a list, at most so many.
+/// The first `count` lines of a list, or all.
 #[tactic(auto, using(crate::proofs::LineLemmas::take_within))]
 pub(crate) fn front<'l, 'a>(lines: &'l [&'a [u8]], count: usize) -> &'l [&'a [u8]]
     ensures { result.now ≡ take count lines.now }
@@ -88,7 +88,7 @@ pub(crate) fn front<'l, 'a>(lines: &'l [&'a [u8]], count: usize) -> &'l [&'a [u8
     lines.split_at(count).0
 }
 
-/// The lines of a list behind the first so many.
+/// The lines of a list after the first `count`.
 #[tactic(auto, using(crate::proofs::LineLemmas::drop_within))]
 pub(crate) fn behind<'l, 'a>(lines: &'l [&'a [u8]], count: usize) -> &'l [&'a [u8]]
     ensures { result.now ≡ drop count lines.now }
@@ -97,7 +97,7 @@ pub(crate) fn behind<'l, 'a>(lines: &'l [&'a [u8]], count: usize) -> &'l [&'a [u
     lines.split_at(count).1
 }
 
-/// The lines of pieces that stand aside.
+/// The kept lines of blocks, for standard error.
 pub(crate) fn aside_text(
     alloc: Global,
     asked: &Asked,
@@ -114,7 +114,7 @@ pub(crate) fn aside_text(
     }
 }
 
-/// Appends the lines of a piece that is kept, unless only findings are asked for.
+/// Appends the lines of a block that is kept, unless only findings are asked for.
 pub(crate) fn push_kept(
     alloc: Global,
     text: &mut String,
@@ -132,7 +132,7 @@ pub(crate) fn push_kept(
     push_lines(alloc, text, painted, asked.raw, run)
 }
 
-/// Whether a piece is kept.
+/// Whether a block is kept.
 pub(crate) fn is_kept(sort: Sort) -> bool
     ensures { result ≡ is_kept_sort sort }
 {
@@ -174,7 +174,7 @@ fn push_line(
     text.push('\n')
 }
 
-/// A line as it is shown: as it came with its paint, or as it was read.
+/// A line as it is shown: as it came with its colors, or as it was read.
 fn line_text(alloc: Global, painted: bool, raw: bool, line: &[u8]) -> Result<String, AllocError>
     ensures { IfOk result (λ text. string_bytes text ≡ line_text_of painted raw line.now) }
 {
@@ -185,7 +185,7 @@ fn line_text(alloc: Global, painted: bool, raw: bool, line: &[u8]) -> Result<Str
     }
 }
 
-/// A line as it came, with its paint; without it where it holds a link.
+/// A line as it came, with its colors; without them if it has a link.
 #[tactic(auto, unfolding(crate::specs::Lines::painted_text))]
 fn painted_text(alloc: Global, raw: bool, line: &[u8]) -> Result<String, AllocError>
     ensures { IfOk result (λ text. string_bytes text ≡ painted_text_of raw line.now) }
@@ -202,7 +202,7 @@ fn painted_text(alloc: Global, raw: bool, line: &[u8]) -> Result<String, AllocEr
     }
 }
 
-/// A line that can't drive a terminal, unless it is to stay as it is.
+/// A line, sanitized unless `raw`.
 fn plain_text(alloc: Global, raw: bool, line: &[u8]) -> Result<String, AllocError>
     ensures { IfOk result (λ text. string_bytes text
         ≡ shown_text_of raw Prose (utf8_lossy line.now)) }
@@ -216,7 +216,7 @@ fn plain_text(alloc: Global, raw: bool, line: &[u8]) -> Result<String, AllocErro
     }
 }
 
-/// Whether ESC and `]` stand in a line, which begin a link.
+/// Whether a line has ESC and `]`, which begin a link.
 fn holds_link(line: &[u8]) -> bool
     ensures { result ≡ holds_a_link line.now }
 {

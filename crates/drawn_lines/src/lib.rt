@@ -1,8 +1,9 @@
 //! Lines that a tool prints for people, drawn as they come.
 //!
-//! - [`Coming`]: takes bytes as they come, and gives what is written of what they make known.
+//! - [`Coming`]: takes bytes as they come, and gives what is written of the blocks that they
+//!   complete.
 //! - [`shapes_of`], [`columns_of`]: how lines are read, as it was asked for.
-//! - [`annotates`]: whether annotations are written in the place of drawings.
+//! - [`annotates`]: whether annotations are written instead of drawings.
 //! - [`lines_of`]: the lines of a text; [`kept_text`]: those that are no findings.
 #![tactic(auto)]
 

@@ -1,4 +1,4 @@
-// How lines are read: by which shapes, and what their columns count.
+// How lines are read: by which patterns, and what their columns count.
 ghost use Rattle.std.specs.Prelude.{◌≡◌, IfOk, map};
 ghost use Rattle.line_shapes.specs.Shape.{shape_parts};
 ghost use Rattle.drawn_lines.specs.Lines.{columns_of as columns_meant, own_parts};
@@ -11,11 +11,11 @@ use line_shapes::tables::Unit;
 use line_shapes::tools::{Columns, columns_of_tool, tool_shapes};
 use std::alloc::{AllocError, Global};
 
-/// The shapes by which lines are read: the user's own, and then those of the tool.
+/// The patterns by which lines are read: the user's own, then those of the tool.
 ///
 /// # Errors
 ///
-/// Want of memory.
+/// Out of memory.
 pub fn shapes_of(alloc: Global, asked: &Asked) -> Result<Vec<Shape<'_>>, AllocError>
     ensures { IfOk result (λ shapes. map shape_parts shapes.items ≡ shapes_meant asked.entry.now) }
 {
@@ -53,7 +53,7 @@ fn tool_columns(tool: &Option<String>) -> Columns
     }
 }
 
-/// The user's own shapes.
+/// The user's own patterns.
 fn shapes_asked(alloc: Global, asked: &Asked) -> Result<Vec<Shape<'_>>, AllocError>
     ensures { IfOk result (λ shapes. map shape_parts shapes.items
         ≡ map own_parts asked.entry.now.shapes.items) }
@@ -65,7 +65,7 @@ fn shapes_asked(alloc: Global, asked: &Asked) -> Result<Vec<Shape<'_>>, AllocErr
     Ok(shapes)
 }
 
-/// The shapes of the tool, if one was named.
+/// The patterns of the tool, if one was named.
 fn shapes_known(alloc: Global, tool: &Option<String>) -> Result<Vec<Shape<'static>>, AllocError>
     ensures { IfOk result (λ shapes. map shape_parts shapes.items ≡ tool_parts tool.now) }
 {

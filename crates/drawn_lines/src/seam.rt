@@ -1,4 +1,4 @@
-// Where pieces may be parted, whatever lines come behind them.
+// Split points between blocks that stay, whatever follows.
 ghost use Rattle.std.specs.Prelude.{◌≡◌, ◌≤◌, ◌-◌, ◌&&◌, nat_le, true, if◌then◌else◌, IfSome, None};
 ghost use Rattle.std.specs.Prelude.{Some, map, option_map};
 ghost use Rattle.line_shapes.specs.Shape.{shape_parts};
@@ -14,31 +14,31 @@ use tool_lines::lines::{Finding, Piece, Sort, announced, what_begins};
 /// A line that belongs to the text of a finding above it.
 const A_TEXT: &[u8] = b" x";
 
-/// A line that says where what stands above it was found.
+/// A line that has the location of the line above it.
 const AN_ARROW: &[u8] = b"--> a:1:1";
 
-/// So many pieces, and so many lines.
+/// A number of blocks, and of their lines.
 #[derive(Clone, Copy)]
 pub(crate) struct Part {
-    /// The pieces.
+    /// The blocks.
     pub(crate) pieces: usize,
     /// Their lines.
     pub(crate) lines: usize,
 }
 
-/// How far pieces of lines are walked.
+/// The state of a walk over blocks.
 #[derive(Clone, Copy)]
 pub(crate) struct Sought {
-    /// The last place so far where they may be parted.
+    /// The last split point so far.
     part: Option<Part>,
     /// How many lines are left.
     left: usize,
-    /// Whether the last piece closes.
+    /// Whether no later line is below the last block's heading.
     closed: bool,
 }
 
-/// The most of the first pieces of these lines that stay as they are, whatever comes behind, with
-/// nothing to come that belongs to them.
+/// The most of the first blocks of these lines that stay as they are, whatever follows, so that
+/// nothing later belongs to them.
 pub(crate) fn part_of(shapes: &[Shape<'_>], lines: &[&[u8]], pieces: &[Piece<'_>]) -> Option<Part>
     ensures { ArePieces (map shape_parts shapes.now) None (map (λ line. line.now) lines.now)
         (map piece_parts pieces.now)
@@ -54,8 +54,8 @@ pub(crate) fn part_of(shapes: &[Shape<'_>], lines: &[&[u8]], pieces: &[Piece<'_>
     gap_in(pieces, lines.len())
 }
 
-/// Whether the last line is a piece by itself, ends the piece before it, and is no note of it,
-/// whatever comes behind.
+/// Whether the last line alone is a block, ends the block before it, and is no note of it,
+/// whatever follows.
 fn ends_known(shapes: &[Shape<'_>], lines: &[&[u8]], pieces: &[Piece<'_>]) -> bool
     ensures { result ≡ true
         → EndsKnown (map shape_parts shapes.now) (map (λ line. line.now) lines.now)
@@ -70,7 +70,7 @@ fn ends_known(shapes: &[Shape<'_>], lines: &[&[u8]], pieces: &[Piece<'_>]) -> bo
     }
 }
 
-/// Whether a piece is this line alone, which ends the piece before it, and is no note of it.
+/// Whether a block is this line alone, which ends the block before it, and is no note of it.
 fn is_end(shapes: &[Shape<'_>], before: &Piece<'_>, last: &Piece<'_>, line: &[u8]) -> bool
     ensures { result ≡ true
         → IsEnd (map shape_parts shapes.now) (piece_parts before.now) (piece_parts last.now)
@@ -85,8 +85,8 @@ fn is_end(shapes: &[Shape<'_>], before: &Piece<'_>, last: &Piece<'_>, line: &[u8
     opens_always(shapes, line)
 }
 
-/// Whether what begins at a line is no note of a finding before it, whatever line comes behind it:
-/// what it is depends on whether that belongs to a text, and on whether it is an arrow.
+/// Whether what begins at a line is no note of a finding before it, whatever line follows: what it
+/// is depends on whether that one belongs to a text, and on whether it is an arrow.
 fn opens_always(shapes: &[Shape<'_>], line: &[u8]) -> bool
     ensures { result ≡ true → OpensAlways (map shape_parts shapes.now) line.now }
 {
@@ -99,8 +99,8 @@ fn opens_always(shapes: &[Shape<'_>], line: &[u8]) -> bool
     !says_aside(&announced(line, Some(AN_ARROW)))
 }
 
-/// The most of the first pieces of so many lines behind which two lines stand, of which the last
-/// closes, and before one that is no note.
+/// The most of the first blocks that have two lines after them, of which the last block closes,
+/// and before one that is no note.
 fn gap_in(pieces: &[Piece<'_>], lines: usize) -> Option<Part>
     ensures { IfSome result (IsGap (map piece_parts pieces.now) lines) }
 {
@@ -117,7 +117,7 @@ fn gap_in(pieces: &[Piece<'_>], lines: usize) -> Option<Part>
     sought.part
 }
 
-/// Goes on by a piece, before which there are so many.
+/// Goes on to a block; `at` is the number of blocks before it.
 fn past(sought: Sought, at: usize, piece: &Piece<'_>, lines: usize) -> Sought
     requires { sought.left ≤ lines }
     ensures part { result.part
@@ -139,7 +139,7 @@ fn past(sought: Sought, at: usize, piece: &Piece<'_>, lines: usize) -> Sought
     }
 }
 
-/// Whether a piece is no note of a finding before it.
+/// Whether a block is no note of a finding before it.
 fn opens(piece: &Piece<'_>) -> bool
     ensures { result ≡ opens_there (piece_parts piece.now) }
 {
@@ -155,7 +155,7 @@ fn says_aside(finding: &Option<Finding<'_>>) -> bool
     }
 }
 
-/// Whether no line behind a piece of this sort stands below its heading.
+/// Whether no line after a block of this kind is below its heading.
 fn closes(sort: Sort) -> bool
     ensures { result ≡ closes_sort sort }
 {

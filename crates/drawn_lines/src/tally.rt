@@ -1,4 +1,4 @@
-// What was drawn so far, and how pieces more are drawn.
+// What was drawn so far, and how more blocks are drawn.
 ghost use Rattle.std.specs.Prelude.{◌≡◌, ◌≤◌, ◌+◌, IfOk, map, string_bytes};
 ghost use Rattle.found_reports.specs.Listed.{held_in};
 ghost use Rattle.tool_lines.specs.Lines.{piece_parts};
@@ -41,25 +41,25 @@ pub(crate) struct Tally {
     pub(crate) sources: ListedSources,
 }
 
-/// What was written, and the tally with it.
+/// What was written, with the tally.
 #[derive(Drop)]
 pub(crate) struct Drawn {
-    /// The drawings with the kept lines in their place, or the annotations.
+    /// The drawings with the kept lines in place, or the annotations.
     pub(crate) text: String,
-    /// The lines that stand aside.
+    /// The kept lines for standard error.
     pub(crate) aside: String,
     /// The tally.
     pub(crate) tally: Tally,
 }
 
-/// What pieces add to what was written, and to the reports.
+/// What blocks add to what was written, and to the reports.
 #[derive(Drop)]
 struct Share {
     text: String,
     count: Count,
 }
 
-/// The pieces that these lines begin with as they are written behind others.
+/// The blocks that these lines begin with, as they are written after others.
 pub(crate) fn draw<S: Store>(
     alloc: Global,
     asked: &Asked,
@@ -84,7 +84,7 @@ pub(crate) fn draw<S: Store>(
     Ok(Drawn { text, aside, tally })
 }
 
-/// What is written of these pieces, at most so many reports where they are drawn.
+/// What is written of these blocks; `most` limits the number of reports that are drawn.
 #[tactic(auto, unfolding(crate::specs::Lines::written))]
 fn written(
     alloc: Global,
@@ -150,7 +150,7 @@ fn sum(a: usize, b: usize) -> Result<usize, AllocError>
     }
 }
 
-/// What stands behind all drawings.
+/// The text after all drawings.
 pub(crate) fn ending(alloc: Global, asked: &Asked, count: Count) -> Result<String, AllocError>
     ensures { IfOk result (λ text. string_bytes text ≡ ending_by asked.now count) }
 {
@@ -161,7 +161,7 @@ pub(crate) fn ending(alloc: Global, asked: &Asked, count: Count) -> Result<Strin
     }
 }
 
-/// That there are more reports than were drawn, and how many there are.
+/// The line that says how many reports there are, if not all were drawn.
 fn count_text(alloc: Global, asked: &Asked, count: Count) -> Result<String, AllocError>
     ensures { IfOk result (λ text. string_bytes text ≡ count_said asked.now count) }
 {
@@ -172,7 +172,7 @@ fn count_text(alloc: Global, asked: &Asked, count: Count) -> Result<String, Allo
     Ok(text)
 }
 
-/// How many of so many are drawn.
+/// How many of `count` reports are drawn.
 fn drawn_count(most: Option<usize>, count: usize) -> usize
     ensures count { result ≡ drawn_of most count }
     ensures within { result ≤ count }

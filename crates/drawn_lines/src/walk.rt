@@ -23,20 +23,20 @@ use shown_reports::ShowError;
 use std::alloc::{AllocError, Global};
 use tool_lines::lines::Piece;
 
-/// How far lines are drawn.
+/// The state of a walk over lines that are drawn.
 #[derive(Drop)]
 pub(crate) struct Walk<'l, 'a, 'p> {
     /// What is drawn so far.
     text: String,
     /// How many reports are still drawn at most.
     most: Option<usize>,
-    /// The pieces behind the last line that was kept.
+    /// The blocks after the last line that was kept.
     before: Vec<Piece<'p>>,
-    /// The lines from the first of these pieces on.
+    /// The lines from the first of these blocks on.
     from: &'l [&'a [u8]],
-    /// The lines behind them.
+    /// The lines after them.
     left: &'l [&'a [u8]],
-    /// These as they are shown.
+    /// The same lines as they are shown.
     shown: &'l [&'a [u8]],
 }
 
@@ -65,7 +65,7 @@ pub(crate) fn drawings(
     }
 }
 
-/// The same, where the kept lines are shown so.
+/// The same, with the kept lines as shown.
 fn in_place<'l, 'a>(
     alloc: Global,
     asked: &Asked,
@@ -96,7 +96,7 @@ fn in_place<'l, 'a>(
     finish(alloc, asked, sources, walk)
 }
 
-/// Goes on by a piece.
+/// Goes on to the next block.
 fn step<'l, 'a, 'p>(
     alloc: Global,
     asked: &Asked,
@@ -116,7 +116,7 @@ fn step<'l, 'a, 'p>(
     }
 }
 
-/// Goes on by a piece that is kept: the reports before it are drawn, and then its lines.
+/// Goes on to a block that is kept: the reports before it are drawn, and then its lines.
 fn keep<'l, 'a, 'p>(
     alloc: Global,
     asked: &Asked,
@@ -160,7 +160,7 @@ pub(crate) fn count_of(found: &FoundReports<'_>) -> usize
     found.reports().len()
 }
 
-/// How many more reports are drawn behind so many.
+/// How many more reports are drawn after `count`.
 pub(crate) fn still(most: Option<usize>, count: usize) -> Option<usize>
     ensures { result ≡ still_of most count }
 {
@@ -170,7 +170,7 @@ pub(crate) fn still(most: Option<usize>, count: usize) -> Option<usize>
     }
 }
 
-/// Goes on by a piece that isn't kept.
+/// Goes on to a block that isn't kept.
 fn pass<'l, 'a, 'p>(
     walk: Walk<'l, 'a, 'p>,
     piece: &Piece<'p>,
@@ -201,7 +201,7 @@ fn pass<'l, 'a, 'p>(
     })
 }
 
-/// Draws the reports behind the last line that was kept.
+/// Draws the reports after the last line that was kept.
 fn finish(
     alloc: Global,
     asked: &Asked,
@@ -223,7 +223,7 @@ fn finish(
     Ok(text)
 }
 
-/// Appends the drawings of the reports that pieces mean, and gives how many reports there are.
+/// Appends the drawings of the reports of blocks, and gives how many reports there are.
 fn push_reports(
     alloc: Global,
     text: &mut String,
@@ -248,7 +248,7 @@ fn push_reports(
     Ok(count_of(&found))
 }
 
-/// The drawings of the first reports, at most so many where there is a most.
+/// The drawings of the first reports; `most` limits their number.
 fn first_drawn(
     alloc: Global,
     asked: &Asked,
