@@ -193,8 +193,8 @@ fn refused(alloc: Global, error: ReportError) -> Fault
     }
 }
 
-/// The error of a report, in the same words as the error type prints. What `thiserror` prints has
-/// no contract, so the words are here a second time.
+/// The error of a report, as the error type prints it. What `thiserror` prints has no contract, so
+/// the texts are here a second time.
 fn refusal_text(alloc: Global, error: ReportError) -> Result<String, AllocError>
     ensures { IfOk result (λ why. string_bytes why ≡ refusal_text_of error) }
 {
