@@ -4,8 +4,8 @@
 #
 # usage: sh bindings/test.sh [-v] [--within SECONDS]
 # -v shows what the parts say, also where they pass. Where `rt ci` has just proved this checkout, the archives are built over
-# what it left; else `rt lib` proves what has no kept work, which may take an hour from nothing. With --within that gets so many
-# seconds for each compiler, and all is skipped where they don't suffice. `.ci/run` calls this behind `rt ci`.
+# what it left; else `rt lib` proves what has no kept work, which may take an hour from scratch. With --within that gets SECONDS
+# for each compiler, and all is skipped if they don't suffice. `.ci/run` calls this after `rt ci`.
 
 # a part is a function that `part` calls
 # shellcheck disable=SC2317
@@ -81,7 +81,7 @@ answers() {
 
 compare() { cmp "$out/llvm/answers.txt" "$out/rattle/answers.txt" && test -s "$out/llvm/answers.txt"; }
 
-# what `make install` leaves, used by a program that stands elsewhere
+# what `make install` leaves, used by a program elsewhere
 installed() {
     rm -rf "$out/prefix" && make_c llvm install PREFIX="$out/prefix" || return 1
     flags="-I$out/prefix/include -L$out/prefix/lib -lgirzohal"
@@ -94,7 +94,7 @@ installed() {
     "$out/elsewhere" | cmp - c/example.txt
 }
 
-# the pages' examples, as they stand there
+# the pages' examples, unchanged
 shown_c() {
     python3 shown.py README.md c >"$out/shown.c" || return 1
     ${CC:-cc} -O2 -Wall -Wextra -I"$out/prefix/include" -o "$out/shown_c" "$out/shown.c" "$out/prefix/lib/libgirzohal.a" || return 1

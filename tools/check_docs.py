@@ -96,7 +96,7 @@ def strangers(text, crates):
 
 def wrong_examples(page):
     crate = os.path.dirname(page)
-    # (a crate's tests stand in a crate of tests above it)
+    # (a crate's tests are in a crate of tests above it)
     crates = (crate, os.path.join(os.path.dirname(crate), "*_tests"))
     callers = re.findall(r"^## (?:A caller|How it is called)$(.*?)(?=^## |\Z)", read(page), re.S | re.M)
     for name in strangers("".join(callers), crates):

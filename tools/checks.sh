@@ -7,7 +7,7 @@ passed=0
 failed=0
 if command -v python3 >/dev/null 2>&1; then
     for script in check_docs.py "edits.py --check" check_documents.py; do
-        # the words of an entry are the script's
+        # an entry is split into the script and its arguments
         # shellcheck disable=SC2086
         if python3 tools/$script; then
             passed=$((passed + 1))

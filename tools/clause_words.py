@@ -246,7 +246,7 @@ def members(crate, trait):
     return tuple(re.findall(r"^    ghost (\w+):", "\n".join(rest[:end]), re.M))
 
 
-# ---- the words of a text of clauses
+# ---- words in a text of clauses
 
 def bound_names(head, text):
     found = set(re.findall(r"\b(\w+):", head))
@@ -341,7 +341,7 @@ class Words:
         self.rows[(stands, definition)].add(word)
 
 
-# ---- the words of a crate
+# ---- words of a crate
 
 def traits_seen(file):
     """The traits whose ghost members a source may name without saying whose they are."""

@@ -34,7 +34,7 @@ def calls(room, command, given=None):
     with open(counts, encoding="utf-8", errors="replace") as lines:
         for line in lines:
             if line.startswith("cfn="):
-                # as crate::module::name, with `::<..>` behind it where it is generic, and '2 where it calls itself
+                # as crate::module::name, followed by `::<..>` if it is generic, and '2 if it calls itself
                 path = re.sub(r"::<.*|'\d+$", "", line[4:].strip()).split("::")
                 called = (path[0], path[-1])
             elif line.startswith("calls="):

@@ -35,7 +35,7 @@ def document(source, *reports):
     return json.dumps({"version": 2, "files": [{"name": "a.c", "source": source}], "reports": named}).encode()
 
 
-# ---- what CI systems are told
+# ---- what CI systems read
 
 # Four findings on two files that aren't there, two of them alike.
 OOPS = ("error", None, "Oops", "./b.py", (7,))
@@ -118,7 +118,7 @@ rows, 100%: é              n
 ✖ 4 problems (2 errors, 2 warnings)
 """
 
-# é has two bytes: it stands at the third character of row 1, and b at the third of row 2.
+# é has two bytes: it is the third character of row 1, and b the third of row 2.
 ROWS = "a é\r\n  b\n"
 ODD = {"message": "odd", "severity": "warning", "scope": "c", "number": "n"}
 LOST = log(("", [("error", None, "lost", "b.c", (3, 7, None, 9))]))
@@ -182,7 +182,7 @@ HOSTILE_FOUND = '{"files":[{"name":"%s","source":""}],"reports":[{"file":0,"mess
 # The files that there are: a name, and a text, or none of a folder.
 FILES = {"a.c": "int x;\n", "a\n.c": None}
 
-# What is tried, the words, the input, the status, and all of the output; the error output stays empty.
+# What is tried, the arguments, the input, the status, and all of the output; the error output stays empty.
 RUNS = [
     *[(f"a label at {label}", ("--to", "problems"), document(ROWS, {**ODD, "labels": [{"bytes": label}]}), 0,
        f"a.c:{place}: warning[c(n)]: odd\n")
@@ -229,7 +229,7 @@ REFUSED = [
 
 # ---- documents that are written as logs, and read again
 
-# Rows past ASCII and two rules, the primary label behind another.
+# Rows past ASCII and two rules, the primary label after another.
 ENDS = r"""{"files":[{"name":"b.c","source":""},{"name":"a.c","source":"int a;\n/* 日😀x */ b\r\nlast"}],"reports":[
 {"file":1,"message":"first","scope":"other","number":"E1","url":"https://e/1","help":"h","note":"n",
 "labels":[{"start":[1,5],"end":[1,6],"text":"here"},{"start":[2,4],"end":[3,2],"primary":true}]},
@@ -239,7 +239,7 @@ ENDS = r"""{"files":[{"name":"b.c","source":""},{"name":"a.c","source":"int a;\n
 SETTLED = '{"version":2,"files":[{"name":"m.c","source":"\ufeff' + r"""ab\r\ncd"}],"reports":[{"file":0,"message":"m","severity":"warning",
 "labels":[{"bytes":[0,6]},{"bytes":[3,3]},{"bytes":[5,6],"text":"b"},{"bytes":[6,6]},{"bytes":[7,7]}]}]}"""
 
-# A document, and what its log means: of each report its file, how grave it is, its scope, which is
+# A document, and what its log means: for each report its file, its severity, its scope, which is
 # the tool that the log names, its number, its message, its link, and its labels.
 BACK = [
     (ENDS, """
@@ -267,7 +267,7 @@ COME = [
     ("\x1b[1mone\x1b[0m\r\n", "\n", "", "one\n", "\n"),
 ]
 
-# The same of annotations: of each part, and at the end, what is written, and what stands aside.
+# The same for annotations: for each part, and at the end, the output and the error output.
 ANNOTATED = [
     ("", "", ("", ""), ("", ""), ("", "")),
     ("make\n\x1b[1mone\x1b[0m\r\n", "two\n", ("", "make\n"), ("", "one\n"), ("", "two\n")),
@@ -291,7 +291,7 @@ PAINTED = [
     (("auto",), "\x1b[1mone\n", "one\n"),
 ]
 
-# A text with findings, notes, paint, a link and a character of two bytes.
+# A text with findings, notes, colors, a link and a character of two bytes.
 CUT = "\x1b[1mone\x1b[0m\r\ncafé\na.c:1:2: warning: m\n  x\na.c:3:4: note: n\n\x1b]8;;u\x07two\x1b]8;;\x07\n\nb.c:1:1: error: e\r\nend\n\x1b[0m".encode()
 
 

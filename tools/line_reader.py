@@ -96,7 +96,7 @@ AFTERS = [walk_of(text) for text in (
     ":{line}:{column}:{endline}:{endcolumn}: ", ":{line}:{column}-{endcolumn}: ", ":({line},{column})-({endline},{endcolumn}): ",
     ":{line}:{column}: ", ":{line}:{column} - ", ":{line}: ", "({line},{column},{endline},{endcolumn}){~}: ", "({line},{column}){~}: ",
     "({line}){~}: ", "[{line}, {column}]: ", ":[{line},{column}] ", ": line {line}, col {column}, ", ": ({line}, {column}): ")]
-# Each with what it tells besides: a rule behind a level, brackets, a colon behind a number, stars, or nothing but a message.
+# Each with what else it says: a rule after a level, brackets, a colon after a number, stars, or just a message.
 RESTS = [(walk_of(text), manner) for text, manner in (
     ("{level}[{rule}]: {message}", "ruled"), ("{level} {rule}: {message}", "ruled"), ("{level}: [{rule}] {message}", "ruled"),
     ("{level}: {message}", ""), ("{level} - {message}", "boxed"), ("[{level}] {message}", "boxed"), ("[{letter}] {message}", "boxed"),

@@ -52,7 +52,7 @@ OTHERS = [
     "[2024-01-02T10:30:15Z] error: x",
 ]
 
-# A text with paint, the problems that are written of it, and the lines that are kept: without colors and links, and else as they are.
+# A text with colors, the problems that are written of it, and the kept lines: without colors and links, otherwise unchanged.
 PAINTED = [
     ("\x1b[01m\x1b[Ka.c:1:2:\x1b[m\x1b[K x", "a.c:1:2:0:0: warning: x\n", ""),
     ("\x1b]8;;file:///a\x07a\x1b]8;;\x1b\\ b", "", "a b\n"),
@@ -60,17 +60,17 @@ PAINTED = [
     ("\x1b[2Jx", "", "\x1b[2Jx\n"),
 ]
 
-# What the lines behind a finding add to it: two lines of its note, before the one that names its place.
+# What the lines after a finding add to it: two lines of its note, before the one that names its location.
 DETAILED = "Cart.java:3: error: x\n\t\treturn sume;\n\t\t       ^\n  symbol:   variable sume\n  location: class Cart"
 DETAILS = ["symbol:   variable sume", "location: class Cart", "at Cart.java:3"]
 
 # Lines in their order: a finding of two lines, two lines, a finding, a heading, a finding below it, a line.
 COMING = "a.c:1:2: error: x\n  y\n\nz\na.c:2:3: error: x\na.js\n  3:5  error  x  no-undef\nw"
 COME = ("a.c:1:2:0:0: error: x\na.c:2:3:0:0: error: x\na.js:3:5:0:0: error[no-undef]: x\n", "\nz\nw\n")
-# The same as a drawing, which is written as lines come: each piece where its lines stood.
+# The same as a drawing, which is written as lines come: each block where its lines were.
 DRAWN = ("\n  x x\n  note: y\n           at a.c:1:2\n" "\n" "z\n" "\n  x x\n  note: at a.c:2:3\n" "\n  x no-undef: x\n  note: at a.js:3:5\n" "w\n" "3 errors\n")
 
-# A row in which a tab, an accented letter of two bytes, and a letter of four bytes and two units of UTF-16 stand.
+# A row with a tab, an accented letter of two bytes, and a letter of four bytes and two units of UTF-16.
 ROW = "\t\u00e9\U0001d54f b"
 # A unit, a column of this row from 1, and the span that begins there.
 COLUMNS = [

@@ -94,7 +94,7 @@ FAULTY = [
     ('{"method":"textDocument/didChange","params":{"contentChanges":{}}}', logged("didChange left out: not of its form")),
 ]
 
-# where the text `ä x` of the faulty changes ends, and the row behind it; a third row isn't there
+# where the text `ä x` of the faulty changes ends, and the row after it; a third row isn't there
 ROWS = b"a:1:3: error: last\na:1: error: row\na:2: error: behind\na:3: error: none\n"
 IN_ROWS = published(A, [found("last", (0, 2), (0, 3), 1), found("row", (0, 0), (0, 3), 1),
                         found("behind", (1, 0), (1, 0), 1), found("none", (0, 0), (0, 0), 1)])
@@ -122,7 +122,7 @@ SERVED = [
       published(A, [found("set twice", (0, 1), (0, 2), 1)], 2), published(A, [], 3)]),
 ]
 
-# requests and what each is answered; the program ends behind the last
+# requests and the answer to each; the program ends after the last
 LATE = [
     (BEGIN, BEGUN),
     ('{"id":"a","method":"textDocument/hover","params":{}}',
@@ -135,7 +135,7 @@ LATE = [
     (EXIT, ""),
 ]
 
-# ---- what clients are told
+# ---- what clients receive
 
 JS = "file:///a.js"
 WORDY = opened(JS, "a\\r\\n\\ud83d\\ude00 x = y\\n", 3)
@@ -222,14 +222,14 @@ MARK = "\ufeff".encode()
 EMPTY = b'{"version":"2.1.0","runs":[]}'
 NO_FORM = "JSON of no known form; SARIF logs and lines are read"
 
-# a log, the words, the URI of a file, what it is shown, and what is wrong with the log
+# a log, the arguments, the URI of a file, what is shown on it, and what is wrong with the log
 LOGS = [
     (MARK + EMPTY, [], "file:///a.c", [], None),
     (MARK + named("sarif", "a.c"), [], "file:///a.c", [HERE], None),
     (MARK + EMPTY, ["--from", "sarif"], "file:///a.c", [], None),
     (MARK + named("sarif", "a.c"), ["--from", "sarif"], "file:///a.c", [HERE], None),
     (MARK + b"a.c:1: x", [], "file:///a.c", [found("x", (0, 0), (0, 6), 2)], None),
-    # of two marks one is left: it stands in the name then
+    # of two marks one is left, as part of the name
     (MARK + MARK + b"{", ["--from", "lines"], "file:///a.c", [], None),
     (MARK + MARK + b"{:1:1: error: here", ["--from", "lines"], "file:///%EF%BB%BF%7B", [HERE], None),
     (MARK + MARK + b"{:1:1: error: here", ["--from", "lines"], "file:///%7B", [], None),
@@ -247,7 +247,7 @@ def log_session(number, log, words, uri, shown, fault):
 
 # ---- words
 
-# whether these words are any; the log stands first
+# whether these arguments are right; the log comes first
 COUNTED = [
     ("sarif", "utf16", True), ("sarif", "bytes", False), ("sarif", "cells", False),
     ("auto", "bytes", True), ("lines", "cells", True), ("lines", "feet", False),
@@ -272,7 +272,7 @@ IN_C = opened("file:///a.c", "int x;\\n")
 NO_LOG = [logged("log: no SARIF log"), published("file:///a.c", [])]
 SHOWN, UNSHOWN = [published("file:///a.c", [HERE])], [published("file:///a.c", [])]
 
-# of each form what is told of a log of lines, and of a SARIF log
+# for each form what is shown of a log of lines, and of a SARIF log
 FORMS = {"auto": (SHOWN, SHOWN), "lines": (SHOWN, UNSHOWN), "sarif": (NO_LOG, SHOWN)}
 
 # ---- when a log is looked up: of one that isn't there
@@ -301,7 +301,7 @@ BODIES = [
     ("x" * 4072 + ":\r\nContent-Length: 0\r\n\r\n", [NO_JSON]),
 ]
 
-# bytes, how many of them may begin a frame, and how that one goes on; with the byte behind them the program ends
+# bytes, how many of them may begin a frame, and how that one goes on; with the byte after them the program ends
 FAULTS = [
     ("Content-Length: 2 \r\n", 17, "\r\n\r\n{}"),
     ("Content-Length: 2\n", 17, "\r\n\r\n{}"),

@@ -87,7 +87,7 @@ def of_forms():
     """Lines, a log and a document in each form; and what was written as a log or a document, read again."""
     for file, form in (("lines.txt", "lines"), ("log.sarif", "sarif"), ("document.json", "document")):
         what, given = file.partition(".")[0], read("tools", "quick", "given", file)
-        # (the LF behind a log or document stands round it)
+        # (the LF after a log or document is the rest of the input)
         aside = b"make all\nmake: *** [a.o] Error 1\n" if what == "lines" else b"\n"
         for to in FORMS:
             err = b"" if (what, to) == ("lines", "drawing") else aside
@@ -126,7 +126,7 @@ RUNS = [
     ("a-shape", (*PLAIN, "--shape", "{name}={line}={message}"), "a.c=2=oops\n", 0,
      "\n  ! oops\n   ,-[a.c:2:1]\n 1 | int x;\n 2 | int totl;\n   : ^^^^^^^^^\n   `----\n1 warning\n"),
     ("anywhere", (*PLAIN, "--root", "logs", "--anywhere"), "../" + LINE, 1, DRAWN.replace("a.c", "../a.c") + "1 error\n"),
-    # names that lead out of the root are told, and nothing of their files is shown (a.c lies beside the folder logs)
+    # names that lead out of the root are shown, and nothing of their files (a.c is next to the folder logs)
     ("a-name-that-leads-out", (*PLAIN, "--root", "logs"), "../" + LINE, 1,
      "\n  x x: no such name\n  note: at ../a.c:2:5 (not read: outside of the root)\n1 error\n"),
     ("a-name-that-leads-out-from-within", (*PLAIN, "--root", "logs"), "logs/../../" + LINE, 1,
@@ -168,7 +168,7 @@ RUNS += [
      f"long:1:{240 * 85 - 4}:1:{240 * 85}: error: m\n"),
 ]
 MORE = "girzohal: --help says what the words are\n"
-# a name, arguments, and what is told of them
+# a name, arguments, and the error that is printed
 WRONG_WORDS = [
     ("a-theme", ("--theme", "pink"), "--theme: wanted auto, none, unicode or unicode_nocolor, not 'pink'"),
     ("a-theme-that-drives", ("--theme", "\x1b[31mred"), "--theme: wanted auto, none, unicode or unicode_nocolor, not '?[31mred'"),
@@ -191,7 +191,7 @@ WRONG_WORDS = [
 ]
 NO_FORM = "JSON of no known form; lines and SARIF are read, and documents"
 FILES = '"files": [{"name": "a", "source": "ab"}]'
-# a name, arguments, standard input, status, and what is told of it
+# a name, arguments, standard input, status, and the error that is printed
 REFUSED = [
     ("json-of-no-form", (), '[{"a": 1}]\n', 3, NO_FORM),
     ("json-of-gcc", (), '[{"kind": "warning", "locations": [], "column-origin": 1, "children": [], "message": "format"}]\n', 3, NO_FORM),
@@ -228,7 +228,7 @@ def girzohal_cases():
 # ---- report
 
 ONE = '{"files": [{"name": "a.js", "source": "foo\\nbar"}], "reports": [{"file": %s, "message": "%s", "labels": [{"start": [%s], "end": [2, 4]}]}]}'
-# of `report`: a name, arguments, standard input, status, what is written, and what is told
+# for `report`: a name, arguments, standard input, status, the output, and the error that is printed
 REPORTS = [
     ("no-reports", (), '{"files": [], "reports": []}', 0, "", ""),
     ("json", ("--json",), ONE % (0, "Oops", "2, 1"), 0,

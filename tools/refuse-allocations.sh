@@ -1,8 +1,8 @@
 #!/bin/sh
 # Refuses the allocations of some runs one after another, and says how the runs ended: of the program's stored run, of two
-# ordinary reports, of a run with --json, of one with --make, and of a test in which a scanner reads on after want of memory.
-# A run of the program is tried twice for each allocation: with that one refused, and with that one and all behind it refused.
-# It must end with status 6 and an empty output; where one alone is refused, the whole output with status 0 is right as well,
+# ordinary reports, of a run with --json, of one with --make, and of a test in which a scanner reads on after it was out of memory.
+# A run of the program is tried twice for each allocation: with that one refused, and with that one and all later ones refused.
+# It must end with status 6 and an empty output; if one alone is refused, the whole output with status 0 is right as well,
 # since a list that can't grow twofold asks for less. The test must pass whichever allocation is refused.
 # It is no part of the gate. It wants the kit's rt and a C compiler: program and test are built by `rt run` and `rt test`, and a
 # small library that counts and refuses is laid before the C library's `malloc` and `realloc`.

@@ -359,7 +359,7 @@ REFUSED = [
 ]
 
 # What tells the theme, the width and the tab stops of a drawing: a tab in a row that a label goes over, and two messages. Of a width
-# a title's lines have two columns less, four of which stand before the text: so at 80 a message of 74 columns has one line, and
+# a title's lines have two columns less, and four of them are before the text: so at 80 a message of 74 columns has one line, and
 # one of 75 has two.
 ONE_LINE = "a" * 40 + " " + "b" * 33
 TELLING = ('{"files":[{"name":"b.js","source":"a {\\n\\tb\\n}\\n"}],"reports":['

@@ -113,7 +113,7 @@ class Tries(Around, FindingRows):
                 said = self.run(*words, given=given, cwd=folder)
                 self.check(f"a run: {what}", (said.returncode, said.stdout, said.stderr) == wanted, said)
 
-    # ---- the words
+    # ---- arguments
 
     def try_words(self):
         log, document = json.dumps(LOG).encode(), json.dumps(DOCUMENT).encode()
@@ -446,7 +446,7 @@ class Tries(Around, FindingRows):
         """Of a slow writer each finding is written, and each kept line, once the finding behind it came; and the whole is as of one text."""
         findings = [b"a.c:2:5: error: number %d\n" % n for n in range(8)]
         kept = [b"step %d\n" % n for n in range(8)]
-        last = [(b"make: stop\n", b"", b"")]  # a line behind it might mark it
+        last = [(b"make: stop\n", b"", b"")]  # a line after it might mark it
         before = [b""] + [b"number %d" % n for n in range(7)]
         self.slowly([(line, known, b"") for line, known in zip(findings, before)] + last, status=1)
         self.slowly([(line, known, b"") for line, known in zip(findings, before)] + last, "--to", "github", status=1)

@@ -61,7 +61,7 @@ class Chance:
         text = shape.replace("{name}", self.name())
         for part, samples in SAMPLES.items():
             while "{" + part + "}" in text:
-                # most samples that fit stand first
+                # earlier samples are likelier: most of those that fit come first
                 at = min(self.random.randrange(len(samples)), self.random.randrange(2 * len(samples)))
                 text = text.replace("{" + part + "}", samples[at], 1)
         return text

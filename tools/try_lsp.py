@@ -293,7 +293,7 @@ def try_replay(folder, seed, encoding):
         else:
             wanted = now
         data += frame(notice("textDocument/didChange", {"textDocument": {"uri": URI, "version": number + 1}, "contentChanges": changes}))
-    # the log has a finding on each row: read anew, it shows where each row begins and ends, blanks aside, in the client's units
+    # the log has a finding on each row: read again, it shows where each row begins and ends, without blanks, in the client's units
     data += frame(notice("textDocument/didSave", {"textDocument": {"uri": URI}}))
     data += frame(notice("textDocument/didClose", {"textDocument": {"uri": URI}}))
     data += frame(request(2, "shutdown")) + frame(notice("exit"))
@@ -312,7 +312,7 @@ def try_replay(folder, seed, encoding):
     return not same and ends and len(said) == 1 and len(told) == 41
 
 
-# the steps of tools/try_lsp.lua: before the mark is typed over, while it covers what was typed, and behind
+# the steps of tools/try_lsp.lua: before the mark is typed over, while it covers what was typed, and after
 BEFORE = ["a line above", "past ASCII in front", "typed above", "joined and parted", "line above deleted"]
 TYPED = ["in the mark", "below", "undone", "mark redone"]
 STEPS = ["opened"] + BEFORE + TYPED[:3] + ["mark undone", "mark redone", "emptied", "all emptied", "all undone", "saved"]
@@ -352,7 +352,7 @@ def own_logs(folder, end):
     return ["--tool", "gcc", os.path.join(folder, "own.txt")], ["totl", "total", "rest"]
 
 
-# what stands in the sources where the tools say that they found something: a word, or one character that is no word's
+# the text in the sources where the tools say that they found something: a word, or one character that isn't part of one
 COVERED = {
     "clang.txt": ["sum", "total"], "clang-color.txt": ["sum", "total"], "gcc.txt": ["s"], "gcc-color.txt": ["s"],
     "mypy-columns.txt": ["self.items", '"0"', "cart.totals"], "go-vet.txt": ["sum", "fmt"], "javac.txt": ["", "sume"],
