@@ -100,7 +100,7 @@ fn count_in_words(words: &[[u8; 8]], needle: u8) -> usize
     count + count_in_block(rest, needle)
 }
 
-/// How many bytes of `haystack`, which has at least eight, equal `needle`.
+/// How many bytes of `haystack`, which must have at least eight, equal `needle`.
 pub fn chunk_count(haystack: &[u8], needle: u8) -> usize
     requires { 8 ≤ length haystack.now }
     ensures { result ≡ count_by (λ byte. byte == needle) haystack.now }
@@ -138,7 +138,7 @@ fn num_chars_in_words(words: &[[u8; 8]]) -> usize
     count + num_chars_in_block(rest)
 }
 
-/// How many bytes of `utf8_chars`, which has at least eight, begin a character.
+/// How many bytes of `utf8_chars`, which must have at least eight, begin a character.
 pub fn chunk_num_chars(utf8_chars: &[u8]) -> usize
     requires { 8 ≤ length utf8_chars.now }
     ensures count { result ≡ char_count utf8_chars.now }

@@ -3,7 +3,7 @@ ghost use Rattle.std.specs.Prelude.{◌≡◌, ◌<◌, ◌≤◌, ◌^◌, ◌=
 ghost use Rattle.std.specs.Str.{IsUtf8, chars};
 ghost use Rattle.bytecount.specs.Counts.{char_count};
 
-/// How many bytes of `haystack` equal `needle`; fewer than 2^32 do.
+/// How many bytes of `haystack` equal `needle`; there must be fewer than 2^32.
 pub fn naive_count_32(haystack: &[u8], needle: u8) -> usize
     requires { count_by (λ byte. byte == needle) haystack.now < 2 ^ 32 }
     ensures { result ≡ count_by (λ byte. byte == needle) haystack.now }

@@ -242,8 +242,8 @@ impl<Source: SourceText> Files<Source> {
     ///
     /// # Errors
     ///
-    /// `LineTooLarge`, exactly for lines that the source doesn't have; it names the first of them
-    /// by the number after it.
+    /// `LineTooLarge`, exactly for lines that the source doesn't have. `given` is the line, or one
+    /// more for the first of them.
     pub fn line_span(&self, file_id: FileId, line_index: LineIndex) -> Result<Span, Error>
         requires { file_id < length self.now }
         ensures line { MatchResult result

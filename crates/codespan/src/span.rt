@@ -87,9 +87,9 @@ impl Span {
         Span::new(self.start.min(other.start), self.end.max(other.end))
     }
 
-    /// Whether one of the spans ends at or before the other's start. So an empty span is disjoint
-    /// from one at whose end it is, but not from one inside which it is, though it shares no byte
-    /// with either.
+    /// Whether one of the spans ends at or before the other's start. An empty span at the end of
+    /// another span is disjoint from it; an empty span inside another one isn't, though they share
+    /// no byte.
     #[must_use]
     pub fn disjoint(self, other: Span) -> bool
         ensures exact { IsTrue result ↔ AreDisjoint self other }

@@ -22,7 +22,7 @@ pub enum Error {
     /// A line past the last one.
     #[error("line {given} is not among the {max} lines")]
     LineTooLarge {
-        /// The requested line, from 0, or the number after it for the first line that isn't there.
+        /// The requested line, from 0, or one more for the first line that isn't there.
         given: usize,
         /// How many lines the source has.
         max: usize,

@@ -362,9 +362,9 @@ impl Eq for SourceFile {
     ghost laws = { file_eq_equiv };
 }
 
-/// A position in a text as a reader counts it: the row and the column, both from 1.
+/// A location in a text as a reader counts it: the row and the column, both from 1.
 ///
-/// The column counts characters, not bytes. Positions are ordered by row, then by column.
+/// The column counts characters, not bytes. Locations are ordered by row, then by column.
 #[derive(Clone, Copy, Debug, PartialEq, Eq, PartialOrd, Ord, Hash)]
 pub struct SourceLocation {
     pub row: OneIndexed,
@@ -374,7 +374,7 @@ pub struct SourceLocation {
 impl Default for SourceLocation {
     ghost is_default = { λ place. place ≡ record { row = 1; column = 1 } };
 
-    /// The first position of every text.
+    /// The first location of every text.
     fn default() -> Self {
         SourceLocation {
             row: OneIndexed::MIN,

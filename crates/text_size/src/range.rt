@@ -46,7 +46,7 @@ impl Debug for TextRange {
 }
 
 impl TextRange {
-    /// The range from `start` to `end`, which isn't before `start`.
+    /// The range from `start` to `end`, which must not be before `start`.
     #[inline]
     pub fn new(start: TextSize, end: TextSize) -> TextRange
         requires { start ≤ end }
@@ -55,7 +55,7 @@ impl TextRange {
         TextRange { start, end }
     }
 
-    /// The range of `len` bytes from `offset`; the sum is at most `u32::MAX`.
+    /// The range of `len` bytes from `offset`; the sum has to be at most `u32::MAX`.
     #[inline]
     pub fn at(offset: TextSize, len: TextSize) -> TextRange
         requires { offset + len < 2 ^ 32 }
@@ -280,7 +280,7 @@ pub fn slice(text: &str, range: TextRange) -> &str
     &text[Range::<usize>::from(range)]
 }
 
-/// The bytes in the range, to be written. The range's end is at most the number of bytes.
+/// The bytes in the range, to be written. The range's end has to be at most the number of bytes.
 ///
 /// When the borrow ends, the bytes of the range are those last written, and all others are
 /// unchanged.
@@ -311,7 +311,7 @@ impl RangeBounds<TextSize> for TextRange {
 }
 
 impl TextRange {
-    /// The same range; its end isn't before its start.
+    /// The same range; its end must not be before its start.
     #[inline]
     pub fn from_range(range: Range<TextSize>) -> TextRange
         requires { range.start ≤ range.end }

@@ -283,7 +283,7 @@ impl SubAssign<&TextSize> for TextSize {
     }
 }
 
-/// Every sum on the way is at most `u32::MAX`, which holds exactly where the last one is.
+/// Every sum on the way has to be at most `u32::MAX`, which holds exactly where the last one is.
 impl Sum<TextSize> for TextSize {
     ghost can_sum = { λ sizes. sum sizes < 2 ^ 32 };
 
