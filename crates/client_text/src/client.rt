@@ -59,7 +59,7 @@ fn apply_all<L: Ledger>(
     Ok(())
 }
 
-/// A copy of a text with its places.
+/// A copy of a text with its index.
 fn copied<L: Ledger>(
     alloc: Global,
     places: &TextPlaces,

@@ -11,7 +11,7 @@ use crate::write::write_problem;
 use oxc_protocol::{DiagnosticReporter, DiagnosticResult, Error, Info};
 use std::alloc::{AllocError, Global};
 
-/// Prints the line of each diagnostic, and the counts at the end.
+/// Gives the line of each diagnostic, and the counts at the end.
 #[derive(Clone, Copy, Default)]
 pub struct ProblemReporter;
 
@@ -75,7 +75,7 @@ fn told(alloc: Global, error: &Error) -> Result<Info, AllocError>
     Info::new(alloc, &**error)
 }
 
-/// The lines of diagnostics, joined as a log keeps them: each text that [`ProblemReporter`] prints.
+/// The lines of diagnostics, joined as a log keeps them: each text that [`ProblemReporter`] gives.
 ///
 /// # Errors
 ///

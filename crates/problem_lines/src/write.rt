@@ -15,8 +15,8 @@ use std::alloc::{AllocError, Global};
 /// It is `name:line:column:line:column: severity[rule]: message`. The first line and column are
 /// those of the start, the others those of the end, in decimal without leading zeros; `[rule]` is
 /// left out if there is no rule. The severity is `error`, `warning` or `advice`. In all texts a
-/// backslash is `\\`, LF is `\n` and CR is `\r`; in the name `:` is also `\c`, and in the rule `]`
-/// is also `\b`. Nothing else is escaped, and these always are, so a problem has one line.
+/// backslash is `\\`, LF is `\n` and CR is `\r`; in the name `:` is `\c`, and in the rule `]` is
+/// `\b`. Nothing else is escaped, and these always are, so a problem has one line.
 ///
 /// # Errors
 ///

@@ -68,6 +68,7 @@ impl LineIndex {
         requires { Fits text.now }
         ensures { IfOk result (λ index. index ≡ index_of text.now) }
     {
+        // The original's guess: 88 bytes to a row.
         let mut line_starts: Vec<TextSize> = Vec::with_capacity(alloc, text.len() / 88)?;
         line_starts.push(TextSize::new(0))?;
         let mut kind = IndexKind::Ascii;

@@ -72,7 +72,7 @@ pub(crate) fn opened<'a, L: Ledger>(page: &'a Page, steps: &mut Steps<L>) -> &'a
     looked_at(page, steps).as_str()
 }
 
-/// How many units the character takes that begins with a byte; none where no character does.
+/// How many units the character has that begins with a byte; 0 if none begins with it.
 pub(crate) fn units_begun(encoding: Encoding, byte: u8) -> u32
     ensures value { result ≡ units_begun encoding byte }
     ensures few { result ≤ 4 }

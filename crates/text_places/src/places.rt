@@ -48,7 +48,7 @@ impl Model for TextPlaces {
     ghost invariant = { λ s. IsPaged s.pages.items s.end };
 }
 
-/// An offset that may be missing as a size.
+/// An optional offset as a `TextSize`.
 fn as_size(offset: Option<u32>) -> Option<TextSize>
     ensures { result ≡ offset }
 {
@@ -94,7 +94,8 @@ impl TextPlaces {
         }
     }
 
-    /// The same, if the guess doesn't find its line.
+    /// The same, if the guess doesn't find its line. Not inlined, since saving registers for it
+    /// would cost as much as a guess that finds it.
     #[inline(never)]
     fn offset_looked_for(&self, encoding: Encoding, place: Place) -> Option<TextSize>
         ensures { IsOffsetOf encoding self.now place result }
@@ -119,7 +120,7 @@ impl TextPlaces {
         }
     }
 
-    /// The same, if the guess doesn't find its line.
+    /// The same, if the guess doesn't find its line. Not inlined, like `offset_looked_for`.
     #[inline(never)]
     fn nearest_looked_for(&self, encoding: Encoding, place: Place) -> TextSize
         ensures nearest { IsNearest encoding self.now place result }
