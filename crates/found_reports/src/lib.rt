@@ -1,11 +1,8 @@
-//! What tools report, before it is drawn: reports with the files that they are on and the places
-//! that tools gave them.
+//! Reports before they are drawn, with their files and the locations that tools reported.
 //!
-//! - [`Sources`]: the texts of names, as a reader of a tool's output asks for them;
-//!   [`ListedSources`] is a list of them.
-//! - [`FoundReports`]: reports on files whose source is known or lacks, each with the place that the
-//!   tool gave it.
-//! - [`note_of`]: how a report without a label says where it stands.
+//! - [`Sources`]: looks up the texts of names; [`ListedSources`] is a list of them.
+//! - [`FoundReports`]: reports on files with or without a text, each with its reported location.
+//! - [`note_of`]: the note that gives the location of a report without a label.
 #![tactic(auto)]
 
 mod places;

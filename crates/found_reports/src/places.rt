@@ -1,4 +1,4 @@
-// Places as tools give them, and the note that tells them.
+// Reported locations, and the note that gives one.
 ghost use Rattle.std.specs.Prelude.{◌≡◌, ◌++◌, IfOk, OnOk, string_bytes};
 ghost use Rattle.std.specs.Option.{option_copied};
 ghost use Rattle.oxc_span.specs.Views.{text_bytes};
@@ -9,8 +9,8 @@ use crate::sources::Lack;
 use itoa::Buffer;
 use std::alloc::{AllocError, Global};
 
-/// Where a tool says that a finding stands, in numbers as it gave them, and none where it gave
-/// none. The name is that of the report's file.
+/// A reported location, in the tool's own numbers; none where it gave none. The name is that of
+/// the report's file.
 #[derive(Clone, Copy, PartialEq, Eq)]
 pub struct GivenPlace {
     /// The row of the start.
@@ -23,13 +23,13 @@ pub struct GivenPlace {
     pub end_column: Option<u32>,
 }
 
-/// A note with a last line that tells where a report stands that has no label:
-/// `at NAME:LINE:COLUMN`, as far as these are given, and behind it why the source wasn't read,
-/// where that isn't because there is none.
+/// A note with a last line that gives the location of a report without a label:
+/// `at NAME:LINE:COLUMN`, as far as these are known, then why the source wasn't read; a missing
+/// source gives no reason.
 ///
 /// # Errors
 ///
-/// Want of memory.
+/// Out of memory.
 #[tactic(auto, unfolding(crate::specs::Place::noted))]
 pub fn note_of(
     alloc: Global,
@@ -50,7 +50,7 @@ pub fn note_of(
     Ok(text)
 }
 
-/// Appends the line of a place.
+/// Appends the line of a location.
 #[tactic(auto, unfolding(crate::specs::Place::place_line))]
 fn push_line(
     out: &mut String,
@@ -65,7 +65,7 @@ fn push_line(
     push_why(out, why)
 }
 
-/// Appends a name, and the row and the column of the start, as far as they are given.
+/// Appends a name, and the row and the column of the start, as far as they are known.
 #[tactic(auto, unfolding(crate::specs::Place::at_text))]
 fn push_place(out: &mut String, name: &str, place: GivenPlace) -> Result<(), AllocError>
     ensures { OnOk result (string_bytes out.new ≡ string_bytes out.old ++ at_text name.now place) }
@@ -108,7 +108,7 @@ fn push_why(out: &mut String, why: Option<Lack>) -> Result<(), AllocError>
     out.push_str(")")
 }
 
-/// Why there is no text, in words; empty where there is nothing of the name.
+/// Why there is no text, in words; empty if there is nothing of this name.
 fn reason(why: Lack) -> &'static str
     ensures { result.now ≡ reason_of why }
 {

@@ -1,4 +1,4 @@
-// Reports on files, with the places that tools gave them.
+// Reports on files, with reported locations.
 ghost use Rattle.std.specs.Prelude.{◌≡◌, ◌++◌, ◌∷◌, [], ◌<◌, ◌↔◌, All, IfOk, OnOk, OnErr, IsTrue};
 ghost use Rattle.std.specs.Prelude.{length, map, string_bytes};
 ghost use Rattle.std.specs.Result.{ForOk};
@@ -30,14 +30,14 @@ pub struct FoundReport {
     /// What is reported. Its labels point into the file's text, the one at the head of the drawing
     /// first.
     pub diagnostic: OxcDiagnostic,
-    /// Where the tool says that it stands, where it has no label and the tool says so.
+    /// Where the tool reports it, if it has no label and the tool says so.
     pub place: Option<GivenPlace>,
 }
 
-/// Reports, in the order in which they were found, and the files that they are on.
+/// Reports, in the order in which they were found, and their files.
 ///
-/// Contracts see each report with its file's name and text: the numbers of files mean nothing by
-/// themselves.
+/// Contracts see each report with its file's name and text: the numbers of files alone mean
+/// nothing.
 #[derive(Drop)]
 pub struct FoundReports<'s> {
     files: Vec<FoundFile<'s>>,
@@ -72,7 +72,7 @@ impl<'s> FoundReports<'s> {
     ///
     /// # Errors
     ///
-    /// Want of memory: all is as it was.
+    /// Out of memory; then nothing has changed.
     pub fn add_file(
         &mut self,
         name: String,
@@ -90,12 +90,12 @@ impl<'s> FoundReports<'s> {
         Ok(file)
     }
 
-    /// Adds a report on a file. Each label ends within the file's text, and starts and ends between
-    /// characters; without a text there is no label.
+    /// Adds a report on a file. Each label ends within the file's text, and starts and ends
+    /// between characters; without a text there is no label.
     ///
     /// # Errors
     ///
-    /// Want of memory: all is as it was.
+    /// Out of memory; then nothing has changed.
     pub fn push(
         &mut self,
         file: usize,
@@ -125,7 +125,7 @@ impl<'s> FoundReports<'s> {
         &self.files
     }
 
-    /// The reports. Each is on a file, and its labels stand in that file's text.
+    /// The reports. Each is on a file, and its labels are in that file's text.
     pub fn reports(&self) -> &[FoundReport]
         ensures found { map (report_view self.now.files) result.now ≡ self.now.found }
         ensures stand { All (Stands self.now.files) result.now }
@@ -133,7 +133,7 @@ impl<'s> FoundReports<'s> {
         &self.reports
     }
 
-    /// The reports, as values of their own.
+    /// The reports, owned.
     pub fn into_reports(self) -> Vec<FoundReport>
         ensures found { map (report_view self.entry.files) result.items ≡ self.entry.found }
         ensures stand { All (Stands self.entry.files) result.items }
@@ -142,7 +142,7 @@ impl<'s> FoundReports<'s> {
     }
 }
 
-/// Whether labels stand in a file: each ends within its text, and starts and ends between
+/// Whether labels are in a file: each ends within its text, and starts and ends between
 /// characters; without a text there is no label.
 pub fn stand_in(source: &Result<&str, Lack>, labels: &[LabeledSpan]) -> bool
     ensures { IsTrue result ↔ LabelsStand (held_of source.now) labels.now }
@@ -153,14 +153,14 @@ pub fn stand_in(source: &Result<&str, Lack>, labels: &[LabeledSpan]) -> bool
     }
 }
 
-/// Whether labels stand in a text.
+/// Whether labels are in a text.
 fn all_stand(text: &str, labels: &[LabeledSpan]) -> bool
     ensures { IsTrue result ↔ All (StandsIn text.now) labels.now }
 {
     labels.iter().all(|label| stands(text, label))
 }
 
-/// Whether a label stands in a text.
+/// Whether a label is in a text.
 fn stands(text: &str, label: &LabeledSpan) -> bool
     ensures { IsTrue result ↔ StandsIn text.now label.now }
 {

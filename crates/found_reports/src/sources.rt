@@ -18,18 +18,18 @@ pub enum Lack {
     Outside,
     /// It is a folder, or anything else but a plain file.
     NoFile,
-    /// It is longer than is read.
+    /// It is longer than the limit.
     TooLong,
-    /// It is no UTF-8.
+    /// It isn't UTF-8.
     NoText,
     /// It can't be read.
     Unreadable,
 }
 
-/// The texts of names. A value has one answer for each name, and asking takes no memory and changes
+/// The texts of names. A value has one answer for each name; a lookup takes no memory and changes
 /// nothing.
 pub trait Sources {
-    /// What is told of a name: its text, or why it has none.
+    /// The answer for a name: its text, or why it has none.
     ghost told: { Self → List ℕ → Held };
 
     /// The text of a name, which has fewer than `u32::MAX` bytes.
@@ -72,7 +72,7 @@ impl Source {
 #[derive(Drop)]
 pub struct ListedSources {
     entries: Vec<Source>,
-    /// Where the first entry of each name stands.
+    /// The index of the first entry of each name.
     places: BTreeMap<String, usize>,
 }
 
@@ -93,7 +93,7 @@ impl ListedSources {
     ///
     /// # Errors
     ///
-    /// Want of memory.
+    /// Out of memory.
     pub fn new(alloc: Global, entries: Vec<Source>) -> Result<ListedSources, AllocError>
         ensures { IfOk result (λ it. it.entries ≡ entries) }
     {
@@ -118,11 +118,11 @@ impl ListedSources {
         self.places.contains_key(name)
     }
 
-    /// Adds an entry behind the others.
+    /// Adds an entry at the end.
     ///
     /// # Errors
     ///
-    /// Want of memory: all is as it was.
+    /// Out of memory; then nothing has changed.
     pub fn push(&mut self, alloc: Global, source: Source) -> Result<(), AllocError>
         ensures added { OnOk result (self.new.entries.items
             ≡ self.old.entries.items ++ source ∷ []) }
@@ -159,14 +159,14 @@ impl Sources for ListedSources {
     }
 }
 
-/// The entry at a place.
+/// The entry at an index.
 fn entry_at(entries: &[Source], place: usize) -> Option<&Source>
     ensures { option_copied result ≡ slice_get entries.now place }
 {
     entries.get(place)
 }
 
-/// Where the first entry of each name stands.
+/// The index of the first entry of each name.
 fn places_of(alloc: Global, entries: &[Source]) -> Result<BTreeMap<String, usize>, AllocError>
     ensures { IfOk result (ArePlaces 0 entries.now) }
 {
@@ -180,7 +180,7 @@ fn places_of(alloc: Global, entries: &[Source]) -> Result<BTreeMap<String, usize
     Ok(places)
 }
 
-/// Notes where an entry that comes behind others stands, where it is the first of its name.
+/// Records the index of an entry after others, if it is the first of its name.
 fn add_place(
     alloc: Global,
     places: &mut BTreeMap<String, usize>,
