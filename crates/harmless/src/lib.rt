@@ -1,4 +1,4 @@
-//! Texts that can't drive a terminal.
+//! Sanitizes texts for a terminal.
 #![tactic(auto)]
 
 ghost use Rattle.std.specs.Prelude.{◌≡◌, IfOk, string_bytes};
@@ -27,9 +27,8 @@ pub enum Kind {
     Name,
 }
 
-/// The character that stands for one in a harmless text: another of as many bytes for a control
-/// character, but for those that its kind may have, and for one that turns the direction of
-/// writing, and otherwise the same.
+/// The sanitized character: another of as many bytes for a control character, except those that
+/// its kind may have, and for one that changes the direction of text; otherwise the same.
 #[tactic(auto, unfolding(crate::specs::Harmless::harmless_char))]
 pub fn harmless_char(kind: Kind, c: char) -> char
     ensures { result ≡ harmless_of kind c }
@@ -71,7 +70,7 @@ fn is_high_control(c: char) -> bool
     is_between('\u{80}', '\u{9F}', c)
 }
 
-/// Whether a character turns the direction of writing.
+/// Whether a character changes the direction of text.
 fn turns_direction(c: char) -> bool
     ensures { result ≡ turns_direction c }
 {
@@ -84,12 +83,12 @@ fn is_between(first: char, last: char, c: char) -> bool
     first <= c && c <= last
 }
 
-/// A text whose characters are each replaced by its harmless one. It is as long, with every place
-/// where it was.
+/// A text with each character sanitized. It has as many bytes, and each character starts where it
+/// did.
 ///
 /// # Errors
 ///
-/// Want of memory.
+/// Out of memory.
 #[tactic(auto, using(crate::proofs::HarmlessLemmas::keeps_places, crate::proofs::HarmlessLemmas::has_no_harm))]
 pub fn harmless(alloc: Global, kind: Kind, text: &str) -> Result<String, AllocError>
     ensures text { IfOk result (λ out. string_bytes out ≡ harmless_text kind text.now) }
@@ -99,7 +98,7 @@ pub fn harmless(alloc: Global, kind: Kind, text: &str) -> Result<String, AllocEr
     replaced(alloc, kind, text)
 }
 
-/// The same, known by its text alone; plain ASCII is copied.
+/// The same, of the text alone; plain ASCII is copied.
 fn replaced(alloc: Global, kind: Kind, text: &str) -> Result<String, AllocError>
     ensures { IfOk result (λ out. string_bytes out ≡ harmless_text kind text.now) }
 {
@@ -118,12 +117,12 @@ fn replaced_chars(alloc: Global, kind: Kind, text: &str) -> Result<String, Alloc
     text.chars().map(|c| harmless_char(kind, c)).collect(alloc)
 }
 
-/// A source that can't drive a terminal: as harmless prose, but that a CR before an LF stays, and
-/// another is an LF, which ends a row where the CR ended one.
+/// A source that is safe to print: sanitized like prose, but a CR before an LF stays, and any
+/// other becomes an LF, which ends a row where the CR ended one.
 ///
 /// # Errors
 ///
-/// Want of memory.
+/// Out of memory.
 #[tactic(auto, using(crate::proofs::SourceLemmas::source_rules))]
 pub fn harmless_source(alloc: Global, text: &str) -> Result<String, AllocError>
     ensures text { IfOk result (λ out. string_bytes out ≡ source_text text.now) }
@@ -133,7 +132,7 @@ pub fn harmless_source(alloc: Global, text: &str) -> Result<String, AllocError>
     settled(alloc, text)
 }
 
-/// The same, known by its text alone; plain ASCII is copied.
+/// The same, of the text alone; plain ASCII is copied.
 fn settled(alloc: Global, text: &str) -> Result<String, AllocError>
     ensures { IfOk result (λ out. string_bytes out ≡ source_text text.now) }
 {
@@ -156,7 +155,7 @@ fn settled_chars(alloc: Global, text: &str) -> Result<String, AllocError>
         .collect(alloc)
 }
 
-/// The character that stands for one before another in a source.
+/// The sanitized character for one before another in a source.
 fn source_char(c: char, next: char) -> char
     ensures { result ≡ source_of c next }
 {

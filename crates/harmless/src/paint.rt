@@ -1,4 +1,4 @@
-//! Lines that are harmless but for their paint.
+//! Lines that are sanitized except for their colors.
 ghost use Rattle.std.specs.Prelude.{◌≡◌, ◌≤◌, ◌<◌, ◌+◌, ◌^◌, IfOk, OnOk, length, string_bytes};
 ghost use Rattle.std.specs.List.{list_any, prefix_len};
 ghost use Rattle.std.specs.Str.{chars, encode_utf8_all};
@@ -12,13 +12,13 @@ use crate::plain::is_plain;
 use crate::{Kind, harmless, harmless_char};
 use std::alloc::{AllocError, Global};
 
-/// A line that can't drive a terminal, but keeps its paint: ESC `[`, digits and `;`, and `m`, which
-/// set a color; and ESC `[K`, which compilers write behind a color. A line that has some ends with
-/// ESC `[0m`.
+/// A line that is safe to print, with its colors: ESC `[`, digits and `;`, and `m`, which set a
+/// color; and ESC `[K`, which compilers write after a color (with a number it would clear text,
+/// and is replaced). A line that has any ends with ESC `[0m`.
 ///
 /// # Errors
 ///
-/// Want of memory.
+/// Out of memory.
 #[tactic(auto, using(crate::proofs::PlainLemmas::plain_line_stays))]
 pub fn harmless_line(alloc: Global, line: &str) -> Result<String, AllocError>
     ensures { IfOk result (λ out. string_bytes out ≡ line_text line.now) }
@@ -30,7 +30,7 @@ pub fn harmless_line(alloc: Global, line: &str) -> Result<String, AllocError>
     }
 }
 
-/// The same of a line that isn't plain ASCII.
+/// The same for a line that isn't plain ASCII.
 #[tactic(auto, using(crate::proofs::PaintLemmas::plain_line))]
 fn marked_line(alloc: Global, line: &str) -> Result<String, AllocError>
     ensures { IfOk result (λ out. string_bytes out ≡ line_text line.now) }
@@ -42,7 +42,7 @@ fn marked_line(alloc: Global, line: &str) -> Result<String, AllocError>
     }
 }
 
-/// The same of a line that may have paint.
+/// The same for a line that may have ANSI escapes.
 #[tactic(auto, unfolding(crate::specs::Paint::harmless_line))]
 fn painted_line(alloc: Global, line: &str) -> Result<String, AllocError>
     ensures { IfOk result (λ out. string_bytes out ≡ line_text line.now) }
@@ -75,7 +75,7 @@ fn has_escape(line: &str) -> bool
     line.chars().any(|c| c == '\x1B')
 }
 
-/// Characters with their paint as it is, and the others harmless.
+/// Characters with their ANSI escapes as they are, and the others sanitized.
 #[tactic(auto, unfolding(crate::specs::Paint::painted_from))]
 fn painted(alloc: Global, text: &[char]) -> Result<Vec<char>, AllocError>
     ensures { IfOk result (λ kept. kept.items ≡ painted_from 0 text.now) }
@@ -92,7 +92,7 @@ fn painted(alloc: Global, text: &[char]) -> Result<Vec<char>, AllocError>
     Ok(kept)
 }
 
-/// A character as it is where it stands in paint, of which so much comes next, and else harmless.
+/// A character: as it is if `left` says that it is in an ANSI escape, else sanitized.
 fn kept_char(left: usize, c: char) -> char
     ensures { result ≡ kept_at left c }
 {
@@ -103,15 +103,15 @@ fn kept_char(left: usize, c: char) -> char
     }
 }
 
-/// How many characters of paint come next: those that are left, else those of the paint that begins
-/// here.
+/// How many characters of an ANSI escape come next: those that are left, else those of the one
+/// that begins here.
 fn paint_ahead(left: usize, text: &[char]) -> usize
     ensures { result ≡ paint_next left text.now }
 {
     if left == 0 { paint_len(text) } else { left }
 }
 
-/// Ends the paint of a text that has some.
+/// Appends ESC `[0m` to a text that has ANSI escapes.
 fn end_paint(kept: &mut Vec<char>) -> Result<(), AllocError>
     ensures { OnOk result (kept.new.items ≡ with_end kept.old.items) }
 {
@@ -128,7 +128,7 @@ fn has_paint(kept: &[char]) -> bool
     kept.iter().any(|c| *c == '\x1B')
 }
 
-/// How many characters the paint takes that a text begins with, or 0.
+/// The length of the ANSI escape at the beginning of a text, in characters, or 0.
 fn paint_len(text: &[char]) -> usize
     ensures value { result ≡ paint_length text.now }
     ensures within { result ≤ length text.now }
@@ -139,7 +139,7 @@ fn paint_len(text: &[char]) -> usize
     }
 }
 
-/// The same, behind its first two characters.
+/// The same, after its first two characters.
 fn color_len(rest: &[char]) -> usize
     requires { length rest.now < 2 ^ 61 }
     ensures value { result ≡ behind_bracket rest.now }
@@ -155,7 +155,7 @@ fn color_run(rest: &[char]) -> usize
     rest.iter().take_while(|c| is_color_part(**c)).count()
 }
 
-/// How long the paint is, where its last character stands here.
+/// The length of the ANSI escape, if its last character is here.
 fn color_end(count: usize, rest: &[char]) -> usize
     requires small { length rest.now < 2 ^ 61 }
     requires here { count ≤ length rest.now }

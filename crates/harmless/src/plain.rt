@@ -1,11 +1,11 @@
-// Texts of ASCII that are harmless as they are.
+// Texts of ASCII that need no change.
 ghost use Rattle.std.specs.Prelude.{◌≡◌};
 ghost use Rattle.std.specs.List.{list_all};
 ghost use Rattle.harmless.specs.Harmless.{is_layout, is_plain as is_plain_of};
 
 use crate::Kind;
 
-/// Whether a text has nothing but ASCII without control characters, but for those of its kind.
+/// Whether a text is ASCII without control characters, except those of its kind.
 pub(crate) fn is_plain(kind: Kind, text: &str) -> bool
     ensures { result ≡ list_all (is_plain_of kind) text.now }
 {
