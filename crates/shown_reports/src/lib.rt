@@ -1,8 +1,8 @@
-//! Reports that were found, as they are shown.
+//! Found reports, as they are shown.
 //!
-//! - [`shown_reports`]: reports on files for a drawing, whose texts can't drive a terminal, each with
-//!   the place that its tool gave it where no label says where it stands.
-//! - [`document_reports`]: the way in from a document.
+//! - [`shown_reports`]: a document of reports to draw; its texts are sanitized, and a report
+//!   without a label has its reported location in its note.
+//! - [`document_reports`]: the reports of a document, as found reports.
 //! - [`shown_text`], [`shown_if`]: texts as they are shown.
 #![tactic(auto)]
 

@@ -23,7 +23,7 @@ use render_files::{FileReport, LabelPlace, PlaceLabel};
 use std::alloc::{AllocError, Global};
 use thiserror::Error;
 
-/// Why reports aren't shown.
+/// Why reports can't be shown.
 #[derive(Clone, Copy, Debug, PartialEq, Eq, Error)]
 pub enum ShowError {
     /// There are `u32::MAX` files or more, past the last number of a file.
@@ -45,14 +45,13 @@ impl From<AllocError> for ShowError {
     }
 }
 
-/// Reports that were found, as a document to draw: their texts harmless, or as they are where they
-/// are to be `raw`; labels by bytes; and where a report has none, a last line of its note that says
-/// where its tool puts it. None of its reports is refused by a drawing, and each file has the rows
-/// of its source.
+/// Found reports, as a document to draw: their texts sanitized, or as they are if `raw`; labels by
+/// bytes; and for a report without labels, a last line of its note that gives its reported
+/// location. No drawing rejects one of its reports, and each file has the rows of its source.
 ///
 /// # Errors
 ///
-/// `TooManyFiles` only where there are `u32::MAX` files or more, and want of memory.
+/// `TooManyFiles` only with `u32::MAX` files or more; and out of memory.
 pub fn shown_reports(
     alloc: Global,
     found: &FoundReports<'_>,
@@ -195,7 +194,7 @@ fn code(alloc: Global, code: &OxcCode, raw: bool) -> Result<OxcCode, AllocError>
     })
 }
 
-/// A note, which tells where a report stands that has no label.
+/// A note, which gives the location of a report without labels.
 #[tactic(auto, unfolding(crate::specs::Shown::shown_note))]
 fn note(
     alloc: Global,
