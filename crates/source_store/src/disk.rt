@@ -1,5 +1,5 @@
-// The files of the system as a store. What they hold isn't told: this is an edge that is trusted to
-// hand the bytes on.
+// The files of the system as a store. It promises nothing of their texts: this code is trusted to
+// pass the bytes on.
 use crate::fetched::{Fetched, Store};
 use crate::place::{is_line, locate};
 use found_reports::Lack;
@@ -54,8 +54,8 @@ impl<R: Files> DiskStore<'_, R> {
         }
     }
 
-    /// Reads a file whose absolute path leads elsewhere by its words, but into the root by a link: a
-    /// folder may be spelled in two ways.
+    /// Reads a file whose absolute path is elsewhere as written, but in the root by a link: a
+    /// folder may have two paths.
     fn read_by_link(&self, alloc: Global, path: &str) -> Fetched {
         if !path.starts_with('/') || !is_line(path) {
             return Fetched::Lacking(Lack::Outside);
@@ -70,7 +70,7 @@ impl<R: Files> DiskStore<'_, R> {
     }
 }
 
-/// Reads what is a plain file, and not too long.
+/// Reads a plain file that isn't too long.
 fn read_plain<R: Files>(rt: &R, alloc: Global, path: &str) -> Fetched {
     match rt.metadata(path) {
         Ok(about) if !about.is_file() => Fetched::Lacking(Lack::NoFile),

@@ -19,10 +19,10 @@ pub enum Fetched {
 
 /// Texts by path.
 pub trait Store {
-    /// What is told of a path: its text, or why it has none. A store that can't know tells nothing.
+    /// What is known of a path: its text, or why it has none. A store may know nothing.
     ghost told: { Self → List ℕ → Option Held };
 
-    /// What the store has of a path: what it tells, where it tells something, or want of memory.
+    /// The text of a path: what is known of it, if anything is; or out of memory.
     fn fetch(&self, alloc: Global, path: &str) -> Fetched
         ensures { IsTold (told self.now path.now) result };
 }

@@ -9,12 +9,12 @@ use crate::named::{Spelling, path_in};
 use found_reports::{Lack, ListedSources, Source};
 use std::alloc::{AllocError, Global};
 
-/// The sources that a store has of these names: of each what the store tells of the path that the
-/// name means, where it tells something. A name that comes again isn't asked for again.
+/// The sources of these names: for each the store's text of the path that the name means. A name
+/// that comes again isn't looked up again.
 ///
 /// # Errors
 ///
-/// Want of memory.
+/// Out of memory.
 #[tactic(auto, using(crate::proofs::GivenLemmas::given_all))]
 pub fn gather<S: Store>(
     alloc: Global,
@@ -30,12 +30,12 @@ pub fn gather<S: Store>(
     Ok(sources)
 }
 
-/// Adds the sources that a store has of these names, as [`gather`] does. A name that has a source
-/// isn't asked for again.
+/// Adds the sources of these names, as [`gather`] does. A name that has a source isn't looked up
+/// again.
 ///
 /// # Errors
 ///
-/// Want of memory.
+/// Out of memory.
 pub fn gather_more<S: Store>(
     alloc: Global,
     store: &S,
@@ -52,7 +52,7 @@ pub fn gather_more<S: Store>(
     Ok(())
 }
 
-/// Adds what a store has of a name, unless there is a source of that name.
+/// Adds the source of a name, unless there is one.
 #[tactic(auto, using(crate::proofs::GivenLemmas::adds_none, crate::proofs::GivenLemmas::adds_one))]
 fn add<S: Store>(
     alloc: Global,
@@ -70,7 +70,7 @@ fn add<S: Store>(
     Ok(())
 }
 
-/// What a store has of a name.
+/// The source of a name.
 fn source_of<S: Store>(
     alloc: Global,
     store: &S,
@@ -86,7 +86,7 @@ fn source_of<S: Store>(
     Ok(Source { name, text })
 }
 
-/// What a store has of a path, or of none.
+/// The source of a path, or of none.
 #[tactic(auto, using(crate::proofs::GivenLemmas::said_text, crate::proofs::GivenLemmas::said_lack))]
 fn kept<S: Store>(
     alloc: Global,

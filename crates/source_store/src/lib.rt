@@ -1,12 +1,12 @@
 //! Where the texts of sources come from.
 //!
-//! - [`Store`]: the text of a path, or why it has none. [`MapStore`] is one in memory, [`DiskStore`]
-//!   reads the files below a folder.
-//! - [`path_in`]: the path that a name in a tool's output means, a URI or not.
-//! - [`means_file`]: whether it means the file of a path, or an end of that path; [`is_named`]: the
-//!   same of the path that it says.
-//! - [`gather`]: what a store has of many names; [`gather_more`]: of more names.
-//! - [`locate`]: where a path leads from a folder, by words.
+//! - [`Store`]: the text of a path, or why it has none. [`MapStore`] has texts in memory,
+//!   [`DiskStore`] reads the files below a folder.
+//! - [`path_in`]: the path that a name in a tool's output means, whether or not it is a URI.
+//! - [`means_file`]: whether that path is a file's path or an end of it; [`is_named`]: the same
+//!   for the path itself.
+//! - [`gather`]: the sources of many names; [`gather_more`]: of more names.
+//! - [`locate`]: the absolute path of a path from a folder, resolved in the text.
 #![tactic(auto)]
 
 mod disk;

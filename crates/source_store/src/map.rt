@@ -3,8 +3,8 @@ use crate::fetched::{Fetched, Store};
 use found_reports::{ListedSources, Sources};
 use std::alloc::Global;
 
-/// A store of listed sources, which tells all that it has: the first entry of a path counts, and a
-/// path without one is missing.
+/// A store of listed sources, all known to contracts: the first entry of a path counts, and a path
+/// without one is missing.
 #[derive(Drop)]
 pub struct MapStore {
     /// The sources, by their paths.

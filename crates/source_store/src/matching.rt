@@ -6,12 +6,12 @@ ghost use Rattle.source_store.specs.Matching.{plain_name, stands_apart};
 use crate::named::{Spelling, path_in};
 use std::alloc::{AllocError, Global};
 
-/// Whether a name in a log means the file of this path: the path that the name says is the file's,
-/// or is what the file's ends in behind a slash.
+/// Whether a name in a log means the file with this path: the name's path is the file's, or the
+/// file's ends in it after a slash.
 ///
 /// # Errors
 ///
-/// Want of memory.
+/// Out of memory.
 #[tactic(auto, unfolding(crate::specs::Matching::means_file))]
 pub fn means_file(
     alloc: Global,
@@ -27,8 +27,8 @@ pub fn means_file(
     }
 }
 
-/// Whether a file of this path is meant by a name: the path is the name, or ends in it behind a
-/// slash. A `./` before the name says nothing.
+/// Whether a name is this path, or the path ends in it after a slash. A `./` before the name is
+/// ignored.
 pub fn is_named(path: &[u8], name: &[u8]) -> bool
     ensures { result ≡ is_named_by path.now name.now }
 {
@@ -39,7 +39,7 @@ pub fn is_named(path: &[u8], name: &[u8]) -> bool
         && is_apart(path, name.len())
 }
 
-/// Whether the last bytes of a path, so many, are the whole or stand behind a slash.
+/// Whether the last `len` bytes of a path are all of it or come after a slash.
 fn is_apart(path: &[u8], len: usize) -> bool
     requires { len ≤ length path.now }
     ensures { result ≡ stands_apart path.now len }

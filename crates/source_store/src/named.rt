@@ -14,19 +14,19 @@ use std::str;
 /// How a tool spells the names of files.
 #[derive(Clone, Copy, PartialEq, Eq)]
 pub enum Spelling {
-    /// As paths: nothing in them is an escape.
+    /// As paths: without escapes.
     Path,
     /// As URIs, with percent escapes.
     Uri,
 }
 
-/// The path that a name means: what a `file:` URI says, and else the name. Percent escapes are read
-/// in a `file:` URI, and in any name where names are URIs. There is none where a URI names another
-/// machine, or what its escapes say is no UTF-8.
+/// The path that a name means: that of a `file:` URI, else the name. Percent escapes are decoded
+/// in a `file:` URI, and in any name if names are URIs. There is none if a URI names another
+/// machine, or if the decoded bytes aren't UTF-8.
 ///
 /// # Errors
 ///
-/// Want of memory.
+/// Out of memory.
 #[tactic(auto, unfolding(crate::specs::Named::path_in))]
 pub fn path_in(alloc: Global, spelling: Spelling, name: &str) -> Result<Option<String>, AllocError>
     ensures { IfOk result (λ path. text_bytes path ≡ path_meant spelling name.now) }
@@ -50,8 +50,8 @@ fn spelled(alloc: Global, spelling: Spelling, name: &str) -> Result<Option<Strin
     }
 }
 
-/// The path behind `file:`, with its escapes: where `//` comes next, what stands from the slash on
-/// that follows it or the name of this machine.
+/// The path after `file:`, with its escapes decoded: if `//` comes next, the text from the slash
+/// on that follows it or the name of this machine.
 #[tactic(auto, unfolding(crate::specs::Named::file_path))]
 fn file_path(rest: &[u8]) -> Option<&[u8]>
     ensures { option_copied result ≡ file_path_of rest.now }
@@ -72,7 +72,7 @@ fn without_host(text: &[u8]) -> &[u8]
     }
 }
 
-/// A text that begins at the top.
+/// A text that begins with a slash.
 fn absolute(text: &[u8]) -> Option<&[u8]>
     ensures { option_copied result ≡ absolute_in text.now }
 {
@@ -83,14 +83,14 @@ fn absolute(text: &[u8]) -> Option<&[u8]>
     }
 }
 
-/// What stands behind a front of a text.
+/// The text after a prefix.
 fn behind<'a>(text: &'a [u8], front: &[u8]) -> Option<&'a [u8]>
     ensures { option_copied result ≡ behind_front front.now text.now }
 {
     text.strip_prefix(front)
 }
 
-/// A text with its escapes read, if that is a text.
+/// A text with its escapes decoded, if that is UTF-8.
 #[tactic(auto, using(crate::proofs::NamedLemmas::decoded_text, crate::proofs::NamedLemmas::decoded_none))]
 fn decoded(alloc: Global, text: &[u8]) -> Result<Option<String>, AllocError>
     ensures { IfOk result (λ path. text_bytes path ≡ decoded_of text.now) }

@@ -1,4 +1,4 @@
-// Where a name leads.
+// Where a path leads.
 ghost use Rattle.std.specs.Prelude.{◌≡◌, ◌++◌, ◌∷◌, [], map, IfOk, IfSome, OnOk, true, false, string_bytes};
 ghost use Rattle.std.specs.Option.{option_copied};
 ghost use Rattle.std.specs.List.{list_any, slice_split};
@@ -10,13 +10,13 @@ ghost use Rattle.source_store.specs.Place.{stays as stays_by, text_bytes, walked
 
 use std::alloc::{AllocError, Global};
 
-/// The absolute path to which a path leads from the folder `root`, an absolute path, where that is
-/// below the root or may be anywhere. `.` and `..` are resolved by words, and no path that is given
-/// has one of them. A path that holds a NUL or an LF leads nowhere, unless it may be anywhere.
+/// The absolute path of a path from the folder `root`, an absolute path, if it is below the root
+/// or may be anywhere. `.` and `..` are resolved in the text, and never in the result. A path with
+/// a NUL or an LF gives none, unless it may be anywhere.
 ///
 /// # Errors
 ///
-/// Want of memory.
+/// Out of memory.
 pub fn locate(
     alloc: Global,
     root: &str,
@@ -31,7 +31,7 @@ pub fn locate(
     located(alloc, root, path, anywhere)
 }
 
-/// The same, known by the path alone.
+/// The same, of the path alone.
 #[tactic(auto, unfolding(crate::specs::Place::located))]
 fn located(
     alloc: Global,
@@ -58,14 +58,14 @@ pub(crate) fn is_line(path: &str) -> bool
     !has_end(path.as_bytes())
 }
 
-/// Whether a NUL or an LF is there.
+/// Whether there is a NUL or an LF.
 fn has_end(bytes: &[u8]) -> bool
     ensures { result ≡ list_any is_end bytes.now }
 {
     bytes.iter().any(|byte| *byte == 0 || *byte == b'\n')
 }
 
-/// The parts of the path to which a path leads from a folder, or from the top.
+/// The parts of the absolute path of a path from a folder, or from the top.
 fn resolve<'a>(alloc: Global, root: &'a str, path: &'a str) -> Result<Vec<&'a str>, AllocError>
     ensures { IfOk result (λ parts. map (λ part. part.now) parts.items
         ≡ resolved root.entry.now path.entry.now) }
@@ -85,7 +85,7 @@ fn is_absolute(path: &str) -> bool
     path.as_bytes().first() == Some(&b'/')
 }
 
-/// The parts of the path to which a path leads from a folder.
+/// The parts of the absolute path of a path from a folder.
 #[tactic(auto, unfolding(crate::specs::Place::walked))]
 fn walk<'a>(alloc: Global, at: Vec<&'a str>, path: &'a str) -> Result<Vec<&'a str>, AllocError>
     ensures { IfOk result (λ parts. map (λ part. part.now) parts.items
@@ -99,14 +99,14 @@ fn walk<'a>(alloc: Global, at: Vec<&'a str>, path: &'a str) -> Result<Vec<&'a st
     Ok(at)
 }
 
-/// What stands between the slashes of a path.
+/// The texts between the slashes of a path.
 fn cut<'a>(alloc: Global, path: &'a str) -> Result<Vec<&'a str>, AllocError>
     ensures { IfOk result (λ parts. map (λ part. part.now) parts.items ≡ parts_of path.entry.now) }
 {
     path.split('/').collect(alloc)
 }
 
-/// Goes on from a folder by one part of a path.
+/// Goes from a folder on by one part of a path.
 #[tactic(auto, unfolding(crate::specs::Place::entered))]
 fn enter<'a>(at: &mut Vec<&'a str>, part: &'a str) -> Result<(), AllocError>
     ensures { OnOk result (map (λ part. part.now) at.new.items
@@ -129,7 +129,7 @@ fn stays(part: &str) -> bool
     part.is_empty() || part == "."
 }
 
-/// Whether a part leads to the folder around.
+/// Whether a part leads to the parent folder.
 fn goes_up(part: &str) -> bool
     ensures { result ≡ goes_up_by part.now }
 {
