@@ -53,7 +53,7 @@ def owner(line):
 
 
 def public_items(text):
-    """Each public function: the type or trait it stands in, its name, its head, its clauses and its line."""
+    """Each public function: the type or trait it is in, its name, its head, its clauses and its line."""
     lines = text.split("\n")
     place, traits, at = None, False, 0
     while at < len(lines):

@@ -1,14 +1,14 @@
 #!/usr/bin/env python3
 """Checks what the documents say of the repository's files, and needs Python alone. usage: check_docs.py
 
-- Each link of a .md file leads to a file that is there, and to a heading of it where it names one.
-- docs/MAP.md has a row for each crate of crates.txt, and no row stands on one below it.
+- Each link of a .md file leads to a file that is there, and to a heading of it if it names one.
+- docs/MAP.md has a row for each crate of crates.txt, and no crate uses one in a lower row.
 - Each row of docs/PROMISES.md names a call, clauses of it, and the file that has it.
-- Each function under "A caller" or "How it is called" on a page of a crate stands in that crate's sources, but for layout,
-  and so is proved. (An example under another heading, as "How a call looks", shows just that.) So does each function of
-  README.md stand in some crate's.
+- Each function under "A caller" or "How it is called" on a page of a crate is in that crate's sources, except for layout,
+  and so is proved. (Examples under other headings aren't checked.) Each function of README.md is in the sources of
+  some crate.
 - README.md's status line has the version that the file VERSION has.
-It prints what isn't so, and a last line; the status is 1 where something isn't."""
+It prints what isn't so, and a last line; the status is 1 if something isn't."""
 import glob
 import os
 import re
@@ -63,7 +63,7 @@ def plain(text):
 def functions(text):
     """The functions of a text by name: from `fn` to the brace that closes the body, without layout.
 
-    (That brace stands alone on its line and as far in as the function, so that no clause's brace is taken for it.)"""
+    (That brace is alone on its line and indented like the function, so that no clause's brace is taken for it.)"""
     found = {}
     for start in FUNCTION.finditer(text):
         depth, at = 0, start.start()
@@ -82,7 +82,7 @@ def functions(text):
 
 
 def strangers(text, crates):
-    """The functions that a text shows in Rust and that stand in no source of these crates; those with an ellipsis aside."""
+    """The functions that a text shows in Rust and that are in no source of these crates, except those with an ellipsis."""
     known = {}
     paths = [path for top in crates for path in glob.glob(os.path.join(top, "src", "**", "*.rt"), recursive=True)]
     for path in paths:

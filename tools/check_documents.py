@@ -5,7 +5,7 @@ docs/DOCUMENT.md, and the inputs below, each of which must be of the form or mus
 usage: check_documents.py [FILE..] (the given files alone: of each that is no document it says where and why,
 as `doc.json: reports[0].labels[1].start: wanted 2 items`, and the status is 1)
 
-It knows the words of JSON Schema that the schema uses, and stops at any other. It needs Python alone."""
+It knows the keywords of JSON Schema that the schema uses, and stops at any other. It needs Python alone."""
 import glob
 import json
 import os

@@ -38,7 +38,7 @@ def own_crates():
 # ---- definitions
 
 def said_above(lines, at, mark):
-    """The comment that stands right above a line, its first paragraph in one line."""
+    """The comment right above a line, its first paragraph in one line."""
     found, line = [], at - 1
     while line >= 0 and re.match(r"\s*(#\[|%s)" % re.escape(mark), lines[line]):
         if lines[line].strip().startswith(mark):
@@ -144,7 +144,7 @@ def rust_member(crate, owner, name):
 
 
 def declared(crate, parts, name):
-    """What stands behind `specs.declared`: Rust's own items."""
+    """The item under `specs.declared`: Rust's own items."""
     if parts[-1] == "TheVariants":
         return rust_member(crate, parts[-2], name)
     return rust_item(crate, name) or rust_member(crate, parts[-1], name)
@@ -152,7 +152,7 @@ def declared(crate, parts, name):
 
 @functools.cache
 def define(path, name):
-    """The definition behind a path and a name, None for one of the kit's."""
+    """The definition for a path and a name, None for one of the kit's."""
     parts = path.split(".")
     if parts[0] != "Rattle" or parts[1] not in own_crates():
         return None
@@ -171,7 +171,7 @@ def indent(line):
 
 
 def block_round(lines, at):
-    """The first and last line of the block in which a line stands."""
+    """The first and last line of the block around a line."""
     first = last = at
     while first > 0 and (indent(lines[first]) >= indent(lines[at]) or not lines[first].strip()):
         first -= 1
@@ -182,7 +182,7 @@ def block_round(lines, at):
 
 @functools.cache
 def ghost_uses(file):
-    """The words that a source takes from specs/, each with the lines in which it stands for that."""
+    """The words that a source takes from specs/, each with the lines in which it means that."""
     text = read(file)
     lines = text.split("\n")
     found = collections.defaultdict(list)
@@ -199,7 +199,7 @@ def ghost_uses(file):
 
 
 def use_at(file, word, line):
-    """What a word stands for in a line: by the innermost block that says so."""
+    """What a word means in a line: by the innermost block that says so."""
     uses = [use for use in ghost_uses(file).get(word, ()) if use.first <= line <= use.last]
     return max(uses, key=lambda use: use.first, default=None)
 
@@ -257,7 +257,7 @@ def bound_names(head, text):
 
 
 def member_of(file, word, traits):
-    """The ghost member that a bare word is: of the trait in which it stands, or of one that the source imports."""
+    """The ghost member that a bare word is: of the trait around it, or of one that the source imports."""
     for trait in traits:
         crate = home_of(file, trait)
         if crate and word in members(crate, trait):
@@ -266,7 +266,7 @@ def member_of(file, word, traits):
 
 
 class Words:
-    """The words of one crate's clauses: for each what it stands for, and its definition."""
+    """The words of one crate's clauses: for each what it means, and its definition."""
 
     def __init__(self):
         self.rows = collections.defaultdict(set)
@@ -446,7 +446,7 @@ def link(definition, up):
 
 
 def kit_rows(cited):
-    """The kit's words that are cited, in the order of their table; behind them those that it lacks."""
+    """The kit's words that are cited, in the order of their table; after them those that it lacks."""
     names = {name for _, name in cited}
     for line in read(KIT_WORDS).rstrip("\n").split("\n"):
         word, written, said, file = line.split("\t")
@@ -476,7 +476,7 @@ def section(crate, words, up):
 
 
 def page(up):
-    """The page, and the words that have no definition. `up` leads from its folder to the top of the checkout."""
+    """The page, and the words without a definition. `up` leads from its folder to the top of the checkout."""
     sections, missing, kit = [], set(), set()
     for crate in calls.crates():
         words = words_of(crate)

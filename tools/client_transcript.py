@@ -1,5 +1,5 @@
 #!/usr/bin/env python3
-"""Prints crates/text_tests/src/of_client_text/transcript.rt: forty notifications of a client that counts in UTF-16, and the text behind each, by
+"""Prints crates/text_tests/src/of_client_text/transcript.rt: forty notifications of a client that counts in UTF-16, and the text after each, by
 a plain replay on a string of characters. usage: client_transcript.py > FILE"""
 import random
 import re
@@ -29,7 +29,7 @@ def place_of(text, at):
 
 
 def nearest(text, place):
-    """The last character of the line that starts at the unit or before it, not behind the break; past the lines the end."""
+    """The last character of the line that starts at the unit or before it, not after the break; past the lines the end."""
     if place[0] >= len(lines(text)):
         return len(text)
     start, end = lines(text)[place[0]]
@@ -42,7 +42,7 @@ def literal(text):
 
 
 def change(chance, text):
-    """A range and a piece, and the text behind them. Some places are past a line's end, or the text's, or within a pair."""
+    """A range and a piece, and the text after the change. Some places are past a line's end, or the text's, or within a pair."""
     if chance.random() < 0.05:
         piece = "new\r\n" + chance.choice(PIECES) * 2
         return None, piece, piece

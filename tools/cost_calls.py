@@ -1,8 +1,8 @@
 #!/usr/bin/env python3
 """What single calls of the libraries cost, in instructions, where the programs make them. It needs Python and valgrind.
 
-usage: cost_calls.py logs GIRZOHAL REPORT     what a SARIF log of 10,000 results on one file of 50,000 rows takes, which stands in the log,
-                                              beside the same reports as a document
+usage: cost_calls.py logs GIRZOHAL REPORT     what a SARIF log of 10,000 results on one file of 50,000 rows takes, with the file in the log,
+                                              next to the same reports as a document
        cost_calls.py places GIRZOHAL_LSP      a text of 30,000 rows in an editor: places of findings, and changes of one character
        cost_calls.py small ARCHIVE            one report on two rows, drawn 1,000 times from C (bindings/out/llvm/libgirzohal.a)
 
@@ -54,7 +54,7 @@ def say(found, names):
 # ---- logs
 
 def write_log(path):
-    """A log of results on one file, whose text stands in it."""
+    """A log of results on one file, with its text."""
     chance = random.Random(5)
     text = "".join(f"    let {chance.choice(NOUNS)}_{row} = {row % 97};\n" for row in range(ROWS))
     place = {"uri": "src/long.rs", "index": 0}

@@ -1,7 +1,7 @@
 #!/usr/bin/env python3
 """What reading the lines of a build costs, in instructions. It needs Python and valgrind.
 
-usage: cost_lines.py PROGRAM [MIB]       (crates/girzohal/out/girzohal after `rt run` there; 4 MiB where none is told)
+usage: cost_lines.py PROGRAM [MIB]       (crates/girzohal/out/girzohal after `rt run` there; 4 MiB by default)
        cost_lines.py --log MIB           (only writes such a build's output, the same bytes each time)
 
 PROGRAM is run under callgrind on the output of a build without a finding, and on some with findings in 400 files, twice as many

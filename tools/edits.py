@@ -4,8 +4,8 @@
 usage: edits.py --check
 
 An edit is a wrong program that the prover must refuse. The gate tries those in crates/NAME/must-fail; those in
-crates/NAME/edits are tried with tools/try-edits when the crate changes. An edit applies where each of its `old:` texts stands
-exactly once in its file. The last line counts them; the status is 1 where one doesn't apply."""
+crates/NAME/edits are tried with tools/try-edits when the crate changes. An edit applies if each of its `old:` texts is
+exactly once in its file. The last line counts them; the status is 1 if one doesn't apply."""
 import os
 import re
 import sys

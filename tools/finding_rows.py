@@ -17,7 +17,7 @@ REGION = ("startLine", "startColumn", "endLine", "endColumn")
 
 
 def log(*runs):
-    """A SARIF log: of each run its tool, and how grave, which rule, what message, in which file and where each result is."""
+    """A SARIF log: for each run its tool, and severity, rule, message, file and location of each result."""
     made = []
     for tool, results in runs:
         said = []
@@ -166,7 +166,7 @@ LOG = r'{"$schema":"https://json.schemastore.org/sarif-2.1.0.json",' \
 
 
 def counted(errors, warnings, notes):
-    """A document of so many reports."""
+    """A document with this many reports."""
     return document("", *[{}] * errors, *[{"severity": "warning"}] * warnings, *[{"severity": "advice"}] * notes)
 
 
@@ -332,7 +332,7 @@ class FindingRows:
                 self.check(f"a log of a document: it means {found}, not {wanted}", found == wanted, said)
 
     def meaning(self, said, line):
-        """What was read means, a line for each report; or why it wasn't read, behind the LF that stands before a log."""
+        """What was read means, a line for each report; or why it wasn't read, after the LF that is before a log."""
         fault = re.fullmatch(r"\ngirzohal: (.*): wanted (.*)\n", said.stderr.decode())
         if fault and said.returncode == 3 and said.stdout == b"":
             return f"\nFAULT {fault[1]}: wanted {fault[2]}\n"
@@ -421,7 +421,7 @@ def wait_for(ran):
 
 
 def written(stream):
-    """What stands in a pipe."""
+    """The text in a pipe."""
     os.set_blocking(stream.fileno(), False)
     text = stream.read() or b""
     os.set_blocking(stream.fileno(), True)

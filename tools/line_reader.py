@@ -45,7 +45,7 @@ def walk_of(text):
 
 
 class Shape:
-    """What stands before a name, the name's kind, and what stands behind it."""
+    """What comes before a name, the name's kind, and what comes after it."""
 
     def __init__(self, text):
         before, self.kind, after = re.fullmatch(r"(.*)\{(name|word)\}(.*)", text).groups()
@@ -117,7 +117,7 @@ TOOLS = {tool: [Shape(text) for text in texts] for tool, texts in {
 
 
 def place(line):
-    """What was found of a line's place, and where what is said begins: of the first lead, the shortest name, the first text behind it."""
+    """What was found of a line's location, and where its message begins: of the first lead, the shortest name, the first text after it."""
     for walk, one_word, bracket in LEADS:
         begun = taken(walk, line, 0)
         if not begun:
@@ -151,7 +151,7 @@ def speaks(line, at, found):
 
 
 def last_code(message, boxed):
-    """A message without the code behind it, and the code."""
+    """A message without the code after it, and the code."""
     it = re.fullmatch(rb"(?s:(.*[^ \t])[ \t]+\[([^ \t\[\]]+)\])", message)
     if it:
         return it.groups()

@@ -1,7 +1,7 @@
 """Rows for `try_lines.py`: small texts, and exactly what the program `girzohal` writes of them. The values were worked out by hand from
 the rules on the pages of `line_shapes`, `tool_lines`, `line_reports` and `problem_lines`, and from what real tools mean by their lines.
 
-Where a text ends in an LF, one more is given behind it: the program reads a last LF as the end of a line, and these rows have an empty line there."""
+If a text ends in an LF, one more is appended: the program reads a last LF as the end of a line, and these rows have an empty line there."""
 import os
 import re
 import subprocess

@@ -1,10 +1,10 @@
 """Sessions of girzohal_lsp by hand, for try_lsp.py: what a client sends, and the exact messages that it gets.
 
-A session has its name, the log (none: there is no such file), the words (the log is named `log`, and stands last), the bodies
-that a client sends and those that it gets, one behind another. Behind each the client says `shutdown` and `exit`, and the status
-is 0, where nothing else is said.
+A session has its name, the log (none: there is no such file), the arguments (the log is named `log`, and comes last), the bodies
+that a client sends and those that it gets, in order. After each session the client sends `shutdown` and `exit`, and the status is 0
+unless stated otherwise.
 
-The JSON is by hand, in the forms that the protocol gives it. Its keys stand in their order, without blanks."""
+The JSON is by hand, in the forms that the protocol gives it. Its keys are in their order, without blanks."""
 import json
 
 USAGE = ("usage: girzohal_lsp [--from auto|lines|sarif] [--tool NAME] [--columns bytes|characters|utf16|cells] "
@@ -53,7 +53,7 @@ def published(uri, diagnostics, version=1):
 
 
 def found(message, start, end, severity, before=""):
-    """A diagnostic in a range, of lines and characters; what stands before its message is given as it is."""
+    """A diagnostic in a range, of lines and characters; what comes before its message is passed unchanged."""
     return ('{%s"message":"%s","range":{"end":{"character":%d,"line":%d},"start":{"character":%d,"line":%d}},"severity":%d}'
             % (before, message, end[1], end[0], start[1], start[0], severity))
 

@@ -8,9 +8,9 @@ usage: quick_cases.py                      (builds both at a time by `rt try --c
 A case is standard input, the arguments, the exit status, and what is written, byte for byte. Expected are the drawings of examples/, the
 files of tools/quick/ (of real tools and of logs those that tools/gallery.py writes), README's drawing, the rows of report_rows.py and
 run_rows.py, and the texts of the tables below.
-`rt try` itself compares no exit status: it tells it, and this script compares it. Under `rt try` the error output is compared of refusals
-alone, and of the other cases only with programs that are built. The last line is `N passed, M failed`, behind which stands whether the build
-was unproved; the status is 0 where M is 0."""
+`rt try` itself compares no exit status: it prints it, and this script compares it. Under `rt try` the error output is compared for errors
+only, and for the other cases only with programs that are built. The last line is `N passed, M failed`, and says whether the build was
+unproved; the status is 0 if M is 0."""
 import glob
 import json
 import os

@@ -1,7 +1,7 @@
 """Runs of the program `report`, which `try_report.py` makes: documents and their drawings, settings and what is written,
-refusals and the lines that say them, words that are a command and words that are none. `rows()` gives them one by one.
+errors and the lines that are printed for them, right and wrong arguments. `rows()` gives them one by one.
 
-Words stand with a blank between them."""
+Arguments are separated by blanks."""
 
 NO_DOCUMENT = "report: input is no document\n"
 BAD_ARGUMENTS = "report: bad arguments\n"
@@ -370,7 +370,7 @@ NARROW = ('{"files":[{"name":"b.js","source":"a {\\n\\tb\\n}\\n"}],"reports":['
 
 
 def telling(tab, long):
-    """The plain drawing of TELLING: with so many blanks for the tab, and the longer title in these lines."""
+    """The plain drawing of TELLING: with this many blanks for the tab, and the longer title in these lines."""
     return (f"\n  x {ONE_LINE}\n"
             "   ,-[b.js:1:3]\n"
             " 1 | ,-> a {\n"

@@ -1,5 +1,5 @@
 #!/usr/bin/env python3
-"""What stands round the program `girzohal`, tried by `try_girzohal.py`: terminals, limits, its pages, and its installation."""
+"""What is around the program `girzohal`, tried by `try_girzohal.py`: terminals, limits, its pages, and its installation."""
 import os
 import pty
 import re
@@ -66,7 +66,7 @@ class Around:
         self.check("on a terminal a form that isn't drawn has no colors", b"a.c:2:5" in shown and b"\x1b" not in shown)
 
     def try_keyboard(self):
-        """Who reads from a terminal is told so; who reads a pipe or a file isn't."""
+        """A note is printed for an input from a terminal, and none for a pipe or a file."""
         ours, theirs = pty.openpty()
         ran = subprocess.Popen([self.program, "--theme", "none"], stdin=theirs, stdout=subprocess.PIPE, stderr=subprocess.PIPE, cwd=self.room)
         os.close(theirs)

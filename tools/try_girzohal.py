@@ -314,7 +314,7 @@ class Tries(Around, FindingRows):
         self.ends("width 0", 2, "--width", "0")
 
     def try_around(self, log):
-        """What stands round a log goes to the error output, whole and in order; a fault's row is one of the input."""
+        """What is around a log goes to the error output, whole and in order; an error's row is one of the input."""
         for before, behind in ((b"", b"2 warnings generated.\n"), (b"make all\n", b"\nmake: done\n"), (b"one\ntwo\n", b"")):
             for form in FORMS:
                 said = self.ends("a log among lines", 0, "--from", "sarif", "--to", form, given=before + log + behind, out=b"look here")
@@ -363,7 +363,7 @@ class Tries(Around, FindingRows):
         self.ends("anywhere", 1, "--anywhere", given=b"/etc/passwd:1:1: error: here\n", out=b"root:")
 
     def try_terminals(self):
-        """Nothing of an input drives a terminal, wherever it stands; raw texts are as they are."""
+        """Nothing of an input drives a terminal, wherever it is; raw texts are unchanged."""
         there = {"physicalLocation": {"artifactLocation": {"uri": "a.c"}, "region": {"startLine": 1, "startColumn": 5}}}
         logs = {"a message": log_with(message={"text": HOSTILE + "look here"}), "a rule": log_with(ruleId="r" + HOSTILE),
                 "a name": log_with(uri=f"gone{HOSTILE}.c"), "an escaped name": log_with(uri="a%1b%5b2J%07.c"),
@@ -411,7 +411,7 @@ class Tries(Around, FindingRows):
         self.check("a full error output takes no annotation away", deaf.returncode == 1 and deaf.stdout == self.run("--to", "github").stdout)
 
     def slowly(self, steps, *words, status):
-        """Hands lines on one by one. Behind each stands what has to be on standard output and on standard error before the next one comes."""
+        """Passes lines one by one. Each is followed by what has to be on standard output and on standard error before the next one comes."""
         ran = subprocess.Popen([self.program, *words], stdin=subprocess.PIPE, stdout=subprocess.PIPE, stderr=subprocess.PIPE, cwd=self.room, env=PLAIN)
         shown, grew = (bytearray(), bytearray()), threading.Condition()
 
@@ -443,7 +443,7 @@ class Tries(Around, FindingRows):
         ran.stderr.close()
 
     def try_slowly(self):
-        """Of a slow writer each finding is written, and each kept line, once the finding behind it came; and the whole is as of one text."""
+        """With a slow writer each finding and each kept line is written once the next finding came; and the whole is as of one text."""
         findings = [b"a.c:2:5: error: number %d\n" % n for n in range(8)]
         kept = [b"step %d\n" % n for n in range(8)]
         last = [(b"make: stop\n", b"", b"")]  # a line after it might mark it
@@ -461,7 +461,7 @@ class Tries(Around, FindingRows):
         self.slowly(steps + last, status=1)
 
     def try_paint(self):
-        """Kept lines keep their paint where the theme has colors; nothing else of them drives a terminal."""
+        """Kept lines keep their colors if the theme has colors; nothing else of them drives a terminal."""
         red, end, blank = b"\x1b[31m", b"\x1b[0m", b"\x1b[K"
         painted = red + b"make" + end + b" all"
         linked = b"\x1b]8;;http://x\x1b\\" + red + b"here" + end + b"\x1b]8;;\x1b\\"

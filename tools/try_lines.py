@@ -1,11 +1,11 @@
 #!/usr/bin/env python3
-"""Holds the program `girzohal` against `line_reader.py`, a second reader of the lines that tools print: what each table row says,
-lines of many tools one behind the other (lines.txt), the outputs of real tools, and lines made at random of the parts of shapes. The rows of
-`line_rows.py` are held against what was worked out by hand.
+"""Compares the program `girzohal` with `line_reader.py`, a second reader of the lines that tools print: what each table row says,
+lines of many tools in a row (lines.txt), the outputs of real tools, and lines made at random of the parts of patterns. The rows of
+`line_rows.py` are compared with what was worked out by hand.
 
 usage: try_lines.py PROGRAM [LINES [SEED]]      (crates/girzohal/out/girzohal after `rt run` there)
 
-The last line is `N passed, M failed`; the status is 0 where M is 0."""
+The last line is `N passed, M failed`; the status is 0 if M is 0."""
 import glob
 import json
 import os
@@ -93,7 +93,7 @@ def shown(text):
 
 
 def escaped(text, more=""):
-    """A text as it stands in a line of a problem."""
+    """A text as it is in a line of a problem."""
     for char, letter in [("\\", "\\"), ("\n", "n"), ("\r", "r")] + [(char, letter) for char, letter in [(":", "c"), ("]", "b")] if char in more]:
         text = text.replace(char, "\\" + letter)
     return text
@@ -243,7 +243,7 @@ def reading(it):
 
 
 def try_table(tries, root):
-    """Each row by itself: what it says that it is read as is what the second reader has, and what the program writes."""
+    """Each row alone: what it says that it is read as is what the second reader has, and what the program writes."""
     for tool, word, line, said in table():
         named = None if word == "-" else word
         expected = Expected(line, named)

@@ -1,11 +1,11 @@
 #!/usr/bin/env python3
 """Tries the built girzohal_lsp. usage: try_lsp.py PROGRAM
 
-PROGRAM is what `rt run` left in crates/girzohal_lsp/out. The sessions of lsp_rows.py get the very messages that stand there:
-what a server answers, what clients are told of a log, which words are none, which bytes are of no frame. A transcript of a client goes in as a whole and in random
-cuttings, and the answers are compared; each fault of a frame ends the program; a document that is changed by many ranges is
-compared with a plain replay, by where each of its rows begins and ends: a server never shows a text (those of
-crates/text_tests/src/of_client_text/transcript.rt are compared as they are). Where Neovim is installed, its own client opens a
+PROGRAM is what `rt run` left in crates/girzohal_lsp/out. The sessions of lsp_rows.py get exactly the messages there:
+what a server answers, what clients receive about a log, which arguments are wrong, which bytes are of no frame. A transcript of a
+client goes in as a whole and in random parts, and the answers are compared; each error of a frame ends the program. A document that
+is changed by many ranges is compared with a plain replay, by where each of its rows begins and ends: a server never shows a text
+(those of crates/text_tests/src/of_client_text/transcript.rt are compared unchanged). Where Neovim is installed, its own client opens a
 file and types above, in and below what a log found (tools/try_lsp.lua), and what it shows is checked: over a log of this
 script, and over what tools printed of the sources in examples/outputs.
 
@@ -32,7 +32,7 @@ def frame(value, head=None):
 
 
 def messages_in(data):
-    """The messages of a whole output, each behind its own head."""
+    """The messages of a whole output, each after its own head."""
     out = []
     while data:
         head, data = data.split(b"\r\n\r\n", 1)
@@ -157,7 +157,7 @@ BEGUN, OVER, EXITED = frame(request(1, "initialize")), frame(request(2, "shutdow
 
 
 def told_of(folder, log, words, data):
-    """What a client is told that says this: the findings that are published, and what is logged."""
+    """The messages that a client receives of this: the published findings, and what is logged."""
     path = os.path.join(folder, "told.log")
     with open(path, "wb") as out:
         out.write(log)
@@ -189,7 +189,7 @@ def try_logs(folder):
 
 
 def said(bodies):
-    """Bodies as frames, one behind another."""
+    """Bodies as frames, in order."""
     return b"".join(frame(body.encode()) for body in bodies)
 
 
@@ -222,7 +222,7 @@ def try_sessions(folder):
 
 
 def try_words(folder):
-    """Which words are none, and the form that words say, by what is told of a log of lines and of a SARIF log."""
+    """Which arguments are wrong, and the form that arguments set, by what is shown of a log of lines and of a SARIF log."""
     refused = (b"", rows.USAGE.encode(), 2)
     for form, unit, read in rows.COUNTED:
         got = talk(folder, b"", ["log", "--columns", unit, "--from", form], [rows.BEGIN, rows.END, rows.EXIT])
@@ -266,7 +266,7 @@ def try_frames():
 
 
 def between(text, offset):
-    """The offset, or the one before it where it stands within a CRLF."""
+    """The offset, or the one before it if it is within a CRLF."""
     return offset - 1 if text[offset - 1:offset + 1] == "\r\n" else offset
 
 
@@ -342,7 +342,7 @@ def covered(look):
 
 
 def own_logs(folder, end):
-    """A source and a log of this script: the words, and what the findings cover."""
+    """A source and a log of this script: the arguments, and what the findings cover."""
     text = "int main(void) {\n    int total = 0; /* \u00e9 */ int rest;\n    return totl;\n}\n"
     with open(os.path.join(folder, "own.c"), "w", encoding="utf-8", newline=end) as out:
         out.write(text)
