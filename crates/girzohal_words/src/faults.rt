@@ -12,7 +12,7 @@ use crate::values::is_value;
 use girzohal_asked::InputForm;
 use std::alloc::{AllocError, Global};
 
-/// What is wrong with an argument.
+/// The error of an argument.
 #[derive(Clone, Copy, PartialEq, Eq)]
 pub enum WordFault<'w> {
     /// An unknown option.
@@ -130,7 +130,7 @@ fn file_fault(named: Named, name: &str) -> Option<WordFault<'_>>
     }
 }
 
-/// The fault of a unit that a log's columns can't be counted in: bytes or cells.
+/// The error for a unit that a log's columns can't count: bytes or cells.
 pub(crate) fn uncounted(form: InputForm, unit: Option<&str>) -> Option<WordFault<'_>>
     ensures { option_map wrong result ≡ uncounted_in form (option_copied unit.entry) }
 {

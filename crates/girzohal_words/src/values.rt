@@ -33,7 +33,7 @@ pub(crate) fn is_value(alloc: Global, name: &str, value: &str) -> Result<bool, A
     }
 }
 
-/// The same of an option that is neither `--shape` nor `--tool`.
+/// The same for an option that is neither `--shape` nor `--tool`.
 #[tactic(auto, unfolding(crate::specs::Values::is_plain_value))]
 fn is_plain_value(name: &str, value: &str) -> bool
     ensures { result ≡ is_plain_meant name.now value.now }

@@ -41,7 +41,7 @@ fn may_become_mark(bytes: &[u8]) -> bool
     }
 }
 
-/// What a text tells whose first byte isn't blank.
+/// The same for a text whose first byte isn't blank.
 fn told_by(text: &[u8]) -> FirstBytes
     ensures { result ≡ told_so text.now }
 {
@@ -51,7 +51,7 @@ fn told_by(text: &[u8]) -> FirstBytes
     }
 }
 
-/// The same of a text of this first byte and this rest.
+/// The same for a text of this first byte and this rest.
 fn told_with(first: u8, rest: &[u8]) -> FirstBytes
     ensures { result ≡ with_so first rest.now }
 {

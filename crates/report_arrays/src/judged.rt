@@ -70,7 +70,7 @@ fn first_wrong(texts: &str, files: &[File], reports: &[Report], labels: &[Label]
     }
 }
 
-/// More than `u32::MAX` files are wrong as a whole: the last ones would have no number.
+/// More than `u32::MAX` files are wrong as a whole: the last ones have no number.
 fn wrong_file(texts: &str, files: &[File]) -> Option<usize>
     ensures { result ≡ wrong_file texts.now files.now }
 {

@@ -10,7 +10,7 @@
 //! - `texts`: a range of the buffer as a text;
 //! - `labels`: the labels that a report names;
 //! - `bytes`: whether the buffer is UTF-8;
-//! - `judged`: the first argument that is wrong.
+//! - `judged`: the first wrong argument.
 #![tactic(auto)]
 
 mod bytes;

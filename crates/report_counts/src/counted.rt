@@ -59,7 +59,7 @@ fn count(reports: &[FoundReport], wanted: Severity) -> usize
     count
 }
 
-/// Whether a severity is the wanted one.
+/// Whether a severity is this one.
 fn is_of(wanted: Severity, severity: Severity) -> bool
     ensures { result ≡ is_of wanted severity }
 {

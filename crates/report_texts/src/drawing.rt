@@ -111,7 +111,7 @@ fn drawings(
     let first = &shown.reports[..count];
     match files_text(alloc, &handler(asked), &shown.files, first) {
         Ok(text) => Ok(text),
-        // No report is refused.
+        // No report has an error.
         Err(_) => Err(ShowError::OutOfMemory),
     }
 }
