@@ -10,7 +10,8 @@ use input_forms::{FirstBytes, first_bytes};
 use oxc_protocol::Failed;
 use std::alloc::Global;
 
-/// The maximum number of bytes that a run holds of its input, 64 MiB.
+/// The limit in bytes, 64 MiB: of an input that is read whole, and of lines after the last known
+/// block.
 pub(crate) const LIMIT: usize = 67_108_864;
 
 /// How many bytes one read may give.
