@@ -43,10 +43,10 @@ fn copied<'s>(alloc: Global, files: &[FoundFile<'s>]) -> Result<Vec<FoundFile<'s
     Ok(copies)
 }
 
-/// What tells files apart: the name, and the text or the number of the reason why there is none.
+/// A key for files: the name, and the text or the number of the reason why there is none.
 type FileKey<'s> = (String, Result<&'s str, u8>);
 
-/// What tells a file apart.
+/// The key of a file.
 fn key_of<'s>(alloc: Global, file: &FoundFile<'s>) -> Result<FileKey<'s>, AllocError>
     ensures { IfOk result (λ key. IsKey key (file_view file.now)) }
 {
