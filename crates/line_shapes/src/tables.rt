@@ -16,7 +16,7 @@ pub enum Unit {
     Cells,
 }
 
-/// What the way in which something is said tells besides its tokens.
+/// What a row of `RESTS` means besides its tokens.
 #[derive(Clone, Copy, PartialEq, Eq)]
 pub enum Manner {
     Plain,
