@@ -2,7 +2,7 @@
 //!
 //! - [`Coming`]: takes bytes as they come, and gives what is written of the blocks that they
 //!   complete.
-//! - [`shapes_of`], [`columns_of`]: how lines are read, as it was asked for.
+//! - [`shapes_of`], [`columns_of`]: how lines are read, by the options.
 //! - [`annotates`]: whether annotations are written instead of drawings.
 //! - [`lines_of`]: the lines of a text; [`kept_text`]: those that are no findings.
 #![tactic(auto)]
