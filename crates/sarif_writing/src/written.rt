@@ -54,10 +54,10 @@ pub fn write_log(
 
 /// [`write_log`], but some files may be unread, and reports may have reported locations.
 ///
-/// A file that is `unread`, by its number, is in the log without a text: an empty text would mean an
-/// empty file. A report without labels has the rows and columns of `places` at its number, if there
-/// is a row; 0 is none. A file past the end of `unread` was read, and a report past the end of
-/// `places` has no location.
+/// A file that is `unread`, by its number, is in the log without a text: an empty text would mean
+/// an empty file. A report without labels has the rows and columns of `places` at its number, if
+/// there is a row; 0 is none. A file past the end of `unread` was read, and a report past the end
+/// of `places` has no location.
 ///
 /// # Errors
 ///
