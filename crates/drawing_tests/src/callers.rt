@@ -4,7 +4,7 @@ ghost use Rattle.oxc_span.specs.Label.{label_end};
 
 use oxc_protocol::LabeledSpan;
 
-/// Whether labels end within so many bytes.
+/// Whether no label ends after `len`.
 pub fn all_within(labels: &[LabeledSpan], len: usize) -> bool
     ensures { IsTrue result ↔ All (λ label. label_end label ≤ len) labels.now }
 {

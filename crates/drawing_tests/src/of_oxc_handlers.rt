@@ -152,7 +152,8 @@ fn a_scanner_that_reads_the_source_is_used_again(rt: HostRuntime) {
     assert!(rt; drawn);
 }
 
-/// Whether labels in the three rows are drawn behind a text, by a scanner of that source.
+/// Whether a report with these labels in the three rows is drawn after a text, with a scanner of
+/// its source.
 fn are_pushed(alloc: Global, labels: &[LabeledSpan]) -> Result<bool, AllocError> {
     let view = DiagnosticView {
         message: "Oops",
@@ -203,7 +204,7 @@ fn a_theme_gives_characters_and_colors(rt: HostRuntime) {
     assert!(rt; is_drawn(for_terminal(rt.alloc(), &view), ON_TERMINAL));
 }
 
-/// Whether a warning stands in its style.
+/// Whether a warning is written in its style.
 fn is_styled(alloc: Global) -> bool {
     let mut text = String::new(alloc);
     GraphicalTheme::none().write_warning(&mut text, "w").is_ok()

@@ -194,7 +194,7 @@ fn is_sent(
         && sink.received() == text.as_bytes()
 }
 
-/// The same for a label of so many bytes that begins at the last byte of its source.
+/// The same for a label of `len` bytes that starts at the last byte of its source.
 fn is_label_sent(alloc: Global, len: u32, wanted: Result<(), RenderError>, text: &str) -> bool
     requires { len < 10 }
 {

@@ -49,7 +49,7 @@ pub fn count_in(alloc: Global, frames: &mut Frames, bytes: &[u8]) -> Option<usiz
     Some(count)
 }
 
-/// What an editor is told of a file. `all_stand` tests what is asked of the labels.
+/// What is published to an editor for a file. `all_stand` tests the condition on the labels.
 pub fn told(
     alloc: Global,
     file: &OpenFile<'_>,

@@ -1,4 +1,4 @@
-//! Tests of what an editor is told: small tables, and callers that are proved from contracts
+//! Tests of what is sent to an editor: small tables, and callers that are proved from contracts
 //! alone, of `lsp_frames`, `lsp_marks`, `lsp_diagnostics` and `lsp_server`.
 #![tactic(auto)]
 

@@ -1,6 +1,5 @@
-// What clients are told: JSON by hand, in the form that the protocol gives it. Here stand those with
-// a help, or with a head that isn't the first label, as no log has them; the others are tried from
-// outside.
+// What is published to clients: JSON written by hand, in the protocol's form. These cases have a
+// help, or a head label that isn't the first, which no log has; the others are tested from outside.
 use crate::callers::told;
 use lsp_diagnostics::{OpenFile, all_stand};
 use oxc_protocol::OxcDiagnostic;
@@ -57,7 +56,7 @@ fn with_a_primary(alloc: Global) -> Result<OxcDiagnostic, AllocError> {
         .and_label(LabeledSpan::primary_at(Some(then), 12, 1))
 }
 
-/// What a client is told of a diagnostic on the text; nothing where its labels don't stand in it.
+/// What is published for a diagnostic on the text; empty if its labels don't fit it.
 fn told_of(
     alloc: Global,
     encoding: Encoding,
@@ -80,7 +79,7 @@ fn told_of(
     told(alloc, &file, &diagnostics)
 }
 
-/// Whether a client is told just this of a diagnostic.
+/// Whether exactly this is published for a diagnostic.
 fn is_told(
     alloc: Global,
     encoding: Encoding,

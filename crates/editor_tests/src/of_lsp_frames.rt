@@ -12,7 +12,7 @@ fn gives(alloc: Global, bytes: &[u8], wanted: &[u8]) -> bool {
         && matches!(taken.end, End::Message(body) if body.as_slice() == wanted)
 }
 
-/// Whether the byte behind so many is the first that can be of no frame, since none begins so.
+/// Whether the byte after the first `used` is refused, since no frame begins so.
 fn is_no_frame(alloc: Global, bytes: &str, used: usize) -> bool {
     let mut frames = Frames::new(alloc);
     let taken = frames.next(alloc, bytes.as_bytes());
@@ -64,7 +64,7 @@ fn faults_are_found_where_they_are(rt: HostRuntime) {
     assert!(rt; is_long_body(alloc, "Content-Length: 8388609", 22));
 }
 
-/// A head of so many bytes, and the empty body behind it.
+/// A head of `len` bytes, and an empty body.
 fn head_of(alloc: Global, len: usize) -> Result<String, AllocError> {
     let end = ":\r\nContent-Length: 0\r\n\r\n";
     let mut head = "x".repeat(alloc, len.saturating_sub(end.len()))?;

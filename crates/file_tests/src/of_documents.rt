@@ -11,7 +11,7 @@ const ONE_MADE: &str = concat!(
     "\"text\":\"t\"}],\"message\":\"m1\"}]}",
 );
 
-// Whether a document of so many reports has so many bytes.
+// Whether a generated document of `count` reports has `length` bytes.
 fn has_length(alloc: Global, count: u32, length: usize) -> bool
     requires { count ≤ 5000 }
 {
@@ -54,7 +54,7 @@ const WRITTEN: [&str; 4] = [
     ),
 ];
 
-// Whether a document is written as it stands there.
+// Whether a document is read, and written as the same text.
 fn is_written_again(alloc: Global, text: &str) -> bool {
     match read_document(alloc, text.as_bytes()) {
         Ok(Some(it)) => is_text(write_document(alloc, &it.files, &it.reports), text),

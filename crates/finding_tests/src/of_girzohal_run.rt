@@ -81,7 +81,7 @@ fn ends(alloc: Global, to: OutputForm, text: &str, row: &Row) -> bool {
     }
 }
 
-/// Lines of a finding, with a kept line before it and one behind.
+/// Lines of a finding, with a kept line before it and one after it.
 const DRAWN: &str = "make all\na.c:1:5: error: no semicolon\nmake: stop\n";
 
 const DRAWINGS: [Row; 2] = [
@@ -112,7 +112,7 @@ fn lines_are_drawn_as_they_come(rt: HostRuntime) {
     }
 }
 
-/// Lines of two findings, with a kept line before them and one behind.
+/// Lines of two findings, with a kept line before them and one after them.
 const ANNOTATED: &str =
     "make all\na.c:1:5: error: no semicolon\nb.c:1:5: warning: gone\nmake: stop\n";
 

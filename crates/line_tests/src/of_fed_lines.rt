@@ -9,7 +9,7 @@ use fed_lines::whole::{Cut, cut_as_they_come};
 use std::alloc::{AllocError, Global};
 use tool_lines::lines::Sort;
 
-/// Lets the next piece go that is known, and says how many lines it has.
+/// Removes the next known block, and says how many lines it has.
 fn given(lines: &mut Lines<'_>) -> Option<usize>
     ensures { result ≡ option_map (λ p. p.lines)
         (known_piece (held_shapes lines.old) (held_name lines.old) (held_lines lines.old)) }
@@ -20,7 +20,7 @@ fn given(lines: &mut Lines<'_>) -> Option<usize>
     Some(count)
 }
 
-/// A line, how many pieces are known with it, and how many lines each of them has.
+/// A line, how many blocks are known with it, and how many lines each of them has.
 type Coming = (&'static str, u8, usize);
 
 /// Lines in their order.
@@ -35,7 +35,7 @@ const COMING: [Coming; 8] = [
     ("w", 0, 0),
 ];
 
-/// Whether so many pieces are known, of so many lines each, and no more.
+/// Whether exactly `pieces` blocks are known, of `count` lines each.
 fn are_given(lines: &mut Lines<'_>, pieces: u8, count: usize) -> bool {
     let mut so_far = true;
     for _ in 0..pieces {
@@ -44,7 +44,7 @@ fn are_given(lines: &mut Lines<'_>, pieces: u8, count: usize) -> bool {
     so_far && given(lines).is_none()
 }
 
-/// Whether these pieces are known with a line.
+/// Whether these blocks are known with a line.
 fn is_known_with(alloc: Global, lines: &mut Lines<'_>, row: &Coming) -> bool {
     let (line, pieces, count) = *row;
     match line.as_bytes().to_vec(alloc) {

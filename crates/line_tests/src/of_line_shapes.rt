@@ -14,7 +14,7 @@ fn joined(alloc: Global, front: &str, text: &str) -> Result<String, AllocError> 
     Ok(whole)
 }
 
-/// What a text is read as; nothing where it has a fault.
+/// What a text is read as; `None` on an error.
 fn read(alloc: Global, front: &str, text: &str) -> Option<OwnShape> {
     match joined(alloc, front, text) {
         Ok(whole) => parse(alloc, whole.as_str()).ok(),
@@ -22,7 +22,7 @@ fn read(alloc: Global, front: &str, text: &str) -> Option<OwnShape> {
     }
 }
 
-/// Whether a text stands before a name, and is read as these parts.
+/// Whether a text before a name is read as these tokens.
 fn is_lead(alloc: Global, text: &str, parts: &[Part], kind: NameKind) -> bool {
     let name = if let NameKind::OneWord = kind {
         "{word}"
@@ -35,7 +35,7 @@ fn is_lead(alloc: Global, text: &str, parts: &[Part], kind: NameKind) -> bool {
     }
 }
 
-/// Whether a text stands behind a name, and is read as these parts.
+/// Whether a text after a name is read as these tokens.
 fn is_behind(alloc: Global, text: &str, parts: &[Part]) -> bool {
     match read(alloc, "{name}", text) {
         Some(shape) => shape.lead.is_empty() && shape.after.as_slice() == parts,
@@ -43,7 +43,7 @@ fn is_behind(alloc: Global, text: &str, parts: &[Part]) -> bool {
     }
 }
 
-/// Whether each text stands behind a name, and is read as its parts.
+/// Whether each text after a name is read as its tokens.
 fn are_behind(alloc: Global, rows: &[(&str, &[Part])]) -> bool {
     let mut so_far = true;
     for row in rows {
@@ -66,7 +66,7 @@ fn rows_are_their_texts(rt: HostRuntime) {
     assert!(rt; is_behind(rt.alloc(), UNDER_TEXT, &UNDER), "a line below");
 }
 
-/// Whether a text is read as what stands before a name and behind it.
+/// Whether a text is read as these tokens before a name and after it.
 fn is_around(alloc: Global, text: &str, lead: &[Part], after: &[Part]) -> bool {
     match read(alloc, "", text) {
         Some(shape) => shape.lead.as_slice() == lead && shape.after.as_slice() == after,

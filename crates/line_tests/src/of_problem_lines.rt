@@ -189,7 +189,7 @@ fn the_lines_of_diagnostics_read_back(rt: HostRuntime) {
     assert!(rt; are_read_back && is_text(lines_of_three(alloc), THREE_LINES));
 }
 
-/// Whether the counts of two errors and a warning are told so.
+/// Whether two errors and a warning are counted in this line.
 fn are_told(alloc: Global, exceeded: bool, line: &str) -> bool {
     let counts = DiagnosticResult::new(1, 2, exceeded);
     match ProblemReporter::new().finish(alloc, &counts) {

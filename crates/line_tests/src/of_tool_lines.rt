@@ -16,7 +16,7 @@ fn pieces_in<'a>(alloc: Global, text: &'a [u8]) -> Result<Vec<Piece<'a>>, AllocE
 /// An output whose first three lines are one finding.
 const OUTPUT: &str = "a.c:4:9: error: x\n    4 |   y\n      |   ^\nmake: *** [a.o] Error 1\n";
 
-/// Whether a piece is of this sort, and has so many lines.
+/// Whether a block is of this sort, and has this many lines.
 fn is_piece(piece: &Piece<'_>, sort: Sort, lines: usize) -> bool {
     piece.begun.sort == sort && piece.lines == lines
 }

@@ -386,7 +386,7 @@ fn errors_in(alloc: Global, list: &Diagnostics) -> Result<String, AllocError> {
     Ok(messages)
 }
 
-/// The messages of its errors, and those of its warnings behind them.
+/// The messages of its errors, then those of its warnings.
 fn both_in(alloc: Global, list: &Diagnostics) -> Result<String, AllocError> {
     let mut messages = errors_in(alloc, list)?;
     for warning in list.warnings() {

@@ -1,5 +1,4 @@
-// Reporters and what an editor is told, by example, and callers that are proved from the contracts
-// alone.
+// Reporters and `Info` by example, and callers that are proved from the contracts alone.
 ghost use Rattle.std.specs.Prelude.{◌≡◌, ◌<◌, ◌^◌, ◌+◌, ◌↔◌, None, false, true, IfOk, IsTrue, map};
 ghost use Rattle.std.specs.Prelude.{string_bytes};
 ghost use Rattle.std.specs.List.{concat};
@@ -128,7 +127,7 @@ fn four(alloc: Global) -> Result<Vec<Error>, AllocError> {
     Ok(errors)
 }
 
-/// Appends a name or `-`, and a text, each with a blank behind it.
+/// Appends a name or `-`, and a text, each with a blank after it.
 fn push_offered(seen: &mut String, name: Option<&str>, text: &str) -> Result<(), AllocError> {
     seen.push_str(name.unwrap_or("-"))?;
     seen.push(' ')?;
@@ -229,7 +228,7 @@ const PLACES: [Place; 6] = [
     ("ab", 1, 2, (0, 0), (0, 0)),
 ];
 
-/// Whether a diagnostic is told to be there.
+/// Whether the `Info` of a diagnostic has this start and end.
 fn is_told_at(alloc: Global, diagnostic: &dyn Diagnostic, start: At, end: At) -> bool {
     match Info::new(alloc, diagnostic) {
         Ok(info) => is_at(&info, start, end),
@@ -237,7 +236,7 @@ fn is_told_at(alloc: Global, diagnostic: &dyn Diagnostic, start: At, end: At) ->
     }
 }
 
-/// Whether a label is told to be where the row says.
+/// Whether the `Info` of a diagnostic with one label has the start and end of the row.
 fn is_told(alloc: Global, row: &Place) -> bool {
     let (text, offset, len, start, end) = *row;
     if text.len() > 99 || offset > 99 || len > 99 {
@@ -280,7 +279,7 @@ fn is_info(info: &Info, wanted: &Told) -> bool {
         && info.rule_id.as_deref() == wanted.5
 }
 
-/// Whether this is told of a diagnostic.
+/// Whether this is the `Info` of a diagnostic.
 fn tells(alloc: Global, diagnostic: &dyn Diagnostic, wanted: &Told) -> bool {
     match Info::new(alloc, diagnostic) {
         Ok(info) => is_info(&info, wanted),
@@ -288,7 +287,7 @@ fn tells(alloc: Global, diagnostic: &dyn Diagnostic, wanted: &Told) -> bool {
     }
 }
 
-/// Whether this is told of an error in `a.js` with one label.
+/// Whether this is the `Info` of an error in `a.js` with one label.
 fn oops_tells(alloc: Global, offset: u32, len: u32, wanted: &Told) -> bool
     requires { offset + len < 2 ^ 32 }
 {

@@ -26,7 +26,7 @@ fn is_filled(alloc: Global, case: &Case) -> bool {
 }
 
 const CASES: [Case; 40] = [
-    // a word parted at its hyphen, behind indents
+    // a word split at its hyphen, after indents
     ("a-b  cd", 4, "> ", ". ", "> a-\n. b\n. cd"),
     // empty texts and breaks at either end
     ("", 5, "", "", ""),
@@ -34,7 +34,7 @@ const CASES: [Case; 40] = [
     ("\n", 3, "> ", ". ", "> \n. "),
     ("\na\n", 0, "", "", "\na\n"),
     ("a\n\nb", 9, "> ", ". ", "> a\n. \n. b"),
-    // spaces before, between and behind words
+    // spaces before, between and after words
     ("ab cd", 5, "", "", "ab cd"),
     ("ab cd", 4, "", "", "ab\ncd"),
     (" ab", 3, "", "", " ab"),
@@ -117,7 +117,7 @@ fn escape_sequences_take_no_cells(rt: HostRuntime) {
     }
 }
 
-/// A help text, its lines below one another behind its label.
+/// A help text after its label, its lines aligned.
 fn help(alloc: Global, text: &str, width: usize) -> Result<String, AllocError>
     ensures { IfOk result (λ shown. string_bytes shown ≡ filled (width - 4) (codes "  help: ")
         (codes "        ") text.now) }

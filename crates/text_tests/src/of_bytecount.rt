@@ -29,7 +29,7 @@ const SPACES: [(&str, usize); 3] = [
     ("This is yet another Text with spaces", 6),
 ];
 
-// Whether a byte that stands 4,089 times over is counted so often.
+// Whether 4,089 equal bytes are counted as that many.
 fn counts_the_same(alloc: Global) -> bool {
     match vec![in alloc; b'a'; 4089] {
         Ok(same) => {

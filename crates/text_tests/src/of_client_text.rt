@@ -22,7 +22,7 @@ fn did_change(client: &mut ClientText, version: i32, changes: &[Change]) -> Resu
 
 type Span = ((u32, u32), (u32, u32));
 
-// What a client sends, and what is left of it: the refusal, and the text behind it.
+// What a client sends, and what comes of it: the error, if any, and the text after it.
 struct Notification<'a> {
     version: i32,
     changes: &'a [(Option<Span>, &'a str)],

@@ -51,7 +51,7 @@ fn groups_of_two(
     groups(alloc, &mut scanner, &labels)
 }
 
-// A source, where two labels of one byte stand in it, and their groups.
+// A source, where two labels of one byte start, and their groups.
 type Reach = (&'static [u8], u32, u32, &'static [Range<usize>]);
 
 // The line count goes from the source's first row, so late windows reach far: rows 10 and 20 of the
@@ -104,7 +104,7 @@ fn is_row(row: &Row<'_>, number: usize, offset: usize, length: usize, text: &str
     row.number == number && row.offset == offset && row.length == length && row.text == text
 }
 
-// Whether the stray CR stands within the first of two rows.
+// Whether the stray CR is within the first of two rows.
 fn stands_within(rows: &[Row<'_>]) -> bool {
     match rows {
         [first, second] => is_row(first, 1, 0, 4, "a\rb") && is_row(second, 2, 4, 1, "c"),

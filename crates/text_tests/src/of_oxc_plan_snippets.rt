@@ -9,7 +9,7 @@ use oxc_span::LabeledSpan;
 use oxc_windows::SpanScanner;
 use std::alloc::{AllocError, Global};
 
-/// Whether labels end within so many bytes.
+/// Whether no label ends after `len`.
 fn all_within(labels: &[LabeledSpan], len: usize) -> bool
     ensures { IsTrue result ↔ All (λ label. label_end label ≤ len) labels.now }
 {
@@ -69,7 +69,7 @@ fn planned<'a>(
     plans_of(alloc, source, labels.as_slice())
 }
 
-/// Whether one bar stands beside a row, and nothing below it but these texts at bars' ends.
+/// Whether one bar is beside a row, and nothing below it but these texts at the ends of bars.
 fn has_bar(row: &RowPlan<'_>, kind: BarKind, ends: &[usize]) -> bool {
     row.bars.as_slice() == [Bar { label: 0, kind }].as_slice()
         && row.ends.as_slice() == ends
@@ -135,7 +135,7 @@ fn is_marked(alloc: Global, example: &Marked) -> bool {
     }
 }
 
-/// Whether there is one snippet of so many rows, and these texts hang below its first row.
+/// Whether there is one snippet of `rows` rows, and these texts hang below its first row.
 fn hang_below(plans: &[SnippetPlan<'_>], rows: usize, hangs: &[Hang]) -> bool {
     match plans {
         [plan] => plan.rows.len() == rows && rows > 0 && plan.rows[0].hangs.as_slice() == hangs,
@@ -241,7 +241,7 @@ fn a_mark_stands_past_a_tab(rt: HostRuntime) {
     assert!(rt; is_marked(rt.alloc(), &PAST_A_TAB));
 }
 
-/// Two labels that share a text and a place, and behind them a primary one.
+/// Two labels that share a text and a span, and then a primary one.
 fn two_and_a_primary(alloc: Global) -> Result<Vec<LabeledSpan>, AllocError> {
     let mut labels = labels_of(alloc, &[(Some("x"), 0, 1), (Some("x"), 0, 1)])?;
     labels.push(LabeledSpan::primary_at(None, 3, 1))?;

@@ -148,7 +148,7 @@ fn boundaries_have_places(rt: HostRuntime) {
     }
 }
 
-// The same behind a byte order mark, and past ASCII.
+// The same after a byte order mark, and past ASCII.
 const MARKS_AND_WIDE: [Boundary; 15] = [
     ("\r\r\n\nx", 2, 1, [1, 1, 1]),
     ("\r\r\n\nx", 3, 2, [0, 0, 0]),

@@ -1,5 +1,5 @@
-// Values from the original's examples, the printed texts, and what callers are told of equality,
-// order and hash.
+// Values from the original's examples, the printed texts, and what callers know of equality, order
+// and hash.
 ghost use Rattle.std.specs.Prelude.{◌≡◌, ◌≤◌, ◌↔◌, ◌++◌, ◌<◌, ◌^◌, IsTrue, IsSome, IfSome};
 ghost use Rattle.std.specs.Prelude.{slice_range, sum, length, take, drop};
 ghost use Rattle.std.specs.Hash as fed;
@@ -84,7 +84,7 @@ fn scribble(part: &mut [u8]) {
     }
 }
 
-// Whatever is written into the part, the bytes before it and behind it are the same.
+// Whatever is written into the part, the bytes before and after it are the same.
 fn scribble_in(bytes: &mut [u8], range: TextRange)
     requires { range.1 ≤ length bytes.old }
     ensures before { take range.0 bytes.new ≡ take range.0 bytes.old }

@@ -1,4 +1,4 @@
-//! The plain reader: it finds all breaks of a source anew for each window. The scanner and
+//! The plain reader: it finds all breaks of a source from scratch for each window. The scanner and
 //! the index are compared with it.
 ghost use Rattle.std.specs.Prelude.{◌≡◌, ◌+◌, ◌^◌, ◌<◌, ◌≤◌, IfOk, length};
 ghost use Rattle.std.specs.List.{filter_map};

@@ -1,4 +1,4 @@
-// What a client with UTF-16 sends, one notification after another, and the text behind each. It was
+// What a client with UTF-16 sends, one notification after another, and the text after each. It was
 // printed by tools/client_transcript.py, whose replay is plain.
 use crate::of_client_text::Notification;
 use client_text::Fault;

@@ -124,7 +124,7 @@ fn lines_come_backwards(rt: HostRuntime) {
     }
 }
 
-// Whether an empty line comes behind a break at the end.
+// Whether an empty line comes after a break at the end.
 fn brings_an_empty_line() -> bool {
     let mut lines = NewlineWithTrailingNewline::from("a\r\nb\r");
     is_line(&lines.next(), "a\r\n", 0)
