@@ -1,5 +1,5 @@
 #!/bin/sh
-# What the documents say of the sources, checked by the scripts beside this one, and the man page by mandoc.
+# What the documents say of the sources, checked by the scripts beside this one, and the man pages by mandoc.
 # usage: sh tools/checks.sh
 # The last line is `N passed, M failed`; the status is 0 where M is 0. What isn't there to check with is said, and passes nothing.
 cd "$(dirname "$0")/.." || exit 1
@@ -29,14 +29,14 @@ else
 fi
 if command -v mandoc >/dev/null 2>&1; then
     # (what it says of its own list of manuals isn't about the page)
-    if mandoc -T lint -W warning docs/girzohal.1; then
-        echo "the man page is as mandoc wants it"
+    if mandoc -T lint -W warning docs/*.1; then
+        echo "the man pages are as mandoc wants them"
         passed=$((passed + 1))
     else
         failed=$((failed + 1))
     fi
 else
-    echo "skipped: docs/girzohal.1: there is no mandoc"
+    echo "skipped: docs/*.1: there is no mandoc"
 fi
 echo "$passed passed, $failed failed"
 [ "$failed" -eq 0 ]
