@@ -9,7 +9,6 @@
 # `N packages, M skipped`. The status is 1 if a package that can be made here was not made.
 set -e
 cd "$(dirname "$0")/.."
-top=$(pwd)
 case $1 in '' | -*) sed -n 's/^# usage: /usage: /p' "$0" >&2; exit 2 ;; esac
 mkdir -p "$1"
 out=$(cd "$1" && pwd)
@@ -48,7 +47,8 @@ echo "girzohal $version" >"$tree/VERSION"
 archives=$room/archives
 if python3 bindings/archive.py "$archives" >"$room/said" 2>&1; then
     make -s -C bindings/c BUILD="$room/c" ARCHIVE="$archives/llvm/libgirzohal_c.a" DESTDIR="$tree" PREFIX= install
-    # found wherever the tarball is unpacked
+    # found wherever the tarball is unpacked (pkg-config reads the variable)
+    # shellcheck disable=SC2016
     sed -i 's|^prefix=.*|prefix=${pcfiledir}/../..|' "$tree/lib/pkgconfig/girzohal.pc"
 else
     cat "$room/said" >&2
