@@ -1,10 +1,10 @@
--- A reply that tells what was made of the arguments replies to them.
-use Rattle.std.proofs.Common.{◌≡◌, ◌⊎◌, inl, inr, ℕ, List, Option, Some, None, MatchOption, Result, Ok, Err, String, string_bytes, sym, subst}
+-- The reply to what was made of the arguments replies to them.
+use Rattle.std.proofs.Common.{◌≡◌, inl, inr, ℕ, List, Option, Some, None, MatchOption, Result, Ok, Err, String, sym, subst}
 use Rattle.std.specs.declared.alloc.Global.{Global}
 use Rattle.render_files.specs.declared.places.ReportError.{ReportError}
 use Rattle.girzohal_c.specs.Meaning.{Meaning, means, is_wrong, no_document}
-use Rattle.girzohal_c.specs.Answers.{no_answer, refused_answer}
-use Rattle.girzohal_c.specs.Replies.{Makes, MakesText, Tells, Gives, Refuses, Starves, RepliesTo, Reply}
+use Rattle.girzohal_c.specs.Answers.{refused_answer}
+use Rattle.girzohal_c.specs.Replies.{Makes, Tells, Gives, Refuses, RepliesTo, Reply}
 use Rattle.girzohal_c.specs.declared.shapes.Look.{Look}
 use Rattle.girzohal_c.specs.declared.drawing.Fault.{Fault}
 use Rattle.girzohal_c.specs.declared.drawing.Fault.TheVariants.{IsWrong, IsNoDocument, IsRefused, WantsMemory}

@@ -6,7 +6,7 @@ use Rattle.std.proofs.lemmas.Bool.{cases_lt}
 use Rattle.girzohal_c.specs.declared.shapes.Answer.{Answer}
 use Rattle.girzohal_c.specs.Replies.{Gives, reply}
 
--- the text stands at the buffer's beginning where the status is 0
+-- the text is at the buffer's beginning if the status is 0
 front : (text before now : List ℕ) (needed : ℕ) → needed ≡ length text → now ≡ text ++ drop (length text) before → take needed now ≡ text
 front text before now needed e is =
     ap (λ k. take k now) e ∙ ap (take (length text)) is ∙ take-append_seam text (drop (length text) before)

@@ -61,11 +61,11 @@ pub record Refuses (code : ℕ) (told : Answer) (it : Reply) : Type 0 where
   pub answer : it.answer ≡ told
   pub unchanged : it.now ≡ it.before
 
--- a text stands at the buffer's beginning, and behind it what stood there
+-- a text is at the buffer's beginning, and after it what was there
 abbrev pub Wrote : List ℕ → Reply → Type 0
 Wrote text it = it.now ≡ text ++ drop (length text) it.before
 
--- the text is written where it fits, and its length is told in any case
+-- the text is written if it fits, and its length is in the answer in any case
 pub record Gives (text : List ℕ) (it : Reply) : Type 0 where
   pub needed : it.answer ≡ needs (length text)
   pub fits : length text ≤ length it.before → (it.status ≡ 0) × Wrote text it
@@ -78,24 +78,24 @@ Draws look files reports it =
     (Gives (text_of look files reports) it)
     (λ why. Refuses 1 (refused_answer why) it)
 
--- what is replied to what the arguments mean, where memory serves
+-- what is replied to what the arguments mean, with enough memory
 abbrev pub Replies : Look → Meaning → Reply → Type 0
 Replies look (means files reports) it = Draws look files reports it
 Replies look (is_wrong argument) it = Refuses 2 (wrong_answer argument) it
 Replies look no_document it = Refuses 3 no_answer it
 
--- arguments are judged before memory is asked for
+-- arguments are checked before memory is allocated
 abbrev pub IsWrongNowhere : Meaning → Type 0
 IsWrongNowhere (means files reports) = ⊤
 IsWrongNowhere (is_wrong argument) = ⊥
 IsWrongNowhere no_document = ⊤
 
--- want of memory is free, but it says so, and comes only where no argument is wrong
+-- out of memory may come at any time, as its own status, and only if no argument is wrong
 pub record Starves (meaning : Meaning) (it : Reply) : Type 0 where
   pub judged : IsWrongNowhere meaning
   pub refuses : Refuses 6 no_answer it
 
--- the reply to what the arguments mean, or want of memory
+-- the reply to what the arguments mean, or out of memory
 abbrev pub RepliesTo : Look → Meaning → Reply → Type 0
 RepliesTo look meaning it = Replies look meaning it ⊎ Starves meaning it
 
@@ -109,7 +109,7 @@ reply status answer before now = record {
 
 -- ---- what is made before the reply
 
--- reports that aren't refused were made this text; an error is the refusal, or want of memory
+-- reports that aren't refused were made this text; an error is the refusal, or out of memory
 abbrev pub IsTextOf : Form → Handler → List NamedText → List GivenReport → Result (String Global) ReportError → Type 0
 IsTextOf form handler files reports made =
     MatchResult made
@@ -134,7 +134,7 @@ Makes look (means files reports) made =
 Makes look (is_wrong argument) made = made ≡ Err (IsWrong argument)
 Makes look no_document made = (made ≡ Err IsNoDocument) ⊎ (made ≡ Err WantsMemory)
 
--- the reply that tells what was made
+-- the reply to what was made
 abbrev pub Tells : Result (String Global) Fault → Reply → Type 0
 Tells (Ok text) it = Gives (string_bytes text) it
 Tells (Err (IsWrong argument)) it = Refuses 2 (wrong_answer argument) it

@@ -89,6 +89,7 @@ fn wrong_answer(argument: Argument) -> Answer
         Argument::InArrays(Wrong::InReport(index)) => (2, index),
         Argument::InArrays(Wrong::InLabel(index)) => (3, index),
         Argument::InLook(field) => (4, field),
+        Argument::InAbi => (5, 0),
     };
     Answer {
         array,

@@ -5,6 +5,7 @@ ghost use Rattle.array_texts.specs.Values.{named, report as report_of};
 ghost use Rattle.girzohal_c.specs.Meaning.{arrays, document_meaning, meaning};
 ghost use Rattle.girzohal_c.specs.Replies.{IsTextOf, Makes};
 
+use crate::abi::is_right;
 use crate::shapes::Look;
 use crate::style::{Form, Style, style_of};
 use crate::values::{files_of, reports_of};
@@ -18,6 +19,8 @@ use std::alloc::Global;
 /// A wrong argument.
 #[derive(Clone, Copy, PartialEq, Eq)]
 pub(crate) enum Argument {
+    /// The number of the ABI.
+    InAbi,
     /// The texts, or an element of the arrays.
     InArrays(Wrong),
     /// A field of the look, from 0.
@@ -42,6 +45,7 @@ pub(crate) enum Fault {
 #[tactic(auto, unfolding(crate::specs::Meaning::wrong))]
 pub(crate) fn draw_arrays(
     alloc: Global,
+    abi: u32,
     texts: &[u8],
     files: &[File],
     reports: &[Report],
@@ -49,8 +53,11 @@ pub(crate) fn draw_arrays(
     look: &Look,
 ) -> Result<String, Fault>
     ensures { let it = arrays texts.now files.now reports.now labels.now in
-        Makes look.now (meaning it look.now) result }
+        Makes look.now (meaning abi it look.now) result }
 {
+    if !is_right(abi) {
+        return Err(Fault::IsWrong(Argument::InAbi));
+    }
     let text = match read_texts(texts, files, reports, labels) {
         Ok(text) => text,
         Err(wrong) => return Err(Fault::IsWrong(Argument::InArrays(wrong))),
@@ -66,10 +73,19 @@ pub(crate) fn draw_arrays(
     }
 }
 
-/// The text of what a document means. The look is checked before the document is read.
-pub(crate) fn draw_document(alloc: Global, document: &[u8], look: &Look) -> Result<String, Fault>
-    ensures { Makes look.now (document_meaning document.now look.now) result }
+/// The text of what a document means. The number of the ABI and the look are checked before
+/// the document is read.
+pub(crate) fn draw_document(
+    alloc: Global,
+    abi: u32,
+    document: &[u8],
+    look: &Look,
+) -> Result<String, Fault>
+    ensures { Makes look.now (document_meaning abi document.now look.now) result }
 {
+    if !is_right(abi) {
+        return Err(Fault::IsWrong(Argument::InAbi));
+    }
     let style = match style_of(look) {
         Ok(style) => style,
         Err(field) => return Err(Fault::IsWrong(Argument::InLook(field))),

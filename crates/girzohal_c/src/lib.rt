@@ -1,11 +1,13 @@
 //! Drawings of diagnostics for callers in C.
 //!
 //! Every argument is checked here, so the calls have no condition but C's own on slices. No
-//! pointer is kept, and there is nothing to free.
+//! pointer is kept, and there is nothing to free. The first argument of a call is the number of the
+//! ABI that its caller was compiled for; with another number than `ABI` nothing else is read.
 //!
 //! Modules, in the order in which data uses them:
 //!
 //! - `shapes`: the look and the answer, as C lays them out;
+//! - `abi`: the number of the ABI;
 //! - `style`: the style of a look, or which of its numbers is wrong;
 //! - `values`: the arrays as files of a database and reports on them;
 //! - `drawing`: the text of what the arguments mean, or the reason that there is none;
@@ -17,6 +19,7 @@ ghost use Rattle.std.specs.Str.{IsUtf8};
 ghost use Rattle.girzohal_c.specs.Meaning.{arrays, document_meaning, meaning};
 ghost use Rattle.girzohal_c.specs.Replies.{RepliesTo, reply};
 
+mod abi;
 mod answers;
 mod drawing;
 mod shapes;
@@ -38,6 +41,7 @@ use std::alloc::Global;
 #[tactic(auto, using(crate::proofs::Replying::tells_replies))]
 pub extern "C" fn girzohal_draw(
     alloc: Global,
+    abi: u32,
     texts: &[u8],
     files: &[File],
     reports: &[Report],
@@ -47,12 +51,12 @@ pub extern "C" fn girzohal_draw(
     answer: &mut Answer,
 ) -> u32
     ensures replies { let it = arrays texts.now files.now reports.now labels.now in
-        RepliesTo look.now (meaning it look.now) (reply result answer.new out.old out.new) }
+        RepliesTo look.now (meaning abi it look.now) (reply result answer.new out.old out.new) }
     ensures kept { (result ≡ 0) ⊎ (out.new ≡ out.old) }
     ensures utf8 { result ≡ 0 → IsUtf8 (take answer.new.needed out.new) }
 {
     reply_with(
-        draw_arrays(alloc, texts, files, reports, labels, look),
+        draw_arrays(alloc, abi, texts, files, reports, labels, look),
         out,
         answer,
     )
@@ -61,22 +65,24 @@ pub extern "C" fn girzohal_draw(
 /// Writes the reports of a document into the caller's buffer, and returns the status.
 ///
 /// The document is JSON as `docs/DOCUMENT.md` states. The statuses are those of [`girzohal_draw`],
-/// and 3: the bytes aren't a document. Only the look can be a wrong argument here.
+/// and 3: the bytes aren't a document. Only the number of the ABI and the look can be wrong
+/// arguments here.
 #[unsafe(no_mangle)]
 #[tactic(auto, using(crate::proofs::Replying::tells_replies))]
 pub extern "C" fn girzohal_document(
     alloc: Global,
+    abi: u32,
     document: &[u8],
     look: &Look,
     out: &mut [u8],
     answer: &mut Answer,
 ) -> u32
-    ensures replies { RepliesTo look.now (document_meaning document.now look.now)
+    ensures replies { RepliesTo look.now (document_meaning abi document.now look.now)
         (reply result answer.new out.old out.new) }
     ensures kept { (result ≡ 0) ⊎ (out.new ≡ out.old) }
     ensures utf8 { result ≡ 0 → IsUtf8 (take answer.new.needed out.new) }
 {
-    reply_with(draw_document(alloc, document, look), out, answer)
+    reply_with(draw_document(alloc, abi, document, look), out, answer)
 }
 
 /// The version of the library: major, minor and patch, a byte each, as in 0x000100 for 0.1.0.

@@ -20,7 +20,8 @@ pub struct Look {
 pub struct Answer {
     /// The length of the text in bytes.
     pub needed: usize,
-    /// Which argument is wrong: 0 the texts, 1 the files, 2 the reports, 3 the labels, 4 the look.
+    /// Which argument is wrong: 0 the texts, 1 the files, 2 the reports, 3 the labels, 4 the look,
+    /// 5 the number of the ABI.
     pub array: usize,
     /// Its first wrong element, from 0; for the look, the field.
     pub index: usize,
