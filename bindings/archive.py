@@ -1,14 +1,16 @@
 #!/usr/bin/env python3
 """Builds the static library by both compilers: FOLDER/llvm/libgirzohal_c.a and FOLDER/rattle/libgirzohal_c.a.
 
-usage: archive.py [--within SECONDS] FOLDER      (run anywhere; it needs rt)
+usage: archive.py [--within SECONDS] [--aarch64] FOLDER      (run anywhere; it needs rt)
 
-Where `rt ci` has just proved the crates of this checkout, what it left in crates/*/out is taken: then the static library
-alone is proved once more, and each compiler takes what that check proved. There is no way round that one check: `rt ci`
-checks a static library without writing what it checked, and a library is built only of a check that was written for its
-own kind of crate. Else `rt lib` builds it, which proves all that has no work kept by `rt check`. With --within, `rt lib`
-gets so many seconds for each compiler; past them, the status is 3 and what was there is left. What was proved here, and
-what that took, stands in lines that begin with `archive.py: `."""
+With --aarch64, also FOLDER/aarch64/libgirzohal_c.a, by LLVM for 64-bit ARM: for that target the static library is proved
+once more.
+
+If `rt ci` has just proved the crates of this checkout, the archives are built over what it left in crates/*/out. Only the
+static library is proved once more, since `rt ci` keeps nothing of it from which it could be built. Else `rt lib` builds
+them, which proves all crates whose proof isn't kept. With --within, `rt lib` gets so many seconds for each compiler; after
+that the status is 3, and what was there is left. Lines that begin with `archive.py: ` say what was proved, and what it
+took."""
 import os
 import shutil
 import signal
@@ -20,6 +22,7 @@ TOP = os.path.dirname(os.path.dirname(os.path.abspath(__file__)))
 NAME = "girzohal_c"
 FOLDER = os.path.join(TOP, "crates", NAME)
 COMPILERS = ("llvm", "rattle")
+ARM = "aarch64-unknown-linux-gnu"
 
 
 def kit():
@@ -29,7 +32,7 @@ def kit():
 
 
 def uses():
-    """The libraries that each crate stands on, by crates.txt: those of this repository, and those of the kit."""
+    """The libraries that each crate uses, by crates.txt: those of this repository, and those of the kit."""
     found = {}
     with open(os.path.join(TOP, "crates.txt"), encoding="utf-8") as file:
         for line in file:
@@ -53,7 +56,7 @@ def rlib(name):
 
 
 def is_of_ci(name):
-    """Whether `rt ci` left a library here (`rt check` leaves a stamp beside it), and none of its files was touched since."""
+    """Whether `rt ci` left a library here (`rt check` leaves a stamp beside it), and none of its files has changed since."""
     if not os.path.isfile(os.path.join(rlib(name), "format")) or os.path.exists(os.path.join(rlib(name), "..", "stamp")):
         return False
     made, crate = os.stat(rlib(name)).st_mtime, os.path.join(TOP, "crates", name)
@@ -66,16 +69,16 @@ def is_of_ci(name):
     return True
 
 
-def words(own, of_kit, libraries):
-    """What both the check and the builds are told."""
-    told = ["--crate-name", NAME, "src/lib.rt", "--crate-type", "staticlib", "--links", NAME + "="]
+def arguments(own, of_kit, libraries, target):
+    """The arguments of both the check and the builds."""
+    made = ["--crate-name", NAME, "src/lib.rt", "--crate-type", "staticlib", "--links", NAME + "="]
     for name in ["std", *of_kit(NAME)]:
-        told += ["--extern", f"{name}={kit()}/rlibs/{name}.rlib"]
+        made += ["--extern", f"{name}={kit()}/rlibs/{name}.rlib"]
     for name in own(NAME):
-        told += ["--extern", f"{name}={rlib(name)}"]
+        made += ["--extern", f"{name}={rlib(name)}"]
     for folder in [f"{kit()}/rlibs", *(os.path.dirname(rlib(name)) for name in libraries)]:
-        told += ["-L", "dependency=" + folder]
-    return told + ["--antt-project", f"{kit()}/rattle/logic/antt-project.json"]
+        made += ["-L", "dependency=" + folder]
+    return made + ["--antt-project", f"{kit()}/rattle/logic/antt-project.json"] + target
 
 
 def spent():
@@ -84,17 +87,20 @@ def spent():
     return took.children_user + took.children_system
 
 
-def over_ci(own, of_kit, libraries, to):
-    """Proves the static library over what `rt ci` proved, and has each compiler build what was proved."""
-    rattle, told = f"{kit()}/bin/rattle", words(own, of_kit, libraries)
+def over_libraries(own, of_kit, to, compilers, target=()):
+    """Proves the static library over libraries that are there, and has each compiler build what was proved. `compilers` are the
+    folders of the archives, and which compiler makes each."""
+    libraries = below(own, NAME)
+    rattle, given = f"{kit()}/bin/rattle", arguments(own, of_kit, libraries, list(target))
+    where = f" for {target[1]}" if target else ""
     with tempfile.TemporaryDirectory() as room:
         proved = room + "/proved"
         jobs = "2" if len(os.sched_getaffinity(0)) > 1 else "1"
-        checked = ["check", *told, "--logic-built", f"{kit()}/logic_built", "--jobs", jobs, "-o", proved]
-        steps = [(f"{NAME} was proved once more, since rt ci keeps nothing of it, and none of the {len(libraries)} libraries below it", checked)]
-        for it in COMPILERS:
-            made = ["--crate-checked", proved, "--toolchain", f"{kit()}/toolchain", "--backend", it]
-            steps.append((f"it was built by {it}", ["build", *told, *made, "-o", f"{to}/{it}/lib{NAME}.a"]))
+        check = ["check", *given, "--logic-built", f"{kit()}/logic_built", "--jobs", jobs, "-o", proved]
+        steps = [(f"{NAME} was proved once more{where}, and none of the {len(libraries)} libraries below it", check)]
+        for folder, compiler in compilers:
+            made = ["--crate-checked", proved, "--toolchain", f"{kit()}/toolchain", "--backend", compiler]
+            steps.append((f"it was built by {compiler}{where}", ["build", *given, *made, "-o", f"{to}/{folder}/lib{NAME}.a"]))
         for what, step in steps:
             before = spent()
             status = subprocess.run([rattle, *step], cwd=FOLDER).returncode
@@ -119,24 +125,32 @@ def by_rt(to, within):
         if status:
             return 1
         shutil.copyfile(os.path.join(FOLDER, "out", f"lib{NAME}.a"), f"{to}/{it}/lib{NAME}.a")
-        print(f"archive.py: rt lib proved what had no kept work, and built it by {it}: {spent() - before:.0f} processor seconds", flush=True)
+        print(f"archive.py: rt lib proved what had no kept proof, and built it by {it}: {spent() - before:.0f} processor seconds", flush=True)
     return 0
 
 
 def main(given):
-    within = None
-    if given[:1] == ["--within"] and len(given) > 1:
-        within, given = int(given[1]), given[2:]
+    within, aarch64 = None, False
+    while len(given) > 1:
+        if given[0] == "--within" and len(given) > 2:
+            within, given = int(given[1]), given[2:]
+        elif given[0] == "--aarch64":
+            aarch64, given = True, given[1:]
+        else:
+            break
     if len(given) != 1:
         sys.exit(__doc__.split("\n\n")[1])
     to = os.path.abspath(given[0])
-    for it in COMPILERS:
+    for it in [*COMPILERS, *(["aarch64"] if aarch64 else [])]:
         os.makedirs(f"{to}/{it}", exist_ok=True)
     own, of_kit = uses()
-    libraries = below(own, NAME)
-    if all(is_of_ci(it) for it in libraries):
-        return over_ci(own, of_kit, libraries, to)
-    return by_rt(to, within)
+    if all(is_of_ci(it) for it in below(own, NAME)):
+        status = over_libraries(own, of_kit, to, [(it, it) for it in COMPILERS])
+    else:
+        status = by_rt(to, within)
+    if aarch64 and not status:
+        status = over_libraries(own, of_kit, to, [("aarch64", "llvm")], ("--target", ARM))
+    return status
 
 
 if __name__ == "__main__":

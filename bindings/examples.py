@@ -3,7 +3,7 @@
 
 usage: examples.py [--check]   (run anywhere; with --check nothing is written, and the status is 1 where a table is old)
 
-Each examples/NAME.json becomes plain arrays in c/tests/examples.h and calls of the builder in rust/tests/examples/mod.rs,
+Each examples/NAME.json becomes plain arrays in c/tests/examples.h and calls of the builder in rust/girzohal/tests/examples/mod.rs,
 with labels by bytes, and beside them the document itself and the drawing of examples/NAME.txt (theme `none`, 80 columns,
 tab stops 4 apart)."""
 import json
@@ -142,27 +142,27 @@ def rust_report(document, report):
 
 def rust_module():
     rows = ["// The examples of the repository, as calls of the builder. Made by bindings/examples.py: don't edit."]
-    rows += ["use girzohal::{Files, Label, Report};", ""]
-    rows += ["pub struct Example {", "    pub name: &'static str,", "    pub files: Files,", "    pub reports: Vec<Report>,"]
+    rows += ["use girzohal::{Label, Report, Sources};", ""]
+    rows += ["pub struct Example {", "    pub name: &'static str,", "    pub sources: Sources,", "    pub reports: Vec<Report>,"]
     rows += ["    pub document: &'static str,", "    pub drawing: &'static str,", "}", ""]
     names = []
     for name, text, _ in examples():
         word, document = name.replace("-", "_"), json.loads(text)
         names.append(word)
-        rows += [f"fn {word}() -> Example {{", "    let mut files = Files::new();"]
-        rows += [f"    files.add({rust_text(f['name'])}, {rust_text(f['source'])});" for f in document["files"]]
+        rows += [f"fn {word}() -> Example {{", "    let mut sources = Sources::new();"]
+        rows += [f"    sources.add({rust_text(f['name'])}, {rust_text(f['source'])});" for f in document["files"]]
         rows.append("    let reports = vec![")
         rows += [f"        {rust_report(document, r)}," for r in document["reports"]]
-        rows += ["    ];", "    Example {", f"        name: {rust_text(name)},", "        files,", "        reports,"]
-        rows += [f'        document: include_str!("../../../../examples/{name}.json"),']
-        rows += [f'        drawing: include_str!("../../../../examples/{name}.txt"),', "    }", "}", ""]
+        rows += ["    ];", "    Example {", f"        name: {rust_text(name)},", "        sources,", "        reports,"]
+        rows += [f'        document: include_str!("../../../../../examples/{name}.json"),']
+        rows += [f'        drawing: include_str!("../../../../../examples/{name}.txt"),', "    }", "}", ""]
     rows += ["pub fn examples() -> Vec<Example> {", "    vec![" + ", ".join(f"{name}()" for name in names) + "]", "}", ""]
     return "\n".join(rows)
 
 
 def main():
     old = []
-    for path, made in (("c/tests/examples.h", c_header()), ("rust/tests/examples/mod.rs", rust_module())):
+    for path, made in (("c/tests/examples.h", c_header()), ("rust/girzohal/tests/examples/mod.rs", rust_module())):
         where = os.path.join(HERE, path)
         kept = open(where, encoding="utf-8").read() if os.path.exists(where) else ""
         if kept == made:

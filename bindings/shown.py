@@ -1,7 +1,7 @@
 #!/usr/bin/env python3
 """Prints the example that a page shows in a language: its first fenced block of that language that names girzohal.
 
-usage: shown.py PAGE c|rust|python      (in Rust as a whole program, since the page shows a function's body)"""
+usage: shown.py PAGE c|cpp|rust|python|js      (in Rust as a whole program, since the page shows a function's body)"""
 import re
 import sys
 

@@ -1,9 +1,9 @@
 #!/usr/bin/env python3
-"""What a call costs beside what it hands on to: instructions, by valgrind.
+"""What a call costs besides the drawing: instructions, by valgrind.
 
-usage: speed.py [DOCUMENT..]     (many multi wide unicode deep big; all where none is named)
+usage: speed.py [DOCUMENT..]     (many multi wide unicode deep big; all if none is named)
 
-It wants the archive of `sh bindings/test.sh` (out/llvm/libgirzohal.a), the program `report` that the gate built
+It needs the archive of `sh bindings/test.sh` (out/llvm/libgirzohal.a), the program `report` that the gate built
 (crates/report/out/report), cc, cargo and valgrind. The documents are those of tools/cost.py, with labels by bytes. For each: what
 `files_text` takes in the program, what `girzohal_draw` takes, and what `draw` of the Rust crate takes, with the ratios of both to the
 first. All have to draw the same.
@@ -101,7 +101,7 @@ def main(wanted):
         subprocess.run(["cc", "-O2", "-I" + os.path.join(HERE, "c"), "-o", in_c, os.path.join(HERE, "c", "tests", "speed.c"),
                         os.path.join(archive, "libgirzohal.a")], check=True)
         build = {**os.environ, "GIRZOHAL_LIB": archive, "CARGO_TARGET_DIR": os.path.join(out, "rust")}
-        subprocess.run(["cargo", "build", "--offline", "--quiet", "--release", "--example", "speed"], check=True, env=build,
+        subprocess.run(["cargo", "build", "--offline", "--quiet", "--release", "-p", "girzohal", "--example", "speed"], check=True, env=build,
                        cwd=os.path.join(HERE, "rust"))
         in_rust = os.path.join(out, "rust", "release", "examples", "speed")
         for name in wanted or documents.MAKERS:

@@ -28,8 +28,8 @@ typedef struct {
 } arguments;
 
 static uint32_t call(const arguments *it, uint8_t *out, size_t out_len, girzohal_answer *answer) {
-    if (it->is_document) return girzohal_document(it->texts, it->texts_len, it->look, out, out_len, answer);
-    return girzohal_draw(it->texts, it->texts_len, it->files, it->files_len / sizeof(girzohal_file), it->reports,
+    if (it->is_document) return girzohal_document(GIRZOHAL_ABI, it->texts, it->texts_len, it->look, out, out_len, answer);
+    return girzohal_draw(GIRZOHAL_ABI, it->texts, it->texts_len, it->files, it->files_len / sizeof(girzohal_file), it->reports,
                          it->reports_len / sizeof(girzohal_report), it->labels, it->labels_len / sizeof(girzohal_label),
                          it->look, out, out_len, answer);
 }

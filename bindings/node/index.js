@@ -1,100 +1,194 @@
 'use strict';
-/* Diagnostics drawn for people, by code that is proved. Places in a source are numbers of bytes of its UTF-8;
- * byteOffset gives that of a character. */
+/* Draws diagnostics together with the source code. index.d.ts says what each call does. */
 
-const native = require(process.env.GIRZOHAL_NODE || './out/girzohal.node');
+const native = load();
 
-/** How grave a report is. */
+/** The compiled part: that of GIRZOHAL_NODE, else the one of this package for this machine. */
+function load() {
+  const path = process.env.GIRZOHAL_NODE || `./prebuilt/${process.platform}-${process.arch}/girzohal.node`;
+  try {
+    return require(path);
+  } catch (why) {
+    const hint = 'It is there for Linux with glibc on x64 and arm64; `node build.js` in the package builds it.';
+    throw new Error(`girzohal: the compiled part ${path} can't be loaded: ${why.message}. ${hint}`, { cause: why });
+  }
+}
+
 const Severity = Object.freeze({ advice: 0, warning: 1, error: 2 });
-
-/** What a drawing is made of: lines in colors, lines, or ASCII alone. */
 const Theme = Object.freeze({ unicode: 0, unicodeNoColor: 1, none: 2 });
+const Unit = Object.freeze({ bytes: 'bytes', characters: 'characters', utf16: 'utf16' });
 
 const NONE = 0xffff_ffff_ffff_ffffn;
 const MOST = 0xffff_ffff;
 
-/** The files that reports are on: names and sources. */
-class Files {
-  constructor() {
-    this.list = [];
-  }
-
-  /** Adds a file and gives its number, by which reports name it: 0 for the first. */
-  add(name, source) {
-    this.list.push({ name: String(name), source: String(source) });
-    return this.list.length - 1;
-  }
-}
-
-/** A report on one file: the first that was added, if `file` names no other. Each method gives a new report. */
 class Report {
-  constructor(severity, message) {
-    Object.assign(this, { severity, message: String(message), fileNumber: 0, parts: {}, labels: [] });
+  constructor(severity, message, { file = 0, scope, number, help, note, url, labels = [] } = {}) {
+    Object.assign(this, { severity, message: String(message), file, scope, number, help, note, url });
+    this.labels = Object.freeze(labels.map((label) => Object.freeze({ ...label })));
+    Object.freeze(this);
   }
 
-  static error(message) {
-    return new Report(Severity.error, message);
+  static error(message, parts) {
+    return new Report(Severity.error, message, parts);
   }
 
-  static warning(message) {
-    return new Report(Severity.warning, message);
+  static warning(message, parts) {
+    return new Report(Severity.warning, message, parts);
   }
 
-  static advice(message) {
-    return new Report(Severity.advice, message);
+  static advice(message, parts) {
+    return new Report(Severity.advice, message, parts);
   }
 
-  with(changes) {
-    return Object.assign(Object.create(Report.prototype), this, changes);
-  }
-
-  /** The report on another file, by the number that `Files.add` gave. */
-  file(number) {
-    return this.with({ fileNumber: number });
-  }
-
-  /** The report with both parts of a code, as `eslint` and `no-undef`. */
   code(scope, number) {
-    return this.scope(scope).number(number);
+    return new Report(this.severity, this.message, { ...this, scope, number });
   }
 
-  scope(text) {
-    return this.with({ parts: { ...this.parts, scope: text } });
+  label(start, end, text) {
+    return this.withLabel({ start, end, text });
   }
 
-  number(text) {
-    return this.with({ parts: { ...this.parts, number: text } });
-  }
-
-  help(text) {
-    return this.with({ parts: { ...this.parts, help: text } });
-  }
-
-  note(text) {
-    return this.with({ parts: { ...this.parts, note: text } });
-  }
-
-  url(text) {
-    return this.with({ parts: { ...this.parts, url: text } });
-  }
-
-  /** The report with one more label: a part of the source, in bytes, and what is said of it. */
-  label(start, end, text, primary = false) {
-    return this.with({ labels: [...this.labels, { start, end, text, primary }] });
-  }
-
-  /** The report with one more label, at which it points first of all. */
   primary(start, end, text) {
-    return this.label(start, end, text, true);
+    return this.withLabel({ start, end, text, primary: true });
+  }
+
+  withLabel(label) {
+    return new Report(this.severity, this.message, { ...this, labels: [...this.labels, label] });
   }
 }
 
-/** How many bytes of a source stand before its UTF-16 unit at an index. */
-function byteOffset(source, index) {
-  return Buffer.byteLength(source.slice(0, index));
+/** Texts one after another, in a buffer that grows. */
+class Texts {
+  constructor() {
+    this.buffer = Buffer.alloc(0);
+    this.length = 0;
+  }
+
+  put(text) {
+    if (text === undefined || text === null) return [NONE, NONE];
+    const string = String(text);
+    const start = this.length;
+    const end = start + Buffer.byteLength(string);
+    if (end > this.buffer.length) {
+      const larger = Buffer.allocUnsafeSlow(2 * end);
+      this.buffer.copy(larger, 0, 0, start);
+      this.buffer = larger;
+    }
+    this.buffer.write(string, start);
+    this.length = end;
+    return [start, end];
+  }
+
+  get bytes() {
+    return this.buffer.subarray(0, this.length);
+  }
 }
 
-/** Why nothing was drawn: `kind` says which, and the numbers name files, reports and labels, from 0. */
+/** The distance of the marks in bytes. */
+const BLOCK = 1024;
+
+/** Two calls of Sources that are for this module only. */
+let withTexts;
+let byteOf;
+
+class Sources {
+  #unit;
+  #texts = new Texts();
+  #length = 0; // of the files' texts; those of reports come after, during a draw
+  #files = [];
+  #structs = null;
+  #marks = []; // at each BLOCK bytes: how many units come before
+
+  constructor(unit = Unit.bytes) {
+    if (!Object.values(Unit).includes(unit)) throw new TypeError(`girzohal: there is no unit ${unit}`);
+    this.#unit = unit;
+  }
+
+  get unit() {
+    return this.#unit;
+  }
+
+  get length() {
+    return this.#files.length;
+  }
+
+  add(name, source) {
+    this.#files.push([this.#texts.put(name), this.#texts.put(source)]);
+    this.#length = this.#texts.length;
+    this.#structs = null;
+    this.#setMarks();
+    return this.#files.length - 1;
+  }
+
+  static {
+    withTexts = (sources, call) => sources.#withTexts(call);
+    byteOf = (sources, file, offset) => sources.#byteOf(file, offset);
+  }
+
+  /** Calls with the files' structs and with texts to which reports may add theirs. */
+  #withTexts(call) {
+    if (this.#structs === null) {
+      const structs = new Structs(32, this.#files.length);
+      for (const [name, source] of this.#files) structs.text(name).text(source);
+      this.#structs = structs.bytes;
+    }
+    try {
+      return call(this.#structs, this.#texts);
+    } finally {
+      this.#texts.length = this.#length;
+    }
+  }
+
+  /** How many units the characters have that start in a range of the texts. */
+  #units(start, end) {
+    const bytes = this.#texts.buffer;
+    const long = this.#unit === Unit.utf16 ? 2 : 1;
+    let units = 0;
+    for (let at = start; at < end; at++) {
+      if ((bytes[at] & 0xc0) !== 0x80) units += bytes[at] >= 0xf0 ? long : 1;
+    }
+    return units;
+  }
+
+  #setMarks() {
+    if (this.#unit === Unit.bytes) return;
+    const marks = this.#marks;
+    if (marks.length === 0) marks.push(0);
+    for (let at = marks.length * BLOCK; at <= this.#length; at += BLOCK) {
+      marks.push(marks[marks.length - 1] + this.#units(at - BLOCK, at));
+    }
+  }
+
+  /** The byte of a file's source at an offset in units. MOST, which is past the end of every source, if there is none: the
+   * library then says that it is no place. */
+  #byteOf(file, offset) {
+    const found = this.#files[file];
+    if (!Number.isSafeInteger(offset) || offset < 0) return MOST;
+    if (this.#unit === Unit.bytes || found === undefined) return Math.min(offset, MOST);
+    return this.#counted(found[1], offset);
+  }
+
+  #counted([start, end], offset) {
+    const marks = this.#marks;
+    const bytes = this.#texts.buffer;
+    const block = Math.floor(start / BLOCK);
+    const wanted = marks[block] + this.#units(block * BLOCK, start) + offset;
+    let [low, high] = [0, marks.length];
+    while (high - low > 1) {
+      const middle = (low + high) >> 1;
+      if (marks[middle] <= wanted) low = middle;
+      else high = middle;
+    }
+    let at = low * BLOCK;
+    let units = marks[low];
+    while (at < end && (units < wanted || (bytes[at] & 0xc0) === 0x80)) {
+      units += this.#units(at, at + 1);
+      at++;
+    }
+    return units === wanted && at <= end ? Math.min(at - start, MOST) : MOST;
+  }
+}
+
 class DrawError extends Error {
   constructor(kind, message, numbers = {}) {
     super(message);
@@ -102,17 +196,21 @@ class DrawError extends Error {
   }
 }
 
-function errorOf([status, array, index, cause, report, label, first, second]) {
+/** The error of a status and an answer. `reports` are those of a draw, whose labels may be in another unit than bytes. */
+function errorOf([status, array, index, cause, report, label, first, second], reports) {
   const at = `report ${report}: label ${label}`;
-  if (status === 2 && array === 1) return new DrawError('wrongFile', `file ${index}: the source is too long`, { file: index });
+  if (status === 2 && array === 1) return new DrawError('wrongFile', `file ${index}: its source is too long`, { file: index });
   if (status === 2 && array === 2) {
-    return new DrawError('wrongReport', `report ${index}: no such file, or an empty part of its code`, { report: index });
+    return new DrawError('wrongReport', `report ${index}: there is no such file, or a part of its code is empty`, { report: index });
   }
-  if (status === 2) return new DrawError('wrongLook', `the look's ${['theme', 'tabs', 'form'][index]} is wrong`);
-  if (status === 3) return new DrawError('noDocument', 'no document');
-  if (status === 1 && cause === 1) return new DrawError('unknownFile', `report ${report}: no such file`, { report });
+  if (status === 2) {
+    return new DrawError('wrongLook', index === 1 ? "tab stops aren't 1 to 16 columns apart" : "the look's theme is wrong");
+  }
+  if (status === 3) return new DrawError('noDocument', 'not a document');
+  if (status === 1 && cause === 1) return new DrawError('unknownFile', `report ${report}: there is no such file`, { report });
   if (status === 1 && cause === 4) {
-    return new DrawError('endBeforeStart', `${at}: end ${second} before start ${first}`, { report, label, start: first, end: second });
+    const { start, end } = reports ? reports[report].labels[label] : { start: first, end: second };
+    return new DrawError('endBeforeStart', `${at}: its end ${end} is before its start ${start}`, { report, label, start, end });
   }
   if (status === 1) {
     const end = cause === 3 ? 'end' : 'start';
@@ -126,7 +224,7 @@ function number(value) {
   return Number.isInteger(value) && value >= 0 && value <= MOST ? value : MOST;
 }
 
-/** Structs, one behind another, each of so many bytes at an address of its own. */
+/** Structs one after another, each of so many bytes and at an address of its own. */
 class Structs {
   constructor(size, count) {
     this.view = new DataView(new ArrayBuffer(size * count));
@@ -166,78 +264,55 @@ function lookOf({ theme = Theme.unicodeNoColor, tabs = 4, width = 80 } = {}, for
   return made.bytes;
 }
 
-/** The buffer of texts, as it grows. */
-class Texts {
-  constructor() {
-    this.pieces = [];
-    this.length = 0;
-  }
-
-  put(text) {
-    if (text === undefined || text === null) return [NONE, NONE];
-    const piece = Buffer.from(String(text));
-    const start = this.length;
-    this.pieces.push(piece);
-    this.length += piece.length;
-    return [start, this.length];
-  }
-}
-
-function write(files, reports, look) {
-  const texts = new Texts();
-  const named = new Structs(32, files.list.length);
-  for (const { name, source } of files.list) named.text(texts.put(name)).text(texts.put(source));
-  const labels = new Structs(32, reports.reduce((sum, report) => sum + report.labels.length, 0));
-  const said = new Structs(120, reports.length);
-  let first = 0;
-  for (const report of reports) {
-    for (const { start, end, text, primary } of report.labels) {
-      labels.u32(number(start)).u32(number(end)).text(texts.put(text)).u32(primary ? 1 : 0).end();
+function write(sources, reports, look) {
+  return withTexts(sources, (files, texts) => {
+    const labels = new Structs(32, reports.reduce((sum, report) => sum + report.labels.length, 0));
+    const said = new Structs(120, reports.length);
+    let first = 0;
+    for (const report of reports) {
+      for (const label of report.labels) {
+        const [start, end] = [label.start, label.end].map((at) => byteOf(sources, report.file, at));
+        labels.u32(start).u32(end).text(texts.put(label.text)).u32(label.primary ? 1 : 0).end();
+      }
+      said.u32(number(report.file)).u32(number(report.severity)).text(texts.put(report.message));
+      for (const part of ['scope', 'number', 'help', 'note', 'url']) said.text(texts.put(report[part]));
+      said.size(first).size(report.labels.length);
+      first += report.labels.length;
     }
-    said.u32(number(report.fileNumber)).u32(number(report.severity)).text(texts.put(report.message));
-    for (const part of ['scope', 'number', 'help', 'note', 'url']) said.text(texts.put(report.parts[part]));
-    said.size(first).size(report.labels.length);
-    first += report.labels.length;
-  }
-  return told(native.draw(Buffer.concat(texts.pieces), named.bytes, said.bytes, labels.bytes, look));
+    return textOf(native.draw(texts.bytes, files, said.bytes, labels.bytes, look), reports);
+  });
 }
 
-function told(text) {
-  if (typeof text !== 'string') throw errorOf(text);
-  return text;
+function textOf(made, reports) {
+  if (typeof made !== 'string') throw errorOf(made, reports);
+  return made;
 }
 
-/** The drawings of reports, one after another. Throws a DrawError that names the first that is wrong. */
-function draw(files, reports, look) {
-  return write(files, reports, lookOf(look, 0));
+function draw(sources, reports, look) {
+  return write(sources, reports, lookOf(look, 0));
 }
 
-/** A line of JSON for each report. */
-function json(files, reports) {
-  return write(files, reports, lookOf({}, 1));
+function json(sources, reports) {
+  return write(sources, reports, lookOf({}, 1));
 }
 
 function writeDocument(document, look) {
-  return told(native.document(Buffer.from(document), look));
+  return textOf(native.document(Buffer.from(document), look));
 }
 
-/** The drawings of the reports of a document, a string or bytes: JSON of files and reports on them, whose keys are those
- * that docs/DOCUMENT.md of the repository lists. Throws a DrawError of kind `noDocument` where it is none. */
 function drawDocument(document, look) {
   return writeDocument(document, lookOf(look, 0));
 }
 
-/** A line of JSON for each report of a document. */
 function jsonDocument(document) {
   return writeDocument(document, lookOf({}, 1));
 }
 
-/** The version of the library: [major, minor, patch]. */
 function version() {
-  const said = native.version();
-  return [(said >> 16) & 255, (said >> 8) & 255, said & 255];
+  const number = native.version();
+  return [(number >> 16) & 255, (number >> 8) & 255, number & 255];
 }
 
 module.exports = {
-  DrawError, Files, Report, Severity, Theme, byteOffset, draw, drawDocument, json, jsonDocument, version,
+  DrawError, Report, Severity, Sources, Theme, Unit, draw, drawDocument, json, jsonDocument, version,
 };

@@ -1,4 +1,4 @@
-/* The example of ../README.md. */
+/* The arrays of girzohal_draw, laid out by hand: nothing here allocates. */
 #include <girzohal.h>
 #include <stdio.h>
 
@@ -13,7 +13,7 @@ int main(void) {
                               TEXT(NULL),  TEXT(NULL),       0, 1};
     girzohal_look look = {GIRZOHAL_UNICODE_NOCOLOR, 4, GIRZOHAL_DRAWING, 80};
     girzohal_answer answer;
-    uint32_t status = girzohal_draw(texts, len, &file, 1, &report, 1, &label, 1, &look, out, sizeof out, &answer);
+    uint32_t status = girzohal_draw(GIRZOHAL_ABI, texts, len, &file, 1, &report, 1, &label, 1, &look, out, sizeof out, &answer);
     if (status == GIRZOHAL_DONE) fwrite(out, 1, answer.needed, stdout);
     return (int)status;
 }

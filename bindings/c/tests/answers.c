@@ -17,10 +17,10 @@ int main(void) {
         for (uint32_t number = 0; number < 8; number++) {
             girzohal_look look = {number % 4, 4, number / 4 % 2, 80};
             girzohal_answer answer;
-            uint32_t status = girzohal_draw((const uint8_t *)e->texts, e->texts_len, e->files, e->files_len, e->reports,
+            uint32_t status = girzohal_draw(GIRZOHAL_ABI, (const uint8_t *)e->texts, e->texts_len, e->files, e->files_len, e->reports,
                                             e->reports_len, e->labels, e->labels_len, &look, out, sizeof out, &answer);
             print(e->name, &look, status, &answer);
-            status = girzohal_document((const uint8_t *)e->document, e->document_len, &look, out, sizeof out, &answer);
+            status = girzohal_document(GIRZOHAL_ABI, (const uint8_t *)e->document, e->document_len, &look, out, sizeof out, &answer);
             print(e->name, &look, status, &answer);
         }
     }

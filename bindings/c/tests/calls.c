@@ -64,7 +64,7 @@ static int is_small(const reply *it, size_t needed) {
 
 static void draw_example(const example *e, const girzohal_look *look, size_t room, reply *it) {
     begin(it);
-    it->status = girzohal_draw((const uint8_t *)e->texts, e->texts_len, e->files, e->files_len, e->reports,
+    it->status = girzohal_draw(GIRZOHAL_ABI, (const uint8_t *)e->texts, e->texts_len, e->files, e->files_len, e->reports,
                                e->reports_len, e->labels, e->labels_len, look, it->out, room, &it->answer);
 }
 
@@ -93,7 +93,7 @@ static void try_examples(void) {
 
 static void draw_document(const char *document, size_t len, const girzohal_look *look, size_t room, reply *it) {
     begin(it);
-    it->status = girzohal_document((const uint8_t *)document, len, look, it->out, room, &it->answer);
+    it->status = girzohal_document(GIRZOHAL_ABI, (const uint8_t *)document, len, look, it->out, room, &it->answer);
 }
 
 static void try_documents(void) {
@@ -217,7 +217,7 @@ static void fresh(void) {
 
 static void draw(reply *it) {
     begin(it);
-    it->status = girzohal_draw((const uint8_t *)texts, TEXTS_LEN, &file, 1, &report, 1, &label, 1, &look, it->out, ROOM,
+    it->status = girzohal_draw(GIRZOHAL_ABI, (const uint8_t *)texts, TEXTS_LEN, &file, 1, &report, 1, &label, 1, &look, it->out, ROOM,
                                &it->answer);
 }
 
@@ -298,7 +298,7 @@ static void try_long_texts(void) {
             memset(bytes, 'a', LONG);
             memcpy(bytes + at, parts[part].bytes, parts[part].len);
             begin(&it);
-            it.status = girzohal_draw(bytes, LONG, &file, 0, &report, 0, &label, 0, &look, it.out, ROOM, &it.answer);
+            it.status = girzohal_draw(GIRZOHAL_ABI, bytes, LONG, &file, 0, &report, 0, &label, 0, &look, it.out, ROOM, &it.answer);
             same = same && (parts[part].is_text ? wrote(&it, "", 0) : is_wrong(&it, 0, 0));
         }
         check("a part of a long text", "is found wherever it stands", same);
@@ -306,7 +306,7 @@ static void try_long_texts(void) {
     for (size_t at = 0; at + 3 <= LONG; at += 3) memcpy(bytes + at, "\346\227\245", 3);
     for (size_t len = LONG - 4; len < LONG; len++) {
         begin(&it);
-        it.status = girzohal_draw(bytes, len, &file, 0, &report, 0, &label, 0, &look, it.out, ROOM, &it.answer);
+        it.status = girzohal_draw(GIRZOHAL_ABI, bytes, len, &file, 0, &report, 0, &label, 0, &look, it.out, ROOM, &it.answer);
         check("a long text past ASCII", "is a text up to each character", len % 3 ? is_wrong(&it, 0, 0) : wrote(&it, "", 0));
     }
 }
@@ -374,7 +374,7 @@ static void try_order(void) {
     draw(&it);
     check("files", "go before reports", is_wrong(&it, 1, 0));
     begin(&it);
-    it.status = girzohal_draw((const uint8_t *)"\377", 1, &file, 1, &report, 1, &label, 1, &look, it.out, ROOM, &it.answer);
+    it.status = girzohal_draw(GIRZOHAL_ABI, (const uint8_t *)"\377", 1, &file, 1, &report, 1, &label, 1, &look, it.out, ROOM, &it.answer);
     check("texts", "go before files", is_wrong(&it, 0, 0));
     fresh();
     look.theme = 9;
@@ -391,13 +391,36 @@ static void try_order(void) {
     reports[3].severity = 5;
     girzohal_label labels[3] = {label, label, label};
     begin(&it);
-    it.status = girzohal_draw((const uint8_t *)texts, TEXTS_LEN, &file, 1, reports, 4, labels, 3, &look, it.out, ROOM, &it.answer);
+    it.status = girzohal_draw(GIRZOHAL_ABI, (const uint8_t *)texts, TEXTS_LEN, &file, 1, reports, 4, labels, 3, &look, it.out, ROOM, &it.answer);
     check("the first wrong report", "is named", is_wrong(&it, 2, 2));
     labels[1].text = turned;
     labels[2].text = turned;
     begin(&it);
-    it.status = girzohal_draw((const uint8_t *)texts, TEXTS_LEN, &file, 1, reports, 2, labels, 3, &look, it.out, ROOM, &it.answer);
+    it.status = girzohal_draw(GIRZOHAL_ABI, (const uint8_t *)texts, TEXTS_LEN, &file, 1, reports, 2, labels, 3, &look, it.out, ROOM, &it.answer);
     check("a label that no report names", "is judged too", is_wrong(&it, 3, 1));
+}
+
+/* the number of the ABI goes before everything else, and nothing else is read */
+static void try_abi(void) {
+    static reply it;
+    const uint32_t numbers[] = {0, 2, 256, UINT32_MAX};
+    for (size_t at = 0; at < COUNT(numbers); at++) {
+        fresh();
+        begin(&it);
+        it.status = girzohal_draw(numbers[at], (const uint8_t *)texts, TEXTS_LEN, &file, 1, &report, 1, &label, 1, &look, it.out, ROOM,
+                                  &it.answer);
+        check("another ABI", "is wrong", is_wrong(&it, GIRZOHAL_WRONG_ABI, 0));
+        file.name = none;
+        report.severity = 7;
+        look.theme = 9;
+        begin(&it);
+        it.status = girzohal_draw(numbers[at], (const uint8_t *)"\377", 1, &file, 1, &report, 1, &label, 1, &look, it.out, 0, &it.answer);
+        check("another ABI", "goes before the texts", is_wrong(&it, GIRZOHAL_WRONG_ABI, 0));
+        begin(&it);
+        it.status = girzohal_document(numbers[at], (const uint8_t *)"{", 1, &look, it.out, ROOM, &it.answer);
+        check("another ABI", "goes before the look and the document", is_wrong(&it, GIRZOHAL_WRONG_ABI, 0));
+    }
+    check("the ABI", "is the first", GIRZOHAL_ABI == 1);
 }
 
 static void try_refusals(void) {
@@ -428,7 +451,7 @@ static void try_refusals(void) {
     reports[1].labels = 3;
     labels[2].end = 31;
     begin(&it);
-    it.status = girzohal_draw((const uint8_t *)texts, TEXTS_LEN, &file, 1, reports, 2, labels, 3, &look, it.out, 1, &it.answer);
+    it.status = girzohal_draw(GIRZOHAL_ABI, (const uint8_t *)texts, TEXTS_LEN, &file, 1, reports, 2, labels, 3, &look, it.out, 1, &it.answer);
     check("a refusal", "names report and label, and goes before a small buffer", refuses(&it, GIRZOHAL_END_NO_PLACE, 1, 2, 0, 0));
 }
 
@@ -441,7 +464,7 @@ static void try_kinds_of_texts(void) {
     girzohal_report of_nul = {0, GIRZOHAL_ADVICE, {1, 2}, {1, 2}, {3, 4}, {0, 8}, {0, 8}, {1, 2}, 0, 1};
     girzohal_label at_nul = {1, 4, {3, 4}, UINT32_MAX};
     begin(&it);
-    it.status = girzohal_draw((const uint8_t *)bytes, 8, &with_nul, 1, &of_nul, 1, &at_nul, 1, &ascii, it.out, ROOM, &it.answer);
+    it.status = girzohal_draw(GIRZOHAL_ABI, (const uint8_t *)bytes, 8, &with_nul, 1, &of_nul, 1, &at_nul, 1, &ascii, it.out, ROOM, &it.answer);
     check("texts with NUL", "are drawn", it.status == 0 && it.answer.needed > 0 && untouched_from(&it, it.answer.needed));
     static const char oops[] = "a.jsfoo\nbar\nbazOopshere";
     static const char line[] = "{\"message\": \"Oops\",\"severity\": \"error\",\"filename\": \"a.js\",\"labels\": [{\"label\": \"here\",\"span\": {\"offset\": 4,\"length\": 3,\"line\": 2,\"column\": 1}}]}\n";
@@ -449,7 +472,7 @@ static void try_kinds_of_texts(void) {
     girzohal_report a_report = {0, GIRZOHAL_ERROR, {15, 19}, none, none, none, none, none, 0, 1};
     girzohal_label a_label = {4, 7, {19, 23}, 0};
     begin(&it);
-    it.status = girzohal_draw((const uint8_t *)oops, sizeof oops - 1, &a_file, 1, &a_report, 1, &a_label, 1, &json, it.out, ROOM, &it.answer);
+    it.status = girzohal_draw(GIRZOHAL_ABI, (const uint8_t *)oops, sizeof oops - 1, &a_file, 1, &a_report, 1, &a_label, 1, &json, it.out, ROOM, &it.answer);
     check("JSON", "is one line", wrote(&it, line, sizeof line - 1));
 }
 
@@ -460,27 +483,27 @@ static void try_empty(void) {
     fresh();
     const uint8_t *bytes = (const uint8_t *)texts;
     begin(&it);
-    it.status = girzohal_draw(bytes, 0, &file, 0, &report, 0, &label, 0, &look, it.out, 0, &it.answer);
+    it.status = girzohal_draw(GIRZOHAL_ABI, bytes, 0, &file, 0, &report, 0, &label, 0, &look, it.out, 0, &it.answer);
     check("nothing at all", "is drawn as nothing", wrote(&it, "", 0));
     begin(&it);
-    it.status = girzohal_draw(bytes, 0, &file, 1, &report, 1, &label, 1, &look, it.out, ROOM, &it.answer);
+    it.status = girzohal_draw(GIRZOHAL_ABI, bytes, 0, &file, 1, &report, 1, &label, 1, &look, it.out, ROOM, &it.answer);
     check("no texts", "make the file wrong", is_wrong(&it, 1, 0));
     begin(&it);
-    it.status = girzohal_draw(bytes, TEXTS_LEN, &file, 0, &report, 1, &label, 1, &look, it.out, ROOM, &it.answer);
+    it.status = girzohal_draw(GIRZOHAL_ABI, bytes, TEXTS_LEN, &file, 0, &report, 1, &label, 1, &look, it.out, ROOM, &it.answer);
     check("no files", "make the report wrong", is_wrong(&it, 2, 0));
     begin(&it);
-    it.status = girzohal_draw(bytes, TEXTS_LEN, &file, 1, &report, 0, &label, 1, &look, it.out, ROOM, &it.answer);
+    it.status = girzohal_draw(GIRZOHAL_ABI, bytes, TEXTS_LEN, &file, 1, &report, 0, &label, 1, &look, it.out, ROOM, &it.answer);
     check("no reports", "are drawn as nothing", wrote(&it, "", 0));
     begin(&it);
-    it.status = girzohal_draw(bytes, TEXTS_LEN, &file, 1, &report, 1, &label, 0, &look, it.out, ROOM, &it.answer);
+    it.status = girzohal_draw(GIRZOHAL_ABI, bytes, TEXTS_LEN, &file, 1, &report, 1, &label, 0, &look, it.out, ROOM, &it.answer);
     check("no labels", "make the report wrong", is_wrong(&it, 2, 0));
     report.labels = 0;
     begin(&it);
-    it.status = girzohal_draw(bytes, TEXTS_LEN, &file, 1, &report, 1, &label, 0, &look, it.out, ROOM, &it.answer);
+    it.status = girzohal_draw(GIRZOHAL_ABI, bytes, TEXTS_LEN, &file, 1, &report, 1, &label, 0, &look, it.out, ROOM, &it.answer);
     check("a report without labels", "is drawn", it.status == 0 && it.answer.needed > 0);
     size_t needed = it.answer.needed;
     begin(&it);
-    it.status = girzohal_draw(bytes, TEXTS_LEN, &file, 1, &report, 1, &label, 0, &look, it.out, 0, &it.answer);
+    it.status = girzohal_draw(GIRZOHAL_ABI, bytes, TEXTS_LEN, &file, 1, &report, 1, &label, 0, &look, it.out, 0, &it.answer);
     check("a buffer of no bytes", "is too small", is_small(&it, needed));
     begin(&it);
     it.status = girzohal_draw_or_empty(bytes, TEXTS_LEN, &file, 1, &report, 1, NULL, 0, &look, NULL, 0, &it.answer);
@@ -517,7 +540,7 @@ static void try_many(void) {
     if (same) {
         for (size_t at = 0; at < MANY; at++) reports[at] = report;
         out[one.answer.needed * MANY] = 0xAA;
-        uint32_t status = girzohal_draw((const uint8_t *)texts, TEXTS_LEN, &file, 1, reports, MANY, &label, 1, &look, out,
+        uint32_t status = girzohal_draw(GIRZOHAL_ABI, (const uint8_t *)texts, TEXTS_LEN, &file, 1, reports, MANY, &label, 1, &look, out,
                                         one.answer.needed * MANY, &answer);
         same = status == 0 && answer.needed == one.answer.needed * MANY && out[answer.needed] == 0xAA;
         for (size_t at = 0; same && at < MANY; at++)
@@ -575,6 +598,7 @@ int main(void) {
     try_long_texts();
     try_numbers();
     try_order();
+    try_abi();
     try_refusals();
     try_kinds_of_texts();
     try_empty();

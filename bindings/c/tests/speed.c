@@ -24,7 +24,7 @@ static int is_same(const char *name, const girzohal_look *look, const uint8_t *d
     rewind(from);
     uint8_t *document = take(from, size, 1), *out = malloc(len);
     if (out == NULL) exit(2);
-    return girzohal_document(document, size, look, out, len, &answer) == GIRZOHAL_DONE && answer.needed == len && memcmp(out, drawn, len) == 0;
+    return girzohal_document(GIRZOHAL_ABI, document, size, look, out, len, &answer) == GIRZOHAL_DONE && answer.needed == len && memcmp(out, drawn, len) == 0;
 }
 
 int main(int count, char **words) {
@@ -40,7 +40,7 @@ int main(int count, char **words) {
     size_t room = (size_t)1 << 28;
     uint8_t *out = malloc(room);
     if (out == NULL) return 2;
-    uint32_t status = girzohal_draw(texts, lens[0], files, lens[1], reports, lens[2], labels, lens[3], &look, out, room, &answer);
+    uint32_t status = girzohal_draw(GIRZOHAL_ABI, texts, lens[0], files, lens[1], reports, lens[2], labels, lens[3], &look, out, room, &answer);
     if (status == GIRZOHAL_DONE && !is_same(words[1], &look, out, answer.needed)) return 3;
     to = fopen(words[2], "wb");
     if (status != GIRZOHAL_DONE || to == NULL || fwrite(out, 1, answer.needed, to) != answer.needed) return 1;

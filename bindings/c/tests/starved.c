@@ -1,7 +1,7 @@
 /* Each request for memory fails in turn: the answer is want of memory with the buffer as it was, or 0 with the right
  * drawing, where the want was bridged. Nothing is left behind. Link with --wrap=malloc,--wrap=realloc,--wrap=calloc. */
+#include "build.h"
 #include "check.h"
-#include "examples.h"
 
 #include <stdlib.h>
 
@@ -44,8 +44,8 @@ static uint8_t out[8192], right[8192], before[8192];
 
 static uint32_t call(const example *e, int is_document, const girzohal_look *look, girzohal_answer *answer) {
     if (is_document)
-        return girzohal_document((const uint8_t *)e->document, e->document_len, look, out, sizeof out, answer);
-    return girzohal_draw((const uint8_t *)e->texts, e->texts_len, e->files, e->files_len, e->reports, e->reports_len,
+        return girzohal_document(GIRZOHAL_ABI, (const uint8_t *)e->document, e->document_len, look, out, sizeof out, answer);
+    return girzohal_draw(GIRZOHAL_ABI, (const uint8_t *)e->texts, e->texts_len, e->files, e->files_len, e->reports, e->reports_len,
                          e->labels, e->labels_len, look, out, sizeof out, answer);
 }
 
@@ -73,10 +73,35 @@ static void starve(const example *e, int is_document, const girzohal_look *look)
     check(e->name, look->form == GIRZOHAL_JSON ? "JSON" : "a drawing", holds && wants > 0 && wants + bridged == all);
 }
 
+/* the same with girzohal_sources, whose own requests fail too */
+static void starve_sources(const example *e) {
+    long all = 0, wants = 0, bridged = 0;
+    int holds = 1;
+    for (long at = -1; at < all; at++) {
+        girzohal_sources it = {0};
+        it.unit = GIRZOHAL_CHARACTERS;
+        left = at;
+        asked = 0;
+        add_files(e, &it);
+        add_reports(e, &it);
+        uint32_t status = girzohal_sources_draw(&it, &looks[0]);
+        left = -1;
+        if (at < 0) all = asked;
+        int starved = status == GIRZOHAL_OUT_OF_MEMORY && it.out_len == 0 && it.answer.needed == 0;
+        int drew = status == GIRZOHAL_DONE && it.out_len == e->drawing_len && memcmp(it.out, e->drawing, e->drawing_len) == 0;
+        girzohal_sources_free(&it);
+        holds = holds && (at < 0 ? drew : starved || drew) && live == 0;
+        wants += starved;
+        bridged += at >= 0 && drew;
+    }
+    check(e->name, "sources", holds && wants > 0 && wants + bridged == all);
+}
+
 int main(void) {
     memset(before, 0xAA, sizeof before);
     for (size_t at = 0; at < COUNT(examples); at++)
         for (size_t look = 0; look < COUNT(looks); look++)
             for (int is_document = 0; is_document < 2; is_document++) starve(&examples[at], is_document, &looks[look]);
+    for (size_t at = 0; at < COUNT(examples); at++) starve_sources(&examples[at]);
     return told("starved");
 }

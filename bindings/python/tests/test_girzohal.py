@@ -1,26 +1,43 @@
-"""The module's calls on the examples of the repository, and on what it could get wrong."""
+"""The package's calls on the examples of the repository, and on what it could get wrong."""
 
 import concurrent.futures
 import ctypes
+import dataclasses
 import doctest
 import json
 import os
+import subprocess
+import sys
 import unittest
 
 import girzohal
-from girzohal import Files, Label, Look, Report, Severity, Theme, byte_offset, draw, draw_document, json_document
+from girzohal import Label, Look, Report, Severity, Sources, Theme, Unit, draw, draw_document, json_document
 
 HERE = os.path.dirname(os.path.abspath(__file__))
-EXAMPLES = os.path.join(HERE, "..", "..", "examples")
+EXAMPLES = os.path.join(HERE, "..", "..", "..", "examples")
 ASCII = Look(Theme.NONE)
+COUNTED = {
+    Unit.BYTES: lambda text: len(text.encode()),
+    Unit.CHARACTERS: len,
+    Unit.UTF16: lambda text: len(text.encode("utf-16-le")) // 2,
+}
 
 
-def byte_of(source, place):
-    """The offset of a row and a column, both from 1; a byte order mark at the beginning is no column."""
+def character_of(source, place):
+    """The index of a row and a column, both from 1; a byte order mark at the beginning is no column."""
     row, column = place
     at = sum(len(line) for line in source.splitlines(keepends=True)[: row - 1])
     mark = at == 0 and source.startswith("\ufeff")
-    return byte_offset(source, at + column - 1 + mark)
+    return at + column - 1 + mark
+
+
+def ends(source, label, unit):
+    """The start and the end of a label in a unit."""
+    if "bytes" in label:
+        places = [len(source.encode()[:at].decode()) for at in label["bytes"]]
+    else:
+        places = [character_of(source, label[end]) for end in ("start", "end")]
+    return [COUNTED[unit](source[:place]) for place in places]
 
 
 def document_of(name):
@@ -29,34 +46,32 @@ def document_of(name):
         return file.read()
 
 
-def example(name):
-    """The files and the reports of an example, and its drawing."""
+def example(name, unit=Unit.BYTES):
+    """The sources and the reports of an example, and its drawing."""
     said = json.loads(document_of(name))
     with open(os.path.join(EXAMPLES, name + ".txt"), encoding="utf-8", newline="") as file:
         drawing = file.read()
-    files, reports = Files(), []
+    sources, reports = Sources(unit), []
     for each in said["files"]:
-        files.add(each["name"], each["source"])
+        sources.add(each["name"], each["source"])
     for each in said["reports"]:
         source = said["files"][each["file"]]["source"]
-        report = Report(Severity[each.get("severity", "error").upper()], each["message"]).file(each["file"])
-        for part in ("scope", "number", "help", "note", "url"):
-            if part in each:
-                report = getattr(report, part)(each[part])
-        for label in each.get("labels", []):
-            start, end = label.get("bytes") or (byte_of(source, label["start"]), byte_of(source, label["end"]))
-            report = report.with_label(Label(start, end, label.get("text"), label.get("primary", False)))
-        reports.append(report)
-    return files, reports, drawing
+        labels = [
+            Label(*ends(source, label, unit), label.get("text"), label.get("primary", False)) for label in each.get("labels", [])
+        ]
+        parts = {part: each[part] for part in ("scope", "number", "help", "note", "url") if part in each}
+        severity = Severity[each.get("severity", "error").upper()]
+        reports.append(Report(severity, each["message"], each["file"], labels=labels, **parts))
+    return sources, reports, drawing
 
 
 NAMES = sorted(name[:-5] for name in os.listdir(EXAMPLES) if name.endswith(".json"))
 
 
-def one(source):
-    files = Files()
-    files.add("a.txt", source)
-    return files
+def one(source, unit=Unit.BYTES):
+    sources = Sources(unit)
+    sources.add("a.txt", source)
+    return sources
 
 
 class Calls(unittest.TestCase):
@@ -64,8 +79,10 @@ class Calls(unittest.TestCase):
         self.assertGreaterEqual(len(NAMES), 10)
         for name in NAMES:
             with self.subTest(name):
-                files, reports, drawing = example(name)
-                self.assertEqual(draw(files, reports, ASCII), drawing)
+                for unit in Unit:
+                    files, reports, drawing = example(name, unit)
+                    for _ in range(2):
+                        self.assertEqual(draw(files, reports, ASCII), drawing)
                 lines = girzohal.json(files, reports)
                 self.assertEqual([json.loads(line)["message"] for line in lines.splitlines()], [r.message for r in reports])
 
@@ -78,7 +95,7 @@ class Calls(unittest.TestCase):
                 self.assertEqual(draw_document(document.decode(), ASCII), drawing)
                 self.assertEqual(json_document(document), girzohal.json(files, reports))
 
-    def test_documents_that_are_refused_are_told(self):
+    def test_documents_that_are_refused(self):
         files = [{"name": "a.txt", "source": "é\nabc"}]
 
         def told(file, labels):
@@ -95,7 +112,7 @@ class Calls(unittest.TestCase):
         self.assertEqual((raised.exception.start, raised.exception.end), (5, 3))
         with self.assertRaises(girzohal.UnknownFile) as raised:
             told(1, [])
-        self.assertEqual(str(raised.exception), "report 1: no such file")
+        self.assertEqual(str(raised.exception), "report 1: there is no such file")
         for none in ("", b"", "{", "[]", "{}", b"\xff", '{"files":[],"reports":[]} x'):
             for call in (draw_document, json_document):
                 with self.subTest(none), self.assertRaises(girzohal.NoDocument):
@@ -110,14 +127,14 @@ class Calls(unittest.TestCase):
         document = json.dumps({"files": [{"name": "a.txt", "source": row}], "reports": said})
         self.assertEqual(draw_document(document).count(row), 100)
 
-    def test_themes_are_told_apart(self):
+    def test_themes_differ(self):
         files, reports = one("let x = 1;\n"), [Report.error("oops").label(4, 5, "here")]
         self.assertIn("\x1b[", draw(files, reports, Look(Theme.UNICODE)))
         self.assertIn("╭", draw(files, reports))
         self.assertNotIn("\x1b", draw(files, reports))
         self.assertTrue(draw(files, reports, ASCII).isascii())
 
-    def test_refusals_are_told(self):
+    def test_refusals(self):
         files = one("é\nabc")
         rows = [(1, 2, False), (0, 1, True), (0, 7, True), (7, 7, False), (0, 2**70, True), (-1, 2, False), (2**32, 2**32, False)]
         for start, end, at_end in rows:
@@ -126,16 +143,16 @@ class Calls(unittest.TestCase):
             self.assertEqual((told.exception.report, told.exception.label, told.exception.at_end), (1, 0, at_end))
         with self.assertRaises(girzohal.EndBeforeStart) as told:
             draw(files, [Report.error("m").label(0, 2).label(5, 3)])
-        self.assertEqual(str(told.exception), "report 0: label 1: end 3 before start 5")
+        self.assertEqual(str(told.exception), "report 0: label 1: its end 3 is before its start 5")
         draw(files, [Report.error("m").label(6, 6)])
 
-    def test_wrong_arguments_are_told(self):
+    def test_wrong_arguments(self):
         files, right = one("x"), Report.error("m")
-        for wrong in (right.file(1), right.file(-1), right.file(2**40), right.scope(""), right.number(""), Report(7, "m")):
+        for wrong in (*(Report.error("m", file=at) for at in (1, -1, 2**40)), right.code("", "n"), right.code("s", ""), Report(7, "m")):
             with self.assertRaises(girzohal.WrongReport) as told:
                 draw(files, [right, wrong])
             self.assertEqual(told.exception.report, 1)
-        draw(files, [Report.advice("").help("").note("").url("").label(0, 0, "")])
+        draw(files, [Report.advice("", help="", note="", url="").label(0, 0, "")])
         rows = [(Look(tabs=0), "tabs"), (Look(tabs=17), "tabs"), (Look(tabs=-1), "tabs"), (Look(tabs=2**40), "tabs"), (Look(theme=3), "theme")]
         for look, field in rows:
             with self.subTest(look), self.assertRaises(girzohal.WrongLook) as told:
@@ -145,15 +162,15 @@ class Calls(unittest.TestCase):
             self.assertIn("m", draw(files, [right], Look(width=width)))
 
     def test_nothing_is_drawn_of_nothing(self):
-        self.assertEqual(draw(Files(), []), "")
+        self.assertEqual(draw(Sources(), []), "")
         self.assertEqual(draw(one(""), []), "")
-        self.assertEqual(girzohal.json(Files(), []), "")
+        self.assertEqual(girzohal.json(Sources(), []), "")
         self.assertEqual(draw(one(""), [Report.error("m")], ASCII), "\n  x m\n")
         with self.assertRaises(girzohal.WrongReport):
-            draw(Files(), [Report.error("m")])
+            draw(Sources(), [Report.error("m")])
 
     def test_texts_of_all_kinds_are_drawn(self):
-        report = Report.warning("grün \0 日本").label(3, 6, "日\0本").note("ñ").help("ü")
+        report = Report.warning("grün \0 日本", note="ñ", help="ü").label(3, 6, "日\0本")
         drawn = draw(one("日本 \0\té\n"), [report])
         for text in ("grün", "日本", "ñ", "ü"):
             self.assertIn(text, drawn)
@@ -162,13 +179,15 @@ class Calls(unittest.TestCase):
 
     def test_a_report_is_left_as_it_was(self):
         right = Report.error("m")
-        self.assertIsNot(right.label(0, 1), right)
-        right.label(0, 1).help("h").file(3)
-        self.assertEqual((right.labels, right.parts, right.file_number), ((), {}, 0))
+        right.label(0, 1).code("s", "n")
+        self.assertEqual(right, Report(Severity.ERROR, "m"))
+        for changed in (right, right.label(0, 1).labels[0], ASCII):
+            with self.assertRaises(dataclasses.FrozenInstanceError):
+                changed.file = 3
+        self.assertEqual(hash(right.label(0, 1)), hash(Report(Severity.ERROR, "m", labels=[Label(0, 1)])))
 
     def test_a_small_first_buffer_is_followed_by_one_that_fits(self):
-        report = Report.error("m")
-        report.labels = tuple(Label(2 * row, 2 * row + 1, "y") for row in range(2000))
+        report = Report(Severity.ERROR, "m", labels=[Label(2 * row, 2 * row + 1, "y") for row in range(2000)])
         drawn = draw(one("x\n" * 2000), [report], ASCII)
         self.assertEqual(drawn.count("`-- y"), 2000)
         self.assertGreater(len(drawn), 2 * 6001 + 256 + 4096)
@@ -187,12 +206,68 @@ class Calls(unittest.TestCase):
         with concurrent.futures.ThreadPoolExecutor(8) as pool:
             self.assertEqual(list(pool.map(often, range(8))), [True] * 8)
 
-    def test_versions_agree(self):
-        with open(os.path.join(HERE, "..", "..", "VERSION"), encoding="utf-8") as file:
-            self.assertEqual(".".join(map(str, girzohal.version())), file.read().strip())
+    def test_units_are_converted(self):
+        text = "a\u00e9\u65e5\U0001f44d\n" * 700
+        by_bytes = one(text)
+        for unit in (Unit.CHARACTERS, Unit.UTF16):
+            sources = Sources(unit)
+            for name, source in (("\U0001f44d", ""), ("a.txt", text), ("last", "\u00e9")):
+                sources.add(name, source)
+            count = COUNTED[unit]
+            for at in range(0, len(text), 37):
+                start, end = len(text[:at].encode()), len(text[: at + 1].encode())
+                want = girzohal.json(by_bytes, [Report.error("m").label(start, end)])
+                report = Report.error("m", file=1).label(count(text[:at]), count(text[: at + 1]))
+                self.assertEqual(girzohal.json(sources, [report]), want)
+            places = {count(text[:at]): len(text[:at].encode()) for at in range(len(text) + 1)}
+            for at in range(count(text) + 3):
+                self.assertEqual(sources._byte_of(1, at), places.get(at, 2**32 - 1))
+            self.assertEqual([sources._byte_of(0, at) for at in range(2)], [0, 2**32 - 1])
+            self.assertEqual([sources._byte_of(2, at) for at in range(3)], [0, 2, 2**32 - 1])
 
-    @unittest.skipUnless(hasattr(girzohal._library, "girzohal_starve"), "the library's memory can't be made to want")
-    def test_want_of_memory_is_told(self):
+    def test_places_that_are_not_there_in_a_unit(self):
+        sources = one("\U0001f44dx", Unit.UTF16)
+        for start, end, at_end in ((1, 2, False), (0, 1, True), (0, 4, True), (-1, 0, False), (2**70, 2**70, False)):
+            with self.subTest((start, end)), self.assertRaises(girzohal.NoPlace) as raised:
+                draw(sources, [Report.error("m").label(start, end)])
+            self.assertEqual(raised.exception.at_end, at_end)
+        with self.assertRaises(girzohal.EndBeforeStart) as raised:
+            draw(sources, [Report.error("m").label(3, 2)])
+        self.assertEqual((raised.exception.start, raised.exception.end), (3, 2))
+        with self.assertRaises(ValueError):
+            Sources("rows")
+
+    def test_sources_are_laid_out_once(self):
+        sources, report = one("first"), Report.error("m", file=1).label(0, 1)
+        for _ in range(3):
+            with self.assertRaises(girzohal.WrongReport):
+                draw(sources, [report])
+            self.assertEqual([bytes(room) for room in sources._rooms], [b"a.txtfirst"])
+        self.assertEqual(sources.add("b.txt", "second"), 1)
+        self.assertIn("second", draw(sources, [report]))
+        self.assertEqual((len(sources), len(sources._rooms)), (2, 1))
+
+    def test_threads_draw_from_the_same_sources(self):
+        sources, report = one("let x = 1;\n"), Report.error("m").label(4, 5, "here")
+        alone = draw(sources, [report])
+        with concurrent.futures.ThreadPoolExecutor(8) as pool:
+            drawn = list(pool.map(lambda _: draw(sources, [report]), range(2000)))
+        self.assertEqual(set(drawn), {alone})
+
+    def test_an_import_error_says_what_to_do(self):
+        for path in (os.devnull, os.path.join(HERE, "no such file"), __file__):
+            given = {**os.environ, "GIRZOHAL_LIBRARY": path, "PYTHONPATH": os.path.dirname(os.path.dirname(girzohal.__file__))}
+            ran = subprocess.run([sys.executable, "-c", "import girzohal"], env=given, capture_output=True, text=True)
+            self.assertEqual(ran.returncode, 1)
+            self.assertRegex(ran.stderr.splitlines()[-1], "^ImportError: girzohal: .*Install the wheel .* GIRZOHAL_LIBRARY")
+
+    def test_versions_agree(self):
+        with open(os.path.join(HERE, "..", "..", "..", "VERSION"), encoding="utf-8") as file:
+            self.assertEqual(".".join(map(str, girzohal.version())), file.read().strip())
+        self.assertEqual(".".join(map(str, girzohal.version())), girzohal.__version__)
+
+    @unittest.skipUnless(hasattr(girzohal._library, "girzohal_starve"), "the library's allocations can't be made to fail")
+    def test_out_of_memory(self):
         library = girzohal._library
         library.girzohal_starve.argtypes, library.girzohal_asked.restype = [ctypes.c_int64], ctypes.c_int64
         for name in NAMES:

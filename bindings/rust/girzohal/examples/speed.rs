@@ -2,7 +2,7 @@
 //!
 //! usage: speed FILE DRAWING
 
-use girzohal::{draw, Files, Label, Look, Report, Severity, Theme};
+use girzohal::{draw, Label, Look, Report, Severity, Sources, Theme};
 
 /// What is left of a file of numbers and texts.
 struct Reader<'a>(&'a [u8]);
@@ -28,19 +28,19 @@ impl<'a> Reader<'a> {
     }
 }
 
-fn read(bytes: &[u8]) -> (Files, Vec<Report>) {
+fn read(bytes: &[u8]) -> (Sources, Vec<Report>) {
     let mut from = Reader(bytes);
     let lens = [from.usize(), from.usize(), from.usize(), from.usize()];
     let texts = std::str::from_utf8(from.take(lens[0])).unwrap();
-    let mut files = Files::new();
+    let mut sources = Sources::new();
     for _ in 0..lens[1] {
         let (name, source) = (from.text(texts), from.text(texts));
-        files.add(name.unwrap(), source.unwrap());
+        sources.add(name.unwrap(), source.unwrap());
     }
     let mut labels = Reader(&from.0[lens[2] * 120..]);
     let labels: Vec<Label> = (0..lens[3]).map(|_| label(&mut labels, texts)).collect();
     let reports = (0..lens[2]).map(|_| report(&mut from, texts, &labels));
-    (files, reports.collect())
+    (sources, reports.collect())
 }
 
 fn label(from: &mut Reader<'_>, texts: &str) -> Label {
@@ -75,7 +75,7 @@ fn report(from: &mut Reader<'_>, texts: &str, labels: &[Label]) -> Report {
 }
 
 #[inline(never)]
-fn counted(files: &Files, reports: &[Report], look: &Look) -> String {
+fn counted(files: &Sources, reports: &[Report], look: &Look) -> String {
     draw(files, reports, look).unwrap()
 }
 

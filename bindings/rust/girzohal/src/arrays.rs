@@ -1,25 +1,26 @@
 //! Reports as plain arrays.
 
-use crate::ffi::{Arrays, File, Label, Report, Text};
-use crate::{report, Files, Severity};
+use crate::call::Arrays;
+use crate::sources::put;
+use crate::{report, Severity, Sources};
+use girzohal_sys::{Label, Report};
 
 /// The arrays of reports and labels, and one buffer of all texts, which begins with those of the files.
-pub(crate) struct Owned<'a> {
+pub(crate) struct Laid<'a> {
+    sources: &'a Sources,
     texts: String,
-    files: &'a [File],
     reports: Vec<Report>,
     labels: Vec<Label>,
 }
 
-impl<'a> Owned<'a> {
-    pub(crate) fn new(files: &'a Files, reports: &[report::Report]) -> Owned<'a> {
-        let said: usize = reports.iter().map(bytes_of).sum();
-        let mut texts = String::with_capacity(files.texts.len() + said);
-        texts.push_str(&files.texts);
+impl<'a> Laid<'a> {
+    pub(crate) fn new(sources: &'a Sources, reports: &[report::Report]) -> Laid<'a> {
+        let mut texts = sources.take_room();
+        texts.reserve(reports.iter().map(bytes_of).sum());
         let count = reports.iter().map(|report| report.labels.len()).sum();
-        let mut made = Owned {
+        let mut made = Laid {
+            sources,
             texts,
-            files: &files.files,
             reports: Vec::with_capacity(reports.len()),
             labels: Vec::with_capacity(count),
         };
@@ -34,8 +35,8 @@ impl<'a> Owned<'a> {
         for label in &report.labels {
             let text = put(&mut self.texts, label.text.as_deref());
             self.labels.push(Label {
-                start: place(label.range.start),
-                end: place(label.range.end),
+                start: self.sources.byte_of(report.file, label.range.start),
+                end: self.sources.byte_of(report.file, label.range.end),
                 text,
                 primary: label.primary.into(),
             });
@@ -62,14 +63,14 @@ impl<'a> Owned<'a> {
     pub(crate) fn arrays(&self) -> Arrays<'_> {
         Arrays {
             texts: &self.texts,
-            files: self.files,
+            files: self.sources.files(),
             reports: &self.reports,
             labels: &self.labels,
         }
     }
 
-    /// How much room is begun with. It costs nothing where nothing is written. Each label of a row may have lines as
-    /// long as the row, so that a wide row with many takes more than the texts are.
+    /// The size of the first buffer. It costs nothing where nothing is written. Each label of a row may have lines as long
+    /// as the row, so a wide row with many labels takes more than the texts.
     pub(crate) fn room(&self) -> usize {
         const MOST_FOR_LABELS: usize = 16 << 20;
         let labels = self.reports.iter().map(|report| report.labels).max();
@@ -78,20 +79,10 @@ impl<'a> Owned<'a> {
     }
 }
 
-/// Puts a text behind the others.
-pub(crate) fn put(texts: &mut String, text: Option<&str>) -> Text {
-    let Some(text) = text else { return Text::NONE };
-    let start = texts.len();
-    texts.push_str(text);
-    Text {
-        start,
-        end: texts.len(),
+impl Drop for Laid<'_> {
+    fn drop(&mut self) {
+        self.sources.keep_room(std::mem::take(&mut self.texts));
     }
-}
-
-/// A place that 32 bits don't hold is past the end of every source, as the last one that they hold is.
-fn place(offset: usize) -> u32 {
-    u32::try_from(offset).unwrap_or(u32::MAX)
 }
 
 fn bytes_of(report: &report::Report) -> usize {
@@ -103,6 +94,6 @@ fn bytes_of(report: &report::Report) -> usize {
         &report.url,
     ];
     let labels = report.labels.iter().map(|label| &label.text);
-    let said = parts.into_iter().chain(labels).flatten().map(String::len);
-    report.message.len() + said.sum::<usize>()
+    let texts = parts.into_iter().chain(labels).flatten().map(String::len);
+    report.message.len() + texts.sum::<usize>()
 }

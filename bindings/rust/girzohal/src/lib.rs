@@ -1,96 +1,78 @@
-//! Diagnostics drawn for people, by code that is proved.
+//! Draws diagnostics together with the source code.
 //!
 //! ```
-//! use girzohal::{draw, Files, Look, Report};
+//! use girzohal::{draw, Look, Report, Sources};
 //!
-//! let mut files = Files::new();
-//! files.add("cart.js", "let total = 1;\nprint(totl);\n");
+//! let mut sources = Sources::new();
+//! let cart = sources.add("cart.js", "let total = 1;\nprint(totl);\n");
 //! let report = Report::error("`totl` isn't defined.")
+//!     .file(cart)
 //!     .code("eslint", "no-undef")
 //!     .primary(21..25, "not found")
 //!     .help("Did you mean `total`?");
-//! let text = draw(&files, &[report], &Look::default())?;
-//! assert_eq!(text, include_str!("../../c/example.txt"));
+//! let text = draw(&sources, &[report], &Look::default())?;
+//! assert_eq!(text, "
+//!   × eslint(no-undef): `totl` isn't defined.
+//!    ╭─[cart.js:2:7]
+//!  1 │ let total = 1;
+//!  2 │ print(totl);
+//!    ·       ──┬─
+//!    ·         ╰── not found
+//!    ╰────
+//!   help: Did you mean `total`?
+//! ");
 //! # Ok::<(), girzohal::DrawError>(())
 //! ```
 //!
-//! The library behind it is proved: what it draws is exactly what its definitions say, and every wrong number has its
-//! stated answer. This crate, which puts reports into plain arrays, is tested; its one module with `unsafe` is `ffi`.
+//! The C library that draws is proved: it draws exactly what its definitions say, and every wrong number has its stated
+//! error. This crate, which lays reports out as plain arrays, is tested; its one module with `unsafe` is `call`.
+//!
+//! Feature `dynamic`: links the shared library `libgirzohal.so` instead of the archive.
 #![deny(unsafe_code)]
 #![warn(missing_docs)]
 
 mod arrays;
-mod error;
 #[allow(unsafe_code)]
-mod ffi;
+#[deny(unsafe_op_in_unsafe_fn)]
+mod call;
+mod error;
 mod report;
+mod sources;
 
 pub use error::DrawError;
 pub use report::{Label, Report, Severity};
+pub use sources::{Sources, Unit};
 
-use arrays::{put, Owned};
-use ffi::Answer;
+use arrays::Laid;
+use girzohal_sys::Answer;
+use std::io;
 
-/// The files that reports are on: names and sources.
-#[derive(Clone, Debug, Default)]
-pub struct Files {
-    texts: String,
-    files: Vec<ffi::File>,
-}
-
-impl Files {
-    /// No files.
-    pub fn new() -> Files {
-        Files::default()
-    }
-
-    /// Adds a file and gives its number, by which reports name it: 0 for the first.
-    ///
-    /// A source holds fewer than 4,294,967,295 bytes; a longer one is told when something is drawn.
-    pub fn add(&mut self, name: &str, source: &str) -> u32 {
-        let number = u32::try_from(self.files.len()).unwrap_or(u32::MAX);
-        let name = put(&mut self.texts, Some(name));
-        let source = put(&mut self.texts, Some(source));
-        self.files.push(ffi::File { name, source });
-        number
-    }
-
-    /// How many files there are.
-    pub fn len(&self) -> usize {
-        self.files.len()
-    }
-
-    /// Whether there is none.
-    pub fn is_empty(&self) -> bool {
-        self.files.is_empty()
-    }
-}
-
-/// What a drawing is made of.
+/// The characters and colors of a drawing.
 #[derive(Clone, Copy, Debug, Default, PartialEq, Eq)]
+#[non_exhaustive]
 pub enum Theme {
     /// Colors, and characters that draw lines.
     Unicode,
-    /// Characters that draw lines, without colors.
+    /// Characters that draw lines, no colors.
     #[default]
     UnicodeNoColor,
-    /// ASCII alone, but for the texts themselves.
+    /// ASCII only, except for the texts themselves.
     None,
 }
 
 /// How a drawing looks.
 #[derive(Clone, Copy, Debug, PartialEq, Eq)]
 pub struct Look {
-    /// What it is made of.
+    /// The characters and colors.
     pub theme: Theme,
-    /// How many columns tab stops are apart, from 1 to 16.
+    /// The columns between tab stops, from 1 to 16.
     pub tabs: u32,
-    /// How many columns messages, helps and notes are filled to.
+    /// The columns that messages, helps and notes are filled to; `usize::MAX` breaks no line.
     pub width: usize,
 }
 
 impl Default for Look {
-    /// Lines without colors, tab stops 4 columns apart, 80 columns.
+    /// No colors, tab stops 4 columns apart, 80 columns.
     fn default() -> Look {
         Look {
             theme: Theme::default(),
@@ -101,8 +83,8 @@ impl Default for Look {
 }
 
 impl Look {
-    fn numbers(&self) -> ffi::Look {
-        ffi::Look {
+    fn numbers(&self) -> girzohal_sys::Look {
+        girzohal_sys::Look {
             theme: match self.theme {
                 Theme::Unicode => 0,
                 Theme::UnicodeNoColor => 1,
@@ -115,8 +97,8 @@ impl Look {
     }
 }
 
-/// What JSON is asked for with: no field but the form matters.
-const JSON: ffi::Look = ffi::Look {
+/// The look for JSON: only the form matters.
+const JSON: girzohal_sys::Look = girzohal_sys::Look {
     theme: 0,
     tabs: 4,
     form: 1,
@@ -127,49 +109,75 @@ const JSON: ffi::Look = ffi::Look {
 ///
 /// # Errors
 ///
-/// Nothing is drawn where one of the files, the reports or the look is wrong, or where a label has no place in its
-/// file's source: the error names the first.
+/// Nothing is drawn if a file, a report or the look is wrong, or if a label's start or end is no place in its file's
+/// source. The error names the first.
 ///
 /// ```
-/// use girzohal::{draw, DrawError, Files, Look, Report};
+/// use girzohal::{draw, DrawError, Look, Report, Sources};
 ///
-/// let mut files = Files::new();
-/// let file = files.add("a.txt", "é");
-/// let report = Report::error("oops").file(file).label(1..2, "inside a character");
-/// let refused = DrawError::NoPlace { report: 0, label: 0, at_end: false };
-/// assert_eq!(draw(&files, &[report], &Look::default()), Err(refused));
+/// let mut sources = Sources::new();
+/// sources.add("a.txt", "é");
+/// let report = Report::error("oops").label(1..2, "inside a character");
+/// let error = DrawError::NoPlace { report: 0, label: 0, at_end: false };
+/// assert_eq!(draw(&sources, &[report], &Look::default()), Err(error));
 /// ```
-pub fn draw(files: &Files, reports: &[Report], look: &Look) -> Result<String, DrawError> {
-    write(files, reports, &look.numbers())
+pub fn draw(sources: &Sources, reports: &[Report], look: &Look) -> Result<String, DrawError> {
+    write(sources, reports, &look.numbers())
 }
 
-/// A line of JSON for each report.
+/// Writes the drawings of reports to a sink, one after another.
 ///
 /// # Errors
 ///
-/// As those of [`draw`].
+/// Those of [`draw`], as an [`io::Error`] that holds the [`DrawError`]; then nothing was written. Those of the sink.
 ///
 /// ```
-/// use girzohal::{json, Files, Report};
+/// use girzohal::{draw_to, Look, Report, Sources};
 ///
-/// let mut files = Files::new();
-/// files.add("a.js", "foo\nbar\nbaz");
-/// let line = json(&files, &[Report::error("Oops").label(4..7, "here")]).unwrap();
+/// let mut sources = Sources::new();
+/// sources.add("a.txt", "x");
+/// let mut sink = Vec::new();
+/// draw_to(&mut sink, &sources, &[Report::warning("oops").label(0..1, "here")], &Look::default())?;
+/// assert!(!sink.is_empty());
+/// # Ok::<(), std::io::Error>(())
+/// ```
+pub fn draw_to<W: io::Write + ?Sized>(
+    sink: &mut W,
+    sources: &Sources,
+    reports: &[Report],
+    look: &Look,
+) -> io::Result<()> {
+    sink.write_all(draw(sources, reports, look)?.as_bytes())
+}
+
+/// A line of JSON for each report. Spans in it are in bytes, in every unit.
+///
+/// # Errors
+///
+/// Those of [`draw`].
+///
+/// ```
+/// use girzohal::{json, Report, Sources};
+///
+/// let mut sources = Sources::new();
+/// sources.add("a.js", "foo\nbar\nbaz");
+/// let line = json(&sources, &[Report::error("Oops").label(4..7, "here")])?;
 /// assert!(line.starts_with(r#"{"message": "Oops","severity": "error","filename": "a.js""#));
 /// assert!(line.ends_with("}\n"));
+/// # Ok::<(), girzohal::DrawError>(())
 /// ```
-pub fn json(files: &Files, reports: &[Report]) -> Result<String, DrawError> {
-    write(files, reports, &JSON)
+pub fn json(sources: &Sources, reports: &[Report]) -> Result<String, DrawError> {
+    write(sources, reports, &JSON)
 }
 
-/// The drawings of the reports of a document, one after another: JSON in UTF-8, of files and reports on them.
+/// The drawings of the reports of a document, one after another: JSON in UTF-8 with files and reports on them.
 ///
-/// Which keys it has, `docs/DOCUMENT.md` of the repository says. Its labels may be given by rows and columns.
+/// Its keys are in `docs/DOCUMENT.md` of the repository. Its labels may have rows and columns.
 ///
 /// # Errors
 ///
-/// Nothing is drawn where the look is wrong, the bytes are no document, or one of its reports is on a file that isn't
-/// there or has a label without a place: the error names the first.
+/// Nothing is drawn if the look is wrong, the bytes are no document, or one of its reports is on a file that isn't there
+/// or has a label whose start or end is no place. The error names the first.
 ///
 /// ```
 /// use girzohal::{draw_document, DrawError, Look};
@@ -182,7 +190,7 @@ pub fn json(files: &Files, reports: &[Report]) -> Result<String, DrawError> {
 ///         "help": "Did you mean `total`?"
 ///     }]
 /// }"#;
-/// assert_eq!(draw_document(document, &Look::default())?, include_str!("../../c/example.txt"));
+/// assert!(draw_document(document, &Look::default())?.contains("──┬─"));
 /// assert_eq!(draw_document("{}", &Look::default()), Err(DrawError::NoDocument));
 /// # Ok::<(), DrawError>(())
 /// ```
@@ -190,11 +198,11 @@ pub fn draw_document(document: impl AsRef<[u8]>, look: &Look) -> Result<String, 
     write_document(document.as_ref(), &look.numbers())
 }
 
-/// A line of JSON for each report of a document, which [`draw_document`] says.
+/// A line of JSON for each report of a document as in [`draw_document`].
 ///
 /// # Errors
 ///
-/// As those of [`draw_document`].
+/// Those of [`draw_document`].
 ///
 /// ```
 /// let document = r#"{ "files": [], "reports": [] }"#;
@@ -210,25 +218,30 @@ pub fn json_document(document: impl AsRef<[u8]>) -> Result<String, DrawError> {
 /// assert_eq!(girzohal::version(), (0, 1, 0));
 /// ```
 pub fn version() -> (u8, u8, u8) {
-    let [_, major, minor, patch] = ffi::version().to_be_bytes();
+    let [_, major, minor, patch] = call::version().to_be_bytes();
     (major, minor, patch)
 }
 
-fn write(files: &Files, reports: &[Report], look: &ffi::Look) -> Result<String, DrawError> {
-    let owned = Owned::new(files, reports);
-    let arrays = owned.arrays();
-    fill(owned.room(), |out, answer| {
-        ffi::draw(&arrays, look, out, answer)
+fn write(
+    sources: &Sources,
+    reports: &[Report],
+    look: &girzohal_sys::Look,
+) -> Result<String, DrawError> {
+    let laid = Laid::new(sources, reports);
+    let arrays = laid.arrays();
+    fill(laid.room(), |out, answer| {
+        call::draw(&arrays, look, out, answer)
     })
+    .map_err(|why| why.in_units_of(reports))
 }
 
-fn write_document(document: &[u8], look: &ffi::Look) -> Result<String, DrawError> {
+fn write_document(document: &[u8], look: &girzohal_sys::Look) -> Result<String, DrawError> {
     fill(2 * document.len() + 4096, |out, answer| {
-        ffi::draw_document(document, look, out, answer)
+        call::draw_document(document, look, out, answer)
     })
 }
 
-/// The text that a call writes: into this room, and once more where that was too small.
+/// The text that a call writes: into this room, and again if that was too small.
 fn fill(
     room: usize,
     mut call: impl FnMut(&mut Vec<u8>, &mut Answer) -> u32,
@@ -236,15 +249,15 @@ fn fill(
     let mut out = with_room(room)?;
     let mut answer = Answer::default();
     let mut status = call(&mut out, &mut answer);
-    if status == 10 {
+    if status == girzohal_sys::BUFFER_TOO_SMALL {
         out = with_room(answer.needed)?;
         status = call(&mut out, &mut answer);
     }
-    if status != 0 {
+    if status != girzohal_sys::DONE {
         return Err(DrawError::of(status, &answer));
     }
     out.shrink_to_fit();
-    Ok(ffi::text(out))
+    Ok(call::text(out))
 }
 
 /// No bytes yet, and room for so many.

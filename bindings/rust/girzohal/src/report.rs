@@ -1,7 +1,8 @@
 use std::ops::Range;
 
-/// How grave a report is.
+/// How severe a report is.
 #[derive(Clone, Copy, Debug, PartialEq, Eq)]
+#[non_exhaustive]
 pub enum Severity {
     /// A hint.
     Advice,
@@ -11,19 +12,19 @@ pub enum Severity {
     Error,
 }
 
-/// A part of a file's source, and what is said of it.
+/// A part of a file's source, and a text on it.
 #[derive(Clone, Debug, PartialEq, Eq)]
 pub struct Label {
-    /// The part, in bytes of the source, which counts from 0.
+    /// The part, from 0 in the unit of the sources.
     pub range: Range<usize>,
-    /// What is said of it.
+    /// The text, or none.
     pub text: Option<String>,
-    /// Whether the report points at it first of all.
+    /// Whether it is the primary label, whose position is in the head of the drawing.
     pub primary: bool,
 }
 
 impl Label {
-    /// A label of a part of the source, in bytes, that says nothing.
+    /// A label of a part of the source, in the unit of the sources, without a text.
     pub fn new(range: Range<usize>) -> Label {
         Label {
             range,
@@ -38,14 +39,14 @@ impl Label {
         self
     }
 
-    /// The label as the one at which its report points first of all.
+    /// The label as the primary one.
     pub fn primary(mut self) -> Label {
         self.primary = true;
         self
     }
 }
 
-/// A report on one file: the first that was added, if [`Report::file`] names no other.
+/// A report on one file: the first that was added, unless [`Report::file`] names another.
 ///
 /// ```
 /// use girzohal::Report;
@@ -58,23 +59,23 @@ impl Label {
 /// ```
 #[derive(Clone, Debug, PartialEq, Eq)]
 pub struct Report {
-    /// The file's number, which [`Files::add`](crate::Files::add) gave.
+    /// The file's index, which [`Sources::add`](crate::Sources::add) returned.
     pub file: u32,
-    /// How grave it is.
+    /// How severe it is.
     pub severity: Severity,
     /// What is reported.
     pub message: String,
-    /// The first part of its code, as `eslint`; never empty.
+    /// The first part of its code, like `eslint`; never empty.
     pub scope: Option<String>,
-    /// The second part of its code, as `no-undef`; never empty.
+    /// The second part of its code, like `no-undef`; never empty.
     pub number: Option<String>,
-    /// How to mend it.
+    /// How to fix it.
     pub help: Option<String>,
-    /// What else there is to know.
+    /// More to know.
     pub note: Option<String>,
-    /// Where more is said.
+    /// Where to read more.
     pub url: Option<String>,
-    /// The parts of the source that it is about.
+    /// The parts of the source that it is about, in the order in which they are given.
     pub labels: Vec<Label>,
 }
 
@@ -109,13 +110,13 @@ impl Report {
         Report::new(Severity::Advice, message)
     }
 
-    /// The report on another file, by the number that [`Files::add`](crate::Files::add) gave.
+    /// The report on a file, by the index that [`Sources::add`](crate::Sources::add) returned.
     pub fn file(mut self, file: u32) -> Report {
         self.file = file;
         self
     }
 
-    /// The report with both parts of a code, as `eslint` and `no-undef`.
+    /// The report with both parts of a code, like `eslint` and `no-undef`. Neither may be empty.
     pub fn code(self, scope: impl Into<String>, number: impl Into<String>) -> Report {
         self.scope(scope).number(number)
     }
@@ -132,30 +133,30 @@ impl Report {
         self
     }
 
-    /// The report with how to mend it.
+    /// The report with a help: how to fix it.
     pub fn help(mut self, help: impl Into<String>) -> Report {
         self.help = Some(help.into());
         self
     }
 
-    /// The report with what else there is to know.
+    /// The report with a note: more to know.
     pub fn note(mut self, note: impl Into<String>) -> Report {
         self.note = Some(note.into());
         self
     }
 
-    /// The report with where more is said.
+    /// The report with a URL: where to read more.
     pub fn url(mut self, url: impl Into<String>) -> Report {
         self.url = Some(url.into());
         self
     }
 
-    /// The report with one more label: a part of the source, in bytes, and what is said of it.
+    /// The report with one more label: a part of the source, in the unit of the sources, and a text on it.
     pub fn label(self, range: Range<usize>, text: impl Into<String>) -> Report {
         self.with_label(Label::new(range).text(text))
     }
 
-    /// The report with one more label, at which it points first of all.
+    /// The report with one more label, the primary one.
     pub fn primary(self, range: Range<usize>, text: impl Into<String>) -> Report {
         self.with_label(Label::new(range).text(text).primary())
     }

@@ -1,4 +1,5 @@
-//! Each request of the library for memory fails in turn: the answer is want of memory, or the right drawing.
+//! Each allocation of the library fails in turn: the result is out of memory, or the right drawing.
+#![cfg(starved)]
 
 #[rustfmt::skip]
 mod examples;
@@ -6,9 +7,9 @@ mod examples;
 use girzohal::{draw, draw_document, json, json_document, DrawError, Look, Theme};
 
 extern "C" {
-    /// Lets the library's request for memory that comes behind so many others fail, or none where it is negative.
+    /// Makes the library's allocation after so many others fail, or none if the number is negative.
     fn girzohal_starve(left: i64);
-    /// How many requests there were since.
+    /// How many allocations there were since.
     fn girzohal_asked() -> i64;
 }
 
@@ -39,15 +40,15 @@ fn starved(name: &str, drawing: &str, call: impl Fn() -> Result<String, DrawErro
 }
 
 #[test]
-fn want_of_memory_is_told() {
+fn out_of_memory_is_returned() {
     let look = Look {
         theme: Theme::None,
         ..Look::default()
     };
     for e in examples::examples() {
-        starved(e.name, e.drawing, || draw(&e.files, &e.reports, &look));
-        let lines = json(&e.files, &e.reports).unwrap();
-        starved(e.name, &lines, || json(&e.files, &e.reports));
+        starved(e.name, e.drawing, || draw(&e.sources, &e.reports, &look));
+        let lines = json(&e.sources, &e.reports).unwrap();
+        starved(e.name, &lines, || json(&e.sources, &e.reports));
         starved(e.name, e.drawing, || draw_document(e.document, &look));
         starved(e.name, &lines, || json_document(e.document));
     }

@@ -1,17 +1,17 @@
 // The examples of the repository, as calls of the builder. Made by bindings/examples.py: don't edit.
-use girzohal::{Files, Label, Report};
+use girzohal::{Label, Report, Sources};
 
 pub struct Example {
     pub name: &'static str,
-    pub files: Files,
+    pub sources: Sources,
     pub reports: Vec<Report>,
     pub document: &'static str,
     pub drawing: &'static str,
 }
 
 fn by_bytes() -> Example {
-    let mut files = Files::new();
-    files.add("a.js", "foo\u{a}bar\u{a}baz");
+    let mut sources = Sources::new();
+    sources.add("a.js", "foo\u{a}bar\u{a}baz");
     let reports = vec![
         Report::error("Oops")
         .file(0)
@@ -19,16 +19,16 @@ fn by_bytes() -> Example {
     ];
     Example {
         name: "by-bytes",
-        files,
+        sources,
         reports,
-        document: include_str!("../../../../examples/by-bytes.json"),
-        drawing: include_str!("../../../../examples/by-bytes.txt"),
+        document: include_str!("../../../../../examples/by-bytes.json"),
+        drawing: include_str!("../../../../../examples/by-bytes.txt"),
     }
 }
 
 fn byte_order_mark() -> Example {
-    let mut files = Files::new();
-    files.add("u", "\u{feff}ab");
+    let mut sources = Sources::new();
+    sources.add("u", "\u{feff}ab");
     let reports = vec![
         Report::error("m")
         .file(0)
@@ -36,16 +36,16 @@ fn byte_order_mark() -> Example {
     ];
     Example {
         name: "byte-order-mark",
-        files,
+        sources,
         reports,
-        document: include_str!("../../../../examples/byte-order-mark.json"),
-        drawing: include_str!("../../../../examples/byte-order-mark.txt"),
+        document: include_str!("../../../../../examples/byte-order-mark.json"),
+        drawing: include_str!("../../../../../examples/byte-order-mark.txt"),
     }
 }
 
 fn cart() -> Example {
-    let mut files = Files::new();
-    files.add("src/cart.js", "function total(cart) {\u{a}\u{9}let sum = 0;\u{a}\u{9}for (const item of cart) {\u{a}\u{9}\u{9}sum += item.prize * item.count;\u{a}\u{9}}\u{a}\u{9}return sum;\u{a}}\u{a}");
+    let mut sources = Sources::new();
+    sources.add("src/cart.js", "function total(cart) {\u{a}\u{9}let sum = 0;\u{a}\u{9}for (const item of cart) {\u{a}\u{9}\u{9}sum += item.prize * item.count;\u{a}\u{9}}\u{a}\u{9}return sum;\u{a}}\u{a}");
     let reports = vec![
         Report::error("`prize` is no field of an item.")
         .file(0)
@@ -58,16 +58,16 @@ fn cart() -> Example {
     ];
     Example {
         name: "cart",
-        files,
+        sources,
         reports,
-        document: include_str!("../../../../examples/cart.json"),
-        drawing: include_str!("../../../../examples/cart.txt"),
+        document: include_str!("../../../../../examples/cart.json"),
+        drawing: include_str!("../../../../../examples/cart.txt"),
     }
 }
 
 fn first_row() -> Example {
-    let mut files = Files::new();
-    files.add("query.sql", "SELEC name FROM users;\u{a}");
+    let mut sources = Sources::new();
+    sources.add("query.sql", "SELEC name FROM users;\u{a}");
     let reports = vec![
         Report::error("Unknown keyword.")
         .file(0)
@@ -75,16 +75,16 @@ fn first_row() -> Example {
     ];
     Example {
         name: "first-row",
-        files,
+        sources,
         reports,
-        document: include_str!("../../../../examples/first-row.json"),
-        drawing: include_str!("../../../../examples/first-row.txt"),
+        document: include_str!("../../../../../examples/first-row.json"),
+        drawing: include_str!("../../../../../examples/first-row.txt"),
     }
 }
 
 fn oops() -> Example {
-    let mut files = Files::new();
-    files.add("a.js", "foo\u{a}bar\u{a}baz");
+    let mut sources = Sources::new();
+    sources.add("a.js", "foo\u{a}bar\u{a}baz");
     let reports = vec![
         Report::error("Oops")
         .file(0)
@@ -92,16 +92,16 @@ fn oops() -> Example {
     ];
     Example {
         name: "oops",
-        files,
+        sources,
         reports,
-        document: include_str!("../../../../examples/oops.json"),
-        drawing: include_str!("../../../../examples/oops.txt"),
+        document: include_str!("../../../../../examples/oops.json"),
+        drawing: include_str!("../../../../../examples/oops.txt"),
     }
 }
 
 fn tab_past_ascii() -> Example {
-    let mut files = Files::new();
-    files.add("t", "\u{e9}\u{9}xyz");
+    let mut sources = Sources::new();
+    sources.add("t", "\u{e9}\u{9}xyz");
     let reports = vec![
         Report::error("m")
         .file(0)
@@ -109,17 +109,17 @@ fn tab_past_ascii() -> Example {
     ];
     Example {
         name: "tab-past-ascii",
-        files,
+        sources,
         reports,
-        document: include_str!("../../../../examples/tab-past-ascii.json"),
-        drawing: include_str!("../../../../examples/tab-past-ascii.txt"),
+        document: include_str!("../../../../../examples/tab-past-ascii.json"),
+        drawing: include_str!("../../../../../examples/tab-past-ascii.txt"),
     }
 }
 
 fn two_reports() -> Example {
-    let mut files = Files::new();
-    files.add("src/app.js", "import { a } from \u{22}x\u{22};\u{a}\u{a}function f(b) {\u{a}\u{9}return a + c;\u{a}}\u{a}");
-    files.add("b.js", "a {\u{a}  b\u{a}}\u{a}");
+    let mut sources = Sources::new();
+    sources.add("src/app.js", "import { a } from \u{22}x\u{22};\u{a}\u{a}function f(b) {\u{a}\u{9}return a + c;\u{a}}\u{a}");
+    sources.add("b.js", "a {\u{a}  b\u{a}}\u{a}");
     let reports = vec![
         Report::warning("'c' is not defined.")
         .file(0)
@@ -134,16 +134,16 @@ fn two_reports() -> Example {
     ];
     Example {
         name: "two-reports",
-        files,
+        sources,
         reports,
-        document: include_str!("../../../../examples/two-reports.json"),
-        drawing: include_str!("../../../../examples/two-reports.txt"),
+        document: include_str!("../../../../../examples/two-reports.json"),
+        drawing: include_str!("../../../../../examples/two-reports.txt"),
     }
 }
 
 fn unused_variable() -> Example {
-    let mut files = Files::new();
-    files.add("src/total.js", "export function total(items) {\u{a}  let count = items.length;\u{a}  let sum = 0;\u{a}  for (const item of items) sum += item.price;\u{a}  return sum;\u{a}}\u{a}");
+    let mut sources = Sources::new();
+    sources.add("src/total.js", "export function total(items) {\u{a}  let count = items.length;\u{a}  let sum = 0;\u{a}  for (const item of items) sum += item.price;\u{a}  return sum;\u{a}}\u{a}");
     let reports = vec![
         Report::error("Variable 'count' is declared but never used.")
         .file(0)
@@ -151,16 +151,16 @@ fn unused_variable() -> Example {
     ];
     Example {
         name: "unused-variable",
-        files,
+        sources,
         reports,
-        document: include_str!("../../../../examples/unused-variable.json"),
-        drawing: include_str!("../../../../examples/unused-variable.txt"),
+        document: include_str!("../../../../../examples/unused-variable.json"),
+        drawing: include_str!("../../../../../examples/unused-variable.txt"),
     }
 }
 
 fn wide_characters() -> Example {
-    let mut files = Files::new();
-    files.add("w", "\u{65e5}\u{672c} x");
+    let mut sources = Sources::new();
+    sources.add("w", "\u{65e5}\u{672c} x");
     let reports = vec![
         Report::error("m")
         .file(0)
@@ -168,16 +168,16 @@ fn wide_characters() -> Example {
     ];
     Example {
         name: "wide-characters",
-        files,
+        sources,
         reports,
-        document: include_str!("../../../../examples/wide-characters.json"),
-        drawing: include_str!("../../../../examples/wide-characters.txt"),
+        document: include_str!("../../../../../examples/wide-characters.json"),
+        drawing: include_str!("../../../../../examples/wide-characters.txt"),
     }
 }
 
 fn wide_numbers() -> Example {
-    let mut files = Files::new();
-    files.add("Makefile", "all: a b c\u{a}\u{a}a:\u{a}\u{a}a2:\u{a}\u{a}b:\u{a}\u{a}b2: c d\u{a}\u{a}c:\u{a}");
+    let mut sources = Sources::new();
+    sources.add("Makefile", "all: a b c\u{a}\u{a}a:\u{a}\u{a}a2:\u{a}\u{a}b:\u{a}\u{a}b2: c d\u{a}\u{a}c:\u{a}");
     let reports = vec![
         Report::error("No rule to make target 'd'.")
         .file(0)
@@ -185,10 +185,10 @@ fn wide_numbers() -> Example {
     ];
     Example {
         name: "wide-numbers",
-        files,
+        sources,
         reports,
-        document: include_str!("../../../../examples/wide-numbers.json"),
-        drawing: include_str!("../../../../examples/wide-numbers.txt"),
+        document: include_str!("../../../../../examples/wide-numbers.json"),
+        drawing: include_str!("../../../../../examples/wide-numbers.txt"),
     }
 }
 
