@@ -182,6 +182,29 @@ starved() {
     ${CC:-cc} -shared -o "$out/starved/libgirzohal.so" -Wl,--whole-archive "$out/starved/libgirzohal.a" -Wl,--no-whole-archive
 }
 
+# a library of another ABI, in the place of the right one
+other_abi() {
+    mkdir -p "$out/other_abi" && ${CC:-cc} -O2 -fPIC -Ic -c c/tests/other_abi.c -o "$out/other_abi/other.o" &&
+        ar rc "$out/other_abi/libgirzohal.a" "$out/other_abi/other.o" &&
+        ${CC:-cc} -shared -o "$out/other_abi/libgirzohal.so" "$out/other_abi/other.o"
+}
+
+rust_other_abi() {
+    (cd rust && GIRZOHAL_LIB=$out/other_abi RUSTFLAGS="--cfg other_abi" CARGO_TARGET_DIR=$out/rust_other_abi \
+        cargo test --offline --quiet --test other_abi)
+}
+
+python_other_abi() {
+    (cd python && ! PYTHONPATH=src GIRZOHAL_LIBRARY=$out/other_abi/libgirzohal.so python3 -c "import girzohal" 2>"$out/other_abi/python.txt") &&
+        grep "^ImportError: girzohal: the library .* is of another version. Install the wheel" "$out/other_abi/python.txt"
+}
+
+node_other_abi() {
+    (cd node && export GIRZOHAL_NODE="$out/other_abi/girzohal.node" && GIRZOHAL_LIB=$out/other_abi node build.js &&
+        ! node -e 'const { Sources, draw } = require("."); draw(new Sources(), [])' 2>"$out/other_abi/node.txt") &&
+        grep "^DrawError: the library has another ABI" "$out/other_abi/node.txt" && grep "kind: 'wrongAbi'" "$out/other_abi/node.txt"
+}
+
 # ---- ARM
 
 arm_answers() {
@@ -322,6 +345,7 @@ if has "${CC:-cc}" && has make; then
         skip "address and undefined behavior sanitizers" "${CC:-cc} has none"
     fi
     if has objcopy; then part "an archive that starves" starved; else skip "an archive that starves" "there is no objcopy"; fi
+    part "a library of another ABI" other_abi
 else
     skip "C and C++" "there is no ${CC:-cc} or no make"
 fi
@@ -343,6 +367,7 @@ if has cargo && [ -f "$out/llvm/libgirzohal.a" ]; then
     part "Rust with the shared library" rust_dynamic
     part "Rust's pages" rust_pages
     part "Rust without a library" rust_errors
+    part "Rust with another ABI" rust_other_abi
     part "the Rust packages" sh rust/package.sh "$out/packages"
     part "the Rust packages, used elsewhere" rust_packages
     if [ -f "$out/starved/libgirzohal.a" ]; then
@@ -356,6 +381,7 @@ fi
 
 if [ -f "$out/llvm/libgirzohal.so" ]; then
     part "Python" python "$out/llvm/libgirzohal.so"
+    part "Python with another ABI" python_other_abi
     part "the Python package" sh python/package.sh "$out/packages"
     if python3 -c "import ensurepip, venv" 2>/dev/null; then
         part "the Python package in a new environment" python_package
@@ -375,6 +401,7 @@ headers=
 has node && headers=$(node -p 'require("path").resolve(process.execPath, "../../include/node")')
 if [ -n "$headers" ] && [ -f "$headers/node_api.h" ] && [ -f "$out/llvm/libgirzohal.a" ]; then
     part "Node" node_module
+    part "Node with another ABI" node_other_abi
     if has npm; then
         part "the Node package" sh node/package.sh "$out/packages"
         part "the Node package in a new folder" node_package

@@ -42,11 +42,11 @@ public:
 
 private:
     static std::string message(uint32_t status, const girzohal_answer &it) {
-        static const char *const arrays[] = {"text", "file", "report", "label", "field of the look", "ABI"};
+        static const char *const arrays[] = {"text", "file", "report", "label", "field of the look"};
         const std::string report = "report " + std::to_string(it.report);
         switch (status) {
         case GIRZOHAL_WRONG_ARGUMENT:
-            if (it.array > 5) return "an argument is wrong";
+            if (it.array > GIRZOHAL_LOOK) return "the library has another ABI";
             return std::string(arrays[it.array]) + " " + std::to_string(it.index) + " is wrong";
         case GIRZOHAL_NO_DOCUMENT: return "not a document";
         case GIRZOHAL_REFUSED: break;

@@ -4,7 +4,8 @@
  * usage: node build.js [--arch x64|arm64]
  *
  * CC is the compiler, and GIRZOHAL_LIB the folder of libgirzohal.a; without it pkg-config finds that. The result is
- * prebuilt/linux-ARCH/girzohal.node. Node's headers are those beside this Node, or in the folder NODE_HEADERS. */
+ * prebuilt/linux-ARCH/girzohal.node, or what GIRZOHAL_NODE names. Node's headers are those beside this Node, or in the
+ * folder NODE_HEADERS. */
 
 const { execFileSync } = require('node:child_process');
 const fs = require('node:fs');
@@ -42,14 +43,14 @@ const headers = folderOf(
   'NODE_HEADERS has to name the folder of the headers of Node',
 );
 const header = folderOf('girzohal.h', [__dirname, path.join(__dirname, '../c')], 'it has to be beside build.js');
-const out = path.join(__dirname, 'prebuilt', `linux-${arch}`);
-fs.mkdirSync(out, { recursive: true });
+const out = process.env.GIRZOHAL_NODE || path.join(__dirname, 'prebuilt', `linux-${arch}`, 'girzohal.node');
+fs.mkdirSync(path.dirname(out), { recursive: true });
 execFileSync(
   process.env.CC || COMPILERS[arch],
   [
-    '-O2', '-Wall', '-Wextra', '-fPIC', '-shared', `-I${headers}`, `-I${header}`, '-o', path.join(out, 'girzohal.node'),
+    '-O2', '-Wall', '-Wextra', '-fPIC', '-shared', `-I${headers}`, `-I${header}`, '-o', out,
     path.join(__dirname, 'girzohal_node.c'), path.join(library, 'libgirzohal.a'),
   ],
   { stdio: 'inherit' },
 );
-console.log(path.relative(process.cwd(), path.join(out, 'girzohal.node')));
+console.log(path.relative(process.cwd(), out));

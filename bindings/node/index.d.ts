@@ -88,7 +88,8 @@ export declare class Sources {
 /** Why nothing was drawn. Files, reports and labels are named by their indices, from 0. */
 export declare class DrawError extends Error {
   readonly kind:
-    | 'wrongFile' | 'wrongReport' | 'wrongLook' | 'noDocument' | 'unknownFile' | 'noPlace' | 'endBeforeStart' | 'outOfMemory';
+    | 'wrongFile' | 'wrongReport' | 'wrongLook' | 'wrongAbi' | 'noDocument' | 'unknownFile' | 'noPlace' | 'endBeforeStart'
+    | 'outOfMemory';
   readonly file?: number;
   readonly report?: number;
   readonly label?: number;

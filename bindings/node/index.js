@@ -10,7 +10,7 @@ function load() {
     return require(path);
   } catch (why) {
     const hint = 'It is there for Linux with glibc on x64 and arm64; `node build.js` in the package builds it.';
-    throw new Error(`girzohal: the compiled part ${path} can't be loaded: ${why.message}. ${hint}`, { cause: why });
+    throw new Error(`girzohal: the compiled part ${path} can't be loaded: ${why.message.split('\n', 1)[0]}. ${hint}`, { cause: why });
   }
 }
 
@@ -203,6 +203,7 @@ function errorOf([status, array, index, cause, report, label, first, second], re
   if (status === 2 && array === 2) {
     return new DrawError('wrongReport', `report ${index}: there is no such file, or a part of its code is empty`, { report: index });
   }
+  if (status === 2 && array === 5) return new DrawError('wrongAbi', 'the library has another ABI');
   if (status === 2) {
     return new DrawError('wrongLook', index === 1 ? "tab stops aren't 1 to 16 columns apart" : "the look's theme is wrong");
   }
