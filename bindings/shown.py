@@ -1,7 +1,7 @@
 #!/usr/bin/env python3
 """Prints the example that a page shows in a language: its first fenced block of that language that names girzohal.
 
-usage: shown.py PAGE c|cpp|rust|python|js      (in Rust as a whole program, since the page shows a function's body)"""
+usage: shown.py PAGE c|cpp|rust|python|js      (in Rust as a whole program, also if the page shows only a body)"""
 import re
 import sys
 
@@ -18,7 +18,7 @@ def main(page, language):
     found = next((it for it in blocks if "girzohal" in it), None)
     if found is None:
         sys.exit(f"{page}: no example in {language}")
-    if language == "rust":
+    if language == "rust" and "fn main" not in found:
         found = RUST.format(body=re.sub("^(?=.)", "    ", found.rstrip(), flags=re.M))
     print(found, end="")
 

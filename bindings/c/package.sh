@@ -9,8 +9,8 @@
 pack() {
     name=girzohal-$version-linux-$1
     doc=$room/$name/share/doc/girzohal
-    make_c "$1" "$2" PREFIX=/"$name" DESTDIR="$room" install && mkdir -p "$doc" && legal "$doc" &&
-        cp README.md examples/example.c examples/example.cpp examples/arrays.c "$doc" &&
+    make_c "$1" "$2" PREFIX=/"$name" DESTDIR="$room" install && mkdir -p "$doc/examples" && legal "$doc" &&
+        cp README.md "$doc" && cp examples/*.c examples/*.cpp "$doc/examples" &&
         tar -C "$room" --sort=name --owner=0 --group=0 --numeric-owner --mtime=@0 -czf "$to/$name.tar.gz" "$name" &&
         echo "$name.tar.gz"
 }
