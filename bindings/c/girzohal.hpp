@@ -24,8 +24,8 @@ struct Look {
     Theme theme;
     uint32_t tabs;
     size_t width;
-    Look(Theme theme = Theme::unicode_nocolor, uint32_t tabs = 4, size_t width = 80)
-        : theme(theme), tabs(tabs), width(width) {}
+    Look(Theme characters = Theme::unicode_nocolor, uint32_t stops = 4, size_t columns = 80)
+        : theme(characters), tabs(stops), width(columns) {}
     girzohal_look numbers() const {
         girzohal_look made = {static_cast<uint32_t>(theme), tabs, GIRZOHAL_DRAWING, width};
         return made;
@@ -37,14 +37,14 @@ class DrawError : public std::runtime_error {
 public:
     uint32_t status;
     girzohal_answer answer;
-    DrawError(uint32_t status, const girzohal_answer &answer)
-        : std::runtime_error(message(status, answer)), status(status), answer(answer) {}
+    DrawError(uint32_t its_status, const girzohal_answer &its_answer)
+        : std::runtime_error(message(its_status, its_answer)), status(its_status), answer(its_answer) {}
 
 private:
-    static std::string message(uint32_t status, const girzohal_answer &it) {
+    static std::string message(uint32_t its_status, const girzohal_answer &it) {
         static const char *const arrays[] = {"text", "file", "report", "label", "field of the look"};
         const std::string report = "report " + std::to_string(it.report);
-        switch (status) {
+        switch (its_status) {
         case GIRZOHAL_WRONG_ARGUMENT:
             if (it.array > GIRZOHAL_LOOK) return "the library has another ABI";
             return std::string(arrays[it.array]) + " " + std::to_string(it.index) + " is wrong";
@@ -103,7 +103,7 @@ public:
 
 private:
     friend class Sources;
-    explicit Report(girzohal_sources *it) : it(it) {}
+    explicit Report(girzohal_sources *sources) : it(sources) {}
     girzohal_sources *it;
 };
 
