@@ -8,7 +8,7 @@ It needs the archive of `sh bindings/test.sh` (out/llvm/libgirzohal.a), the prog
 `files_text` takes in the program, what `girzohal_draw` takes, and what `draw` of the Rust crate takes, with the ratios of both to the
 first. All have to draw the same.
 
-glibc copies long texts by `rep movsb`, one instruction, of which valgrind counts each byte: so it is told to copy by vectors."""
+glibc copies long texts by `rep movsb`, one instruction, of which valgrind counts each byte: so it is made to copy by vectors."""
 import json
 import os
 import re

@@ -182,7 +182,7 @@ starved() {
     ${CC:-cc} -shared -o "$out/starved/libgirzohal.so" -Wl,--whole-archive "$out/starved/libgirzohal.a" -Wl,--no-whole-archive
 }
 
-# a library of another ABI, in the place of the right one
+# a library of another ABI, instead of the right one
 other_abi() {
     mkdir -p "$out/other_abi" && ${CC:-cc} -O2 -fPIC -Ic -c c/tests/other_abi.c -o "$out/other_abi/other.o" &&
         ar rc "$out/other_abi/libgirzohal.a" "$out/other_abi/other.o" &&

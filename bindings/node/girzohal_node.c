@@ -35,7 +35,7 @@ static uint32_t call(const arguments *it, uint8_t *out, size_t out_len, girzohal
 }
 
 /* [status, array, index, cause, report, label, first, second] */
-static napi_value told(napi_env env, uint32_t status, const girzohal_answer *a) {
+static napi_value numbers_of(napi_env env, uint32_t status, const girzohal_answer *a) {
     const double numbers[] = {status,           (double)a->array, (double)a->index, a->cause,
                               (double)a->report, (double)a->label, (double)a->first, (double)a->second};
     napi_value list, number;
@@ -47,7 +47,7 @@ static napi_value told(napi_env env, uint32_t status, const girzohal_answer *a) 
     return list;
 }
 
-/* The text, or what is told in its place. */
+/* The text, or the numbers of the error. */
 static napi_value fill(napi_env env, const arguments *it) {
     girzohal_answer answer = {0};
     size_t room = 2 * it->texts_len + it->reports_len * 3 + 4096;
@@ -61,7 +61,7 @@ static napi_value fill(napi_env env, const arguments *it) {
         status = out ? call(it, out, room, &answer) : GIRZOHAL_OUT_OF_MEMORY;
     }
     if (status != GIRZOHAL_DONE) {
-        result = told(env, status, &answer);
+        result = numbers_of(env, status, &answer);
     } else if (napi_create_string_utf8(env, (const char *)out, answer.needed, &result) != napi_ok) {
         napi_throw_range_error(env, NULL, "the text is longer than a string of JavaScript");
         result = NULL;

@@ -135,7 +135,7 @@ static void try_no_documents(void) {
         check(none_of_them[at], "is no document", refuses_document(&it));
     }
     draw_document(nul, sizeof nul - 1, &ascii, ROOM, &it);
-    check("a byte 0 behind a document", "makes it none", refuses_document(&it));
+    check("a byte 0 after a document", "makes it none", refuses_document(&it));
     draw_document(nul, sizeof nul - 2, &ascii, 0, &it);
     check("a document of no reports", "is drawn as nothing", wrote(&it, "", 0));
     begin(&it);
@@ -257,13 +257,13 @@ static void try_texts(void) {
         *places[place] = none;
         if (place == 1) label.start = label.end = 0;
         draw(&it);
-        check("no text", "is let pass where it may be", may_miss[place] ? it.status == 0 : is_wrong(&it, arrays[place], 0));
+        check("no text", "is accepted where it may be", may_miss[place] ? it.status == 0 : is_wrong(&it, arrays[place], 0));
         fresh();
         girzohal_text empty = {TEXTS_LEN, TEXTS_LEN};
         *places[place] = empty;
         if (place == 1) label.start = label.end = 0;
         draw(&it);
-        check("an empty text", "is let pass where it may be",
+        check("an empty text", "is accepted where it may be",
               may_be_empty[place] ? it.status == 0 : is_wrong(&it, arrays[place], 0));
     }
     for (size_t at = 0; at <= TEXTS_LEN + 2; at++) {
@@ -275,7 +275,7 @@ static void try_texts(void) {
     }
 }
 
-/* ---- long texts, with what is no ASCII round each end of the blocks that are judged at once */
+/* ---- long texts, with characters past ASCII around each end of the blocks that are checked at once */
 
 static const struct {
     const char *bytes;
@@ -301,7 +301,7 @@ static void try_long_texts(void) {
             it.status = girzohal_draw(GIRZOHAL_ABI, bytes, LONG, &file, 0, &report, 0, &label, 0, &look, it.out, ROOM, &it.answer);
             same = same && (parts[part].is_text ? wrote(&it, "", 0) : is_wrong(&it, 0, 0));
         }
-        check("a part of a long text", "is found wherever it stands", same);
+        check("a part of a long text", "is found at every offset", same);
     }
     for (size_t at = 0; at + 3 <= LONG; at += 3) memcpy(bytes + at, "\346\227\245", 3);
     for (size_t len = LONG - 4; len < LONG; len++) {
@@ -352,10 +352,10 @@ static void try_numbers(void) {
     look.tabs = 16;
     look.width = 0;
     draw(&it);
-    check("no columns at all", "are let pass", it.status == 0);
+    check("no columns at all", "are accepted", it.status == 0);
     look.width = SIZE_MAX;
     draw(&it);
-    check("all columns that there are", "are let pass", it.status == 0);
+    check("all columns that there are", "are accepted", it.status == 0);
 }
 
 /* the earlier array decides, then the earlier element */
@@ -397,7 +397,7 @@ static void try_order(void) {
     labels[2].text = turned;
     begin(&it);
     it.status = girzohal_draw(GIRZOHAL_ABI, (const uint8_t *)texts, TEXTS_LEN, &file, 1, reports, 2, labels, 3, &look, it.out, ROOM, &it.answer);
-    check("a label that no report names", "is judged too", is_wrong(&it, 3, 1));
+    check("a label that no report names", "is checked too", is_wrong(&it, 3, 1));
 }
 
 /* the number of the ABI goes before everything else, and nothing else is read */
@@ -605,5 +605,5 @@ int main(void) {
     try_put();
     try_many();
     try_threads();
-    return told("calls");
+    return summary("calls");
 }

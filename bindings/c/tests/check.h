@@ -14,7 +14,7 @@ static void check(const char *what, const char *of, int holds) {
     }
 }
 
-static int told(const char *program) {
+static int summary(const char *program) {
     printf("%s: %d passed, %d failed\n", program, passed, failed);
     return failed != 0;
 }

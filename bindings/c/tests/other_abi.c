@@ -1,4 +1,4 @@
-/* A library of another ABI: every call is refused. The packages are tried with it in the place of the right one. */
+/* A library of another ABI: every call is refused. The packages are tried with it instead of the right one. */
 #include "girzohal.h"
 
 static uint32_t refuse(girzohal_answer *answer) {

@@ -178,7 +178,7 @@ static void try_memory(void) {
     for (size_t at = 0; at < COUNT(examples); at++) {
         const example *e = &examples[at];
         arena memory = {-1, 0, 0};
-        long asked = 1, wants = 0;
+        long asked = 1, failures = 0;
         int holds = 1;
         for (long left = -1; left < asked; left++) {
             girzohal_sources it = {0};
@@ -191,7 +191,7 @@ static void try_memory(void) {
             add_reports(e, &it);
             uint32_t status = girzohal_sources_draw(&it, &ascii);
             if (left < 0) asked = memory.asked;
-            wants += status == GIRZOHAL_OUT_OF_MEMORY;
+            failures += status == GIRZOHAL_OUT_OF_MEMORY;
             holds = holds && (left < 0 ? wrote(&it, status, e->drawing, e->drawing_len)
                                        : status == GIRZOHAL_OUT_OF_MEMORY && it.out_len == 0);
             memory.left = -1;
@@ -202,7 +202,7 @@ static void try_memory(void) {
             girzohal_sources_free(&it);
             holds = holds && memory.live == 0;
         }
-        check(e->name, "memory of the caller's", holds && wants == asked && asked > 4);
+        check(e->name, "memory of the caller's", holds && failures == asked && asked > 4);
     }
 }
 
@@ -213,5 +213,5 @@ int main(void) {
     try_refusals();
     try_wrong();
     try_memory();
-    return told("sources");
+    return summary("sources");
 }

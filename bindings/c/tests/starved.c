@@ -1,5 +1,5 @@
-/* Each request for memory fails in turn: the answer is want of memory with the buffer as it was, or 0 with the right
- * drawing, where the want was bridged. Nothing is left behind. Link with --wrap=malloc,--wrap=realloc,--wrap=calloc. */
+/* Each allocation fails in turn: the status is out of memory with the buffer unchanged, or 0 with the right drawing, if the library
+ * went on without the memory. Nothing stays allocated. Link with --wrap=malloc,--wrap=realloc,--wrap=calloc,--wrap=free. */
 #include "build.h"
 #include "check.h"
 
@@ -51,7 +51,7 @@ static uint32_t call(const example *e, int is_document, const girzohal_look *loo
 
 static void starve(const example *e, int is_document, const girzohal_look *look) {
     girzohal_answer answer;
-    long wants = 0, bridged = 0;
+    long failures = 0, successes = 0;
     left = -1;
     asked = 0;
     int holds = call(e, is_document, look, &answer) == GIRZOHAL_DONE && live == 0;
@@ -67,15 +67,15 @@ static void starve(const example *e, int is_document, const girzohal_look *look)
         int drew = status == GIRZOHAL_DONE && answer.needed == needed && memcmp(out, right, needed) == 0
             && memcmp(out + needed, before, sizeof out - needed) == 0;
         holds = (starved || drew) && live == 0;
-        wants += starved;
-        bridged += drew;
+        failures += starved;
+        successes += drew;
     }
-    check(e->name, look->form == GIRZOHAL_JSON ? "JSON" : "a drawing", holds && wants > 0 && wants + bridged == all);
+    check(e->name, look->form == GIRZOHAL_JSON ? "JSON" : "a drawing", holds && failures > 0 && failures + successes == all);
 }
 
 /* the same with girzohal_sources, whose own requests fail too */
 static void starve_sources(const example *e) {
-    long all = 0, wants = 0, bridged = 0;
+    long all = 0, failures = 0, successes = 0;
     int holds = 1;
     for (long at = -1; at < all; at++) {
         girzohal_sources it = {0};
@@ -91,10 +91,10 @@ static void starve_sources(const example *e) {
         int drew = status == GIRZOHAL_DONE && it.out_len == e->drawing_len && memcmp(it.out, e->drawing, e->drawing_len) == 0;
         girzohal_sources_free(&it);
         holds = holds && (at < 0 ? drew : starved || drew) && live == 0;
-        wants += starved;
-        bridged += at >= 0 && drew;
+        failures += starved;
+        successes += at >= 0 && drew;
     }
-    check(e->name, "sources", holds && wants > 0 && wants + bridged == all);
+    check(e->name, "sources", holds && failures > 0 && failures + successes == all);
 }
 
 int main(void) {
@@ -103,5 +103,5 @@ int main(void) {
         for (size_t look = 0; look < COUNT(looks); look++)
             for (int is_document = 0; is_document < 2; is_document++) starve(&examples[at], is_document, &looks[look]);
     for (size_t at = 0; at < COUNT(examples); at++) starve_sources(&examples[at]);
-    return told("starved");
+    return summary("starved");
 }

@@ -1,4 +1,4 @@
-/* Memory that can be made to want: stands in the place of malloc and its kin in an archive for tests. */
+/* Allocations that can be made to fail: they replace malloc, calloc and realloc in an archive for tests. */
 #include <stdint.h>
 #include <stdlib.h>
 

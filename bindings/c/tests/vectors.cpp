@@ -115,5 +115,5 @@ int main() {
     check("no files", "make the report wrong", drawn(no_files, look) == "status 2");
     check("no text", "is both ends at the last number",
           girzohal_no_text().start == SIZE_MAX && girzohal_no_text().end == SIZE_MAX);
-    return told("vectors");
+    return summary("vectors");
 }

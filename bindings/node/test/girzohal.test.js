@@ -87,7 +87,7 @@ test('examples are drawn', () => {
 
 test('documents that are refused', () => {
   const files = [{ name: 'a.txt', source: 'é\nabc' }];
-  const told = (file, labels) => {
+  const drawn = (file, labels) => {
     const reports = [{ file: 0, message: 'm' }, { file, message: 'm', labels }];
     return drawDocument(JSON.stringify({ version: 2, files, reports }));
   };
@@ -97,7 +97,7 @@ test('documents that are refused', () => {
     [0, { start: [2, 3], end: [2, 1] }, { kind: 'endBeforeStart', start: 5, end: 3 }],
     [1, { bytes: [0, 2] }, { kind: 'unknownFile', report: 1, message: 'report 1: there is no such file' }],
   ];
-  for (const [file, label, wanted] of rows) assert.throws(() => told(file, [label]), wanted);
+  for (const [file, label, wanted] of rows) assert.throws(() => drawn(file, [label]), wanted);
   for (const none of ['', '{', '[]', '{}', Buffer.from([255]), '{"files":[],"reports":[]} x']) {
     for (const call of [drawDocument, jsonDocument]) assert.throws(() => call(none), { kind: 'noDocument' });
   }

@@ -98,20 +98,20 @@ class Calls(unittest.TestCase):
     def test_documents_that_are_refused(self):
         files = [{"name": "a.txt", "source": "é\nabc"}]
 
-        def told(file, labels):
+        def drawn(file, labels):
             said = [{"file": 0, "message": "m"}, {"file": file, "message": "m", "labels": labels}]
             return draw_document(json.dumps({"version": 2, "files": files, "reports": said}))
 
         for label, at_end in (({"bytes": [1, 2]}, False), ({"start": [2, 4], "end": [2, 5]}, True)):
             with self.assertRaises(girzohal.NoPlace) as raised:
-                told(0, [label])
+                drawn(0, [label])
             error = raised.exception
             self.assertEqual((error.report, error.label, error.at_end), (1, 0, at_end))
         with self.assertRaises(girzohal.EndBeforeStart) as raised:
-            told(0, [{"start": [2, 3], "end": [2, 1]}])
+            drawn(0, [{"start": [2, 3], "end": [2, 1]}])
         self.assertEqual((raised.exception.start, raised.exception.end), (5, 3))
         with self.assertRaises(girzohal.UnknownFile) as raised:
-            told(1, [])
+            drawn(1, [])
         self.assertEqual(str(raised.exception), "report 1: there is no such file")
         for none in ("", b"", "{", "[]", "{}", b"\xff", '{"files":[],"reports":[]} x'):
             for call in (draw_document, json_document):
@@ -138,26 +138,26 @@ class Calls(unittest.TestCase):
         files = one("é\nabc")
         rows = [(1, 2, False), (0, 1, True), (0, 7, True), (7, 7, False), (0, 2**70, True), (-1, 2, False), (2**32, 2**32, False)]
         for start, end, at_end in rows:
-            with self.subTest((start, end)), self.assertRaises(girzohal.NoPlace) as told:
+            with self.subTest((start, end)), self.assertRaises(girzohal.NoPlace) as raised:
                 draw(files, [Report.error("m"), Report.error("m").label(start, end)])
-            self.assertEqual((told.exception.report, told.exception.label, told.exception.at_end), (1, 0, at_end))
-        with self.assertRaises(girzohal.EndBeforeStart) as told:
+            self.assertEqual((raised.exception.report, raised.exception.label, raised.exception.at_end), (1, 0, at_end))
+        with self.assertRaises(girzohal.EndBeforeStart) as raised:
             draw(files, [Report.error("m").label(0, 2).label(5, 3)])
-        self.assertEqual(str(told.exception), "report 0: label 1: its end 3 is before its start 5")
+        self.assertEqual(str(raised.exception), "report 0: label 1: its end 3 is before its start 5")
         draw(files, [Report.error("m").label(6, 6)])
 
     def test_wrong_arguments(self):
         files, right = one("x"), Report.error("m")
         for wrong in (*(Report.error("m", file=at) for at in (1, -1, 2**40)), right.code("", "n"), right.code("s", ""), Report(7, "m")):
-            with self.assertRaises(girzohal.WrongReport) as told:
+            with self.assertRaises(girzohal.WrongReport) as raised:
                 draw(files, [right, wrong])
-            self.assertEqual(told.exception.report, 1)
+            self.assertEqual(raised.exception.report, 1)
         draw(files, [Report.advice("", help="", note="", url="").label(0, 0, "")])
         rows = [(Look(tabs=0), "tabs"), (Look(tabs=17), "tabs"), (Look(tabs=-1), "tabs"), (Look(tabs=2**40), "tabs"), (Look(theme=3), "theme")]
         for look, field in rows:
-            with self.subTest(look), self.assertRaises(girzohal.WrongLook) as told:
+            with self.subTest(look), self.assertRaises(girzohal.WrongLook) as raised:
                 draw(files, [], look)
-            self.assertEqual(told.exception.field, field)
+            self.assertEqual(raised.exception.field, field)
         for width in (-1, 0, 2**80):
             self.assertIn("m", draw(files, [right], Look(width=width)))
 
@@ -282,15 +282,15 @@ class Calls(unittest.TestCase):
             for call, said in calls:
                 library.girzohal_starve(-1)
                 self.assertEqual(call(), said)
-                asked, wants = library.girzohal_asked(), 0
+                asked, failures = library.girzohal_asked(), 0
                 for at in range(asked):
                     library.girzohal_starve(at)
                     try:
                         self.assertEqual(call(), said)
                     except girzohal.OutOfMemory:
-                        wants += 1
+                        failures += 1
                     library.girzohal_starve(-1)
-                self.assertGreater(wants, 0, name)
+                self.assertGreater(failures, 0, name)
 
 
 def load_tests(_loader, tests, _pattern):

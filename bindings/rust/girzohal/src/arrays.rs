@@ -15,8 +15,7 @@ pub(crate) struct Laid<'a> {
 
 impl<'a> Laid<'a> {
     pub(crate) fn new(sources: &'a Sources, reports: &[report::Report]) -> Laid<'a> {
-        let mut texts = sources.take_room();
-        texts.reserve(reports.iter().map(bytes_of).sum());
+        let texts = sources.take_room(reports.iter().map(bytes_of).sum());
         let count = reports.iter().map(|report| report.labels.len()).sum();
         let mut made = Laid {
             sources,

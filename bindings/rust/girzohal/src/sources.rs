@@ -90,14 +90,19 @@ impl Sources {
         &self.files
     }
 
-    /// The texts of the files, with room for more, which nobody else has meanwhile.
-    pub(crate) fn take_room(&self) -> String {
-        let room = self
+    /// The texts of the files, with room for so many bytes more, which nobody else has meanwhile.
+    pub(crate) fn take_room(&self, more: usize) -> String {
+        let kept = self
             .rooms
             .lock()
             .unwrap_or_else(PoisonError::into_inner)
             .pop();
-        room.unwrap_or_else(|| self.texts.clone())
+        let mut room = kept.unwrap_or_default();
+        room.reserve(self.texts.len() + more - room.len());
+        if room.is_empty() {
+            room.push_str(&self.texts);
+        }
+        room
     }
 
     /// Keeps a room for the next draw.

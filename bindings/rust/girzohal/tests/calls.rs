@@ -48,7 +48,7 @@ fn examples_are_drawn() {
 #[test]
 fn documents_that_are_refused() {
     let files = r#""version": 2, "files": [{ "name": "a.txt", "source": "é\nabc" }]"#;
-    let told = |file, label| {
+    let result = |file, label| {
         let first = r#"{ "file": 0, "message": "m" }"#;
         let second = format!(r#"{{ "file": {file}, "message": "m", "labels": [{label}] }}"#);
         draw_document(
@@ -63,9 +63,9 @@ fn documents_that_are_refused() {
             at_end,
         })
     };
-    assert_eq!(told(0, r#"{ "bytes": [1, 2] }"#), no_place(false));
+    assert_eq!(result(0, r#"{ "bytes": [1, 2] }"#), no_place(false));
     assert_eq!(
-        told(0, r#"{ "start": [2, 4], "end": [2, 5] }"#),
+        result(0, r#"{ "start": [2, 4], "end": [2, 5] }"#),
         no_place(true)
     );
     let reversed = DrawError::EndBeforeStart {
@@ -75,11 +75,11 @@ fn documents_that_are_refused() {
         end: 3,
     };
     assert_eq!(
-        told(0, r#"{ "start": [2, 3], "end": [2, 1] }"#),
+        result(0, r#"{ "start": [2, 3], "end": [2, 1] }"#),
         Err(reversed)
     );
     let unknown = DrawError::UnknownFile { report: 1 };
-    assert_eq!(told(1, ""), Err(unknown));
+    assert_eq!(result(1, ""), Err(unknown));
     assert_eq!(unknown.to_string(), "report 1: there is no such file");
     for none in ["", "{", "[]", "{}", r#"{"files":[],"reports":[]} x"#] {
         assert_eq!(draw_document(none, &ascii()), Err(DrawError::NoDocument));
@@ -88,7 +88,7 @@ fn documents_that_are_refused() {
     assert_eq!(draw_document(b"\xff", &ascii()), Err(DrawError::NoDocument));
     let look = Look { tabs: 0, ..ascii() };
     assert_eq!(draw_document("{", &look), Err(DrawError::WrongLook));
-    assert!(told(0, r#"{ "bytes": [3, 6] }"#).is_ok());
+    assert!(result(0, r#"{ "bytes": [3, 6] }"#).is_ok());
 }
 
 #[test]
@@ -110,7 +110,7 @@ fn looks_differ() {
 #[test]
 fn refusals() {
     let files = one("é\nabc");
-    let told = |label| {
+    let result = |label| {
         draw(
             &files,
             &[Report::error("m"), Report::error("m").with_label(label)],
@@ -124,14 +124,14 @@ fn refusals() {
             at_end,
         })
     };
-    assert_eq!(told(Label::new(1..2)), no_place(false));
-    assert_eq!(told(Label::new(0..1)), no_place(true));
-    assert_eq!(told(Label::new(0..7)), no_place(true));
-    assert_eq!(told(Label::new(7..7)), no_place(false));
-    assert_eq!(told(Label::new(0..usize::MAX)), no_place(true));
-    assert_eq!(told(Label::new((1 << 32)..(1 << 32))), no_place(false));
+    assert_eq!(result(Label::new(1..2)), no_place(false));
+    assert_eq!(result(Label::new(0..1)), no_place(true));
+    assert_eq!(result(Label::new(0..7)), no_place(true));
+    assert_eq!(result(Label::new(7..7)), no_place(false));
+    assert_eq!(result(Label::new(0..usize::MAX)), no_place(true));
+    assert_eq!(result(Label::new((1 << 32)..(1 << 32))), no_place(false));
     #[allow(clippy::reversed_empty_ranges)]
-    let turned = told(Label::new(5..3));
+    let turned = result(Label::new(5..3));
     let reversed = DrawError::EndBeforeStart {
         report: 1,
         label: 0,
@@ -143,18 +143,18 @@ fn refusals() {
         reversed.to_string(),
         "report 1: label 0: its end 3 is before its start 5"
     );
-    assert!(told(Label::new(6..6)).is_ok());
+    assert!(result(Label::new(6..6)).is_ok());
 }
 
 #[test]
 fn wrong_arguments() {
     let files = one("x");
     let wrong = |report| draw(&files, &[Report::error("m"), report], &ascii());
-    let told = Err(DrawError::WrongReport { report: 1 });
-    assert_eq!(wrong(Report::error("m").file(1)), told);
-    assert_eq!(wrong(Report::error("m").file(u32::MAX)), told);
-    assert_eq!(wrong(Report::error("m").scope("")), told);
-    assert_eq!(wrong(Report::error("m").number("")), told);
+    let result = Err(DrawError::WrongReport { report: 1 });
+    assert_eq!(wrong(Report::error("m").file(1)), result);
+    assert_eq!(wrong(Report::error("m").file(u32::MAX)), result);
+    assert_eq!(wrong(Report::error("m").scope("")), result);
+    assert_eq!(wrong(Report::error("m").number("")), result);
     assert!(wrong(Report::error("").help("").note("").url("").label(0..0, "")).is_ok());
     for tabs in [0, 17, u32::MAX] {
         let look = Look { tabs, ..ascii() };

@@ -23,20 +23,20 @@ fn starved(name: &str, drawing: &str, call: impl Fn() -> Result<String, DrawErro
     assert_eq!(call().as_deref(), Ok(drawing), "{name}");
     // SAFETY: the call reads a number of the thread's own.
     let asked = unsafe { girzohal_asked() };
-    let mut wants = 0;
+    let mut failures = 0;
     for at in 0..asked {
         starve(at);
-        let told = call();
+        let result = call();
         starve(-1);
-        match told {
+        match result {
             Ok(text) => assert_eq!(text, drawing, "{name}"),
             Err(error) => {
                 assert_eq!(error, DrawError::OutOfMemory, "{name}");
-                wants += 1;
+                failures += 1;
             }
         }
     }
-    assert!(wants > 0, "{name}");
+    assert!(failures > 0, "{name}");
 }
 
 #[test]
