@@ -6,7 +6,7 @@ usage: speed.py [DOCUMENT..]     (many multi wide unicode deep big; all if none 
 It needs the archive of `sh bindings/test.sh` (out/llvm/libgirzohal.a), the program `report` that the gate built
 (crates/report/out/report), cc, cargo and valgrind. The documents are those of tools/cost.py, with labels by bytes. For each: what
 `files_text` takes in the program, what `girzohal_draw` takes, and what `draw` of the Rust crate takes, with the ratios of both to the
-first. All have to draw the same.
+first; `again` is a second draw from the same sources. All have to draw the same.
 
 glibc copies long texts by `rep movsb`, one instruction, of which valgrind counts each byte: so it is made to copy by vectors."""
 import json
@@ -113,12 +113,12 @@ def main(wanted):
                 json.dump(document, file, ensure_ascii=False)
             text, drawn = files_text(given + ".json", room)
             (whole,) = counts(in_c, given, given + ".c", ("girzohal_draw",))
-            (rust,) = counts(in_rust, given, given + ".rust", ("counted",))
+            rust, again = counts(in_rust, given, given + ".rust", ("counted", "again"))
             with open(given + ".c", "rb") as one, open(given + ".rust", "rb") as other:
                 if not one.read() == other.read() == drawn:
                     sys.exit(f"{name}: the drawings differ")
             print(f"{name:8} files_text {text:14,}   girzohal_draw {whole:14,} ({whole / text:.3f})   "
-                  f"Rust {rust:14,} ({rust / text:.3f})", flush=True)
+                  f"Rust {rust:14,} ({rust / text:.3f})   again {again:14,} ({again / text:.3f})", flush=True)
 
 
 if __name__ == "__main__":

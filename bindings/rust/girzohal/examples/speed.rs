@@ -1,4 +1,4 @@
-//! Draws once what a file holds, for counting instructions: `bindings/speed.py` writes the file, and reads the counts.
+//! Draws twice what a file holds, for counting instructions: `bindings/speed.py` writes the file, and reads the counts.
 //!
 //! usage: speed FILE DRAWING
 
@@ -75,16 +75,24 @@ fn report(from: &mut Reader<'_>, texts: &str, labels: &[Label]) -> Report {
 }
 
 #[inline(never)]
-fn counted(files: &Sources, reports: &[Report], look: &Look) -> String {
-    draw(files, reports, look).unwrap()
+fn counted(sources: &Sources, reports: &[Report], look: &Look) -> String {
+    draw(sources, reports, look).unwrap()
+}
+
+/// The same once more. It returns something else, so that the compiler doesn't make one function of both.
+#[inline(never)]
+fn again(sources: &Sources, reports: &[Report], look: &Look) -> usize {
+    draw(sources, reports, look).unwrap().len()
 }
 
 fn main() {
     let words: Vec<String> = std::env::args().collect();
-    let (files, reports) = read(&std::fs::read(&words[1]).unwrap());
+    let (sources, reports) = read(&std::fs::read(&words[1]).unwrap());
     let look = Look {
         theme: Theme::None,
         ..Look::default()
     };
-    std::fs::write(&words[2], counted(&files, &reports, &look)).unwrap();
+    let text = counted(&sources, &reports, &look);
+    assert_eq!(again(&sources, &reports, &look), text.len());
+    std::fs::write(&words[2], text).unwrap();
 }
