@@ -117,15 +117,15 @@ exports() {
 }
 
 # drawn PROGRAM..: whether a program draws the example
-drawn() { "$@" >"$out/drawn.txt" && cmp "$out/drawn.txt" c/examples/example.txt; }
+drawn() { "$@" >"$out/drawn.txt" && cmp "$out/drawn.txt" c/example.txt; }
 
 # the unpacked package, used by programs elsewhere
 installed_c() {
     rm -rf "$out/prefix" "$out/elsewhere" && mkdir -p "$out/prefix" "$out/elsewhere" || return 1
-    tar xzf "$out/packages/girzohal-$version-linux-x86_64.tar.gz" -C "$out/prefix" --strip-components=1 || return 1
+    tar xzf "$out/packages/libgirzohal-$version-linux-x86_64.tar.gz" -C "$out/prefix" --strip-components=1 || return 1
     flags="-I$out/prefix/include -L$out/prefix/lib -lgirzohal"
     has pkg-config && flags=$(PKG_CONFIG_PATH=$out/prefix/lib/pkgconfig pkg-config --cflags --libs "girzohal >= $series")
-    cp c/examples/* "$out/elsewhere"
+    cp c/example.c "$out/elsewhere"
     # shellcheck disable=SC2086
     (cd "$out/elsewhere" && ${CC:-cc} -O2 -o shared example.c $flags) || return 1
     drawn env LD_LIBRARY_PATH="$out/prefix/lib" "$out/elsewhere/shared" || return 1
@@ -136,7 +136,7 @@ installed_c() {
 
 # find_package, in C and C++, shared and static, and for versions that fit and that don't
 by_cmake() {
-    rm -rf "$out/cmake" && mkdir -p "$out/cmake" && cp c/examples/example.c c/examples/example.cpp "$out/cmake" || return 1
+    rm -rf "$out/cmake" && mkdir -p "$out/cmake" && cp c/example.c c/example.cpp "$out/cmake" || return 1
     cat >"$out/cmake/CMakeLists.txt" <<'CMAKE'
 cmake_minimum_required(VERSION 3.10)
 project(example C CXX)
@@ -270,7 +270,7 @@ TOML
     shown ../README.md rust "$out/shown/src/bin/front.rs" && shown README.md rust "$out/shown/src/bin/page.rs" || return 1
     for it in front page; do
         (cd "$out/shown" && CARGO_TARGET_DIR=$out/rust_shown cargo run --offline --quiet --bin "$it") >"$out/shown.txt" || return 1
-        cmp "$out/shown.txt" c/examples/example.txt || return 1
+        cmp "$out/shown.txt" c/example.txt || return 1
     done
 }
 
@@ -287,7 +287,7 @@ python_package() {
 }
 
 # (run elsewhere, so that the page's path and the expected drawing have to be whole)
-drawn_by() { (cd "$top/bindings" && shown README.md python "$out/shown.py") && "$1" "$out/shown.py" | cmp - "$top/bindings/c/examples/example.txt"; }
+drawn_by() { (cd "$top/bindings" && shown README.md python "$out/shown.py") && "$1" "$out/shown.py" | cmp - "$top/bindings/c/example.txt"; }
 
 # ---- Node
 

@@ -1,5 +1,5 @@
 #!/bin/sh
-# Puts the C packages into OUT: for each archive girzohal-VERSION-linux-ARCH.tar.gz, a prefix with the headers, both libraries, and the files of
+# Puts the C packages into OUT: for each archive libgirzohal-VERSION-linux-ARCH.tar.gz, a prefix with the headers, both libraries, and the files of
 # pkg-config and CMake. Prints their names.
 #
 # usage: sh bindings/c/package.sh OUT      (GIRZOHAL_ARCHIVES: the folder of the archives; without it bindings/out)
@@ -7,10 +7,10 @@
 . "$(dirname "$0")/../packaging.sh"
 
 pack() {
-    name=girzohal-$version-linux-$1
+    name=libgirzohal-$version-linux-$1
     doc=$room/$name/share/doc/girzohal
-    make_c "$1" "$2" PREFIX=/"$name" DESTDIR="$room" install && mkdir -p "$doc/examples" && legal "$doc" &&
-        cp README.md "$doc" && cp examples/*.c examples/*.cpp "$doc/examples" &&
+    make_c "$1" "$2" PREFIX=/"$name" DESTDIR="$room" install && mkdir -p "$doc" && legal "$doc" &&
+        cp README.md example.c example.cpp arrays.c "$doc" &&
         tar -C "$room" --sort=name --owner=0 --group=0 --numeric-owner --mtime=@0 -czf "$to/$name.tar.gz" "$name" &&
         echo "$name.tar.gz"
 }
