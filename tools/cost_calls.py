@@ -131,12 +131,12 @@ def places(room, program):
 
 def small(room, archive):
     """The example of bindings/c, drawn again and again."""
-    with open(os.path.join(HERE, "..", "bindings", "c", "examples", "arrays.c"), encoding="utf-8") as file:
+    with open(os.path.join(HERE, "..", "bindings", "c", "arrays.c"), encoding="utf-8") as file:
         source = file.read()
     draws = "uint32_t status = girzohal_draw("
     again = source.replace(draws, "uint32_t status = 0;\n    for (int turn = 0; turn < 1000; turn++) status = girzohal_draw(")
     if again == source:
-        sys.exit("cost_calls.py: bindings/c/examples/arrays.c has no call as it is looked for here")
+        sys.exit("cost_calls.py: bindings/c/arrays.c has no call as it is looked for here")
     with open(os.path.join(room, "small.c"), "w", encoding="utf-8") as file:
         file.write(again)
     program = os.path.join(room, "small")

@@ -4,7 +4,7 @@
 # usage: sh tools/release.sh OUT
 #
 # OUT gets the tarball for Linux on x86-64 (programs, man pages, completions, library and header), the packages for C,
-# Rust, Python and Node, the library for Linux on aarch64 if its compiler is there, CONTENTS (what is in each package) and
+# Rust, Python and Node, also for Linux on aarch64 if its compiler is there, CONTENTS (what is in each package) and
 # SHA256SUMS. What can't be made here is named in a line that begins with `skipped:`. The last line is
 # `N packages, M skipped`. The status is 1 if a package that can be made here was not made.
 set -e
@@ -45,7 +45,13 @@ put 644 share/fish/vendor_completions.d completions/girzohal.fish girzohal.fish
 for page in README.md CHANGELOG.md LICENSE-APACHE LICENSE-MIT NOTICE; do put 644 share/doc/girzohal "$page" "$page"; done
 echo "girzohal $version" >"$tree/VERSION"
 archives=$room/archives
-if python3 bindings/archive.py "$archives" >"$room/said" 2>&1; then
+arm=
+if command -v aarch64-linux-gnu-gcc >/dev/null 2>&1; then
+    arm=--aarch64
+else
+    skip "the packages for Linux on aarch64" "there is no aarch64-linux-gnu-gcc"
+fi
+if python3 bindings/archive.py $arm "$archives" >"$room/said" 2>&1; then
     make -s -C bindings/c BUILD="$room/c" ARCHIVE="$archives/llvm/libgirzohal_c.a" DESTDIR="$tree" PREFIX= install
     # found wherever the tarball is unpacked (pkg-config reads the variable)
     # shellcheck disable=SC2016
