@@ -99,6 +99,60 @@ def try_c(prefix, room):
         check("and draws", run([f"{room}/example"], LD_LIBRARY_PATH=f"{prefix}/lib")[1] == file.read())
 
 
+def shown(language):
+    """The example of bindings/README.md in a language."""
+    return run([sys.executable, "shown.py", "README.md", language], cwd=f"{TOP}/bindings")[1]
+
+
+def try_packages(folder, version, room):
+    """Installs each language's package as bindings/README.md says, and runs its example."""
+    with open(f"{TOP}/bindings/c/example.txt") as file:
+        wanted = file.read()
+    at = tempfile.mkdtemp(dir=room)
+    name = f"libgirzohal-{version}-linux-x86_64.tar.gz"
+    run(["tar", "xzf", f"{folder}/{name}", "-C", at, "--strip-components=1"])
+    for language, compiler, end in (("c", "cc", "c"), ("cpp", "c++", "cpp")):
+        if not shutil.which(compiler):
+            skip(f"the package for {language}", f"there is no {compiler}")
+            continue
+        with open(f"{at}/shown.{end}", "w") as file:
+            file.write(shown(language))
+        given = {"PKG_CONFIG_PATH": f"{at}/lib/pkgconfig", "LD_LIBRARY_PATH": f"{at}/lib"}
+        command = f"{compiler} shown.{end} -o shown-{end} $(pkg-config --cflags --libs girzohal) && ./shown-{end}"
+        status, out, err = run(["sh", "-c", command], cwd=at, **given)
+        check(f"the example in {language}, over its package", out == wanted, out + err)
+    if shutil.which("cargo"):
+        at = tempfile.mkdtemp(dir=room)
+        for it in (f"girzohal-{version}.crate", f"girzohal-sys-{version}.crate"):
+            run(["tar", "xzf", f"{folder}/{it}", "-C", at])
+        os.makedirs(f"{at}/src")
+        with open(f"{at}/src/main.rs", "w") as file:
+            file.write(shown("rust"))
+        with open(f"{at}/Cargo.toml", "w") as file:
+            file.write('[package]\nname = "shown"\nversion = "0.1.0"\nedition = "2021"\n[dependencies]\n'
+                       f'girzohal = {{ path = "girzohal-{version}" }}\n[patch.crates-io]\n'
+                       f'girzohal-sys = {{ path = "girzohal-sys-{version}" }}\n[workspace]\n')
+        status, out, err = run(["cargo", "run", "--offline", "--quiet"], cwd=at)
+        check("the example in Rust, over its crates", out == wanted, out + err)
+    else:
+        skip("the crates for Rust", "there is no cargo")
+    at = tempfile.mkdtemp(dir=room)
+    run([sys.executable, "-m", "venv", f"{at}/venv"])
+    wheel = glob.glob(f"{folder}/girzohal-{version}-*x86_64.whl")[0]
+    run([f"{at}/venv/bin/pip", "install", "--no-index", "--quiet", wheel])
+    status, out, err = run([f"{at}/venv/bin/python", "-c", shown("python")], cwd=at)
+    check("the example in Python, over its wheel", out == wanted, out + err)
+    if shutil.which("npm"):
+        at = tempfile.mkdtemp(dir=room)
+        run(["npm", "install", "--offline", "--silent", f"{folder}/girzohal-{version}.tgz"], cwd=at)
+        with open(f"{at}/shown.mjs", "w") as file:
+            file.write(shown("js"))
+        status, out, err = run(["node", "shown.mjs"], cwd=at)
+        check("the example for Node, over its package", out == wanted, out + err)
+    else:
+        skip("the package for Node", "there is no npm")
+
+
 def try_github(folder, tarball, version, room):
     """What action.yml runs, from a file and from the web."""
     with served(folder) as url:
@@ -207,6 +261,7 @@ def main(folder):
         prefix = f"{room}/prefix"
         try_install(folder, found[0], prefix, room)
         try_c(prefix, room)
+        try_packages(folder, version, room)
         try_github(folder, found[0], version, room)
         try_gitlab(found[0], room)
         try_pre_commit(prefix, room)
