@@ -14,19 +14,19 @@ _girzohal() {
         ;;
     --columns) values="bytes characters utf16 cells" ;;
     --first-column) values="0 1" ;;
-    --theme) values="auto none unicode unicode_nocolor" ;;
+    --color) values="auto always never" ;;
     --width) values="auto 80 100 120" ;;
     --tabs) values="2 4 8" ;;
     --fail-on) values="error warning advice never" ;;
-    --shape | --most) return ;;
+    --shape | --max-findings) return ;;
     --root)
         mapfile -t COMPREPLY < <(compgen -d -- "$word")
         return
         ;;
     *)
         if [[ $word == -* ]]; then
-            values="--from --to --tool --shape --only-findings --columns --first-column --theme --width --tabs --root
-                --anywhere --fail-on --most --quiet --raw --help --version"
+            values="--from --tool --shape --columns --first-column --root --allow-outside-root --to --color --ascii
+                --width --tabs --max-findings --only-findings --no-summary --quiet --raw --fail-on --help --version"
         else
             mapfile -t COMPREPLY < <(compgen -f -- "$word")
             return

@@ -86,9 +86,9 @@ def main():
         text = Build().clean(mib << 20)
         count = counted(sys.argv[1], text, room)
         print(f"no finding: {len(text):,} bytes, {count / 1e6:,.1f} million instructions, {count / len(text):.1f} a byte")
-        for theme in ("unicode_nocolor", "unicode"):
-            count = counted(sys.argv[1], text, room, ("--theme", theme))
-            print(f"drawn, {theme}: {count / 1e6:,.1f} million instructions, {count / len(text):.1f} a byte")
+        for colors in ("never", "always"):
+            count = counted(sys.argv[1], text, room, ("--color", colors))
+            print(f"drawn, --color {colors}: {count / 1e6:,.1f} million instructions, {count / len(text):.1f} a byte")
         for findings in (25_000, 50_000, 100_000):
             text = Build().findings(findings)
             count = counted(sys.argv[1], text, room)

@@ -13,7 +13,7 @@ import subprocess
 import sys
 import tempfile
 
-LOOK = ["--theme", "unicode_nocolor", "--width", "80"]
+LOOK = ["--color", "never", "--width", "80"]
 
 
 def write_log(folder):

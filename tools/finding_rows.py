@@ -192,19 +192,19 @@ RUNS = [
     *[("four findings", ("--to", form), FOUR, 1, text)
       for form, text in (("github", GITHUB), ("gitlab", GITLAB), ("checkstyle", CHECKSTYLE), ("junit", JUNIT), ("stylish", STYLISH))],
     *[("no findings", ("--to", form), b"", 0, text) for form, text in (("github", ""), ("gitlab", "[]"), ("junit", PASSING), ("stylish", ""))],
-    *[("how many there are", ("--most", "0"), counted(*counts), int(counts[0] > 0), (f"and {sum(counts)} more\n" if text else "") + text)
+    *[("how many there are", ("--max-findings", "0"), counted(*counts), int(counts[0] > 0), (f"and {sum(counts)} more\n" if text else "") + text)
       for counts, text in (((0, 0, 0), ""), ((1, 0, 0), "1 error\n"), ((3, 1, 0), "3 errors, 1 warning\n"), ((0, 2, 1), "2 warnings, 1 note\n"),
                            ((0, 0, 12), "12 notes\n"))],
-    *[("how many more there are", ("--most", "0", "--quiet"), counted(0, count, 0), 0, text) for count, text in ((0, ""), (2, "and 2 more\n"))],
-    *[("a warning", ("--most", "0", "--fail-on", level), counted(0, 1, 0), status, "and 1 more\n1 warning\n")
+    *[("how many more there are", ("--max-findings", "0", "--no-summary"), counted(0, count, 0), 0, text) for count, text in ((0, ""), (2, "and 2 more\n"))],
+    *[("a warning", ("--max-findings", "0", "--fail-on", level), counted(0, 1, 0), status, "and 1 more\n1 warning\n")
       for level, status in (("error", 0), ("warning", 1), ("advice", 1), ("never", 0))],
-    *[("two reports", ("--theme", "none", *words), TWO, 1, text)
-      for words, text in (((), BOTH_DRAWN + "1 error, 1 warning\n"), (("--quiet",), BOTH_DRAWN),
-                          (("--most", "1"), FIRST_DRAWN + "and 1 more\n1 error, 1 warning\n"), (("--most", "0", "--quiet"), "and 2 more\n"))],
+    *[("two reports", ("--ascii", *words), TWO, 1, text)
+      for words, text in (((), BOTH_DRAWN + "1 error, 1 warning\n"), (("--no-summary",), BOTH_DRAWN),
+                          (("--max-findings", "1"), FIRST_DRAWN + "and 1 more\n1 error, 1 warning\n"), (("--max-findings", "0", "--no-summary"), "and 2 more\n"))],
     *[("two reports", ("--to", form), TWO, 1, text) for form, text in (("json", JSON), ("document", DOCUMENT_OF_LINES), ("sarif", LOG))],
     ("a document", ("--to", "document"), DOCUMENT.encode(), 1, DOCUMENT),
     ("a label that stands in its source", ("--to", "problems"), labelled([1, 1], [1, 2]), 1, "a.c:1:1:1:2: error: m\n"),
-    *[("texts", ("--anywhere", "--to", "document", *words), HOSTILE, 0, HOSTILE_FOUND % (name, message, f"at {name}:3 (not read: no plain file)"))
+    *[("texts", ("--allow-outside-root", "--to", "document", *words), HOSTILE, 0, HOSTILE_FOUND % (name, message, f"at {name}:3 (not read: no plain file)"))
       for words, name, message in (((), "a?.c", "?[2J"), (("--raw",), r"a\n.c", r"\u001b[2J"))],
 ]
 
@@ -278,17 +278,17 @@ ANNOTATED = [
 
 # Words, a line, and how it is shown.
 PAINTED = [
-    (("unicode",), "one\r\n", "one\n"),
-    (("unicode",), "\x1b[1;31mone\x1b[0m two\r\n", "\x1b[1;31mone\x1b[0m two\x1b[0m\n"),
-    (("unicode",), "\x1b[32mone", "\x1b[32mone\x1b[0m\n"),
-    (("unicode",), "\x1b[2Jone\n", "?[2Jone\n"),
-    (("unicode",), "\x1b]8;;u\x07\x1b[1mone\x1b]8;;\x07\n", "one\n"),
-    (("unicode", "--raw"), "\x1b]8;;u\x07\x1b[1mone\x1b]8;;\x07\r\n", "\x1b]8;;u\x07\x1b[1mone\x1b]8;;\x07\n"),
-    (("unicode", "--raw"), "\x1b[1mone\x1b[2J\n", "\x1b[1mone\x1b[2J\n"),
-    (("unicode_nocolor",), "\x1b[1mone\x1b[0m\r\n", "one\n"),
-    (("unicode_nocolor", "--raw"), "\x1b[1mone\x1b[2J\n", "one\x1b[2J\n"),
-    (("none",), "\x1b[1mone\n", "one\n"),
-    (("auto",), "\x1b[1mone\n", "one\n"),
+    (("--color", "always"), "one\r\n", "one\n"),
+    (("--color", "always"), "\x1b[1;31mone\x1b[0m two\r\n", "\x1b[1;31mone\x1b[0m two\x1b[0m\n"),
+    (("--color", "always"), "\x1b[32mone", "\x1b[32mone\x1b[0m\n"),
+    (("--color", "always"), "\x1b[2Jone\n", "?[2Jone\n"),
+    (("--color", "always"), "\x1b]8;;u\x07\x1b[1mone\x1b]8;;\x07\n", "one\n"),
+    (("--color", "always", "--raw"), "\x1b]8;;u\x07\x1b[1mone\x1b]8;;\x07\r\n", "\x1b]8;;u\x07\x1b[1mone\x1b]8;;\x07\n"),
+    (("--color", "always", "--raw"), "\x1b[1mone\x1b[2J\n", "\x1b[1mone\x1b[2J\n"),
+    (("--color", "never"), "\x1b[1mone\x1b[0m\r\n", "one\n"),
+    (("--color", "never", "--raw"), "\x1b[1mone\x1b[2J\n", "one\x1b[2J\n"),
+    (("--ascii",), "\x1b[1mone\n", "one\n"),
+    (("--color", "auto"), "\x1b[1mone\n", "one\n"),
 ]
 
 # A text with findings, notes, colors, a link and a character of two bytes.
@@ -307,8 +307,8 @@ class FindingRows:
             for what, given in REFUSED:
                 self.answers(what, room, ("--to", "json"), given, lambda said: (said.returncode, said.stdout) == (3, b"")
                              and re.fullmatch(rb"girzohal: report 0: label 0: .*\n", said.stderr))
-            for theme, line, shown in PAINTED:
-                self.answers(f"a kept line, {line!r}", room, ("--theme", *theme), line.encode(),
+            for look, line, shown in PAINTED:
+                self.answers(f"a kept line, {line!r}", room, look, line.encode(),
                              lambda said: (said.stdout, said.stderr) == (shown.encode(), b""))
 
     def answers(self, what, room, words, given, holds):
@@ -344,10 +344,10 @@ class FindingRows:
     def try_finding_lines(self):
         """Of lines that come in parts as much is written as is known; wherever they are cut, all of it is the same."""
         for first, second, *wanted in COME:
-            self.try_parts(("--theme", "none"), first, second, [(text, "") for text in wanted])
+            self.try_parts(("--ascii",), first, second, [(text, "") for text in wanted])
         for first, second, *wanted in ANNOTATED:
-            self.try_parts(("--to", "github", "--theme", "unicode"), first, second, wanted)
-        for words in (("--theme", "none"), ("--theme", "unicode"), ("--to", "github", "--theme", "none")):
+            self.try_parts(("--to", "github", "--color", "always"), first, second, wanted)
+        for words in (("--ascii",), ("--color", "always"), ("--to", "github", "--ascii")):
             with room_of({}) as room:
                 whole = self.run(*words, given=CUT, cwd=room)
                 others = [at for at in range(len(CUT) + 1) if self.joined(words, room, at) != (whole.stdout, whole.stderr)]

@@ -30,7 +30,7 @@ class Gallery:
         return said.stdout.decode(), said.stderr.decode()
 
     def text(self, folder, *words):
-        return self.run(folder, "--theme", "unicode_nocolor", *words)[0]
+        return self.run(folder, "--color", "never", *words)[0]
 
     def say(self, text):
         self.page += "\n" + text + "\n"
@@ -62,13 +62,13 @@ class Gallery:
         self.say("## In colors\n\nWhat the tool printed, and below it what is drawn.")
         for name in names(OUTPUTS, "-color.txt"):
             words, tool = [*tool_words(name), f"../{name}"], name.split("-")[0]
-            self.say(f"{called(['--theme', 'unicode', *words])}:")
-            drawn = self.run(OUTPUTS, "--theme", "unicode", *words)[0]
+            self.say(f"{called(['--color', 'always', *words])}:")
+            drawn = self.run(OUTPUTS, "--color", "always", *words)[0]
             self.picture(f"gallery-{tool}", f"{tool} in its colors, and drawn", read(OUTPUTS, name) + "\n\x1b[2m" + "─" * 60 + "\x1b[0m\n" + drawn)
 
     def log(self):
         self.say("## A log\n\nA SARIF log whose findings have several labels:")
-        self.picture("gallery-log", "labels of a log in colors", self.run(LOGS, "--theme", "unicode", "--most", str(MOST), "../related.sarif")[0])
+        self.picture("gallery-log", "labels of a log in colors", self.run(LOGS, "--color", "always", "--max-findings", str(MOST), "../related.sarif")[0])
 
     # ---- what the cases expect
 
@@ -82,7 +82,7 @@ class Gallery:
         for name in names(LOGS, ".sarif"):
             if name == "rules.sarif":  # fifteen findings of one kind
                 continue
-            drawn, told = self.run(LOGS, "--theme", "unicode_nocolor", "--from", "sarif", "--most", str(MOST), f"../{name}")
+            drawn, told = self.run(LOGS, "--color", "never", "--from", "sarif", "--max-findings", str(MOST), f"../{name}")
             if told.startswith("girzohal: "):
                 refused += f"{name[:-6]}\t{told.strip()}\n"
             else:

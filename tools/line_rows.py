@@ -171,7 +171,7 @@ class Rows:
             self.problems("no finding", line, "", line + "\n")
         self.told("details", DETAILED, "note", DETAILS)
         self.problems("lines as they come", COMING, *COME)
-        self.tries.check("lines as they come, drawn", self.run(COMING, "--theme", "none"), (0, DRAWN, ""))
+        self.tries.check("lines as they come, drawn", self.run(COMING, "--ascii"), (0, DRAWN, ""))
 
     def try_sources(self):
         with open(os.path.join(self.room, "a.c"), "w", encoding="utf-8", newline="") as source:

@@ -9,6 +9,7 @@ import json
 
 USAGE = ("usage: girzohal_lsp [--from auto|lines|sarif] [--tool NAME] [--columns bytes|characters|utf16|cells] "
          "[--first-column 0|1] LOG\n")
+VERSION = "girzohal_lsp 0.1.0\n"
 
 # ---- messages
 
@@ -247,25 +248,40 @@ def log_session(number, log, words, uri, shown, fault):
 
 # ---- words
 
-# whether these arguments are right; the log comes first
+# a form and a unit, and why they are wrong; none where they are right. The log comes first
+UNCOUNTED = "--columns: a SARIF log counts characters or utf16"
 COUNTED = [
-    ("sarif", "utf16", True), ("sarif", "bytes", False), ("sarif", "cells", False),
-    ("auto", "bytes", True), ("lines", "cells", True), ("lines", "feet", False),
+    ("sarif", "utf16", None), ("sarif", "bytes", UNCOUNTED), ("sarif", "cells", UNCOUNTED), ("auto", "bytes", None), ("lines", "cells", None),
+    ("lines", "feet", "--columns: expected bytes, characters, utf16 or cells, not 'feet'"),
 ]
 
-# words, and the form that they say; none where they are no words
+# arguments, and the form that they say
 WORDS = [
     ("--tool gcc --first-column 1 log", "auto"),
     ("--tool sarif --first-column 1 log", "sarif"),
-    ("--tool sarif --columns bytes log", None),
     ("--tool sarif --from lines log", "lines"),
-    ("--tool nonsense --from lines log", None),
-    ("--tool  --from sarif log", None),
+    ("--tool=sarif --from=lines -- log", "lines"),
     ("--tool sarif --tool gcc log", "auto"),
     ("--from lines log --from sarif", "sarif"),
-    ("log --from", None),
-    (" log", None),
-    ("log ", None),
+]
+
+# wrong arguments, and why
+NO_TOOL = "--tool: expected a tool that --help lists, such as gcc or sarif, not "
+WRONG_WORDS = [
+    ("--tool sarif --columns bytes log", UNCOUNTED),
+    ("--tool nonsense --from lines log", NO_TOOL + "'nonsense'"),
+    ("--tool  --from sarif log", NO_TOOL + "''"),
+    ("--from xml log", "--from: expected auto, sarif or lines, not 'xml'"),
+    ("--from document log", "--from: expected auto, sarif or lines, not 'document'"),
+    ("log --from", "--from needs a value: auto, sarif or lines"),
+    ("--form sarif log", "unknown option --form; did you mean --from?"),
+    ("--color never log", "unknown option --color"),
+    ("--first 0 log", "unknown option --first; did you mean --first-column?"),
+    ("--help=yes log", "--help takes no value, but has 'yes'"),
+    (" log", "log is a second file; only one is read"),
+    ("log ", " is a second file; only one is read"),
+    ("", "the path of a log is missing"),
+    ("--from lines", "the path of a log is missing"),
 ]
 
 IN_C = opened("file:///a.c", "int x;\\n")

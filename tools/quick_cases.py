@@ -27,7 +27,7 @@ import report_rows  # noqa: E402
 import run_rows  # noqa: E402
 
 TOP = os.path.dirname(os.path.dirname(os.path.abspath(__file__)))
-PLAIN = ("--theme", "none")
+PLAIN = ("--ascii",)
 FORMS = ("drawing", "json", "document", "sarif", "problems", "github", "gitlab", "checkstyle", "junit", "stylish")
 LINE = "a.c:2:5: error: no such name [x]\n"
 SHOWN = "   ,-[a.c:2:5]\n 1 | int x;\n 2 | int totl;\n   :     ^^^^\n   `----\n"
@@ -64,7 +64,7 @@ def reached(drawn):
 
 def of_gallery():
     """Each output of a real tool and each log of examples/ as it is drawn, and each log that is refused."""
-    look = ("--theme", "unicode_nocolor")
+    look = ("--color", "never")
     for name in sorted(os.listdir(os.path.join(TOP, "tools", "quick", "outputs"))):
         output, _, width = name.removesuffix(".txt").partition(".")
         words = (*look, "--root", "outputs", *gallery.tool_words(output), *(("--width", width) if width else ()))
@@ -77,7 +77,7 @@ def of_gallery():
     for name in sorted(glob.glob("*.txt", root_dir=os.path.join(TOP, "tools", "quick", "logs"))):
         drawn, log = read("tools", "quick", "logs", name), name.replace(".txt", ".sarif")
         # (the text around a log goes to standard error)
-        yield Case("girzohal", f"log-{name[:-4]}", (*log_words, "--most", "4"), read("examples", "logs", log), reached(drawn), drawn, None)
+        yield Case("girzohal", f"log-{name[:-4]}", (*log_words, "--max-findings", "4"), read("examples", "logs", log), reached(drawn), drawn, None)
     for row in read("tools", "quick", "logs", "refused.tsv").decode().splitlines():
         name, said = row.split("\t")
         yield Case("girzohal", f"log-{name}", log_words, read("examples", "logs", name + ".sarif"), 3, b"", (said + "\n").encode())
@@ -110,8 +110,8 @@ RUNS = [
     ("no-finding", (), "make all\nmake: done\n", 0, "make all\nmake: done\n"),
     ("a-line-without-its-end", (), "make", 0, "make\n"),
     ("one-finding", PLAIN, LINE, 1, DRAWN + "1 error\n"),
-    ("a-value-behind-its-option", ("--theme=none",), LINE, 1, DRAWN + "1 error\n"),
-    ("colors", ("--theme", "unicode"), LINE, 1,
+    ("a-value-after-=", ("--ascii", "--color=always"), LINE, 1, DRAWN + "1 error\n"),
+    ("colors", ("--color", "always"), LINE, 1,
      "\n  \x1b[38;2;225;80;80;1m×\x1b[0m \x1b[38;2;225;80;80;1mx: no such name\x1b[0m\n"
      "   ╭─[\x1b[38;2;92;157;255;1ma.c\x1b[0m:2:5]\n \x1b[2m1\x1b[0m │ int x;\n \x1b[2m2\x1b[0m │ int totl;\n"
      "   · \x1b[38;2;246;87;248m    ────\x1b[0m\n   ╰────\n1 error\n"),
@@ -119,13 +119,13 @@ RUNS = [
     ("bytes-that-are-no-text", PLAIN, b"\xff\xfe\n" + LINE.encode(), 1, "\ufffd\ufffd\n" + DRAWN + "1 error\n"),
     ("findings-alone", (*PLAIN, "--only-findings"), "make all\n" + LINE, 1, DRAWN + "1 error\n"),
     ("no-count", (*PLAIN, "-q"), LINE, 1, DRAWN),
-    ("at-most-one", (*PLAIN, "--most", "1"), 3 * LINE, 1, DRAWN + "and 2 more\n3 errors\n"),
+    ("at-most-one", (*PLAIN, "--max-findings", "1"), 3 * LINE, 1, DRAWN + "and 2 more\n3 errors\n"),
     ("never-1", (*PLAIN, "--fail-on", "never"), LINE, 0, DRAWN + "1 error\n"),
     ("1-from-warnings-on", (*PLAIN, "--fail-on", "warning"), "x.c:1: warning: gone\n", 1, "\n  ! gone\n  note: at x.c:1\n1 warning\n"),
     ("columns-from-0", (*PLAIN, "--first-column", "0"), LINE.replace(":5:", ":4:"), 1, DRAWN + "1 error\n"),
     ("a-shape", (*PLAIN, "--shape", "{name}={line}={message}"), "a.c=2=oops\n", 0,
      "\n  ! oops\n   ,-[a.c:2:1]\n 1 | int x;\n 2 | int totl;\n   : ^^^^^^^^^\n   `----\n1 warning\n"),
-    ("anywhere", (*PLAIN, "--root", "logs", "--anywhere"), "../" + LINE, 1, DRAWN.replace("a.c", "../a.c") + "1 error\n"),
+    ("anywhere", (*PLAIN, "--root", "logs", "--allow-outside-root"), "../" + LINE, 1, DRAWN.replace("a.c", "../a.c") + "1 error\n"),
     # names that lead out of the root are shown, and nothing of their files (a.c is next to the folder logs)
     ("a-name-that-leads-out", (*PLAIN, "--root", "logs"), "../" + LINE, 1,
      "\n  x x: no such name\n  note: at ../a.c:2:5 (not read: outside of the root)\n1 error\n"),
@@ -141,7 +141,7 @@ RUNS = [
     ("a-line-that-drives", (), f"make {HOSTILE} all\n", 0, f"make {TAMED} all\n"),
     ("a-line-that-drives-raw", ("--raw",), "make \x07\x1b7 all\n", 0, "make \x07\x1b7 all\n"),
     ("paint-without-colors", (), "\x1b[31mmake\x1b[0m all\n", 0, "make all\n"),
-    ("paint-with-colors", ("--theme", "unicode"), "\x1b[31mmake\x1b[0m all\n", 0, "\x1b[31mmake\x1b[0m all\x1b[0m\n"),
+    ("paint-with-colors", ("--color", "always"), "\x1b[31mmake\x1b[0m all\n", 0, "\x1b[31mmake\x1b[0m all\x1b[0m\n"),
     # (a CR alone would write over its row: it ends one)
     ("a-source-that-drives", PLAIN, "hostile.c:2:5: error: here\n", 1,
      "\n  x here\n   ,-[hostile.c:2:5]\n 1 | int x;\n 2 | int ?]0;title??[2J\u00bf31m\n   :     ^\n 3 | \ufffd\ufffd;\n   `----\n1 error\n"),
@@ -167,27 +167,29 @@ RUNS += [
     ("characters-are-counted", ("--to", "problems"), counted(ROW, 240 * 88 - 5, 240 * 88 - 1), 1,
      f"long:1:{240 * 85 - 4}:1:{240 * 85}: error: m\n"),
 ]
-MORE = "girzohal: --help says what the words are\n"
+MORE = "girzohal: --help lists all options\n"
 # a name, arguments, and the error that is printed
 WRONG_WORDS = [
-    ("a-theme", ("--theme", "pink"), "--theme: wanted auto, none, unicode or unicode_nocolor, not 'pink'"),
-    ("a-theme-that-drives", ("--theme", "\x1b[31mred"), "--theme: wanted auto, none, unicode or unicode_nocolor, not '?[31mred'"),
-    ("no-value", ("--most",), "--most: wanted a number from 0 behind it"),
-    ("a-width", ("--width", "x"), "--width: wanted a number from 1, or auto, not 'x'"),
-    ("tabs", ("--tabs", "17"), "--tabs: wanted a number from 1 to 16, not '17'"),
-    ("a-column", ("--first-column", "2"), "--first-column: wanted 0 or 1, not '2'"),
-    ("a-form-that-is-read", ("--from", "xml"), "--from: wanted auto, document, sarif or lines, not 'xml'"),
+    ("a-color", ("--color", "pink"), "--color: expected auto, always or never, not 'pink'"),
+    ("a-color-that-drives", ("--color", "\x1b[31mred"), "--color: expected auto, always or never, not '?[31mred'"),
+    ("no-value", ("--max-findings",), "--max-findings needs a value: a number from 0"),
+    ("a-width", ("--width", "x"), "--width: expected auto or a number from 1, not 'x'"),
+    ("tabs", ("--tabs", "17"), "--tabs: expected a number from 1 to 16, not '17'"),
+    ("a-column", ("--first-column", "2"), "--first-column: expected 0 or 1, not '2'"),
+    ("a-form-that-is-read", ("--from", "xml"), "--from: expected auto, document, sarif or lines, not 'xml'"),
     ("a-form-that-is-written", ("--to", "html"),
-     "--to: wanted drawing, json, document, sarif, problems, github, gitlab, checkstyle, junit or stylish, not 'html'"),
-    ("two-forms", ("--to", "json", "--to", "github"), "--to: 'github' is a second form, and one is written"),
-    ("a-tool", ("--tool", "nobody"), "--tool: wanted a tool that --help lists, as clang, gcc, rustc, mypy or sarif, not 'nobody'"),
-    ("a-level", ("--fail-on", "never!"), "--fail-on: wanted error, warning, advice or never, not 'never!'"),
-    ("an-option", ("--what", "--theme", "pink"), "--what: there is no such option"),
-    ("a-value-too-many", ("--quiet=yes",), "--quiet: stands alone, not with 'yes'"),
-    ("two-files", ("a", "b"), "b: is a second file, and one is read"),
-    ("a-log-in-bytes", ("--from", "sarif", "--columns", "bytes"), "--columns: wanted characters or utf16 of a SARIF log, not 'bytes'"),
-    ("a-root", ("--root", "nowhere"), "--root: wanted a folder, not 'nowhere'"),
-    ("a-part", ("--shape", "{nothing}"), "--shape: wanted parts that are known, as {line} or {message}, in braces in '{nothing}'"),
+     "--to: expected drawing, json, document, sarif, problems, github, gitlab, checkstyle, junit or stylish, not 'html'"),
+    ("two-forms", ("--to", "json", "--to", "github"), "--to: 'github' is a second form; only one is written"),
+    ("a-tool", ("--tool", "nobody"), "--tool: expected a tool that --help lists, such as gcc or sarif, not 'nobody'"),
+    ("a-level", ("--fail-on", "never!"), "--fail-on: expected error, warning, advice or never, not 'never!'"),
+    ("an-option", ("--what", "--color", "pink"), "unknown option --what"),
+    ("an-option-that-is-misspelt", ("--colour=never",), "unknown option --colour; did you mean --color?"),
+    ("an-option-that-is-cut", ("--max", "1"), "unknown option --max; did you mean --max-findings?"),
+    ("a-value-too-many", ("--quiet=yes",), "--quiet takes no value, but has 'yes'"),
+    ("two-files", ("a", "b"), "b is a second file; only one is read"),
+    ("a-log-in-bytes", ("--from", "sarif", "--columns", "bytes"), "--columns: a SARIF log counts characters or utf16"),
+    ("a-root", ("--root", "nowhere"), "--root: nowhere isn't a folder"),
+    ("a-part", ("--shape", "{nothing}"), "--shape: a name in braces is unknown in '{nothing}'"),
 ]
 NO_FORM = "JSON of no known form; lines and SARIF are read, and documents"
 FILES = '"files": [{"name": "a", "source": "ab"}]'
@@ -222,7 +224,7 @@ def girzohal_cases():
     version = read("VERSION").decode().strip()
     yield Case("girzohal", "version", ("--version",), b"", 0, f"girzohal {version}\n".encode())
     told = re.search(r'HELP: &str = "(.*?)";', read("crates", "girzohal", "src", "help.rt").decode(), re.S)[1]
-    yield Case("girzohal", "help", ("--theme", "pink", "--help"), b"", 0, (told + "\n").encode())
+    yield Case("girzohal", "help", ("--color", "pink", "--help"), b"", 0, (told + "\n").encode())
 
 
 # ---- report

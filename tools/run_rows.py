@@ -22,4 +22,4 @@ ROWS = [
 def rows():
     """The name of each run, its arguments, its input, and how it ends."""
     for what, form, given, status, out, err in ROWS:
-        yield what, ("--theme", "none", "--to", form), given.encode(), (status, out.encode(), err.encode())
+        yield what, ("--ascii", "--to", form), given.encode(), (status, out.encode(), err.encode())

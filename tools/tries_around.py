@@ -10,7 +10,7 @@ import tempfile
 
 TOP = os.path.dirname(os.path.dirname(os.path.abspath(__file__)))
 BASH = os.path.join(TOP, "completions", "girzohal.bash")
-VARIABLES = ("FORCE_COLOR", "NO_COLOR", "TERM", "COLUMNS")
+VARIABLES = ("FORCE_COLOR", "CLICOLOR_FORCE", "NO_COLOR", "CLICOLOR", "TERM", "COLUMNS")
 
 
 def read(*path):
@@ -19,8 +19,8 @@ def read(*path):
 
 
 # What there is, as the tables in the sources have it: options, values, tools, and parts of shapes.
-OPTIONS = sorted(set(re.findall(r'"--([a-z-]+)"', read("crates", "girzohal_words", "src", "tables.rt") + read("crates", "girzohal_words", "src", "items.rt"))))
-VALUES = re.findall(r'"([a-z0-9_]+)" => Some\(\w+::', read("crates", "girzohal_words", "src", "values.rt"))
+OPTIONS = sorted(set(re.findall(r'"--([a-z-]+)"', read("crates", "girzohal_options", "src", "table.rt"))))
+VALUES = re.findall(r'"([a-z0-9_]+)" => Some\(\w+::', read("crates", "girzohal_options", "src", "values.rt"))
 SHAPES = read("crates", "line_shapes", "src", "tables.rt")
 TOOLS = sorted({"sarif", *re.findall(r'"([a-z0-9-]+)", Unit::', SHAPES), *re.findall(r'\(\n        "([a-z0-9-]+)",\n', SHAPES)})
 PARTS = re.findall(r'\(b"([a-z~]+)", Item::', read("crates", "line_shapes", "src", "parse.rt"))
@@ -51,24 +51,26 @@ class Around:
         return shown
 
     def try_colors(self):
-        """On a terminal there are colors, unless the environment or a theme says otherwise."""
+        """On a terminal there are colors, unless the environment or an option says otherwise."""
         line = b"a.c:2:5: error: no such name [x]\n"
         looks = [({}, True), ({"TERM": "xterm"}, True), ({"NO_COLOR": ""}, True), ({"NO_COLOR": "1"}, False), ({"TERM": "dumb"}, False),
                  ({"FORCE_COLOR": "0"}, True), ({"FORCE_COLOR": "1", "NO_COLOR": "1", "TERM": "dumb"}, True),
-                 ({"FORCE_COLOR": "", "NO_COLOR": "1"}, False), ({"FORCE_COLOR": "0", "NO_COLOR": "1"}, False)]
+                 ({"FORCE_COLOR": "", "NO_COLOR": "1"}, False), ({"FORCE_COLOR": "0", "NO_COLOR": "1"}, False),
+                 ({"CLICOLOR": "0"}, False), ({"CLICOLOR": ""}, True), ({"CLICOLOR": "1", "NO_COLOR": "1"}, False),
+                 ({"CLICOLOR_FORCE": "1", "CLICOLOR": "0"}, True), ({"CLICOLOR_FORCE": "0", "CLICOLOR": "0"}, False)]
         for env, colors in looks:
             shown = self.on_terminal(given=line, env=env)
             self.check(f"on a terminal with {env}: {'colors' if colors else 'no colors'}", b"no such name" in shown and (b"\x1b[" in shown) == colors)
-        for theme, colors in (("none", False), ("unicode", True), ("unicode_nocolor", False)):
-            shown = self.on_terminal("--theme", theme, given=line, env={})
-            self.check(f"on a terminal with the theme {theme}", (b"\x1b[" in shown) == colors)
+        for words, colors in (("--ascii", False), ("--color=always", True), ("--color=never", False), ("--color=auto", True)):
+            shown = self.on_terminal(words, given=line, env={})
+            self.check(f"on a terminal with {words}", (b"\x1b[" in shown) == colors)
         shown = self.on_terminal("--to", "problems", given=line, env={})
         self.check("on a terminal a form that isn't drawn has no colors", b"a.c:2:5" in shown and b"\x1b" not in shown)
 
     def try_keyboard(self):
         """A note is printed for an input from a terminal, and none for a pipe or a file."""
         ours, theirs = pty.openpty()
-        ran = subprocess.Popen([self.program, "--theme", "none"], stdin=theirs, stdout=subprocess.PIPE, stderr=subprocess.PIPE, cwd=self.room)
+        ran = subprocess.Popen([self.program, "--ascii"], stdin=theirs, stdout=subprocess.PIPE, stderr=subprocess.PIPE, cwd=self.room)
         os.close(theirs)
         os.write(ours, b"a.c:2:5: error: no such name\n\x04")
         out, err = ran.communicate(timeout=60)
@@ -126,7 +128,7 @@ class Around:
         for part in PARTS:
             self.check(f"the help names {{{part}}}", "{" + part + "}" in text)
         for status in range(8):
-            self.check(f"the help says what status {status} is", re.search(rf"\b{status} \w", text[text.find("status: "):]))
+            self.check(f"the help says what status {status} is", re.search(rf"\b{status}  \w", text[text.find("Exit status"):]))
 
     def try_manual(self):
         page = read("docs", "girzohal.1")
@@ -153,8 +155,8 @@ class Around:
             print("skipped: completions in bash: there is no bash")
             return
         self.check("bash reads its completion", subprocess.run(["bash", "-n", BASH], capture_output=True).returncode == 0)
-        tried = [("--to = g", ["github", "gitlab"]), ("--to g", ["github", "gitlab"]), ("--theme =", ["auto", "none", "unicode", "unicode_nocolor"]),
-                 ("--tool = problem", ["problem-lines"]), ("--q", ["--quiet"]), ("--shape = x", []), ("--root = su", ["sub"]), ("in.", ["in.txt"])]
+        tried = [("--to = g", ["github", "gitlab"]), ("--to g", ["github", "gitlab"]), ("--color =", ["auto", "always", "never"]), ("--asc", ["--ascii"]),
+                 ("--tool = problem", ["problem-lines"]), ("--q", ["--no-summary"]), ("--shape = x", []), ("--root = su", ["sub"]), ("in.", ["in.txt"])]
         for words, wanted in tried:
             self.check(f"bash completes {words} by {wanted}", self.completed(words.split()) == wanted)
 

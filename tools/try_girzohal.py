@@ -117,9 +117,9 @@ class Tries(Around, FindingRows):
 
     def try_words(self):
         log, document = json.dumps(LOG).encode(), json.dumps(DOCUMENT).encode()
-        self.ends("lines", 1, "--theme", "none", out=b"no such name")
-        self.ends("a log", 0, "--theme", "none", given=log, out=b"look here")
-        self.ends("a document", 1, "--theme", "none", given=document, out=b"look here")
+        self.ends("lines", 1, "--ascii", out=b"no such name")
+        self.ends("a log", 0, "--ascii", given=log, out=b"look here")
+        self.ends("a document", 1, "--ascii", given=document, out=b"look here")
         for form, text in (("lines", LINE), ("sarif", log), ("document", document)):
             self.ends("a form that is named", 0 if form == "sarif" else 1, "--from", form, given=text)
         self.ends("a byte order mark", 1, given=b"\xef\xbb\xbf" + document, out=b"look here")
@@ -127,19 +127,20 @@ class Tries(Around, FindingRows):
         self.check("a byte order mark isn't written", b"\xef\xbb\xbf" not in said.stdout, said)
         self.ends("a file", 1, "in.txt", given=b"", out=b"no such name")
         self.ends("standard input by name", 1, "-", out=b"no such name")
-        self.ends("a value behind =", 1, "--theme=none", out=b"no such name")
+        self.ends("a value after =", 1, "--color=never", out=b"no such name")
         self.ends("a value with = in it", 0, "--shape={name}={line}={message}", given=b"a.c=2=oops\n", out=b"oops")
-        self.ends("a file behind --", 1, "--theme", "none", "--", "in.txt", given=b"", out=b"no such name")
-        self.ends("a file that looks like an option", 4, "--", "--theme", given=b"", err=b"--theme isn't there")
+        self.ends("a file behind --", 1, "--ascii", "--", "in.txt", given=b"", out=b"no such name")
+        self.ends("a file that looks like an option", 4, "--", "--color", given=b"", err=b"--color isn't there")
         self.ends("standard input behind --", 1, "--", "-", out=b"no such name")
-        self.ends("the last of two themes", 1, "--theme", "unicode", "--theme=none", out=b"no such name")
-        self.ends("a file among options", 1, "--theme", "none", "in.txt", "--quiet", given=b"", out=b"no such name")
+        self.ends("the last of two choices", 1, "--color", "always", "--color=never", out=b"\xc3\x97 x: no such name")
+        self.ends("a file among options", 1, "--ascii", "in.txt", "--no-summary", given=b"", out=b"no such name")
+        self.ends("an option as a value", 2, "--root", "--ascii", err=b"--root: --ascii isn't a folder")
         self.ends("the last value counts", 1, "--tabs", "1", "--tabs", "16")
-        for word in ("--quiet", "-q"):
+        for word in ("--no-summary", "--quiet", "-q"):
             said = self.ends("no count", 1, word)
             self.check(f"{word}: there is no count", b"1 error" not in said.stdout)
         self.ends("a count", 1, out=b"1 error")
-        self.ends("at most one", 1, "--most", "1", given=LINE * 3, out=b"2 more")
+        self.ends("at most one", 1, "--max-findings", "1", given=LINE * 3, out=b"2 more")
         self.ends("a level", 1, "--fail-on", "warning", given=log)
         self.ends("no level", 0, "--fail-on", "never")
         self.ends("a shape", 0, "--shape", "{name}|{line}|{message}", given=b"a.c|2|oops\n", out=b"oops")
@@ -202,14 +203,14 @@ class Tries(Around, FindingRows):
     def try_effects(self):
         """Each of these words changes what is written, or the status."""
         line = b"e.c:1:4: error: no such name\n"
-        drawn = [self.run("--theme", "none", "--tabs", tabs, given=line).stdout for tabs in ("1", "4", "16")]
+        drawn = [self.run("--ascii", "--tabs", tabs, given=line).stdout for tabs in ("1", "4", "16")]
         self.check("--tabs 1, 4 and 16 differ", len(set(drawn)) == 3)
-        self.check("--tabs 4 is meant", drawn[1] == self.run("--theme", "none", given=line).stdout)
+        self.check("--tabs 4 is meant", drawn[1] == self.run("--ascii", given=line).stdout)
         for level, least in (("error", 0), ("warning", 1), ("note", 2)):
             for at, word in enumerate(("error", "warning", "advice", "never")):
                 self.ends(f"of {level}", 1 if least <= at < 3 else 0, "--fail-on", word, given=f"a.c:2:5: {level}: here\n".encode(), out=b"here")
         for words in (("--to", "json", "--to", "github"), ("--to=json", "--to=json")):
-            self.ends("two forms", 2, *words, err=f"--to: '{words[-1].split('=')[-1]}' is a second form, and one is written\n".encode())
+            self.ends("two forms", 2, *words, err=f"--to: '{words[-1].split('=')[-1]}' is a second form; only one is written\n".encode())
         said = self.ends("the last of two tools", 1, "--tool", "mypy", "--tool", "gcc", "--to", "json")
         self.check("the last of two tools is meant", said.stdout == self.run("--tool", "gcc", "--to", "json").stdout, said)
         text = b"x:2|odd\na.c:2:5: error: here\n"
@@ -235,60 +236,77 @@ class Tries(Around, FindingRows):
             self.check(f"{name}.txt without the tool: {without}", (wanted in without) == (tool not in ("gcc", "mypy", "pylint")))
 
     def try_looks(self):
-        self.check("a theme: colors", b"\x1b[" in self.run("--theme", "unicode").stdout)
-        self.check("FORCE_COLOR: colors", b"\x1b[" in self.run(env={"FORCE_COLOR": "1"}).stdout)
-        for env in ({}, {"FORCE_COLOR": "0"}, {"FORCE_COLOR": ""}, {"NO_COLOR": "1"}):
+        self.check("--color always: colors", b"\x1b[" in self.run("--color", "always").stdout)
+        for env in ({"FORCE_COLOR": "1"}, {"CLICOLOR_FORCE": "1"}, {"CLICOLOR_FORCE": "1", "FORCE_COLOR": "0"}, {"CLICOLOR_FORCE": "1", "CLICOLOR": "0"}):
+            self.check(f"colors in a pipe: {env}", b"\x1b[" in self.run(env=env).stdout)
+            self.check(f"--color never: none, with {env}", b"\x1b" not in self.run("--color", "never", env=env).stdout)
+            self.check(f"--ascii: none, with {env}", self.run("--ascii", env=env).stdout.isascii() and b"\x1b" not in self.run("--ascii", env=env).stdout)
+        for env in ({}, {"FORCE_COLOR": "0"}, {"FORCE_COLOR": ""}, {"NO_COLOR": "1"}, {"CLICOLOR_FORCE": "0"}, {"CLICOLOR_FORCE": ""}, {"CLICOLOR": "1"}):
             self.check(f"no colors in a pipe: {env}", b"\x1b" not in self.run(env=env).stdout)
-        self.check("--theme none: ASCII", self.run("--theme", "none").stdout.isascii())
+        for words in (("--ascii",), ("--ascii", "--color", "always"), ("--color=always", "--ascii")):
+            self.check(f"{words}: ASCII without colors", self.run(*words).stdout == self.run("--ascii").stdout and self.run(*words).stdout.isascii())
         long = b"a.c:2:5: error: " + b"word " * 40 + b"\n"
-        narrow = self.run("--theme", "none", given=long, env={"COLUMNS": "40"}).stdout
-        self.check("COLUMNS: the width", narrow == self.run("--theme", "none", "--width", "40", given=long).stdout)
-        self.check("--width: another width", narrow != self.run("--theme", "none", "--width", "100", given=long).stdout)
+        narrow = self.run("--ascii", given=long, env={"COLUMNS": "40"}).stdout
+        self.check("COLUMNS: the width", narrow == self.run("--ascii", "--width", "40", given=long).stdout)
+        self.check("--width: another width", narrow != self.run("--ascii", "--width", "100", given=long).stdout)
         for columns in ("0", "", "wide", "-1"):
-            wide = self.run("--theme", "none", given=long, env={"COLUMNS": columns}).stdout
-            self.check(f"COLUMNS={columns} is no width", wide == self.run("--theme", "none", "--width", "80", given=long).stdout)
+            wide = self.run("--ascii", given=long, env={"COLUMNS": columns}).stdout
+            self.check(f"COLUMNS={columns} is no width", wide == self.run("--ascii", "--width", "80", given=long).stdout)
 
     def try_asking(self):
         self.ends("help", 0, "--help", out=b"usage: girzohal")
         with open(os.path.join(TOP, "VERSION"), encoding="utf-8") as file:
             self.ends("the version", 0, "--version", out=b"girzohal " + file.read().strip().encode())
-        bad = [("--theme", "pink"), ("--width", "x"), ("--tabs", "17"), ("--tabs", "0"), ("--first-column", "2"), ("--from", "xml"),
-               ("--to", "html"), ("--tool", "nobody"), ("--columns", "inches"), ("--fail-on", "never!"), ("--most", "-1"), ("--shape", "{nothing}"),
-               ("--unknown",), ("--theme",), ("a", "b"), ("--quiet=yes",)]
+        bad = [("--color", "pink"), ("--width", "x"), ("--tabs", "17"), ("--tabs", "0"), ("--first-column", "2"), ("--from", "xml"),
+               ("--to", "html"), ("--tool", "nobody"), ("--columns", "inches"), ("--fail-on", "never!"), ("--max-findings", "-1"), ("--shape", "{nothing}"),
+               ("--unknown",), ("--color",), ("a", "b"), ("--quiet=yes",), ("--theme", "none"), ("--most", "1"), ("--anywhere",)]
         for words in bad:
-            said = self.ends("a fault of the words", 2, *words, err=b"--help")
+            said = self.ends("a wrong argument", 2, *words, err=b"--help")
             self.check(f"two lines: {' '.join(words)}", said.stderr.count(b"\n") == 2 and said.stdout == b"", said)
         self.try_faults()
 
     def try_faults(self):
-        """The first wrong word is named, with what was wanted."""
+        """The first wrong argument is named, with what was expected, or with the option that may be meant."""
         faults = [
-            (("--width", "x"), "--width: wanted a number from 1, or auto, not 'x'"),
-            (("--theme", "none", "--theme=pink", "--what"), "--theme: wanted auto, none, unicode or unicode_nocolor, not 'pink'"),
-            (("--what", "--theme", "pink"), "--what: there is no such option"),
-            (("-x",), "-x: there is no such option"),
-            (("--what=3",), "--what=3: there is no such option"),
-            (("--tool", "nobody"), "--tool: wanted a tool that --help lists, as clang, gcc, rustc, mypy or sarif, not 'nobody'"),
-            (("--tabs", "17"), "--tabs: wanted a number from 1 to 16, not '17'"),
-            (("in.txt", "--most"), "--most: wanted a number from 0 behind it"),
-            (("--quiet=yes",), "--quiet: stands alone, not with 'yes'"),
-            (("a", "--quiet", "b", "--tabs", "0"), "b: is a second file, and one is read"),
-            (("--", "--quiet", "--raw"), "--raw: is a second file, and one is read"),
-            (("--from", "sarif", "--columns", "bytes"), "--columns: wanted characters or utf16 of a SARIF log, not 'bytes'"),
-            (("--tool=sarif", "--columns=cells"), "--columns: wanted characters or utf16 of a SARIF log, not 'cells'"),
-            (("--root", "nowhere"), "--root: wanted a folder, not 'nowhere'"),
-            (("--shape", "{nothing}"), "--shape: wanted parts that are known"),
-            (("--shape", "{name}{name"), "--shape: wanted a brace that closes"),
-            (("--shape", "{line}"), "--shape: wanted {name} or {word}"),
-            (("--theme", "\x1b[31mred"), "not '?[31mred'"),
+            (("--width", "x"), "--width: expected auto or a number from 1, not 'x'\n"),
+            (("--ascii", "--color=pink", "--what"), "--color: expected auto, always or never, not 'pink'\n"),
+            (("--what", "--color", "pink"), "unknown option --what\n"),
+            (("-x",), "unknown option -x\n"),
+            (("--what=3",), "unknown option --what\n"),
+            (("--colour",), "unknown option --colour; did you mean --color?\n"),
+            (("--colour=always",), "unknown option --colour; did you mean --color?\n"),
+            (("-color", "never"), "unknown option -color; did you mean --color?\n"),
+            (("--max", "1"), "unknown option --max; did you mean --max-findings?\n"),
+            (("--first=0",), "unknown option --first; did you mean --first-column?\n"),
+            (("--col",), "unknown option --col\n"),
+            (("--colrs",), "unknown option --colrs; did you mean --color?\n"),
+            (("--kolrs",), "unknown option --kolrs\n"),
+            (("--form", "lines"), "unknown option --form; did you mean --from?\n"),
+            (("--no-sumary",), "unknown option --no-sumary; did you mean --no-summary?\n"),
+            (("--theme", "none"), "unknown option --theme\n"),
+            (("--tool", "nobody"), "--tool: expected a tool that --help lists, such as gcc or sarif, not 'nobody'\n"),
+            (("--tabs", "17"), "--tabs: expected a number from 1 to 16, not '17'\n"),
+            (("--tabs", "17", "--tabs", "4"), "--tabs: expected a number from 1 to 16, not '17'\n"),
+            (("in.txt", "--max-findings"), "--max-findings needs a value: a number from 0\n"),
+            (("--quiet=yes",), "--quiet takes no value, but has 'yes'\n"),
+            (("a", "--no-summary", "b", "--tabs", "0"), "b is a second file; only one is read\n"),
+            (("--", "--no-summary", "--raw"), "--raw is a second file; only one is read\n"),
+            (("--from", "sarif", "--columns", "bytes"), "--columns: a SARIF log counts characters or utf16\n"),
+            (("--tool=sarif", "--columns=cells"), "--columns: a SARIF log counts characters or utf16\n"),
+            (("--root", "nowhere"), "--root: nowhere isn't a folder\n"),
+            (("--shape", "{nothing}"), "--shape: a name in braces is unknown in '{nothing}'\n"),
+            (("--shape", "{name}{name"), "--shape: a brace isn't closed in '{name}{name'\n"),
+            (("--shape", "{line}"), "--shape: {name} or {word} is missing in '{line}'\n"),
+            (("--color", "\x1b[31mred"), "not '?[31mred'\n"),
+            (("--\x1b[31mred",), "unknown option --?[31mred\n"),
         ]
         for words, line in faults:
             said = self.ends("a fault is named", 2, *words, given=b"", err=line.encode())
-            self.check(f"it begins so: {' '.join(words)}", said.stderr.startswith(b"girzohal: "), said)
+            self.check(f"two lines: {' '.join(words)}", said.stderr.startswith(b"girzohal: ") and said.stderr.count(b"\n") == 2, said)
         said = self.ends("a file that can't be read, whose name drives a terminal", 4, "\x1b[31mred", given=b"", err=b"red isn't there")
         self.check("a name that is told drives no terminal", not drives(said.stderr.decode()), said)
-        self.ends("help among wrong words", 0, "--theme", "pink", "--help", out=b"usage: girzohal")
-        self.ends("help as a value", 2, "--theme", "--help", err=b"not '--help'")
+        self.ends("help among wrong arguments", 0, "--color", "pink", "--help", out=b"usage: girzohal")
+        self.ends("help as a value", 2, "--color", "--help", err=b"not '--help'")
 
     # ---- bad inputs
 
@@ -356,11 +374,11 @@ class Tries(Around, FindingRows):
             self.check(f"{uri!r}: nothing of it is shown", b"root:" not in said.stdout, said)
         with open(f"{self.room}/two\nlines.c", "wb") as file:
             file.write(b"int secret;\n")
-        for words, shown in (((), False), (("--anywhere",), True)):
+        for words, shown in (((), False), (("--allow-outside-root",), True)):
             said = self.ends("a name of two lines", 0, *words, given=log_with(uri="two%0Alines.c"), out=b"look here")
             self.check(f"a name of two lines {words}: its source is shown: {shown}", (b"secret" in said.stdout) == shown, said)
         os.remove(f"{self.room}/two\nlines.c")
-        self.ends("anywhere", 1, "--anywhere", given=b"/etc/passwd:1:1: error: here\n", out=b"root:")
+        self.ends("a source outside of the root", 1, "--allow-outside-root", given=b"/etc/passwd:1:1: error: here\n", out=b"root:")
 
     def try_terminals(self):
         """Nothing of an input drives a terminal, wherever it is; raw texts are unchanged."""
@@ -377,7 +395,7 @@ class Tries(Around, FindingRows):
         self.try_hostile_lines()
         with open(f"{self.room}/a.c", "wb") as file:
             file.write(("int x;\n" + "int " + HOSTILE + ";\n").encode())
-        for words in ((), ("--theme", "unicode_nocolor"), *(("--to", form) for form in FORMS if form not in ("document", "sarif"))):
+        for words in ((), ("--color", "never"), *(("--to", form) for form in FORMS if form not in ("document", "sarif"))):
             said = self.run(*words)
             self.check(f"a source drives no terminal: {' '.join(words)}", said.stdout and not drives(said.stdout.decode()), said)
         with open(f"{self.room}/a.c", "wb") as file:
@@ -390,7 +408,7 @@ class Tries(Around, FindingRows):
             said = self.run("--to", form, "--width", "300", given=kept + found + kept)
             self.check(f"lines as {form} drive no terminal", said.stdout and not drives(said.stdout.decode() + said.stderr.decode()), said)
             self.check(f"the lines that are no findings, as {form}", (said.stdout if form == "drawing" else said.stderr).count(b"make ") == 2, said)
-        colored = self.run("--theme", "unicode", given=kept + found + kept).stdout.decode()
+        colored = self.run("--color", "always", given=kept + found + kept).stdout.decode()
         self.check("with colors nothing but colors drives a terminal", not drives(re.sub(r"\x1b\[[0-9;]*m|\x1b\[K", "", colored)))
         self.ends("a line that is no finding, raw", 0, "--raw", given=b"make \x07\x1b7 all\n", out=b"make \x07\x1b7 all\n")
 
@@ -469,7 +487,7 @@ class Tries(Around, FindingRows):
         rows = [
             ("paint, without colors", painted, (), {}, b"make all\n"),
             ("paint, with colors", painted, (), colors, painted + end + b"\n"),
-            ("paint, with colors by its word", painted, ("--theme", "unicode"), {}, painted + end + b"\n"),
+            ("paint, with colors by its word", painted, ("--color", "always"), {}, painted + end + b"\n"),
             ("paint and a CR, with colors", painted + b"\r", (), colors, painted + end + b"\n"),
             ("what compilers write behind a color", red + blank + b"make" + end + blank, (), colors, red + blank + b"make" + end + blank + end + b"\n"),
             ("no paint, with colors", b"make all", (), colors, b"make all\n"),

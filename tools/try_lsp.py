@@ -223,14 +223,21 @@ def try_sessions(folder):
 
 def try_words(folder):
     """Which arguments are wrong, and the form that arguments set, by what is shown of a log of lines and of a SARIF log."""
-    refused = (b"", rows.USAGE.encode(), 2)
-    for form, unit, read in rows.COUNTED:
+    def refused(why):
+        return b"", f"girzohal_lsp: {why}\n{rows.USAGE}".encode(), 2
+
+    for form, unit, why in rows.COUNTED:
         got = talk(folder, b"", ["log", "--columns", unit, "--from", form], [rows.BEGIN, rows.END, rows.EXIT])
-        check(f"words: {form} counts {unit}", got == ((said([rows.BEGUN, rows.ENDED]), b"", 0) if read else refused))
+        check(f"words: {form} counts {unit}", got == (refused(why) if why else (said([rows.BEGUN, rows.ENDED]), b"", 0)))
+    for text, why in rows.WRONG_WORDS:
+        got = talk(folder, b"", text.split(" "), [rows.BEGIN, rows.END, rows.EXIT])
+        check(f"wrong words: {text!r}", got == refused(why))
+    for word, shown in (("--help", rows.USAGE), ("-h", rows.USAGE), ("--version", rows.VERSION), ("-V", rows.VERSION)):
+        check(f"{word} is answered", talk(folder, b"", ["--wrong", word], []) == (shown.encode(), b"", 0))
     for text, form in rows.WORDS:
         got = [talk(folder, rows.named(spelling, "a.c"), text.split(" "), [rows.BEGIN, rows.IN_C, rows.END, rows.EXIT])
                for spelling in ("lines", "sarif")]
-        wanted = [(said([rows.BEGUN] + told + [rows.ENDED]), b"", 0) for told in rows.FORMS[form]] if form else [refused, refused]
+        wanted = [(said([rows.BEGUN] + told + [rows.ENDED]), b"", 0) for told in rows.FORMS[form]]
         check(f"words: {text!r} say {form}", got == wanted)
 
 

@@ -21,7 +21,7 @@ use Rattle.line_reports.specs.Names.{names_in}
 use Rattle.line_reports.specs.Reports.{reports_in}
 use Rattle.report_counts.specs.Counted.{counts_of, is_of, reaches, severity_of}
 use Rattle.report_texts.specs.Texts.{ending_text}
-use Rattle.girzohal_asked.specs.declared.Asked.{Asked}
+use Rattle.girzohal_options.specs.declared.Asked.{Asked}
 use Rattle.drawn_lines.specs.Text.{AreRead, came_of, came_to_come, lines_of, read_line, rest_to_come, to_come}
 use Rattle.drawn_lines.specs.Lines.{aside_text, columns_of, ending, shapes_of, still, written}
 use Rattle.drawn_lines.specs.Coming.{Agrees, Draws, GoesOn, IsComing, IsDrawn, Looks, Told, count_of, count_with, counts_with, ending_by, most_of, sources_of}

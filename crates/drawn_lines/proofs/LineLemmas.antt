@@ -4,7 +4,7 @@ use Rattle.std.specs.List.{drop-map}
 use Rattle.std.proofs.lemmas.Bool.{cases_lt}
 use Rattle.std.proofs.lemmas.List.{drop-append-le, drop-drop, drop_all, take-append-le, take-map, take_all}
 use Rattle.tool_lines.specs.Lines.{PieceParts, without_cr}
-use Rattle.girzohal_asked.specs.declared.Asked.{Asked}
+use Rattle.girzohal_options.specs.declared.Asked.{Asked}
 use Rattle.drawn_lines.specs.Lines.{annotates, aside_text, kept_if, kept_text}
 use Rattle.drawn_lines.specs.Seam.{span}
 

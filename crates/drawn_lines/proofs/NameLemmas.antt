@@ -13,7 +13,7 @@ use Rattle.line_reports.proofs.NamesLemmas.{changes_more, names_decide, of_lossy
 use Rattle.report_texts.specs.Texts.{first_drawings}
 use Rattle.ci_formats.specs.declared.format.CiFormat.TheVariants as ci
 use Rattle.ci_texts.specs.Texts.{ci_text}
-use Rattle.girzohal_asked.specs.declared.Asked.{Asked}
+use Rattle.girzohal_options.specs.declared.Asked.{Asked}
 use Rattle.drawn_lines.specs.Lines.{annotates, columns_of, has_colors, in_place, kept_if, shown_of, still, written}
 
 -- P holds of the name of each finding

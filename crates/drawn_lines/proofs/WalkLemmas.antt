@@ -8,7 +8,7 @@ use Rattle.tool_lines.specs.declared.lines.Piece.{Piece}
 use Rattle.tool_lines.specs.Lines.{PieceParts, piece_parts, is_kept}
 use Rattle.line_reports.specs.Reports.{reports_in}
 use Rattle.report_texts.specs.Texts.{drawings, first_drawings, handler_of}
-use Rattle.girzohal_asked.specs.declared.Asked.{Asked}
+use Rattle.girzohal_options.specs.declared.Asked.{Asked}
 use Rattle.drawn_lines.specs.Lines.{columns_of, has_colors, in_place, kept_if, reports_before, still}
 
 in_place_kept : (asked : Asked) (given : List ℕ → Held) (most : Option ℕ) (before : List PieceParts) (from lines shown : List (List ℕ)) (piece : PieceParts) (pieces : List PieceParts)

@@ -12,7 +12,7 @@ use Rattle.line_reports.specs.Reports.{reports_in}
 use Rattle.report_counts.specs.Counted.{counts_of, more_line, one_reaches, summary_line}
 use Rattle.report_texts.specs.Texts.{drawn_count}
 use Rattle.report_counts.specs.declared.counted.Counts.{Counts}
-use Rattle.girzohal_asked.specs.declared.Asked.{Asked}
+use Rattle.girzohal_options.specs.declared.Asked.{Asked}
 use Rattle.drawn_lines.specs.Text.{AreRead, came_of, came_to_come, lines_of, to_come}
 use Rattle.drawn_lines.specs.Seam.{IsSeam, span}
 use Rattle.drawn_lines.specs.Lines.{annotates, aside_text, columns_of, ending, shapes_of, still, written}

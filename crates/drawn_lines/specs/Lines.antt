@@ -19,11 +19,11 @@ use Rattle.line_shapes.specs.Tools as tools
 use Rattle.tool_lines.specs.Lines.{PieceParts, is_kept, without_cr}
 use Rattle.line_reports.specs.Reports.{reports_in}
 use Rattle.report_texts.specs.Texts.{ending_text, first_drawings}
-use Rattle.girzohal_asked.specs.declared.Asked.{Asked}
-use Rattle.girzohal_asked.specs.declared.OutputForm.{OutputForm}
-use Rattle.girzohal_asked.specs.declared.OutputForm.TheVariants.{Drawing, Json, Document, Sarif, Problems, Github, Gitlab, Checkstyle, Junit, Stylish}
-use Rattle.girzohal_asked.specs.declared.ThemeChoice.{ThemeChoice}
-use Rattle.girzohal_asked.specs.declared.ThemeChoice.TheVariants.{Auto, Plain, Unicode, UnicodeNocolor}
+use Rattle.girzohal_options.specs.declared.Asked.{Asked}
+use Rattle.girzohal_options.specs.declared.OutputForm.{OutputForm}
+use Rattle.girzohal_options.specs.declared.OutputForm.TheVariants.{Drawing, Json, Document, Sarif, Problems, Github, Gitlab, Checkstyle, Junit, Stylish}
+use Rattle.girzohal_options.specs.declared.ThemeChoice.{ThemeChoice}
+use Rattle.girzohal_options.specs.declared.ThemeChoice.TheVariants.{Auto, Plain, Unicode, UnicodeNocolor}
 use Rattle.drawn_lines.specs.Text.{read_line}
 
 -- ---- how lines are read

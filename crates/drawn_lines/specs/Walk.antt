@@ -2,7 +2,7 @@
 use Rattle.std.specs.Prelude.{ℕ, List, ◌++◌, map, string_bytes}
 use Rattle.found_reports.specs.Held.{Held}
 use Rattle.tool_lines.specs.Lines.{PieceParts, piece_parts}
-use Rattle.girzohal_asked.specs.declared.Asked.{Asked}
+use Rattle.girzohal_options.specs.declared.Asked.{Asked}
 use Rattle.drawn_lines.specs.Lines.{in_place}
 use Rattle.drawn_lines.specs.declared.walk.Walk.{Walk}
 

@@ -3,14 +3,14 @@ ghost use Rattle.std.specs.Prelude.{◌≡◌, ◌≤◌, ◌++◌, [], ℕ, Lis
 ghost use Rattle.std.specs.Prelude.{string_bytes};
 ghost use Rattle.line_shapes.specs.Shape.{shape_parts};
 ghost use Rattle.drawn_lines.specs.Lines.{shapes_of as shapes_meant};
-ghost use Rattle.girzohal_asked.specs.declared.Asked.{Asked as AskedFor};
+ghost use Rattle.girzohal_options.specs.declared.Asked.{Asked as AskedFor};
 ghost use Rattle.drawn_lines.specs.Coming.{IsComing, IsDrawn, IsLook, Told};
 
 use crate::held::{HeldLines, drop_first, lent};
 use crate::seam::part_of;
 use crate::tally::{Count, Drawn, Tally, draw, ending};
 use found_reports::ListedSources;
-use girzohal_asked::Asked;
+use girzohal_options::Asked;
 use line_shapes::shape::Shape;
 use report_counts::Counts;
 use source_store::Store;

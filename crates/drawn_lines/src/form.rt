@@ -2,7 +2,7 @@
 ghost use Rattle.std.specs.Prelude.{◌≡◌};
 ghost use Rattle.drawn_lines.specs.Lines.{annotates as are_annotated, has_colors as is_colored};
 
-use girzohal_asked::{OutputForm, ThemeChoice};
+use girzohal_options::{OutputForm, ThemeChoice};
 
 /// Whether annotations are written, and lines that are no findings go to standard error.
 pub fn annotates(form: OutputForm) -> bool

@@ -13,7 +13,7 @@ ghost use Rattle.drawn_lines.specs.Lines.{painted_text as painted_text_of};
 
 use crate::form::annotates;
 use crate::held::read_line;
-use girzohal_asked::Asked;
+use girzohal_options::Asked;
 use harmless::{Kind, harmless_line};
 use shown_reports::shown_text;
 use std::alloc::{AllocError, Global};

@@ -5,7 +5,7 @@ ghost use Rattle.drawn_lines.specs.Lines.{columns_of as columns_meant, own_parts
 ghost use Rattle.drawn_lines.specs.Lines.{shapes_of as shapes_meant, tool_columns as columns_known};
 ghost use Rattle.drawn_lines.specs.Lines.{tool_parts};
 
-use girzohal_asked::Asked;
+use girzohal_options::Asked;
 use line_shapes::shape::Shape;
 use line_shapes::tables::Unit;
 use line_shapes::tools::{Columns, columns_of_tool, tool_shapes};

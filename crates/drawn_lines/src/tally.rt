@@ -14,7 +14,7 @@ use crate::reading::columns_of;
 use crate::walk::{count_of, drawings, still};
 use ci_texts::{CiFormat, ci_text};
 use found_reports::{FoundReports, ListedSources};
-use girzohal_asked::Asked;
+use girzohal_options::Asked;
 use line_reports::{names_of, reports_of};
 use report_counts::{Counts, counts_of, more_line, one_reaches, summary_line};
 use source_store::{Spelling, Store, gather_more};

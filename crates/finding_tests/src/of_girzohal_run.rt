@@ -4,7 +4,7 @@ ghost use Rattle.std.specs.Prelude.{◌<◌};
 
 use documents::MemorySource;
 use found_reports::{ListedSources, Source};
-use girzohal_asked::{Asked, OutputForm, ThemeChoice};
+use girzohal_options::{Asked, OutputForm, ThemeChoice};
 use girzohal_run::{Status, run};
 use oxc_protocol::MemorySink;
 use source_store::MapStore;

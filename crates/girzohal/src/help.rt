@@ -1,85 +1,112 @@
 // The program's help and version.
 
 /// What `--help` prints.
-pub(crate) const HELP: &str = "girzohal: draws what compilers and linters found, with the sources
+pub(crate) const HELP: &str = "girzohal: draws what compilers and linters report, with the sources
 
-usage: girzohal [OPTION].. [--] [FILE]    (FILE - or none: standard input)
+usage: girzohal [OPTION].. [--] [FILE]
 
-  make 2>&1 | girzohal                    what a build prints, drawn as it comes
-  girzohal --to github log.sarif          a SARIF log, as annotations of GitHub
-  clang .. 2>&1 | girzohal --from sarif   a log among other lines
+  make 2>&1 | girzohal                    draw what a build reports, as it comes
+  girzohal --to github log.sarif          write a SARIF log as annotations
+  clang .. 2>&1 | girzohal --from sarif   read a log among other lines
 
-A value is the next word, or stands behind a =. Of an option that is given again
-the last value counts, of --shape each; --to is given once. Behind -- there are
-no options.
-Options stand here as in an example, and in brackets what counts without them.
+Without FILE, or if FILE is -, standard input is read. The value of an option is
+the next argument, or follows a =. If an option is given again, its last value
+counts. But each --shape counts, and --to is given once. After -- all arguments
+are files.
 
-What is read
-  --from lines         how it is written: auto, document, sarif or lines
-                       [auto: as its first bytes say; a log behind other lines
-                       is read with sarif alone]
-  --tool mypy          who wrote it: sets --from, --columns and --first-column
-                       where these aren't given, and adds shapes of lines; of a
-                       log that a tool wrote give --from sarif too [none]
+Input
+  --from FORM          The form of the input: auto, document, sarif or lines.
+                       For auto the first bytes decide; a log that follows other
+                       lines needs sarif. Default: auto. Example: --from lines
+  --tool NAME          The tool that wrote the input. It sets --from, --columns
+                       and --first-column unless they are given, and adds the
+                       patterns of the tool's lines. For a log of a tool that
+                       prints lines, give --from sarif too. Default: none.
+                       Example: --tool mypy. The names are:
                          clang gcc rustc cargo flake8 shellcheck pylint mypy
                          eslint tsc dotenv-linter fasterer grep hadolint
                          haml-lint kotlin markdownlint phpstan problem-lines
                          psalm slim-lint: lines; sarif: a log
-  --shape '{name}:{line}: {message}'
-                       a shape of lines, tried before those that are known;
-                       there may be several [none]. There may stand in it
-                         {name}, or {word} if it has no blanks: the file
-                         {line} {column} {endline} {endcolumn}: numbers
-                         {level}: a word as warning; {letter}: one as W;
-                         {small}: one as w
-                         {number}: a code as E501; {rule}: one as no-undef;
-                         {cop}: one as Layout/Tab
-                         {program}: a name as ld, which is left out
-                         {~}: blanks, or none; a blank: blanks, at least one
-                         {message}: what is left, at the end
-  --columns utf16      what columns count: bytes, characters, utf16 or cells
-                       [as the tool or the log says, else characters]; those of
-                       a log are never counted in bytes or cells
-  --first-column 0     the number of the first column, 0 or 1 [the tool's, or 1]
-  --root src           the folder below which sources are read [.]
-  --anywhere           sources outside of it too [those below it alone]
+  --shape PATTERN      A pattern of lines. It is tried before the known ones.
+                       Default: none. In a pattern, a blank matches one blank or
+                       more, and these match what a tool prints there:
+                         {name}        the file; or {word}, without blanks
+                         {line} {column} {endline} {endcolumn}   numbers
+                         {level}       a severity such as warning; or a letter
+                                       for it, {letter} or {small}: W or w
+                         {number}      a code such as E501
+                         {rule}        a code such as no-undef
+                         {cop}         a code such as Layout/Tab
+                         {program}     a program such as ld; it is left out
+                         {~}           blanks, or none
+                         {message}     the rest of the line
+                       Example: --shape '{name}:{line}: {message}'
+  --columns UNIT       What a column counts: bytes, characters, utf16, or cells
+                       of a terminal. The columns of a SARIF log can't count
+                       bytes or cells. Default: as the tool or the log says,
+                       otherwise characters. Example: --columns utf16
+  --first-column N     The number of the first column: 0 or 1. Default: as the
+                       tool says, otherwise 1. Example: --first-column 0
 
-What is written
-  --to github          drawing, json, document, sarif, problems, github, gitlab,
-                       checkstyle, junit or stylish [drawing]
-  --theme none         auto, none (ASCII), unicode (colors) or unicode_nocolor
-                       [auto: colors as the environment says]
-  --width 100          how many columns texts are filled to, or auto [auto]
-  --tabs 8             how many columns apart tab stops are, 1 to 16 [4]
-  --most 10            draws so many reports, and says how many more there are
-                       [all]
-  --only-findings      leaves out lines that are no findings [they are kept]
-  --quiet, -q          leaves out the line that says how many reports there are
-                       [it stands behind drawings]
-  --raw                texts as they are, even where they drive the terminal
-                       [what drives it is shown as something else]
-  --fail-on warning    from which level on the status is 1: error, warning,
-                       advice or never [error]
-  --help, -h           says this
-  --version, -V        says which version this is
+Source code
+  --root DIR           The folder with the source code. Default: the current
+                       folder. Example: --root src
+  --allow-outside-root
+                       Read files outside of that folder too. Do so only for
+                       input that you trust. Default: they aren't read.
 
-Lines are drawn, and made annotations of GitHub, as they come; anything else is
-read whole before it is written. Lines that are no findings stay in their place
-in a drawing. With any other form they go to the error output; there goes also
-what stands round a log, or before one that isn't of its form.
+Output
+  --to FORM            The form of the output: drawing, json, document, sarif,
+                       problems, github, gitlab, checkstyle, junit or stylish.
+                       Default: drawing. Example: --to github
+  --color WHEN         Colors: auto, always or never. For auto the environment
+                       decides, see below. Default: auto. Example: --color never
+  --ascii              Draw with ASCII characters. Such drawings have no colors,
+                       even with --color always. Default: box characters.
+  --width N            How many columns texts are filled to: a number, or auto
+                       to ask the environment. Default: auto.
+                       Example: --width 100
+  --tabs N             How many columns tab stops are apart, from 1 to 16.
+                       Default: 4. Example: --tabs 8
+  --max-findings N     Draw at most N findings, and print how many more there
+                       are. Default: all are drawn. Example: --max-findings 10
+  --only-findings      Leave out lines that aren't findings. Default: they are
+                       printed.
+  --no-summary, -q, --quiet
+                       Leave out the line that counts the findings. Default: it
+                       is printed after drawings.
+  --raw                Keep characters that control a terminal. Default: they
+                       are replaced.
+  --fail-on LEVEL      Exit with status 1 for this severity or a higher one:
+                       error, warning, advice, or never. Default: error.
+                       Example: --fail-on warning
+  --help, -h           Print this help.
+  --version, -V        Print the version.
+
+Drawings and annotations of lines are written as the lines come. For everything
+else the input is read whole before anything is written. Lines that aren't
+findings keep their place in a drawing. With other forms they go to standard
+error, and so do lines around a log.
 
 Environment
-  FORCE_COLOR          colors, where it is set, not empty and not 0
-  NO_COLOR, TERM       without it colors on a terminal, unless NO_COLOR is set
-                       and not empty, or TERM is dumb
-  COLUMNS              how wide --width auto is; 80 where it isn't set
+  FORCE_COLOR, CLICOLOR_FORCE
+                       --color auto has colors if one of these is set, not empty
+                       and not 0.
+  NO_COLOR, CLICOLOR, TERM
+                       Otherwise it has colors if the output is a terminal,
+                       NO_COLOR is unset or empty, CLICOLOR isn't 0, and TERM
+                       isn't dumb.
+  COLUMNS              The width for --width auto. If it isn't set: 80.
 
-status: 0 nothing at that level, 1 something, 2 a word is wrong, 3 an input that
-isn't of its form, 4 a read failed, 5 a write failed, 6 no memory, 7 more than
-64 MiB of what is read whole, or of one finding's lines";
+Exit status
+  0  no finding at the level of --fail-on   4  reading failed
+  1  a finding at that level or above       5  writing failed
+  2  an argument is wrong                   6  out of memory
+  3  the input isn't of its form            7  more than 64 MiB of input that is
+                                               read whole, or of one finding";
 
 /// What `--version` prints.
 pub(crate) const VERSION: &str = "girzohal 0.1.0";
 
-/// The line below the one that says which argument is wrong.
-pub(crate) const MORE: &str = "girzohal: --help says what the words are";
+/// The line after the one that says which argument is wrong.
+pub(crate) const MORE: &str = "girzohal: --help lists all options";

@@ -5,18 +5,15 @@
 //! arguments and calls it with the standard streams and the disk. The other modules:
 //!
 //! - `help`: the help and the version
-//! - `words`: the error for a wrong argument
 //! - `surroundings`: colors and width from the environment
 #![tactic(auto)]
 
 mod help;
 mod surroundings;
-mod words;
 
 use documents::{ReaderSource, Source, StderrSink, StdinSource, StdoutSink};
-use girzohal_asked::Asked;
+use girzohal_options::{Asked, Fault, Program, Refusal, Request, message, read_words};
 use girzohal_run::{Status, run};
-use girzohal_words::{Refusal, Request, WordFault, read_words};
 use harmless::{Kind, harmless};
 use help::{HELP, MORE, VERSION};
 use source_store::DiskStore;
@@ -26,24 +23,21 @@ use std::io::{ErrorKind, IsTerminal};
 use std::process::ExitCode;
 use std::{env, fs};
 use surroundings::Surroundings;
-use words::lines_of;
 
 fn main(rt: HostRuntime) -> ExitCode {
     let alloc = rt.alloc();
     let Ok(mut args) = env::args(&rt) else {
-        let more = MORE;
-        let _told = eprintln!(rt; "girzohal: a word is no UTF-8\n{more}");
-        return ExitCode::from(Status::Usage.code());
+        return refuse(&rt, "an argument isn't UTF-8");
     };
     let _program = args.next();
     let Ok(words) = args.collect::<Vec<String>>(alloc) else {
         return ExitCode::from(Status::OutOfMemory.code());
     };
-    match read_words(alloc, &words) {
+    match read_words(alloc, Program::Girzohal, &words) {
         Ok(Request::Help) => tell(&rt, HELP),
         Ok(Request::Version) => tell(&rt, VERSION),
         Ok(Request::Run(asked)) => obey(&rt, alloc, asked),
-        Err(Refusal::Fault(fault)) => refuse(&rt, alloc, fault),
+        Err(Refusal::Fault(fault)) => refuse_argument(&rt, alloc, fault),
         Err(Refusal::OutOfMemory) => ExitCode::from(Status::OutOfMemory.code()),
     }
 }
@@ -62,7 +56,7 @@ fn obey(rt: &HostRuntime, alloc: Global, mut asked: Asked) -> ExitCode {
     asked.theme = around.theme(asked.theme);
     asked.width = Some(around.width(asked.width));
     let Some(root) = folder_at(rt, alloc, asked.root.as_str()) else {
-        return refuse(rt, alloc, WordFault::Value("--root", asked.root.as_str()));
+        return refuse_root(rt, alloc, asked.root.as_str());
     };
     let store = DiskStore::new(rt, root, asked.anywhere);
     let Some(file) = file_in(&asked) else {
@@ -142,10 +136,26 @@ fn start<I: Source>(
 }
 
 /// Writes which argument is wrong, and why.
-fn refuse(rt: &HostRuntime, alloc: Global, fault: WordFault<'_>) -> ExitCode {
-    let Ok(lines) = lines_of(alloc, fault) else {
+fn refuse_argument(rt: &HostRuntime, alloc: Global, fault: Fault<'_>) -> ExitCode {
+    match message(alloc, Program::Girzohal, fault) {
+        Ok(line) => refuse(rt, line.as_str()),
+        Err(_) => ExitCode::from(Status::OutOfMemory.code()),
+    }
+}
+
+/// Writes that there is no such folder, with its name sanitized.
+fn refuse_root(rt: &HostRuntime, alloc: Global, root: &str) -> ExitCode {
+    let Ok(name) = harmless(alloc, Kind::Name, root) else {
         return ExitCode::from(Status::OutOfMemory.code());
     };
-    let _told = eprint!(rt; "{lines}");
+    let more = MORE;
+    let _told = eprintln!(rt; "girzohal: --root: {name} isn't a folder\n{more}");
+    ExitCode::from(Status::Usage.code())
+}
+
+/// Writes why the arguments are wrong.
+fn refuse(rt: &HostRuntime, why: &str) -> ExitCode {
+    let more = MORE;
+    let _told = eprintln!(rt; "girzohal: {why}\n{more}");
     ExitCode::from(Status::Usage.code())
 }

@@ -1,5 +1,5 @@
 // Colors and width from the environment.
-use girzohal_asked::ThemeChoice;
+use girzohal_options::ThemeChoice;
 use std::env;
 
 /// The default width of a drawing, in columns.
@@ -10,9 +10,9 @@ const WIDTH: usize = 80;
 pub(crate) struct Surroundings {
     /// Whether the output is a terminal.
     terminal: bool,
-    /// Whether `FORCE_COLOR` is set, and neither empty nor `0`.
+    /// Whether `FORCE_COLOR` or `CLICOLOR_FORCE` is set, and neither empty nor `0`.
     forced: bool,
-    /// Whether `NO_COLOR` is set and not empty.
+    /// Whether `NO_COLOR` is set and not empty, or `CLICOLOR` is `0`.
     refused: bool,
     /// Whether `TERM` is `dumb`.
     dumb: bool,
@@ -21,8 +21,9 @@ pub(crate) struct Surroundings {
 }
 
 impl Surroundings {
-    ghost use Rattle.std.specs.Prelude.{◌≡◌, ◌≢◌, IfSome};
-    ghost use Rattle.girzohal_asked.specs.declared.ThemeChoice.TheVariants.{Auto};
+    ghost use Rattle.std.specs.Prelude.{◌≡◌, ◌≢◌, ◌&&◌, ◌||◌, IfSome, if◌then◌else◌, not};
+    ghost use Rattle.girzohal_options.specs.declared.ThemeChoice.TheVariants.{Auto, Unicode};
+    ghost use Rattle.girzohal_options.specs.declared.ThemeChoice.TheVariants.{UnicodeNocolor};
 
     /// The environment of the program.
     pub(crate) fn of(rt: &HostRuntime, terminal: bool) -> Surroundings {
@@ -32,8 +33,8 @@ impl Surroundings {
         };
         Surroundings {
             terminal,
-            forced: is_set_but(rt, "FORCE_COLOR", "0"),
-            refused: is_set_but(rt, "NO_COLOR", ""),
+            forced: is_set_but(rt, "FORCE_COLOR", "0") || is_set_but(rt, "CLICOLOR_FORCE", "0"),
+            refused: is_set_but(rt, "NO_COLOR", "") || is(rt, "CLICOLOR", "0"),
             dumb: is(rt, "TERM", "dumb"),
             columns,
         }
@@ -43,7 +44,9 @@ impl Surroundings {
     /// terminal and they aren't turned off.
     pub(crate) fn theme(self, choice: ThemeChoice) -> ThemeChoice
         ensures asked { choice ≢ Auto → result ≡ choice }
-        ensures settled { result ≢ Auto }
+        ensures auto { choice ≡ Auto → result ≡ (if self.forced
+            || (self.terminal && not self.refused && not self.dumb)
+            then Unicode else UnicodeNocolor) }
     {
         match choice {
             ThemeChoice::Auto if self.has_colors() => ThemeChoice::Unicode,
@@ -52,7 +55,9 @@ impl Surroundings {
         }
     }
 
-    fn has_colors(self) -> bool {
+    fn has_colors(self) -> bool
+        ensures { result ≡ (self.forced || (self.terminal && not self.refused && not self.dumb)) }
+    {
         self.forced || self.terminal && !self.refused && !self.dumb
     }
 

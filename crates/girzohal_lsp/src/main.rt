@@ -4,7 +4,7 @@
 //! `girzohal_lsp [--from auto|lines|sarif] [--tool NAME] [--columns bytes|characters|utf16|cells]
 //! [--first-column 0|1] LOG`. LOG is read when a file is opened, and again when one is saved.
 //!
-//! - `words`: the options
+//! - `words`: the options, as the server uses them
 //! - `log`: reads a log
 //! - `found`: the findings of a log for an open file
 //! - `serve`: messages in, answers out
@@ -16,38 +16,69 @@ mod serve;
 mod words;
 
 pub use found::found_in;
+use girzohal_options::{InputForm, Program, Refusal, Request, message, read_words};
 pub use log::{LogFile, read_bytes};
 pub use serve::{refresh, serve};
+use std::alloc::Global;
 use std::env;
 use std::io::{self, ErrorKind};
 use std::process::ExitCode;
-pub use words::{Asked, Form, read_words};
+pub use words::{Asked, Form, served};
 
 const USAGE: &str = "usage: girzohal_lsp [--from auto|lines|sarif] [--tool NAME] \
-    [--columns bytes|characters|utf16|cells] [--first-column 0|1] LOG\n";
+    [--columns bytes|characters|utf16|cells] [--first-column 0|1] LOG";
+
+/// What `--version` prints.
+const VERSION: &str = "girzohal_lsp 0.1.0";
 
 fn main(rt: HostRuntime) -> ExitCode {
     let alloc = rt.alloc();
     let words = match words_given(&rt) {
         Ok(words) => words,
         Err(fault) if fault.kind() == ErrorKind::OutOfMemory => return ExitCode::from(1),
-        Err(_) => return ExitCode::from(2),
+        Err(_) => return refuse(&rt, "an argument isn't UTF-8"),
     };
-    let asked = match read_words(alloc, &words) {
-        Ok(Some(asked)) => asked,
-        Ok(None) => {
-            let _ = eprint!(rt; "{USAGE}");
-            return ExitCode::from(2);
-        }
-        Err(_) => return ExitCode::from(1),
-    };
+    match read_words(alloc, Program::Server, &words) {
+        Ok(Request::Help) => tell(&rt, USAGE),
+        Ok(Request::Version) => tell(&rt, VERSION),
+        Ok(Request::Run(asked)) => match served(&asked) {
+            Some(asked) => run(&rt, alloc, asked),
+            None if asked.from == InputForm::Document => {
+                refuse(&rt, "--from: expected auto, sarif or lines, not 'document'")
+            }
+            None => refuse(&rt, "the path of a log is missing"),
+        },
+        Err(Refusal::Fault(fault)) => match message(alloc, Program::Server, fault) {
+            Ok(line) => refuse(&rt, line.as_str()),
+            Err(_) => ExitCode::from(1),
+        },
+        Err(Refusal::OutOfMemory) => ExitCode::from(1),
+    }
+}
+
+/// Serves over the standard streams.
+fn run(rt: &HostRuntime, alloc: Global, asked: Asked<'_>) -> ExitCode {
     let mut input = rt.stdin();
     let mut out = rt.stdout();
-    match serve(&rt, alloc, asked, &mut input, &mut out) {
+    match serve(rt, alloc, asked, &mut input, &mut out) {
         Ok(true) => ExitCode::from(0),
-        Ok(false) => ExitCode::from(1),
+        Ok(false) | Err(_) => ExitCode::from(1),
+    }
+}
+
+/// Writes the help or the version.
+fn tell(rt: &HostRuntime, text: &str) -> ExitCode {
+    match println!(rt; "{text}") {
+        Ok(()) => ExitCode::from(0),
         Err(_) => ExitCode::from(1),
     }
+}
+
+/// Writes why the arguments are wrong.
+fn refuse(rt: &HostRuntime, why: &str) -> ExitCode {
+    let usage = USAGE;
+    let _told = eprintln!(rt; "girzohal_lsp: {why}\n{usage}");
+    ExitCode::from(2)
 }
 
 /// The arguments without the program's name.

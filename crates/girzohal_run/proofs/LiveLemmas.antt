@@ -25,11 +25,11 @@ use Rattle.drawn_lines.specs.declared.held.HeldLines.{HeldLines}
 use Rattle.drawn_lines.specs.declared.tally.Tally.{Tally}
 use Rattle.drawn_lines.specs.declared.coming.Come.{Come}
 use Rattle.drawn_lines.specs.declared.coming.Coming.{Coming}
-use Rattle.girzohal_asked.specs.declared.Asked.{Asked}
-use Rattle.girzohal_asked.specs.declared.InputForm.{InputForm}
-use Rattle.girzohal_asked.specs.declared.InputForm.TheVariants as form
-use Rattle.girzohal_asked.specs.declared.OutputForm.{OutputForm}
-use Rattle.girzohal_asked.specs.declared.OutputForm.TheVariants.{Drawing, Json, Document, Sarif, Problems, Github, Gitlab, Checkstyle, Junit, Stylish}
+use Rattle.girzohal_options.specs.declared.Asked.{Asked}
+use Rattle.girzohal_options.specs.declared.InputForm.{InputForm}
+use Rattle.girzohal_options.specs.declared.InputForm.TheVariants as form
+use Rattle.girzohal_options.specs.declared.OutputForm.{OutputForm}
+use Rattle.girzohal_options.specs.declared.OutputForm.TheVariants.{Drawing, Json, Document, Sarif, Problems, Github, Gitlab, Checkstyle, Junit, Stylish}
 use Rattle.girzohal_run.specs.Told.{Told}
 use Rattle.girzohal_run.specs.Texts.{IsTextIn}
 use Rattle.girzohal_run.specs.Lines.{ListsLines, MakesLines, MakesLinesBy, is_drawing, is_live}

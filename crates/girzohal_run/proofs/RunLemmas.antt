@@ -1,7 +1,7 @@
 -- What was shown of the whole input.
 use Rattle.std.proofs.Common.{◌≤◌, inl, List, ℕ, length, refl}
 use Rattle.std.specs.Io.KnownBytes.{Consumes, IsAtEnd}
-use Rattle.girzohal_asked.specs.declared.Asked.{Asked}
+use Rattle.girzohal_options.specs.declared.Asked.{Asked}
 use Rattle.girzohal_run.specs.Told.{Told}
 use Rattle.girzohal_run.specs.Run.{Device, IsUntouched, Means, Sends, Shows, Texts, IsMadeOf, TookWhole, limit}
 use Rattle.girzohal_run.specs.declared.status.Status.{Status}

@@ -9,9 +9,9 @@ use Rattle.tool_lines.specs.Lines.{ArePieces, PieceParts}
 use Rattle.line_reports.specs.Names.{names_in}
 use Rattle.line_reports.specs.Reports.{reports_in}
 use Rattle.report_counts.specs.Counted.{one_reaches}
-use Rattle.girzohal_asked.specs.declared.Asked.{Asked}
-use Rattle.girzohal_asked.specs.declared.OutputForm.{OutputForm}
-use Rattle.girzohal_asked.specs.declared.OutputForm.TheVariants.{Drawing, Json, Document, Sarif, Problems, Github, Gitlab, Checkstyle, Junit, Stylish}
+use Rattle.girzohal_options.specs.declared.Asked.{Asked}
+use Rattle.girzohal_options.specs.declared.OutputForm.{OutputForm}
+use Rattle.girzohal_options.specs.declared.OutputForm.TheVariants.{Drawing, Json, Document, Sarif, Problems, Github, Gitlab, Checkstyle, Junit, Stylish}
 use Rattle.drawn_lines.specs.Text.{lines_of}
 use Rattle.drawn_lines.specs.Lines.{annotates, columns_of, kept_text, shapes_of}
 use Rattle.drawn_lines.specs.Coming.{IsDrawn}

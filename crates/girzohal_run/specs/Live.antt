@@ -4,7 +4,7 @@ use Rattle.std.specs.Io.KnownBytes.{Appends, Consumes}
 use Rattle.oxc_protocol.specs.Sink.{AppendsPrefix}
 use Rattle.drawn_lines.specs.Coming.{IsBegun, IsComing}
 use Rattle.drawn_lines.specs.declared.coming.Come.{Come}
-use Rattle.girzohal_asked.specs.declared.Asked.{Asked}
+use Rattle.girzohal_options.specs.declared.Asked.{Asked}
 use Rattle.girzohal_run.specs.Told.{Told}
 use Rattle.girzohal_run.specs.Run.{Device, HasRisen, Means, comes}
 use Rattle.girzohal_run.specs.declared.live.Live.{Live}

@@ -9,9 +9,9 @@ use Rattle.input_forms.specs.declared.begun.Begun.{Begun}
 use Rattle.input_forms.specs.declared.begun.Begun.TheVariants.{Object, OtherJson, Lines}
 use Rattle.line_shapes.specs.declared.tables.Unit.{Unit as ColumnUnit}
 use Rattle.line_shapes.specs.declared.tables.Unit.TheVariants.{Bytes, Characters, Utf16, Cells}
-use Rattle.girzohal_asked.specs.declared.Asked.{Asked}
-use Rattle.girzohal_asked.specs.declared.InputForm.{InputForm}
-use Rattle.girzohal_asked.specs.declared.InputForm.TheVariants as form
+use Rattle.girzohal_options.specs.declared.Asked.{Asked}
+use Rattle.girzohal_options.specs.declared.InputForm.{InputForm}
+use Rattle.girzohal_options.specs.declared.InputForm.TheVariants as form
 use Rattle.girzohal_run.specs.Told.{Told}
 use Rattle.girzohal_run.specs.Texts.{IsText}
 use Rattle.girzohal_run.specs.Lines.{MakesLines}

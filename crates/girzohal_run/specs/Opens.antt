@@ -2,9 +2,9 @@
 use Rattle.std.specs.Prelude.{◌≡◌, ⊤, ℕ, ◌<◌, ◌≤◌, ◌&&◌, ◌++◌, List, length, Bool, true, false, Option}
 use Rattle.std.specs.Io.KnownBytes.{Consumes}
 use Rattle.oxc_protocol.specs.Faults.{Rose}
-use Rattle.girzohal_asked.specs.declared.Asked.{Asked}
-use Rattle.girzohal_asked.specs.declared.InputForm.{InputForm}
-use Rattle.girzohal_asked.specs.declared.InputForm.TheVariants as form
+use Rattle.girzohal_options.specs.declared.Asked.{Asked}
+use Rattle.girzohal_options.specs.declared.InputForm.{InputForm}
+use Rattle.girzohal_options.specs.declared.InputForm.TheVariants as form
 use Rattle.girzohal_run.specs.Lines.{is_live}
 use Rattle.girzohal_run.specs.Run.{comes, limit}
 use Rattle.girzohal_run.specs.declared.opening.Opening.{Opening}

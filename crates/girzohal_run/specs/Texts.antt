@@ -4,9 +4,9 @@ use Rattle.found_reports.specs.Kept.{FoundParts}
 use Rattle.report_texts.specs.Texts.{IsDocumentText, IsSarifText, drawing_text, json_text, named_tool}
 use Rattle.ci_formats.specs.declared.format.CiFormat.TheVariants as ci
 use Rattle.ci_texts.specs.Texts.{ci_text, gitlab_text}
-use Rattle.girzohal_asked.specs.declared.Asked.{Asked}
-use Rattle.girzohal_asked.specs.declared.OutputForm.{OutputForm}
-use Rattle.girzohal_asked.specs.declared.OutputForm.TheVariants.{Drawing, Json, Document, Sarif, Problems, Github, Gitlab, Checkstyle, Junit, Stylish}
+use Rattle.girzohal_options.specs.declared.Asked.{Asked}
+use Rattle.girzohal_options.specs.declared.OutputForm.{OutputForm}
+use Rattle.girzohal_options.specs.declared.OutputForm.TheVariants.{Drawing, Json, Document, Sarif, Problems, Github, Gitlab, Checkstyle, Junit, Stylish}
 
 -- what is written of reports and their files in a form
 abbrev pub IsTextIn : OutputForm → Asked → FoundParts → List ℕ → Type 0

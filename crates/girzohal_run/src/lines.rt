@@ -13,7 +13,7 @@ use crate::making::{Made, Written};
 use crate::texts::text_of;
 use drawn_lines::{Come, Coming, Ended, annotates, columns_of, kept_text, shapes_of};
 use found_reports::ListedSources;
-use girzohal_asked::{Asked, OutputForm};
+use girzohal_options::{Asked, OutputForm};
 use input_forms::without_mark;
 use line_reports::{names_of, reports_of};
 use line_shapes::bytes::before_last;

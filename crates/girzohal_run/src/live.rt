@@ -3,7 +3,7 @@ ghost use Rattle.std.specs.Prelude.{◌≡◌, ◌≤◌, ◌++◌, ℕ, List, O
 ghost use Rattle.std.specs.Io.KnownBytes.{Consumes, IsAtEnd};
 ghost use Rattle.line_shapes.specs.Shape.{shape_parts};
 ghost use Rattle.drawn_lines.specs.Lines.{shapes_of as shapes_meant};
-ghost use Rattle.girzohal_asked.specs.declared.Asked.{Asked as AskedFor};
+ghost use Rattle.girzohal_options.specs.declared.Asked.{Asked as AskedFor};
 ghost use Rattle.girzohal_run.specs.Told.{Told};
 ghost use Rattle.girzohal_run.specs.Run.{Device, IsTold, Means, Since, Stays, comes, device};
 ghost use Rattle.girzohal_run.specs.Run.{device_since};
@@ -14,7 +14,7 @@ use crate::program::fail;
 use crate::status::Status;
 use documents::Source;
 use drawn_lines::{Come, Coming, Ended, shapes_of};
-use girzohal_asked::Asked;
+use girzohal_options::Asked;
 use line_shapes::shape::Shape;
 use oxc_protocol::{Failed, Sink, write_all};
 use source_store::Store;

@@ -8,7 +8,7 @@ use crate::fault::Fault;
 use crate::making::Written;
 use crate::object::write;
 use bytecount::count;
-use girzohal_asked::Asked;
+use girzohal_options::Asked;
 use harmless::{Kind, harmless};
 use line_shapes::tables::Unit;
 use sarif::{ColumnKind, LogError, names_of, read_log, reports_of};

@@ -6,7 +6,7 @@ ghost use Rattle.girzohal_run.specs.Made.{object_form as form_of_object};
 use crate::fault::{Fault, no_form};
 use crate::lines::make_lines;
 use crate::object::{ObjectForm, make_object};
-use girzohal_asked::{Asked, InputForm};
+use girzohal_options::{Asked, InputForm};
 use input_forms::{Begun, begins_as};
 use line_shapes::tables::Unit;
 use source_store::Store;

@@ -16,7 +16,7 @@ use crate::making::{Made, Written};
 use crate::texts::text_of;
 use documents::read_document;
 use found_reports::FoundReports;
-use girzohal_asked::Asked;
+use girzohal_options::Asked;
 use input_forms::{has_files, json_part, without_mark};
 use line_shapes::tables::Unit;
 use render_files::ReportError;

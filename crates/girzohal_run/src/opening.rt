@@ -5,7 +5,7 @@ ghost use Rattle.girzohal_run.specs.Opens.{may_begin};
 
 use crate::lines::is_live;
 use documents::Source;
-use girzohal_asked::{Asked, InputForm};
+use girzohal_options::{Asked, InputForm};
 use input_forms::{FirstBytes, first_bytes};
 use oxc_protocol::Failed;
 use std::alloc::Global;

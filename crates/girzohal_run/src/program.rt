@@ -10,7 +10,7 @@ use crate::making::{Made, make};
 use crate::opening::{LIMIT, Opening, open};
 use crate::status::Status;
 use documents::{Reading, Source, read_all};
-use girzohal_asked::Asked;
+use girzohal_options::Asked;
 use oxc_protocol::{Failed, Sink, write_all};
 use source_store::Store;
 use std::alloc::{AllocError, Global};

@@ -6,7 +6,7 @@ ghost use Rattle.girzohal_run.specs.Texts.{IsText};
 use crate::fault::Fault;
 use ci_texts::{CiFormat, ci_text, gitlab_text};
 use found_reports::FoundReports;
-use girzohal_asked::{Asked, OutputForm};
+use girzohal_options::{Asked, OutputForm};
 use report_texts::{document_text, drawing_text, json_text, named_tool, sarif_text};
 use std::alloc::Global;
 

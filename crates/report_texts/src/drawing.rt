@@ -7,7 +7,7 @@ ghost use Rattle.report_texts.specs.Texts.{first_drawings as drawings_of_first};
 ghost use Rattle.report_texts.specs.Texts.{drawn_count as drawn_of, handler_of, summary, theme_of};
 
 use found_reports::FoundReports;
-use girzohal_asked::{Asked, ThemeChoice};
+use girzohal_options::{Asked, ThemeChoice};
 use oxc_handlers::{GraphicalReportHandler, GraphicalTheme};
 use render_files::files_text;
 use report_counts::{counts_of, more_line, summary_line};
@@ -17,7 +17,7 @@ use std::alloc::{AllocError, Global};
 /// The default width of a drawing.
 const WIDTH: usize = 80;
 
-/// The drawings of the first reports, up to `--most`; then the lines of [`ending_text`].
+/// The drawings of the first reports, up to `--max-findings`; then the lines of [`ending_text`].
 ///
 /// # Errors
 ///
@@ -37,7 +37,7 @@ pub fn drawing_text(
     Ok(text)
 }
 
-/// The drawings of the first reports, up to `--most`.
+/// The drawings of the first reports, up to `--max-findings`.
 ///
 /// # Errors
 ///

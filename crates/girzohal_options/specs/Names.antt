@@ -1,0 +1,50 @@
+-- The names of options.
+use Rattle.std.specs.Prelude.{ℕ, List, [], ◌∷◌, ◌++◌, map, codes, if◌then◌else◌, ◌||◌, Bool, Option, Some, None}
+use Rattle.std.specs.List.{list_any}
+use Rattle.std.specs.Str.{bytes_eq}
+use Rattle.girzohal_options.specs.declared.table.Program.{Program}
+use Rattle.girzohal_options.specs.declared.table.Program.TheVariants.{Girzohal, Server}
+use Rattle.girzohal_options.specs.declared.table.Setting.{Setting}
+use Rattle.girzohal_options.specs.declared.table.Setting.TheVariants.{From, Tool, Columns, FirstColumn, To, Shape, Root, Color, Width, Tabs, MaxFindings, FailOn}
+
+-- the name of an option that takes a value
+abbrev pub setting_name : Setting → List ℕ
+setting_name From = codes "--from"
+setting_name Tool = codes "--tool"
+setting_name Columns = codes "--columns"
+setting_name FirstColumn = codes "--first-column"
+setting_name To = codes "--to"
+setting_name Shape = codes "--shape"
+setting_name Root = codes "--root"
+setting_name Color = codes "--color"
+setting_name Width = codes "--width"
+setting_name Tabs = codes "--tabs"
+setting_name MaxFindings = codes "--max-findings"
+setting_name FailOn = codes "--fail-on"
+
+-- the options of a program that take a value
+unfoldable pub settings : Program → List Setting
+settings Girzohal = From ∷ Tool ∷ Columns ∷ FirstColumn ∷ To ∷ Shape ∷ Root ∷ Color ∷ Width ∷ Tabs ∷ MaxFindings ∷ FailOn ∷ []
+settings Server = From ∷ Tool ∷ Columns ∷ FirstColumn ∷ []
+
+-- the option with a name
+abbrev pub setting_in : List Setting → List ℕ → Option Setting
+setting_in [] name = None
+setting_in (it ∷ rest) name = if bytes_eq (setting_name it) name then Some it else setting_in rest name
+
+-- the options that take no value
+unfoldable pub flags : Program → List (List ℕ)
+flags Girzohal = codes "--help" ∷ codes "--version" ∷ codes "--allow-outside-root" ∷ codes "--ascii" ∷ codes "--only-findings" ∷ codes "--no-summary" ∷ codes "--quiet" ∷ codes "--raw" ∷ []
+flags Server = codes "--help" ∷ codes "--version" ∷ []
+
+-- short names of those
+unfoldable pub short_flags : Program → List (List ℕ)
+short_flags Girzohal = codes "-h" ∷ codes "-V" ∷ codes "-q" ∷ []
+short_flags Server = codes "-h" ∷ codes "-V" ∷ []
+
+abbrev pub is_flag : Program → List ℕ → Bool
+is_flag program name = list_any (λ known. bytes_eq known name) (flags program) || list_any (λ known. bytes_eq known name) (short_flags program)
+
+-- all names but the short ones
+abbrev pub long_names : Program → List (List ℕ)
+long_names program = map setting_name (settings program) ++ flags program

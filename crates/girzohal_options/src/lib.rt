@@ -1,0 +1,118 @@
+//! The options of `girzohal` and `girzohal_lsp`: what arguments ask for, or the first wrong one.
+//!
+//! - `table`: the names of options
+//! - `items`: what each argument says, with the next one if that is its value
+//! - `values`: what the values of options mean
+//! - `given`: the values that count, and the first wrong argument
+//! - `reading`: what arguments ask for if none is wrong
+//! - `near`: the known option that an unknown one may mean
+//! - `messages`: the line that says which argument is wrong, and why
+#![tactic(auto)]
+
+mod given;
+mod items;
+mod messages;
+mod near;
+mod reading;
+mod table;
+mod values;
+
+pub use given::Fault;
+use line_shapes::parse::OwnShape;
+use line_shapes::tables::Unit;
+pub use messages::message;
+pub use near::nearest;
+use oxc_plan::TabWidth;
+pub use reading::{Refusal, Request, read_words};
+use report_counts::Level;
+pub use table::{Program, Setting};
+
+/// The form of the input.
+#[derive(Clone, Copy, PartialEq, Eq)]
+pub enum InputForm {
+    /// Decided by its first bytes: a document, a SARIF log, or lines.
+    Auto,
+    /// A document of files and reports.
+    Document,
+    /// A SARIF log, with or without other lines around it.
+    Sarif,
+    /// Lines that a tool prints for people.
+    Lines,
+}
+
+/// What is written.
+#[derive(Clone, Copy, PartialEq, Eq)]
+pub enum OutputForm {
+    /// Reports drawn with their sources.
+    Drawing,
+    /// Each report as a line of JSON.
+    Json,
+    /// A document of files and reports.
+    Document,
+    /// A SARIF log of one run.
+    Sarif,
+    /// A line for each report, as compilers write it.
+    Problems,
+    /// Annotations of GitHub's runners.
+    Github,
+    /// A report of GitLab's code quality.
+    Gitlab,
+    /// Checkstyle's XML.
+    Checkstyle,
+    /// JUnit's XML.
+    Junit,
+    /// A table for each file, as ESLint prints it.
+    Stylish,
+}
+
+/// The characters and colors of a drawing.
+#[derive(Clone, Copy, PartialEq, Eq)]
+pub enum ThemeChoice {
+    /// With colors if a person looks, else as `UnicodeNocolor`.
+    Auto,
+    /// ASCII alone, without colors.
+    Plain,
+    /// Box drawing characters and colors.
+    Unicode,
+    /// Box drawing characters without colors.
+    UnicodeNocolor,
+}
+
+/// The options of a run.
+#[derive(Drop)]
+pub struct Asked {
+    /// The file to read; standard input if there is none.
+    pub file: Option<String>,
+    /// The folder in which sources are read.
+    pub root: String,
+    /// Whether sources outside of that folder are read too.
+    pub anywhere: bool,
+    /// The form of the input.
+    pub from: InputForm,
+    /// What is written.
+    pub to: OutputForm,
+    /// The characters and colors of a drawing.
+    pub theme: ThemeChoice,
+    /// The width of a drawing in columns; if there is none, the environment's.
+    pub width: Option<usize>,
+    /// The distance of tab stops, in columns.
+    pub tabs: TabWidth,
+    /// The tool that wrote the input.
+    pub tool: Option<String>,
+    /// The user's own patterns of lines, in the order in which they are tried.
+    pub shapes: Vec<OwnShape>,
+    /// What a column of the input counts; if there is none, as the tool counts.
+    pub columns: Option<Unit>,
+    /// The number of the first column, 0 or 1; if there is none, the tool's.
+    pub first_column: Option<u32>,
+    /// Whether lines that aren't part of findings are left out.
+    pub only_findings: bool,
+    /// The lowest severity at which a report makes the exit status 1.
+    pub fail_on: Level,
+    /// The maximum number of reports that are drawn.
+    pub most: Option<usize>,
+    /// Whether the line with the numbers of reports is left out.
+    pub quiet: bool,
+    /// Whether texts are written raw, even if they drive a terminal.
+    pub raw: bool,
+}

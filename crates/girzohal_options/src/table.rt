@@ -1,0 +1,153 @@
+//! The options by name. `specs/Names.antt` has the same names.
+ghost use Rattle.std.specs.Prelude.{◌≡◌, map};
+ghost use Rattle.std.specs.List.{list_any};
+ghost use Rattle.std.specs.Str.{bytes_eq};
+ghost use Rattle.girzohal_options.specs.Names.{is_flag as is_flag_named, setting_in, setting_name};
+ghost use Rattle.girzohal_options.specs.Names.{settings};
+
+/// The program whose options are read.
+#[derive(Clone, Copy)]
+pub enum Program {
+    /// `girzohal` has all options.
+    Girzohal,
+    /// `girzohal_lsp` has those that say how a log is read.
+    Server,
+}
+
+/// An option that takes a value.
+#[derive(Clone, Copy)]
+pub enum Setting {
+    From,
+    Tool,
+    Columns,
+    FirstColumn,
+    To,
+    Shape,
+    Root,
+    Color,
+    Width,
+    Tabs,
+    MaxFindings,
+    FailOn,
+}
+
+impl Setting {
+    /// The name, with its hyphens.
+    pub fn name(self) -> &'static str
+        ensures { result.now ≡ setting_name self }
+    {
+        self.texts().0
+    }
+
+    /// The values that it takes, in words.
+    pub fn expected(self) -> &'static str {
+        self.texts().1
+    }
+
+    fn texts(self) -> (&'static str, &'static str)
+        ensures { result.0.now ≡ setting_name self }
+    {
+        match self {
+            Setting::From => ("--from", "auto, document, sarif or lines"),
+            Setting::Tool => ("--tool", "a tool that --help lists, such as gcc or sarif"),
+            Setting::Columns => ("--columns", "bytes, characters, utf16 or cells"),
+            Setting::FirstColumn => ("--first-column", "0 or 1"),
+            Setting::To => (
+                "--to",
+                "drawing, json, document, sarif, problems, github, gitlab, checkstyle, junit or \
+                stylish",
+            ),
+            Setting::Shape => ("--shape", "a pattern such as '{name}:{line}: {message}'"),
+            Setting::Root => ("--root", "a folder"),
+            Setting::Color => ("--color", "auto, always or never"),
+            Setting::Width => ("--width", "auto or a number from 1"),
+            Setting::Tabs => ("--tabs", "a number from 1 to 16"),
+            Setting::MaxFindings => ("--max-findings", "a number from 0"),
+            Setting::FailOn => ("--fail-on", "error, warning, advice or never"),
+        }
+    }
+}
+
+/// The options that take a value; those of the server come first.
+pub(crate) const SETTINGS: [Setting; 12] = [
+    Setting::From,
+    Setting::Tool,
+    Setting::Columns,
+    Setting::FirstColumn,
+    Setting::To,
+    Setting::Shape,
+    Setting::Root,
+    Setting::Color,
+    Setting::Width,
+    Setting::Tabs,
+    Setting::MaxFindings,
+    Setting::FailOn,
+];
+
+/// How many of them the server has.
+pub(crate) const SERVER_SETTINGS: usize = 4;
+
+/// The options that take no value; those of the server come first.
+pub(crate) const FLAGS: [&str; 8] = [
+    "--help",
+    "--version",
+    "--allow-outside-root",
+    "--ascii",
+    "--only-findings",
+    "--no-summary",
+    "--quiet",
+    "--raw",
+];
+
+/// How many of them the server has.
+pub(crate) const SERVER_FLAGS: usize = 2;
+
+/// Short names; those of the server come first.
+const SHORT: [&str; 3] = ["-h", "-V", "-q"];
+
+/// The option of a program that takes a value and has this name.
+#[tactic(auto, unfolding(crate::specs::Names::settings))]
+pub(crate) fn setting_named(program: Program, name: &str) -> Option<Setting>
+    ensures { result ≡ setting_in (settings program) name.now }
+{
+    match program {
+        Program::Girzohal => setting_among(&SETTINGS, name),
+        Program::Server => setting_among(&SETTINGS[..SERVER_SETTINGS], name),
+    }
+}
+
+fn setting_among(mut settings: &[Setting], name: &str) -> Option<Setting>
+    ensures { result ≡ setting_in settings.entry.now name.now }
+{
+    while let [setting, rest @ ..] = settings {
+        if setting.name() == name {
+            return Some(*setting);
+        }
+        settings = rest;
+    }
+    None
+}
+
+/// Whether a program has an option with this name that takes no value.
+#[tactic(auto, unfolding(crate::specs::Names::flags, crate::specs::Names::short_flags))]
+pub(crate) fn is_flag(program: Program, name: &str) -> bool
+    ensures { result ≡ is_flag_named program name.now }
+{
+    match program {
+        Program::Girzohal => is_among(&FLAGS, name) || is_among(&SHORT, name),
+        Program::Server => is_among(&FLAGS[..SERVER_FLAGS], name) || is_among(&SHORT[..2], name),
+    }
+}
+
+fn is_among(names: &[&str], name: &str) -> bool
+    ensures { result ≡ list_any (λ known. bytes_eq known name.now) (map (λ it. it.now) names.now) }
+{
+    let mut rest = names;
+    while let [known, more @ ..] = rest {
+        if *known == name {
+            return true;
+        }
+        rest = more;
+    }
+    false
+}

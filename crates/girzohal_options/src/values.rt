@@ -1,0 +1,172 @@
+//! What the values of options mean.
+ghost use Rattle.std.specs.Prelude.{◌≡◌, IfOk, option_map};
+ghost use Rattle.girzohal_options.specs.Values.{color_named as color_meant, first_named as first_meant};
+ghost use Rattle.girzohal_options.specs.Values.{form_named as form_meant};
+ghost use Rattle.girzohal_options.specs.Values.{form_of_tool as form_written};
+ghost use Rattle.girzohal_options.specs.Values.{has_lines as lines_known, is_tool as is_known_tool};
+ghost use Rattle.girzohal_options.specs.Values.{level_named as level_meant};
+ghost use Rattle.girzohal_options.specs.Values.{output_named as output_meant, positive as from_one};
+ghost use Rattle.girzohal_options.specs.Values.{tabs_named as tabs_meant};
+ghost use Rattle.girzohal_options.specs.Values.{unit_named as unit_meant};
+ghost use Rattle.girzohal_options.specs.Values.{width_named as width_meant, within as within_range};
+
+use crate::table::Program;
+use crate::{InputForm, OutputForm, ThemeChoice};
+use escapes::number;
+use line_shapes::tables::Unit;
+use line_shapes::tools::{columns_of_tool, tool_shapes};
+use oxc_plan::TabWidth;
+use report_counts::Level;
+use std::alloc::{AllocError, Global};
+
+#[tactic(auto, unfolding(crate::specs::Values::form_named))]
+pub(crate) fn form_named(value: &str) -> Option<InputForm>
+    ensures { result ≡ form_meant value.now }
+{
+    match value {
+        "auto" => Some(InputForm::Auto),
+        "document" => Some(InputForm::Document),
+        "sarif" => Some(InputForm::Sarif),
+        "lines" => Some(InputForm::Lines),
+        _ => None,
+    }
+}
+
+#[tactic(auto, unfolding(crate::specs::Values::output_named))]
+pub(crate) fn output_named(value: &str) -> Option<OutputForm>
+    ensures { result ≡ output_meant value.now }
+{
+    match value {
+        "drawing" => Some(OutputForm::Drawing),
+        "json" => Some(OutputForm::Json),
+        "document" => Some(OutputForm::Document),
+        "sarif" => Some(OutputForm::Sarif),
+        "problems" => Some(OutputForm::Problems),
+        "github" => Some(OutputForm::Github),
+        "gitlab" => Some(OutputForm::Gitlab),
+        "checkstyle" => Some(OutputForm::Checkstyle),
+        "junit" => Some(OutputForm::Junit),
+        "stylish" => Some(OutputForm::Stylish),
+        _ => None,
+    }
+}
+
+/// The theme of a choice of colors.
+#[tactic(auto, unfolding(crate::specs::Values::color_named))]
+pub(crate) fn color_named(value: &str) -> Option<ThemeChoice>
+    ensures { result ≡ color_meant value.now }
+{
+    match value {
+        "auto" => Some(ThemeChoice::Auto),
+        "always" => Some(ThemeChoice::Unicode),
+        "never" => Some(ThemeChoice::UnicodeNocolor),
+        _ => None,
+    }
+}
+
+#[tactic(auto, unfolding(crate::specs::Values::unit_named))]
+pub(crate) fn unit_named(value: &str) -> Option<Unit>
+    ensures { result ≡ unit_meant value.now }
+{
+    match value {
+        "bytes" => Some(Unit::Bytes),
+        "characters" => Some(Unit::Characters),
+        "utf16" => Some(Unit::Utf16),
+        "cells" => Some(Unit::Cells),
+        _ => None,
+    }
+}
+
+#[tactic(auto, unfolding(crate::specs::Values::level_named))]
+pub(crate) fn level_named(value: &str) -> Option<Level>
+    ensures { result ≡ level_meant value.now }
+{
+    match value {
+        "error" => Some(Level::Error),
+        "warning" => Some(Level::Warning),
+        "advice" => Some(Level::Advice),
+        "never" => Some(Level::Never),
+        _ => None,
+    }
+}
+
+#[tactic(auto, unfolding(crate::specs::Values::first_named))]
+pub(crate) fn first_named(value: &str) -> Option<u32>
+    ensures { result ≡ first_meant value.now }
+{
+    match value {
+        "0" => Some(0),
+        "1" => Some(1),
+        _ => None,
+    }
+}
+
+/// The distance of tab stops.
+#[tactic(auto, unfolding(crate::specs::Values::tabs_named))]
+pub(crate) fn tabs_named(value: &str) -> Option<TabWidth>
+    ensures { result ≡ tabs_meant value.now }
+{
+    tab_width(number(value)?)
+}
+
+fn tab_width(columns: usize) -> Option<TabWidth>
+    ensures { result ≡ within_range 1 16 columns }
+{
+    if 1 <= columns && columns <= 16 {
+        TabWidth::new(columns)
+    } else {
+        None
+    }
+}
+
+/// The width of a drawing; none if the environment decides.
+#[tactic(auto, unfolding(crate::specs::Values::width_named))]
+pub(crate) fn width_named(value: &str) -> Option<Option<usize>>
+    ensures { result ≡ width_meant value.now }
+{
+    match value {
+        "auto" => Some(None),
+        _ => Some(Some(positive(number(value)?)?)),
+    }
+}
+
+fn positive(number: usize) -> Option<usize>
+    ensures { result ≡ from_one number }
+{
+    if number == 0 { None } else { Some(number) }
+}
+
+/// Whether a tool is known.
+#[tactic(auto, unfolding(crate::specs::Values::is_tool))]
+pub(crate) fn is_tool(alloc: Global, tool: &str) -> Result<bool, AllocError>
+    ensures { IfOk result (λ is. is ≡ is_known_tool tool.now) }
+{
+    if tool == "sarif" {
+        return Ok(true);
+    }
+    has_lines(alloc, tool)
+}
+
+/// Whether the lines or the columns of a tool are known.
+fn has_lines(alloc: Global, tool: &str) -> Result<bool, AllocError>
+    ensures { IfOk result (λ is. is ≡ lines_known tool.now) }
+{
+    let shapes = tool_shapes(alloc, tool)?;
+    match shapes.as_slice() {
+        [] => Ok(columns_of_tool(tool).is_some()),
+        [_, ..] => Ok(true),
+    }
+}
+
+/// The form in which a tool writes: `sarif` means a log, and all other known tools write lines. The
+/// server reads theirs by the first bytes.
+#[tactic(auto, unfolding(crate::specs::Values::form_of_tool))]
+pub(crate) fn form_of_tool(program: Program, tool: &str) -> InputForm
+    ensures { result ≡ form_written program tool.now }
+{
+    match (tool, program) {
+        ("sarif", _) => InputForm::Sarif,
+        (_, Program::Girzohal) => InputForm::Lines,
+        (_, Program::Server) => InputForm::Auto,
+    }
+}

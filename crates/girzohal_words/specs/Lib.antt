@@ -1,4 +1,0 @@
-pub mod Said
-pub mod Values
-pub mod Wrong
-pub mod Reads
