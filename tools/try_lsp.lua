@@ -74,8 +74,8 @@ vim.lsp.buf_attach_client(buffer, client)
 local opened = look("opened", function()
   return seen > 0
 end)
--- the first finding with a text of one row that doesn't begin where the row does: what is typed just where a mark
--- begins becomes part of it, and what is typed in an empty one doesn't
+-- the first finding with a text of one row that doesn't begin where the row does: what is typed in an empty one
+-- doesn't become part of it
 local first
 for _, it in ipairs(opened) do
   first = first or it[2] > 0 and it[1] == it[3] and it[2] < it[4] and it

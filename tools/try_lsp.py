@@ -408,11 +408,12 @@ def try_looks(folder, words, source, units):
     first = covered(looks["opened"])
     check("places count in what was agreed on", looks["opened"]["units"] == (units or "utf-16"))
     check("each change could be made", looks["saved"]["said"] == [])
-    # what is typed just where a mark begins becomes part of it, so those at the beginning of a row are left out
+    # (a change of two rows that are joined may cover what begins a row)
     places = looks["opened"]["shown"]
     inner = [number for number, place in enumerate(places) if place[1] > 0]
     typed = [number for number in inner if places[number][0] == places[number][2] and places[number][1] < places[number][3]][0]
     others = [number for number in inner if places[number][0] != places[typed][0]]
+    check(f"'{BEFORE[0]}': all findings cover the same texts", covered(looks[BEFORE[0]]) == first)
     for name in BEFORE + ["mark undone"]:
         check(f"'{name}': they cover the same texts", those(looks[name], inner) == those(looks["opened"], inner))
     for name in TYPED:

@@ -58,6 +58,32 @@ fn marks_move(rt: HostRuntime) {
     }
 }
 
+const INSERTION: Change = Change {
+    start: 4,
+    end: 4,
+    inserted: 3,
+};
+
+/// Whether an insertion moves a mark to another.
+fn is_pushed(mark: Mark, wanted: Mark) -> bool {
+    mark.start <= 100 && mark.end <= 100 && move_mark(INSERTION, mark) == Some(wanted)
+}
+
+const PUSHED: [(Mark, Mark); 5] = [
+    (Mark { start: 4, end: 6 }, Mark { start: 7, end: 9 }),
+    (Mark { start: 1, end: 4 }, Mark { start: 1, end: 4 }),
+    (Mark { start: 4, end: 4 }, Mark { start: 7, end: 7 }),
+    (Mark { start: 2, end: 6 }, Mark { start: 2, end: 9 }),
+    (Mark { start: 0, end: 2 }, Mark { start: 0, end: 2 }),
+];
+
+#[test]
+fn an_insertion_at_the_start_goes_before_a_mark(rt: HostRuntime) {
+    for row in &PUSHED {
+        assert!(rt; is_pushed(row.0, row.1), "{}", row.0.end);
+    }
+}
+
 #[test]
 fn an_emptied_mark_goes(rt: HostRuntime) {
     assert!(rt; leaves_one(rt.alloc()));

@@ -1,14 +1,15 @@
 -- A text around an offset that moves.
-use Rattle.std.proofs.Common.{◌≡◌, ℕ, ◌+◌, ◌-◌, ◌<◌, ◌≤◌, ⊎_elim, List, ◌++◌, length, take, drop, sym, ◌∙◌, ap, subst, append_assoc, arith, length-append}
+use Rattle.std.proofs.Common.{◌≡◌, ◌≢◌, refl, ℕ, ◌+◌, ◌-◌, ◌<◌, ◌≤◌, ⊎_elim, List, ◌++◌, length, take, drop, sym, ◌∙◌, ap, subst, append_assoc, arith, length-append}
 use Rattle.std.proofs.lemmas.Grind.{common_steps}
-use Rattle.std.proofs.lemmas.Bool.{cases_lt}
+use Rattle.std.proofs.lemmas.Bool.{cases_eq, cases_lt}
 use Rattle.std.proofs.lemmas.Bool.Decides.{nat_tests}
 use Rattle.std.proofs.lemmas.List.{take-append-le, take-take, drop-drop}
 use Rattle.std.proofs.lemmas.Str.{IsUtf8-append, IsUtf8-drop, IsUtf8-take, IsCharBoundary-at_seam, IsCharBoundary-from_drop, IsCharBoundary-from_take}
 use Rattle.std.proofs.Math.Seq.{drop-append-add}
 use Rattle.std.specs.Str.{IsUtf8, IsCharBoundary}
 use Rattle.lsp_marks.specs.declared.Change.{Change}
-use Rattle.lsp_marks.specs.Moved.{moved_offset, changed, CutsNone, IsChangeOf, KeepsBoundaries, MovesInOrder, MovesWithText}
+use Rattle.lsp_marks.specs.declared.Mark.{Mark}
+use Rattle.lsp_marks.specs.Moved.{moved_end, moved_offset, moved_start, changed, CutsNone, IsChangeOf, KeepsBoundaries, KeepsMark, KeepsMarks, MovesInOrder, MovesWithText}
 
 stays : (change : Change) (offset : ℕ) → offset ≤ change.start → moved_offset change offset ≡ offset
 stays change offset h = grind (arith, nat_tests)
@@ -101,3 +102,62 @@ keeps_boundaries change piece text offset cuts at =
 
 pub moves_in_order : MovesInOrder
 moves_in_order change a b ordered le = grind (arith, nat_tests)
+
+-- ---- marks
+
+-- behind what is inserted there is a boundary
+inserted_end : (change : Change) (piece text : List ℕ) → CutsNone change piece text → change.start ≡ change.end
+    → IsCharBoundary (changed change piece text) (change.start + change.inserted)
+inserted_end change piece text cuts empty =
+    let front = take change.start text in
+    let back = drop change.end text in
+    let len : length front ≡ change.start = length_front change.start text (omega (arith, cuts.is.ordered, cuts.is.within)) in
+    let to : length (front ++ piece) ≡ change.start + change.inserted = omega (arith, len, length-append front piece, cuts.is.inserted) in
+    subst (IsCharBoundary (changed change piece text)) to
+    (IsCharBoundary-at_seam (changed change piece text) (front ++ piece) back refl
+    (IsUtf8-drop text change.end cuts.whole cuts.end))
+
+inserted_there : (change : Change) (offset : ℕ) → change.start ≡ change.end → offset ≡ change.start → moved_start change offset ≡ change.start + change.inserted
+inserted_there change offset empty at = grind (arith, nat_tests)
+
+replaced : (change : Change) (offset : ℕ) → change.start ≢ change.end → moved_start change offset ≡ moved_offset change offset
+replaced change offset some = grind (arith, nat_tests)
+
+elsewhere : (change : Change) (offset : ℕ) → offset ≢ change.start → moved_start change offset ≡ moved_offset change offset
+elsewhere change offset apart = grind (arith, nat_tests)
+
+start_kept : (change : Change) (piece text : List ℕ) (offset : ℕ) → CutsNone change piece text → IsCharBoundary text offset
+    → IsCharBoundary (changed change piece text) (moved_start change offset)
+start_kept change piece text offset cuts at =
+    let kept = keeps_boundaries change piece text offset cuts at in
+    let Kept : ℕ → Type 0 = IsCharBoundary (changed change piece text) in
+    ⊎_elim
+    (λ empty. ⊎_elim
+    (λ there. subst Kept (sym (inserted_there change offset empty there)) (inserted_end change piece text cuts empty))
+    (λ apart. subst Kept (sym (elsewhere change offset apart)) kept)
+    (cases_eq offset change.start))
+    (λ some. subst Kept (sym (replaced change offset some)) kept)
+    (cases_eq change.start change.end)
+
+empty_end : (change : Change) (mark : Mark) → mark.start ≡ mark.end → moved_end change mark ≡ moved_start change mark.start
+empty_end change mark empty = grind (arith, nat_tests)
+
+own_end : (change : Change) (mark : Mark) → mark.start ≢ mark.end → moved_end change mark ≡ moved_offset change mark.end
+own_end change mark some = grind (arith, nat_tests)
+
+pub marks_in_order : (change : Change) (mark : Mark) → change.start ≤ change.end → mark.start ≤ mark.end → moved_start change mark.start ≤ moved_end change mark
+marks_in_order change mark ordered le = grind (arith, nat_tests)
+
+pub keeps_marks : KeepsMarks
+keeps_marks change piece text mark cuts le start end =
+    let kept = keeps_boundaries change piece text mark.end cuts end in
+    let begun = start_kept change piece text mark.start cuts start in
+    let Kept : ℕ → Type 0 = IsCharBoundary (changed change piece text) in
+    record {
+      order = marks_in_order change mark cuts.is.ordered le;
+      start = begun;
+      end = ⊎_elim
+          (λ empty. subst Kept (sym (empty_end change mark empty)) begun)
+          (λ some. subst Kept (sym (own_end change mark some)) kept)
+          (cases_eq mark.start mark.end);
+    }

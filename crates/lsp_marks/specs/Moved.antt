@@ -12,11 +12,22 @@ moved_offset change offset =
     else if nat_lt offset change.end then change.start
     else offset - (change.end - change.start) + change.inserted
 
+-- a mark's start, which what is inserted at its place pushes along
+abbrev pub moved_start : Change → ℕ → ℕ
+moved_start change offset =
+    if (change.start == change.end) && (offset == change.start) then offset + change.inserted
+    else moved_offset change offset
+
+-- a mark's end; that of an empty mark is its start
+abbrev pub moved_end : Change → Mark → ℕ
+moved_end change mark =
+    if mark.start == mark.end then moved_start change mark.start else moved_offset change mark.end
+
 -- a mark that becomes empty goes; one that was empty stays
 abbrev pub moved_mark : Change → Mark → Option Mark
 moved_mark change mark =
-    let start = moved_offset change mark.start in
-    let end = moved_offset change mark.end in
+    let start = moved_start change mark.start in
+    let end = moved_end change mark in
     if (start == end) && not (mark.start == mark.end) then None else Some (record { start = start; end = end })
 
 -- the mark's ends can shift
@@ -63,3 +74,13 @@ pub record CutsNone (change : Change) (piece text : List ℕ) : Type 0 where
 abbrev pub KeepsBoundaries : Type 0
 KeepsBoundaries = (change : Change) (piece text : List ℕ) (offset : ℕ) → CutsNone change piece text → IsCharBoundary text offset
     → IsCharBoundary (changed change piece text) (moved_offset change offset)
+
+-- a mark's ends stay in order, and at boundaries
+pub record KeepsMark (change : Change) (piece text : List ℕ) (mark : Mark) : Type 0 where
+  pub order : moved_start change mark.start ≤ moved_end change mark
+  pub start : IsCharBoundary (changed change piece text) (moved_start change mark.start)
+  pub end : IsCharBoundary (changed change piece text) (moved_end change mark)
+
+abbrev pub KeepsMarks : Type 0
+KeepsMarks = (change : Change) (piece text : List ℕ) (mark : Mark) → CutsNone change piece text → mark.start ≤ mark.end
+    → IsCharBoundary text mark.start → IsCharBoundary text mark.end → KeepsMark change piece text mark

@@ -4,8 +4,9 @@
 
 ghost use Rattle.std.specs.Prelude.{◌≡◌, ◌+◌, ◌-◌, ◌^◌, ◌<◌, ◌≤◌, ℕ, IfOk, All};
 ghost use Rattle.std.specs.List.{filter_map};
-ghost use Rattle.lsp_marks.specs.Moved.{HasRoom, KeepsBoundaries, MovesInOrder, MovesWithText};
-ghost use Rattle.lsp_marks.specs.Moved.{StaysInside, moved_mark, moved_offset};
+ghost use Rattle.lsp_marks.specs.Moved.{HasRoom, KeepsBoundaries, KeepsMarks, MovesInOrder};
+ghost use Rattle.lsp_marks.specs.Moved.{MovesWithText, StaysInside, moved_mark, moved_offset};
+ghost use Rattle.lsp_marks.specs.Moved.{moved_start};
 
 use std::alloc::{AllocError, Global};
 
@@ -51,15 +52,33 @@ pub fn move_offset(change: Change, offset: usize) -> usize
     }
 }
 
-/// Where a mark is after a change; `None` if it is empty now and wasn't before.
+/// Where the start of a mark is after a change: as `move_offset` says, but what is inserted at the
+/// very place goes before it.
+pub fn move_start(change: Change, offset: usize) -> usize
+    requires ordered { change.start ≤ change.end }
+    requires fits { offset + change.inserted < 2 ^ 64 }
+    ensures value { result ≡ moved_start change offset }
+    ensures inside { (len : ℕ) → StaysInside change len offset result }
+{
+    if change.start == change.end && offset == change.start {
+        return offset + change.inserted;
+    }
+    move_offset(change, offset)
+}
+
+/// Where a mark is after a change; `None` if it is empty now and wasn't before. A mark that was
+/// empty goes with its start.
 pub fn move_mark(change: Change, mark: Mark) -> Option<Mark>
     requires ordered { change.start ≤ change.end }
     requires room { HasRoom change mark }
     ensures { result ≡ moved_mark change mark }
 {
-    let start = move_offset(change, mark.start);
+    let start = move_start(change, mark.start);
+    if mark.start == mark.end {
+        return Some(Mark { start, end: start });
+    }
     let end = move_offset(change, mark.end);
-    if start == end && mark.start != mark.end {
+    if start == end {
         return None;
     }
     Some(Mark { start, end })
@@ -82,9 +101,11 @@ pub fn move_marks(alloc: Global, change: Change, marks: &[Mark]) -> Result<Vec<M
 }
 
 /// Laws of all changes: offsets keep their order; the text before an offset that stays, and after
-/// one that shifts, is the same; and boundaries of characters stay boundaries.
+/// one that shifts, is the same; boundaries of characters stay boundaries; and the ends of a mark
+/// stay in order, at boundaries.
 pub fn laws()
     ensures order { MovesInOrder }
+    ensures marks { KeepsMarks }
     ensures text { MovesWithText }
     ensures boundaries { KeepsBoundaries }
 {}

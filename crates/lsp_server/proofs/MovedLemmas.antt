@@ -10,8 +10,8 @@ use Rattle.oxc_protocol.specs.Parts.{OxcParts}
 use Rattle.found_reports.specs.Found.{StandsIn}
 use Rattle.lsp_marks.specs.declared.Change.{Change}
 use Rattle.lsp_marks.specs.declared.Mark.{Mark}
-use Rattle.lsp_marks.specs.Moved.{CutsNone, changed, moved_mark, moved_offset}
-use Rattle.lsp_marks.proofs.Texts.{keeps_boundaries, moves_in_order}
+use Rattle.lsp_marks.specs.Moved.{CutsNone, changed, moved_end, moved_mark, moved_start}
+use Rattle.lsp_marks.proofs.Texts.{keeps_marks, marks_in_order}
 use Rattle.source_location.specs.Index.{Fits}
 use Rattle.lsp_diagnostics.specs.Seen.{StandIn}
 use Rattle.lsp_server.specs.Moved.{CanMove, CanMoveAll, head_goes, mark_of, moved_diagnostic, moved_label, placed}
@@ -59,11 +59,11 @@ pub record IsFitting (change : Change) (piece text : List ℕ) : Type 0 where
 
 can_move : (change : Change) (piece text : List ℕ) (label : Label) → IsFitting change piece text → StandsIn text label → CanMove change label
 can_move change piece text label is stands =
-    let end = keeps_boundaries change piece text (label_end label) is.cuts stands.end in
+    let kept = keeps_marks change piece text (mark_of label) is.cuts (omega arith) stands.start stands.end in
     record {
       ordered = is.cuts.is.ordered;
       inserted = is.small;
-      fits = omega (arith, end.0, is.fits);
+      fits = omega (arith, kept.end.0, is.fits);
     }
 
 -- a mark that stays
@@ -76,10 +76,10 @@ mark_stays false start end mark is = (cc, cc)
 pub mark_small : (change : Change) (label : Label) (mark : Mark) → CanMove change label → moved_mark change (mark_of label) ≡ Some mark
     → (mark.start ≤ mark.end) × (mark.end < 2 ^ 32)
 mark_small change label mark can is =
-    let start = moved_offset change label.offset in
-    let end = moved_offset change (label_end label) in
+    let start = moved_start change label.offset in
+    let end = moved_end change (mark_of label) in
     let at = mark_stays ((start == end) && not (label.offset == label_end label)) start end mark is in
-    let order : start ≤ end = moves_in_order change label.offset (label_end label) can.ordered (omega arith) in
+    let order : start ≤ end = marks_in_order change (mark_of label) can.ordered (omega arith) in
     (omega (arith, at.0, at.1, order), omega (arith, at.1, can.fits))
 
 label_at : (label new : Label) (o : Option Mark) (start end : ℕ) → ((mark : Mark) → o ≡ Some mark → (mark.start ≡ start) × (mark.end ≡ end))
@@ -94,17 +94,15 @@ label_stands : (change : Change) (piece text : List ℕ) → CutsNone change pie
     → StandsIn (changed change piece text) new
 unfolding moved_label
 label_stands change piece text cuts label new stands is =
-    let start = moved_offset change label.offset in
-    let end = moved_offset change (label_end label) in
+    let start = moved_start change label.offset in
+    let end = moved_end change (mark_of label) in
     let at = label_at label new (moved_mark change (mark_of label)) start end (λ mark e. mark_stays ((start == end) && not (label.offset == label_end label)) start end mark e) is in
-    let order : start ≤ end = moves_in_order change label.offset (label_end label) cuts.is.ordered (omega arith) in
-    let last : end ≡ label_end new = omega (arith, at.0, at.1, order) in
-    let first = keeps_boundaries change piece text label.offset cuts stands.start in
-    let behind = keeps_boundaries change piece text (label_end label) cuts stands.end in
-    let ends = subst (IsCharBoundary (changed change piece text)) last behind in
+    let kept = keeps_marks change piece text (mark_of label) cuts (omega arith) stands.start stands.end in
+    let last : end ≡ label_end new = omega (arith, at.0, at.1, kept.order) in
+    let ends = subst (IsCharBoundary (changed change piece text)) last kept.end in
     record {
       within = ends.0;
-      start = subst (IsCharBoundary (changed change piece text)) (sym at.0) first;
+      start = subst (IsCharBoundary (changed change piece text)) (sym at.0) kept.start;
       end = ends;
     }
 

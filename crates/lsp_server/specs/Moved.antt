@@ -6,7 +6,7 @@ use Rattle.oxc_protocol.specs.Parts.{OxcParts}
 use Rattle.lsp_diagnostics.specs.Seen.{head_label}
 use Rattle.lsp_marks.specs.declared.Change.{Change}
 use Rattle.lsp_marks.specs.declared.Mark.{Mark}
-use Rattle.lsp_marks.specs.Moved.{moved_mark, moved_offset}
+use Rattle.lsp_marks.specs.Moved.{moved_end, moved_mark}
 
 abbrev pub mark_of : Label → Mark
 mark_of label = record { start = label.offset; end = label_end label }
@@ -38,7 +38,7 @@ moved_diagnostic change it =
 pub record CanMove (change : Change) (label : Label) : Type 0 where
   pub ordered : change.start ≤ change.end
   pub inserted : change.inserted < 2 ^ 32
-  pub fits : moved_offset change (label_end label) < 2 ^ 32
+  pub fits : moved_end change (mark_of label) < 2 ^ 32
 
 abbrev pub CanMoveAll : Change → OxcParts → Type 0
 CanMoveAll change it = All (CanMove change) it.labels
