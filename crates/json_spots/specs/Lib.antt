@@ -1,0 +1,4 @@
+pub mod Spot
+pub mod Said
+pub mod Mark
+pub mod Text
