@@ -1,0 +1,4 @@
+pub mod CutLemmas
+pub mod ReadLemmas
+pub mod ToldLemmas
+pub mod ValueLemmas
