@@ -1,14 +1,17 @@
 -- All findings of a value.
-use Rattle.std.specs.Prelude.{List, [], ◌∷◌, ◌++◌, ℕ, Option, Some, None, map, flat_map, filter_map}
+use Rattle.std.specs.Prelude.{List, [], ◌∷◌, ◌++◌, ℕ, Bool, true, false, not, Option, Some, None, map, flat_map, filter, filter_map}
 use Rattle.std.specs.Option.{option_or}
 use Rattle.json.specs.Json.{Json}
-use Rattle.json_spots.specs.Spot.{Spot, root, each, spot_view}
+use Rattle.json_spots.specs.Spot.{Spot, Reached, root, each, spot_view}
+use Rattle.json_spots.specs.declared.spot.Arrival.{Arrival}
+use Rattle.json_spots.specs.declared.spot.Arrival.TheVariants.{There, Null, Not}
 use Rattle.json_forms.specs.declared.form.List as code_list
 use Rattle.json_forms.specs.declared.read.Aside as code_aside
 use Rattle.json_forms.specs.declared.read.Aside.TheVariants as asides
 use Rattle.json_forms.specs.declared.read.Reading as code_reading
 use Rattle.json_forms.specs.declared.read.ReadError as code_error
 use Rattle.json_forms.specs.declared.read.ReadError.TheVariants as errors
+use Rattle.json_forms.specs.Guard.{all_hold}
 use Rattle.json_forms.specs.Said.{Fault, fault_view}
 use Rattle.json_forms.specs.Finding.{Finding, finding_view, Outcome, left, aside, null_at, found, refused, outcome_of}
 
@@ -22,6 +25,32 @@ outcomes_in list value = map (outcome_of list) (each list.at.items (root_spot va
 -- those of the lists, in order
 abbrev pub outcomes_of : List code_list.List → Json → List Outcome
 outcomes_of lists value = flat_map (λ list. outcomes_in list value) lists
+
+-- ---- the elements of lists
+
+abbrev pub elements_in : code_list.List → Json → List Reached
+elements_in list value = each list.at.items (root_spot value)
+
+abbrev pub elements_of : List code_list.List → Json → List Reached
+elements_of lists value = flat_map (λ list. elements_in list value) lists
+
+abbrev pub fails_at : code_list.List → Spot → Arrival → Bool
+fails_at list spot There = not (all_hold list.rows.items spot)
+fails_at list spot Null = false
+fails_at list spot (Not w) = false
+
+-- whether an element doesn't meet the conditions of its list
+abbrev pub fails : code_list.List → Reached → Bool
+fails list reached = fails_at list reached.spot reached.arrival
+
+abbrev pub left_in : code_list.List → Json → List Reached
+left_in list value = filter (fails list) (elements_in list value)
+
+-- the elements that don't meet the conditions of their lists
+abbrev pub left_of : List code_list.List → Json → List Reached
+left_of lists value = flat_map (λ list. left_in list value) lists
+
+-- ---- readings
 
 abbrev pub outcome_list : Outcome → List Outcome
 outcome_list outcome = outcome ∷ []

@@ -1,10 +1,10 @@
 //! All findings of a value.
-ghost use Rattle.std.specs.Prelude.{◌≡◌, IfErr, IfOk, IfSome, None, OnOk, Some};
+ghost use Rattle.std.specs.Prelude.{◌≡◌, ◌+◌, IfErr, IfOk, IfSome, None, OnOk, Some, length};
 ghost use Rattle.json.specs.Value.{value_view};
 ghost use Rattle.json_forms.specs.Finding.{aside as aside_text, finding_view};
 ghost use Rattle.json_forms.specs.Finding.{found as found_finding, null_at, outcome_view};
-ghost use Rattle.json_forms.specs.Read.{first_refusal, nothing_read, outcome_list, outcomes_in};
-ghost use Rattle.json_forms.specs.Read.{outcomes_of, reading_view, refusal_view, taken};
+ghost use Rattle.json_forms.specs.Read.{elements_of, first_refusal, left_of, nothing_read, outcome_list};
+ghost use Rattle.json_forms.specs.Read.{outcomes_in, outcomes_of, reading_view, refusal_view, taken};
 ghost use Rattle.json_spots.specs.Spot.{spot_view};
 
 use crate::finding::{Finding, Outcome, read_outcome};
@@ -149,6 +149,7 @@ fn take_lists<'v>(
 ///
 /// [`ReadError`]: the first refusal, in the order of the lists and then of their elements. Out of
 /// memory may come instead.
+#[tactic(auto, using(crate::proofs::CountLemmas::each_once))]
 pub fn read_value<'v>(
     alloc: Global,
     form: &'v Form<'v>,
@@ -156,6 +157,9 @@ pub fn read_value<'v>(
 ) -> Result<Reading<'v>, ReadError<'v>>
     ensures ok { IfOk result (λ it. reading_view it ≡ taken nothing_read
         (outcomes_of form.now.lists.items (value_view value.now))) }
+    ensures each_once { IfOk result (λ it. length it.found.items + length it.aside.items
+        + length (left_of form.now.lists.items (value_view value.now))
+        ≡ length (elements_of form.now.lists.items (value_view value.now))) }
     ensures none { OnOk result (first_refusal (outcomes_of form.now.lists.items
         (value_view value.now)) ≡ None) }
     ensures err { IfErr result (λ e. IfSome (refusal_view e) (λ it.
