@@ -11,8 +11,9 @@ use Rattle.json_forms.specs.declared.form.Form.{Form}
 use Rattle.json_forms.specs.Finding.{Outcome}
 use Rattle.json_forms.specs.Read.{Reading, Refusal, first_refusal}
 use Rattle.std.proofs.Math.Seq.{append_snoc}
+use Rattle.std.proofs.lemmas.List.{append_assoc, map-append}
 use Rattle.json_forms.proofs.ReadLemmas.{refusal_append}
-use Rattle.json_forms.specs.Values.{answers, answers_by, one_reading, reading_of, whole_refusal}
+use Rattle.json_forms.specs.Values.{ReadsBoth, answers, answers_by, one_reading, reading_of, whole_refusal}
 
 pub two_refused : (form other : Form) (forms : List Form) (value : Json) → take 2 forms ≡ form ∷ other ∷ [] → first_refusal (answers_by forms value) ≡ Some (whole_refusal value wanted.OneForm)
 two_refused form other [] value h = cc
@@ -58,3 +59,10 @@ read_here forms values at value old before after reading within is same more sai
     same ∙ ap (λ vs. before ++ map (reading_of forms) (map value_view vs)) (from_here values at value within is)
     ∙ sym (append_snoc before (reading_of forms (value_view value)) rest)
     ∙ ap (λ all. all ++ rest) (ap (λ it. before ++ one_reading it) (sym said) ∙ sym more)
+
+pub both_read : (forms : Forms) (values : List (Value Global)) (old all : List Reading) → all ≡ old ++ map (reading_of forms) (map value_view values) → ReadsBoth forms values old all
+both_read forms values old all same front back cut =
+    same ∙ ap (λ vs. old ++ map (reading_of forms) (map value_view vs)) cut
+    ∙ ap (λ read. old ++ map (reading_of forms) read) (map-append value_view front back)
+    ∙ ap (λ read. old ++ read) (map-append (reading_of forms) (map value_view front) (map value_view back))
+    ∙ sym (append_assoc old (map (reading_of forms) (map value_view front)) (map (reading_of forms) (map value_view back)))

@@ -9,3 +9,4 @@ pub mod Print
 pub mod Told
 pub mod Cut
 pub mod Values
+pub mod Refusal

@@ -1,5 +1,8 @@
 -- The findings of several values.
-use Rattle.std.specs.Prelude.{List, [], ◌∷◌, if◌then◌else◌, None}
+use Rattle.std.specs.Prelude.{◌≡◌, List, [], ◌∷◌, ◌++◌, if◌then◌else◌, None, map}
+use Rattle.std.specs.declared.alloc.Global.{Global}
+use Rattle.json.specs.Value.{value_view}
+use Rattle.json.specs.declared.value.Value.{Value}
 use Rattle.json.specs.Json.{Json}
 use Rattle.json_spots.specs.declared.step.Wanted.{Wanted}
 use Rattle.json_spots.specs.declared.step.Wanted.TheVariants as wanted
@@ -31,3 +34,8 @@ reading_of forms value = taken nothing_read (answers forms value)
 
 abbrev pub one_reading : Reading → List Reading
 one_reading reading = reading ∷ []
+
+-- values that come one after the other give the readings of both
+abbrev pub ReadsBoth : Forms → List (Value Global) → List Reading → List Reading → Type 0
+ReadsBoth forms values old all = (front back : List (Value Global)) → values ≡ front ++ back
+    → all ≡ old ++ map (reading_of forms) (map value_view front) ++ map (reading_of forms) (map value_view back)

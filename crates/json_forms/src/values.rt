@@ -3,7 +3,7 @@ ghost use Rattle.std.specs.Prelude.{◌≡◌, ◌++◌, IfErr, IfOk, IfSome, No
 ghost use Rattle.json.specs.Value.{value_view};
 ghost use Rattle.json_forms.specs.Read.{first_refusal, nothing_read, reading_view};
 ghost use Rattle.json_forms.specs.Read.{refusal_view};
-ghost use Rattle.json_forms.specs.Values.{answers, one_reading, reading_of, whole_refusal};
+ghost use Rattle.json_forms.specs.Values.{ReadsBoth, answers, one_reading, reading_of, whole_refusal};
 
 use crate::read::{ReadError, Reading, read_value};
 use crate::said::Fault;
@@ -70,14 +70,9 @@ fn keep<'v>(readings: &mut Vec<Reading<'v>>, reading: Reading<'v>) -> Result<(),
     Ok(())
 }
 
-/// Adds the readings of values, in order: one for each.
-///
-/// # Errors
-///
-/// [`ReadError`]: the first refusal, in the order of the values. Then the readings of those before
-/// it were added, so their number says which value is refused. Out of memory may come instead.
+/// Adds the readings of values.
 #[tactic(auto, using(crate::proofs::ValueLemmas::none_before))]
-pub fn read_values<'v>(
+fn read_all<'v>(
     alloc: Global,
     forms: &'v Forms<'v>,
     values: &'v [Value<'v>],
@@ -98,4 +93,30 @@ pub fn read_values<'v>(
         }
     }
     Ok(())
+}
+
+/// Adds the readings of values, in order: one for each. So values that come one after the other
+/// give the readings of both.
+///
+/// # Errors
+///
+/// [`ReadError`]: the first refusal, in the order of the values. Then the readings of those before
+/// it were added, so their number says which value is refused. Out of memory may come instead.
+pub fn read_values<'v>(
+    alloc: Global,
+    forms: &'v Forms<'v>,
+    values: &'v [Value<'v>],
+    readings: &mut Vec<Reading<'v>>,
+) -> Result<(), ReadError<'v>>
+    ensures ok { OnOk result (map reading_view readings.new.items
+        ≡ map reading_view readings.old.items
+        ++ map (reading_of forms.now) (map value_view values.now)) }
+    ensures both { OnOk result (ReadsBoth forms.now values.now
+        (map reading_view readings.old.items) (map reading_view readings.new.items)) }
+    ensures none { OnOk result
+        (first_refusal (flat_map (answers forms.now) (map value_view values.now)) ≡ None) }
+    ensures err { IfErr result (λ e. IfSome (refusal_view e) (λ it.
+        first_refusal (flat_map (answers forms.now) (map value_view values.now)) ≡ Some it)) }
+{
+    read_all(alloc, forms, values, readings)
 }

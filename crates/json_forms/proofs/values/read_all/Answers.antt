@@ -2,7 +2,7 @@
 use Rattle.std.proofs.Common.{map}
 use Rattle.json_forms.specs.Read.{reading_view, refusal_view}
 use Rattle.json_forms.proofs.ValueLemmas.{none_here, read_here, refused_here}
-use Rattle.json_forms.proofs.values.read_values.Goals as goal
+use Rattle.json_forms.proofs.values.read_all.Goals as goal
 
 pub returns-in-Err-clause-err : goal.returns-in-Err-clause-err
 returns-in-Err-clause-err c =

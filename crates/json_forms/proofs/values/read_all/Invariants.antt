@@ -3,7 +3,7 @@ use Rattle.std.proofs.Common.{◌≡◌, ◌++◌, drop, map, flat_map}
 use Rattle.json.specs.Value.{value_view}
 use Rattle.json_forms.specs.Read.{first_refusal, reading_view}
 use Rattle.json_forms.specs.Values.{answers, reading_of}
-use Rattle.json_forms.proofs.values.read_values.Given as goal
+use Rattle.json_forms.proofs.values.read_all.Given as goal
 
 abbrev pub invariant-loop-value : goal.invariant-loop-value
 invariant-loop-value l = record {
