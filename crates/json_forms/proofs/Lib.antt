@@ -1,5 +1,6 @@
 pub mod CountLemmas
 pub mod CutLemmas
+pub mod OrderLemmas
 pub mod ReadLemmas
 pub mod RefusalLemmas
 pub mod ToldLemmas

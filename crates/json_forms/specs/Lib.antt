@@ -10,3 +10,4 @@ pub mod Told
 pub mod Cut
 pub mod Values
 pub mod Refusal
+pub mod Order

@@ -3,6 +3,7 @@ ghost use Rattle.std.specs.Prelude.{◌≡◌, ◌+◌, IfErr, IfOk, IfSome, Non
 ghost use Rattle.json.specs.Value.{value_view};
 ghost use Rattle.json_forms.specs.Finding.{aside as aside_text, finding_view};
 ghost use Rattle.json_forms.specs.Finding.{found as found_finding, null_at, outcome_view};
+ghost use Rattle.json_forms.specs.Order.{IsOrderFree};
 ghost use Rattle.json_forms.specs.Read.{elements_of, first_refusal, left_of, nothing_read, outcome_list};
 ghost use Rattle.json_forms.specs.Read.{outcomes_in, outcomes_of, reading_view, refusal_view, taken};
 ghost use Rattle.json_spots.specs.Spot.{spot_view};
@@ -143,13 +144,14 @@ fn take_lists<'v>(
 }
 
 /// The findings of a value, by a form: of each list in turn, one for each element that meets the
-/// list's conditions and isn't reported aside, in order; or the first refusal.
+/// list's conditions and isn't reported aside, in order; or the first refusal. Members in another
+/// order change nothing, if the form has no `{}`.
 ///
 /// # Errors
 ///
 /// [`ReadError`]: the first refusal, in the order of the lists and then of their elements. Out of
 /// memory may come instead.
-#[tactic(auto, using(crate::proofs::CountLemmas::each_once))]
+#[tactic(auto, using(crate::proofs::CountLemmas::each_once, crate::proofs::OrderLemmas::order_free))]
 pub fn read_value<'v>(
     alloc: Global,
     form: &'v Form<'v>,
@@ -160,6 +162,7 @@ pub fn read_value<'v>(
     ensures each_once { IfOk result (λ it. length it.found.items + length it.aside.items
         + length (left_of form.now.lists.items (value_view value.now))
         ≡ length (elements_of form.now.lists.items (value_view value.now))) }
+    ensures order { IsOrderFree form.now.lists.items (value_view value.now) }
     ensures none { OnOk result (first_refusal (outcomes_of form.now.lists.items
         (value_view value.now)) ≡ None) }
     ensures err { IfErr result (λ e. IfSome (refusal_view e) (λ it.

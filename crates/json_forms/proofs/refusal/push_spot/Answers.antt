@@ -10,6 +10,6 @@ pub returns-then-up-len : goal.returns-then-up-len
 returns-then-up-len c =
     let above : 0 < c.args.up = omega (arith, c.if-up-eq0.false) in
     on_ok_weaker c.push_trail-then-up-len.result
-      (λ e. e ∙ ap (λ text. string_bytes c.args.out.now ++ text)
-        (ap (λ crumbs. trail_text (crumbs_view crumbs)) c.split_at-cut.ensures.back ∙ ap (λ crumbs. trail_text (crumbs_view (drop (c.args.up - 1) crumbs))) c.as_slice.ensures.value ∙ sym (text_further c.args.spot.now c.args.up above)))
-      c.push_trail-then-up-len.ensures
+    (λ e. e ∙ ap (λ text. string_bytes c.args.out.now ++ text)
+    (ap (λ crumbs. trail_text (crumbs_view crumbs)) c.split_at-cut.ensures.back ∙ ap (λ crumbs. trail_text (crumbs_view (drop (c.args.up - 1) crumbs))) c.as_slice.ensures.value ∙ sym (text_further c.args.spot.now c.args.up above)))
+    c.push_trail-then-up-len.ensures
