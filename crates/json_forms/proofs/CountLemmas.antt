@@ -1,10 +1,10 @@
 -- Each element is a finding, or is reported, or doesn't meet the conditions of its list.
-use Rattle.std.proofs.Common.{◌≡◌, ℕ, ◌+◌, List, [], ◌∷◌, ◌++◌, length, Bool, true, false, not, Option, Some, None, map, flat_map, filter, filter_map, refl, ap, sym, ◌∙◌, arith, if◌then◌else◌, length-append}
+use Rattle.std.proofs.Common.{◌≡◌, ℕ, ◌+◌, List, [], ◌∷◌, ◌++◌, length, Bool, true, false, not, Option, Some, None, map, filter, filter_map, refl, ap, sym, ◌∙◌, arith, if◌then◌else◌, length-append}
 use Rattle.std.proofs.lemmas.List.Elements.{filter_map-append}
 use Rattle.std.proofs.lemmas.List.{length-map}
 use Rattle.std.specs.Option.{option_or}
 use Rattle.json.specs.Json.{Json}
-use Rattle.json_spots.specs.Spot.{Spot, Reached, each}
+use Rattle.json_spots.specs.Spot.{Spot, Reached}
 use Rattle.json_spots.specs.declared.spot.Arrival.{Arrival}
 use Rattle.json_spots.specs.declared.spot.Arrival.TheVariants.{There, Null, Not}
 use Rattle.json_forms.specs.declared.form.List as code_list
@@ -12,7 +12,7 @@ use Rattle.json_forms.specs.declared.read.Reading as code_reading
 use Rattle.json_forms.specs.Said.{Fault}
 use Rattle.json_forms.specs.Guard.{all_hold, any_holds}
 use Rattle.json_forms.specs.Finding.{Outcome, left, aside, null_at, found, refused, told, read, element, arrived, outcome_of, fault_of, message_at, finding_of, finding_view}
-use Rattle.json_forms.specs.Read.{aside_in, aside_view, elements_in, elements_of, fails, fails_at, first_refusal, found_in, left_in, left_of, nothing_read, outcomes_in, outcomes_of, reading_view, refusal_in, root_spot, taken}
+use Rattle.json_forms.specs.Read.{aside_in, aside_view, elements_in, elements_of, fails, fails_at, first_refusal, found_in, left_in, left_of, nothing_read, outcomes_in, outcomes_of, reading_view, refusal_in, taken}
 use Rattle.json_forms.proofs.ReadLemmas.{refusal_append}
 
 -- whether an outcome is a finding or is reported

@@ -1,15 +1,13 @@
 -- Members in another order change nothing.
-use Rattle.std.proofs.Common.{◌≡◌, ℕ, List, [], ◌∷◌, ◌++◌, ◌&&◌, Bool, true, false, if◌then◌else◌, Option, Some, None, map, flat_map, find, refl, ap, sym, ◌∙◌, subst}
+use Rattle.std.proofs.Common.{◌≡◌, ℕ, List, [], ◌∷◌, true, false, if◌then◌else◌, Option, Some, None, map, flat_map, find, refl, ap, subst}
 use Rattle.std.specs.Option.{option_or, option_and_then}
 use Rattle.std.specs.List.{list_all, list_any}
 use Rattle.json.specs.Json.{Json}
 use Rattle.json_spots.specs.declared.step.Path.{Path}
-use Rattle.json_spots.specs.declared.step.Step.{Step}
-use Rattle.json_spots.specs.declared.step.Wanted.{Wanted}
 use Rattle.json_spots.specs.declared.spot.Arrival.{Arrival}
 use Rattle.json_spots.specs.declared.spot.Arrival.TheVariants.{There, Null, Not}
 use Rattle.json_spots.specs.Spot.{Spot, Reached, each}
-use Rattle.json_spots.specs.Said.{Said, said_at, says}
+use Rattle.json_spots.specs.Said.{says}
 use Rattle.json_spots.specs.Same.{AllSame, Same, SameReached, SameSpot, are_placed}
 use Rattle.json_spots.proofs.SameLemmas.{append_same, both_true, same_each, same_said}
 use Rattle.json_forms.specs.declared.form.List as code_list
@@ -23,8 +21,8 @@ use Rattle.json_forms.specs.Said.{Fault, number_at, number_fault, number_of, num
 use Rattle.json_forms.specs.Guard.{all_hold, any_holds, asks, holds, lets_through, stops}
 use Rattle.json_forms.specs.Severity.{severity_of, severity_said}
 use Rattle.json_forms.specs.Place.{either, figures_at, first_of, offsets_of, place_at, span_of}
-use Rattle.json_forms.specs.Finding.{Beside, said, wrong_at, Finding, Outcome, left, aside, null_at, found, refused, arrived, beside_at, beside_if, beside_or, besides, element, fault_in, fault_of, finding_of, is_among, is_true, message_at, number_keys, outcome_of, part_fault, primary_at, read, said_in, sides_of, text_keys, told, wrong}
-use Rattle.json_forms.specs.Order.{IsOrderFree, SameBeside, SameFinding, SameOutcome, list_placed, side_placed, without_sides}
+use Rattle.json_forms.specs.Finding.{left, aside, found, arrived, beside_at, beside_if, beside_or, besides, element, fault_in, fault_of, finding_of, is_among, is_true, message_at, number_keys, outcome_of, primary_at, read, said_in, sides_of, text_keys, told}
+use Rattle.json_forms.specs.Order.{IsOrderFree, SameBeside, SameFinding, SameOutcome, list_placed, side_placed}
 use Rattle.json_forms.specs.Read.{outcomes_in, outcomes_of, root_spot}
 
 abbrev texts_at : Spot → List Path → Option (List ℕ)

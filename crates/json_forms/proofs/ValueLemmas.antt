@@ -1,5 +1,5 @@
 -- Two forms are refused; the first refusal of several.
-use Rattle.std.proofs.Common.{◌≡◌, ℕ, suc, ◌+◌, ◌<◌, List, [], ◌∷◌, ◌++◌, length, get_or, drop, Option, Some, None, IfSome, refl, take, ◌∙◌, ap, sym, subst, map, flat_map, drop-cons, add-one}
+use Rattle.std.proofs.Common.{◌≡◌, ℕ, suc, ◌+◌, ◌<◌, List, [], ◌∷◌, ◌++◌, length, get_or, drop, Option, Some, None, IfSome, refl, take, ◌∙◌, ap, sym, map, flat_map, drop-cons, add-one}
 use Rattle.std.specs.declared.alloc.Global.{Global}
 use Rattle.json.specs.Value.{value_view}
 use Rattle.json.specs.declared.value.Value.{Value}

@@ -1,11 +1,10 @@
 -- A finding, from an element.
-use Rattle.std.specs.Prelude.{ℕ, List, [], ◌∷◌, ◌++◌, Bool, true, false, if◌then◌else◌, Option, Some, None, option_map, map, flat_map}
+use Rattle.std.specs.Prelude.{ℕ, List, [], ◌∷◌, Bool, false, if◌then◌else◌, Option, Some, None, option_map, map, flat_map}
 use Rattle.std.specs.List.{list_any}
 use Rattle.std.specs.Option.{option_or}
 use Rattle.std.specs.Str.{bytes_eq}
 use Rattle.oxc_protocol.specs.declared.protocol.Severity.{Severity}
 use Rattle.json_spots.specs.declared.step.Path.{Path}
-use Rattle.json_spots.specs.declared.step.Wanted.{Wanted}
 use Rattle.json_spots.specs.declared.step.Wanted.TheVariants as wanted
 use Rattle.json_spots.specs.declared.spot.Arrival.{Arrival}
 use Rattle.json_spots.specs.declared.spot.Arrival.TheVariants.{There, Null, Not}

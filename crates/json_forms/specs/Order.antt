@@ -1,5 +1,5 @@
 -- Readings that are the same but for the order of members.
-use Rattle.std.specs.Prelude.{◌≡◌, List, [], ◌∷◌, ◌&&◌, Bool, true}
+use Rattle.std.specs.Prelude.{◌≡◌, List, [], ◌&&◌, Bool, true}
 use Rattle.std.specs.List.{list_all}
 use Rattle.json.specs.Json.{Json}
 use Rattle.json_spots.specs.Same.{AllSame, Same, SameSpot, are_placed}

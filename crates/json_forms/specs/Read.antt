@@ -1,5 +1,5 @@
 -- All findings of a value.
-use Rattle.std.specs.Prelude.{List, [], ◌∷◌, ◌++◌, ℕ, Bool, true, false, not, Option, Some, None, map, flat_map, filter, filter_map}
+use Rattle.std.specs.Prelude.{List, [], ◌∷◌, ◌++◌, ℕ, Bool, false, not, Option, Some, None, map, flat_map, filter, filter_map}
 use Rattle.std.specs.Option.{option_or}
 use Rattle.json.specs.Json.{Json}
 use Rattle.json_spots.specs.Spot.{Spot, Reached, root, each, spot_view}

@@ -3,7 +3,7 @@ use Rattle.std.specs.Prelude.{◌≡◌, ℕ, List, [], ◌∷◌, Bool, true, f
 use Rattle.std.specs.List.{list_any}
 use Rattle.std.specs.Option.{option_to_list}
 use Rattle.std.specs.Str.{bytes_eq}
-use Rattle.json.specs.Json.{Json, null, boolean, number, string, array, object, Items, no_items, item, Members, no_members, member}
+use Rattle.json.specs.Json.{Json, null, boolean, number, string, array, object, no_items, item, no_members, member}
 use Rattle.json_spots.specs.declared.step.Step.{Step}
 use Rattle.json_spots.specs.declared.step.Step.TheVariants.{Key, Nth, Each, Member}
 use Rattle.json_spots.specs.declared.mark.MarkRow.{MarkRow}

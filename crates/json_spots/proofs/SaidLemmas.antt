@@ -1,8 +1,8 @@
 -- Going outwards from a spot.
-use Rattle.std.proofs.Common.{◌≡◌, ℕ, ◌-◌, ◌<◌, suc, zero, Option, Some, option_map, refl, ap, ◌∙◌, sym, slice_get, arith}
+use Rattle.std.proofs.Common.{◌≡◌, ℕ, ◌-◌, ◌<◌, suc, zero, Some, option_map, refl, ap, ◌∙◌, slice_get, arith}
 use Rattle.std.proofs.lemmas.Option.{slice_get-map}
 use Rattle.json_spots.specs.declared.spot.Spot as code_spot
-use Rattle.json_spots.specs.Spot.{Spot, Crumb, crumb_view, spot_view}
+use Rattle.json_spots.specs.Spot.{Spot, crumb_view, spot_view}
 use Rattle.json_spots.specs.Said.{outward}
 
 pub outward_zero : (spot : Spot) → outward 0 spot ≡ Some spot.here

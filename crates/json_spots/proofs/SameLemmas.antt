@@ -1,7 +1,7 @@
 -- What is the same in values that differ in the order of members alone.
 use Rattle.std.proofs.Common.{◌≡◌, ℕ, zero, suc, ◌+◌, List, [], ◌∷◌, ◌++◌, Bool, true, false, if◌then◌else◌, ◌&&◌, Option, Some, None, option_map, flat_map, slice_get, refl, ap, sym, ◌∙◌, subst}
 use Rattle.std.specs.Option.{option_and_then}
-use Rattle.json.specs.Json.{Json, null, boolean, number, string, array, object, Items, no_items, item, Members, no_members, member}
+use Rattle.json.specs.Json.{Json, null, boolean, number, string, array, object, Items, no_items, item, Members}
 use Rattle.json.specs.Find.{get_item, get_member, is_null}
 use Rattle.json_spots.specs.declared.step.Step.{Step}
 use Rattle.json_spots.specs.declared.step.Step.TheVariants.{Key, Nth, Each, Member}
@@ -9,7 +9,7 @@ use Rattle.json_spots.specs.declared.step.Path.{Path}
 use Rattle.json_spots.specs.declared.spot.Arrival.{Arrival}
 use Rattle.json_spots.specs.declared.spot.Arrival.TheVariants.{There, Null, Not}
 use Rattle.json_spots.specs.Said.{Said, nothing, words, figure, truth, other, inward, lead, said_of, name_said, said_from, said_at, outward}
-use Rattle.json_spots.specs.Spot.{By, root, name, index, Crumb, Spot, Reached, told, one_told, item_crumbs, members_of_items, of_array, of_object, inside, wanted_at, child, ends, onward, unless_null, gone, each}
+use Rattle.json_spots.specs.Spot.{By, name, index, Crumb, Spot, Reached, told, one_told, item_crumbs, of_array, of_object, inside, wanted_at, child, ends, onward, unless_null, gone, each}
 use Rattle.json_spots.specs.Same.{Shown, a_null, a_bool, a_number, a_text, an_array, an_object, shown, Same, SameFound, SameCrumb, AllSame, SameSpot, SameReached, is_placed, are_placed}
 
 -- ---- values
@@ -91,7 +91,7 @@ same_said a b h path = nth_said path (a.here ∷ a.outer) (b.here ∷ b.outer) (
 crumb_same : (by : By) (a b : Json) → Same a b → AllSame SameCrumb (told by a) (told by b)
 crumb_same by a b h =
     subst (λ left. AllSame SameCrumb (told by a) (if left then [] else record { value = b; by = by } ∷ [])) (null_same a b h)
-      (elim (is_null a) as (λ left. AllSame SameCrumb (if left then [] else record { value = a; by = by } ∷ []) (if left then [] else record { value = b; by = by } ∷ [])) [ true ↦ tt | false ↦ ((h, refl), tt) ])
+    (elim (is_null a) as (λ left. AllSame SameCrumb (if left then [] else record { value = a; by = by } ∷ []) (if left then [] else record { value = b; by = by } ∷ [])) [ true ↦ tt | false ↦ ((h, refl), tt) ])
 
 one_same : (by : By) (a b : Option Json) → SameFound a b → AllSame SameCrumb (one_told by a) (one_told by b)
 one_same by None None h = tt
@@ -147,7 +147,7 @@ ends_same a b arrival h = ((h, refl), tt)
 unless_same : (a b : Spot) (xs ys : List Reached) → SameSpot a b → AllSame SameReached xs ys → AllSame SameReached (unless_null a xs) (unless_null b ys)
 unless_same a b xs ys h k =
     subst (λ left. AllSame SameReached (unless_null a xs) (if left then ends b Null else ys)) (null_same a.here.value b.here.value h.here.0)
-      (elim (is_null a.here.value) as (λ left. AllSame SameReached (if left then ends a Null else xs) (if left then ends b Null else ys)) [ true ↦ ends_same a b Null h | false ↦ k ])
+    (elim (is_null a.here.value) as (λ left. AllSame SameReached (if left then ends a Null else xs) (if left then ends b Null else ys)) [ true ↦ ends_same a b Null h | false ↦ k ])
 
 child_same : (a b : Spot) (x y : Crumb) → SameSpot a b → SameCrumb x y → SameSpot (child a x) (child b y)
 child_same a b x y h k = record { here = k; outer = (h.here, h.outer) }
@@ -159,7 +159,7 @@ crumbs_same rest step a b h [] (y ∷ ys) k = absurd k
 crumbs_same rest step a b h (x ∷ xs) [] k = absurd k
 crumbs_same rest step a b h (x ∷ xs) (y ∷ ys) k =
     append_same SameReached (rest (child a x)) (rest (child b y)) (flat_map (λ crumb. rest (child a crumb)) xs) (flat_map (λ crumb. rest (child b crumb)) ys)
-      (step (child a x) (child b y) (child_same a b x y h k.0)) (crumbs_same rest step a b h xs ys k.1)
+    (step (child a x) (child b y) (child_same a b x y h k.0)) (crumbs_same rest step a b h xs ys k.1)
 
 onward_same : (step : Step) (rest : Spot → List Reached) → ((a b : Spot) → SameSpot a b → AllSame SameReached (rest a) (rest b)) → (a b : Spot) → SameSpot a b → (xs ys : Option (List Crumb)) → SameInside xs ys
     → AllSame SameReached (onward step rest a xs) (onward step rest b ys)
@@ -179,8 +179,8 @@ gone_same [] p a b h = ends_same a b There h
 gone_same (step ∷ steps) p a b h =
     let parts = both_true (is_placed step) (are_placed steps) p in
     onward_same step (λ inner. unless_null inner (gone steps inner))
-      (λ c d k. unless_same c d (gone steps c) (gone steps d) k (gone_same steps parts.1 c d k))
-      a b h (inside step a.here.value) (inside step b.here.value) (inside_same step parts.0 a.here.value b.here.value h.here.0)
+    (λ c d k. unless_same c d (gone steps c) (gone steps d) k (gone_same steps parts.1 c d k))
+    a b h (inside step a.here.value) (inside step b.here.value) (inside_same step parts.0 a.here.value b.here.value h.here.0)
 
 -- steps lead to the same spots, in the same order
 pub same_each : (steps : List Step) → are_placed steps ≡ true → (a b : Spot) → SameSpot a b → AllSame SameReached (each steps a) (each steps b)

@@ -1,5 +1,5 @@
 -- Those before are written; those left are still to come.
-use Rattle.std.proofs.Common.{◌≡◌, ◌∷◌, ◌++◌, drop, flat_map, string_bytes}
+use Rattle.std.proofs.Common.{◌≡◌, ◌++◌, drop, flat_map, string_bytes}
 use Rattle.json_forms.specs.Print.{form_text}
 use Rattle.json_forms.proofs.print.push_forms.Given as goal
 
