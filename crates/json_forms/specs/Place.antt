@@ -33,17 +33,17 @@ abbrev pub asked_end : Figures → ℕ → Option ℕ → Option End
 asked_end figures line column =
     end_among line column (above figures.first_line false figures.end_line) (above figures.first_column figures.is_last figures.end_column) figures.length
 
-abbrev pub is_behind_column : Option ℕ → Option ℕ → Bool
-is_behind_column None end = true
-is_behind_column (Some column) None = false
-is_behind_column (Some column) (Some end) = nat_le column end
+abbrev pub is_column_ordered : Option ℕ → Option ℕ → Bool
+is_column_ordered None end = true
+is_column_ordered (Some column) None = false
+is_column_ordered (Some column) (Some end) = nat_le column end
 
 -- whether an end isn't before the start
-abbrev pub is_behind : ℕ → Option ℕ → End → Bool
-is_behind line column end = if end.line == line then is_behind_column column end.column else nat_lt line end.line
+abbrev pub is_ordered : ℕ → Option ℕ → End → Bool
+is_ordered line column end = if end.line == line then is_column_ordered column end.column else nat_lt line end.line
 
 abbrev pub end_of : Figures → ℕ → Option ℕ → Option End
-end_of figures line column = option_and_then (λ end. if is_behind line column end then Some end else None) (asked_end figures line column)
+end_of figures line column = option_and_then (λ end. if is_ordered line column end then Some end else None) (asked_end figures line column)
 
 abbrev pub span_from : Figures → Option ℕ → Span
 span_from figures None = record { line = None; column = None; end = None }

@@ -1,7 +1,9 @@
 //! The JSON values of an input, and its other lines.
-ghost use Rattle.std.specs.Prelude.{◌≡◌, ◌^◌, ◌+◌, ◌++◌, ◌<◌, ◌≤◌, IfOk, IfSome, OnOk, drop, length};
+ghost use Rattle.std.specs.Prelude.{◌≡◌, ◌^◌, ◌+◌, ◌++◌, ◌<◌, ◌≤◌, IfOk, IfSome, OnOk, drop};
+ghost use Rattle.std.specs.Prelude.{length};
 ghost use Rattle.json_forms.specs.Cut.{IsCut, IsWithin, array_text, begins_value as begins_so};
-ghost use Rattle.json_forms.specs.Cut.{closed_at, deeper as deeper_so, first_at, goes_on as goes_so};
+ghost use Rattle.json_forms.specs.Cut.{closed_at, deeper as deeper_so, first_at};
+ghost use Rattle.json_forms.specs.Cut.{goes_on as goes_so};
 ghost use Rattle.json_forms.specs.Cut.{is_blank as blank, is_break, is_inner as inner, is_solid};
 ghost use Rattle.json_forms.specs.Cut.{mode_after as mode_so, next_piece as next_so, value_text};
 

@@ -6,7 +6,8 @@ ghost use Rattle.json_spots.specs.Spot.{spot_view};
 ghost use Rattle.json_spots.specs.Said.{said_view};
 ghost use Rattle.json_forms.specs.Guard.{all_hold as all_hold_at, any_holds as any_holds_at};
 ghost use Rattle.json_forms.specs.Guard.{any_fits, fits as fits_word, holds as holds_at};
-ghost use Rattle.json_forms.specs.Guard.{is_given as given, lets_through as through, stops as stops_at};
+ghost use Rattle.json_forms.specs.Guard.{is_given as given, lets_through as through};
+ghost use Rattle.json_forms.specs.Guard.{stops as stops_at};
 
 use crate::form::{Ask, Guard, Row};
 use json_spots::{Said, Spot, said_at, says, word_of};

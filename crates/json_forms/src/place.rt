@@ -1,8 +1,9 @@
 //! Where a finding is.
 ghost use Rattle.std.specs.Prelude.{◌≡◌, ◌≤◌, IfSome, IsTrue};
 ghost use Rattle.json_spots.specs.Spot.{spot_view};
-ghost use Rattle.json_forms.specs.Place.{above as counted, asked_end as end_asked, either as either_of};
-ghost use Rattle.json_forms.specs.Place.{end_of, figures_at, is_behind as behind, offsets_of};
+ghost use Rattle.json_forms.specs.Place.{above as counted, asked_end as end_asked};
+ghost use Rattle.json_forms.specs.Place.{either as either_of};
+ghost use Rattle.json_forms.specs.Place.{end_of, figures_at, is_ordered as ordered_so, offsets_of};
 ghost use Rattle.json_forms.specs.Place.{first_of, place_at, place_view, span_of};
 
 use crate::form::{Row, Unit};
@@ -95,8 +96,8 @@ fn asked_end(figures: Figures, line: usize, column: Option<usize>) -> Option<End
 }
 
 /// Whether an end isn't before the start.
-fn is_behind(line: usize, column: Option<usize>, end: End) -> bool
-    ensures { result ≡ behind line column end }
+fn is_ordered(line: usize, column: Option<usize>, end: End) -> bool
+    ensures { result ≡ ordered_so line column end }
 {
     if end.line != line {
         return line < end.line;
@@ -112,10 +113,10 @@ fn is_behind(line: usize, column: Option<usize>, end: End) -> bool
 fn end_at(figures: Figures, line: usize, column: Option<usize>) -> Option<End>
     requires { IfSome column (λ n. n ≤ 0x100000001) }
     ensures value { result ≡ end_of figures line column }
-    ensures ordered { IfSome result (λ end. IsTrue (behind line column end)) }
+    ensures ordered { IfSome result (λ end. IsTrue (ordered_so line column end)) }
 {
     let end = asked_end(figures, line, column)?;
-    if is_behind(line, column, end) {
+    if is_ordered(line, column, end) {
         Some(end)
     } else {
         None

@@ -171,7 +171,8 @@ fn push_list(out: &mut String, list: &List<'_>) -> Result<(), AllocError>
 }
 
 fn push_mark(out: &mut String, mark: &[MarkRow<'_>]) -> Result<(), AllocError>
-    ensures { OnOk result (string_bytes out.new ≡ string_bytes out.old ++ flat_map mark_text mark.now) }
+    ensures { OnOk result (string_bytes out.new
+        ≡ string_bytes out.old ++ flat_map mark_text mark.now) }
 {
     for row in mark {
         out.push_str(" mark=")?;

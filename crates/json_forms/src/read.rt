@@ -4,8 +4,10 @@ ghost use Rattle.json.specs.Value.{value_view};
 ghost use Rattle.json_forms.specs.Finding.{aside as aside_text, finding_view};
 ghost use Rattle.json_forms.specs.Finding.{found as found_finding, null_at, outcome_view};
 ghost use Rattle.json_forms.specs.Order.{IsOrderFree};
-ghost use Rattle.json_forms.specs.Read.{elements_of, first_refusal, left_of, nothing_read, outcome_list};
-ghost use Rattle.json_forms.specs.Read.{outcomes_in, outcomes_of, reading_view, refusal_view, taken};
+ghost use Rattle.json_forms.specs.Read.{elements_of, first_refusal, left_of, nothing_read};
+ghost use Rattle.json_forms.specs.Read.{outcome_list};
+ghost use Rattle.json_forms.specs.Read.{outcomes_in, outcomes_of, reading_view, refusal_view};
+ghost use Rattle.json_forms.specs.Read.{taken};
 ghost use Rattle.json_spots.specs.Spot.{spot_view};
 
 use crate::finding::{Finding, Outcome, read_outcome};

@@ -52,7 +52,8 @@ fn push_index(out: &mut String, at: usize) -> Result<(), AllocError>
 }
 
 fn push_by(out: &mut String, by: By<'_>) -> Result<(), AllocError>
-    ensures { OnOk result (string_bytes out.new ≡ string_bytes out.old ++ by_text (by_view by.entry)) }
+    ensures { OnOk result (string_bytes out.new
+        ≡ string_bytes out.old ++ by_text (by_view by.entry)) }
 {
     match by {
         By::Root => out.push_str("$"),

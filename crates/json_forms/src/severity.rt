@@ -2,7 +2,8 @@
 ghost use Rattle.std.specs.Prelude.{◌≡◌};
 ghost use Rattle.std.specs.Str.{str_eq_ignore_ascii_case};
 ghost use Rattle.json_spots.specs.Spot.{spot_view};
-ghost use Rattle.json_forms.specs.Severity.{among, default_of, known as known_of, named as named_of};
+ghost use Rattle.json_forms.specs.Severity.{among, default_of, known as known_of};
+ghost use Rattle.json_forms.specs.Severity.{named as named_of};
 ghost use Rattle.json_forms.specs.Severity.{own as own_of, row_level as level_in, said_word};
 ghost use Rattle.json_forms.specs.Severity.{severity_of, words_view};
 

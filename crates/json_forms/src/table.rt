@@ -1,8 +1,8 @@
 //! The forms that are known.
 //!
-//! A line `form=` begins a form: its name, and its mark. `list=` is a list of its findings, with what
-//! gives their parts; `place=`, `labels=`, `edits=` and `notes=` are what is said beside them. A line
-//! goes on after a backslash.
+//! A line `form=` begins a form: its name, and its mark. `list=` is a list of its findings, with
+//! what gives their parts; `place=`, `labels=`, `edits=` and `notes=` are what is said beside
+//! them. A line goes on after a backslash.
 
 /// The forms, as [`crate::parse_forms`] reads them.
 pub(crate) static TABLE: &str = "\

@@ -3,7 +3,8 @@ ghost use Rattle.std.specs.Prelude.{◌≡◌, filter, find};
 ghost use Rattle.std.specs.Option.{option_copied, option_to_list};
 ghost use Rattle.std.specs.Str.{bytes_eq};
 ghost use Rattle.json.specs.Value.{value_view};
-ghost use Rattle.json_forms.specs.Told.{begins_with_member, candidates, first_lead, fits as fits_form};
+ghost use Rattle.json_forms.specs.Told.{begins_with_member, candidates, first_lead};
+ghost use Rattle.json_forms.specs.Told.{fits as fits_form};
 ghost use Rattle.json_forms.specs.Told.{is_hollow as hollow, is_open as open_form, IsToldOf};
 ghost use Rattle.json_forms.specs.Told.{marked, name_is, row_is_open as row_open};
 
@@ -140,7 +141,7 @@ fn form_named<'f>(forms: &'f [Form<'f>], name: &str) -> Option<&'f Form<'f>>
     None
 }
 
-/// The form of that name, as what is told.
+/// The form of that name, if there is one.
 fn tell_named<'f>(forms: &'f [Form<'f>], name: &str) -> Told<'f>
     ensures { IsToldOf result (option_to_list (find (name_is name.now) forms.now)) }
 {

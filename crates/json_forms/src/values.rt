@@ -1,9 +1,11 @@
 //! The findings of several values.
-ghost use Rattle.std.specs.Prelude.{◌≡◌, ◌++◌, IfErr, IfOk, IfSome, None, OnOk, Some, flat_map, map};
+ghost use Rattle.std.specs.Prelude.{◌≡◌, ◌++◌, IfErr, IfOk, IfSome, None, OnOk, Some, flat_map};
+ghost use Rattle.std.specs.Prelude.{map};
 ghost use Rattle.json.specs.Value.{value_view};
 ghost use Rattle.json_forms.specs.Read.{first_refusal, nothing_read, reading_view};
 ghost use Rattle.json_forms.specs.Read.{refusal_view};
-ghost use Rattle.json_forms.specs.Values.{ReadsBoth, answers, one_reading, reading_of, whole_refusal};
+ghost use Rattle.json_forms.specs.Values.{ReadsBoth, answers, one_reading, reading_of};
+ghost use Rattle.json_forms.specs.Values.{whole_refusal};
 
 use crate::read::{ReadError, Reading, read_value};
 use crate::said::Fault;

@@ -27,7 +27,8 @@ pub enum Said<'v> {
 /// The value that a name or an index leads to.
 #[tactic(auto, unfolding(crate::specs::Said::inward))]
 fn inward<'v>(step: Step<'_>, value: &'v Value<'v>) -> Option<&'v Value<'v>>
-    ensures { option_map (λ v. value_view v.now) result ≡ inward_of step.entry (value_view value.now) }
+    ensures { option_map (λ v. value_view v.now) result
+        ≡ inward_of step.entry (value_view value.now) }
 {
     match step {
         Step::Key(name) => value.get(name),

@@ -160,7 +160,8 @@ fn inside<'v>(
 
 /// The spot of a value inside the one of a spot.
 fn child<'v>(alloc: Global, spot: &Spot<'v>, here: Crumb<'v>) -> Result<Spot<'v>, AllocError>
-    ensures { IfOk result (λ it. spot_view it ≡ child_of (spot_view spot.now) (crumb_view here.entry)) }
+    ensures { IfOk result (λ it. spot_view it
+        ≡ child_of (spot_view spot.now) (crumb_view here.entry)) }
 {
     let mut outer = Vec::new(alloc);
     outer.push(spot.here)?;
