@@ -160,9 +160,11 @@ list=generalDiagnostics[] scope=pyright unit=utf16 file=file line0=range.start.l
     severity=severity code=rule message=message\n\
 form=biome mark=.:o mark=diagnostics:a mark=command:t\n\
 list=diagnostics[] scope=biome unit=bytes file=location.path.file|location.path \
-    line=location.start.line column=location.start.column end_line=location.end.line \
-    end_column=location.end.column offset=location.span[0] end_offset=location.span[1] \
-    severity=severity code=category message=description|message\n\
+    offset=location.span[0] end_offset=location.span[1] severity=severity code=category \
+    message=description|message only=location.span[0]+\n\
+list=diagnostics[] scope=biome file=location.path.file|location.path line=location.start.line \
+    column=location.start.column end_line=location.end.line end_column=location.end.column \
+    severity=severity code=category message=description|message only=location.span[0]!\n\
 form=oxlint mark=.:o mark=diagnostics:a mark=command:- mark=diagnostics[].labels:a\n\
 list=diagnostics[] file=filename severity=severity code=code message=message help=help \
     note=note url=url\n\
