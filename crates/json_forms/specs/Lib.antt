@@ -1,0 +1,13 @@
+pub mod Rows
+pub mod Said
+pub mod Severity
+pub mod Guard
+pub mod Place
+pub mod Finding
+pub mod Read
+pub mod Print
+pub mod Told
+pub mod Cut
+pub mod Values
+pub mod Refusal
+pub mod Order
