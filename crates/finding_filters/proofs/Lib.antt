@@ -1,0 +1,4 @@
+pub mod TokenLemmas
+pub mod MeaningLemmas
+pub mod LawLemmas
+pub mod BaselineLemmas
