@@ -1,8 +1,11 @@
 -- The texts by which findings are compared.
-use Rattle.std.specs.Prelude.{ℕ, filter, ◌==◌, ◌&&◌, ◌||◌, not, nat_le, Bool, List, [], ◌∷◌, ◌++◌, length, codes, if◌then◌else◌}
+use Rattle.std.specs.Prelude.{ℕ, filter, ◌==◌, ◌&&◌, ◌||◌, not, nat_le, Bool, List, [], ◌∷◌, ◌++◌, length, Option, Some, None, codes, decimal, if◌then◌else◌}
 use Rattle.std.specs.List.{flat_map, list_all, slice_split}
 use Rattle.std.specs.Str.Lossy.{utf8_lossy}
+use Rattle.oxc_protocol.specs.declared.protocol.Severity.{Severity}
+use Rattle.oxc_protocol.specs.declared.protocol.Severity.TheVariants.{Advice, Warning, Error}
 use Rattle.finding_filters.specs.Finding.{FindingParts}
+use Rattle.finding_filters.specs.declared.finding.Spot.{Spot}
 
 abbrev pub is_digit : ℕ → Bool
 is_digit byte = nat_le 0x30 byte && nat_le byte 0x39
@@ -63,3 +66,22 @@ kind_text it = utf8_lossy (line_of it.file ++ line_of it.scope ++ line_of it.cod
 -- a kind, and the text of a row without blanks
 unfoldable pub row_class : List ℕ → List ℕ → List ℕ
 row_class kind row = utf8_lossy (kind ++ 0x0A ∷ filter (λ byte. not (is_space byte)) row)
+
+-- ---- repetitions
+
+abbrev pub number_text : Option ℕ → List ℕ
+number_text None = codes ","
+number_text (Some number) = decimal number ++ codes ","
+
+abbrev pub spot_text : Spot → List ℕ
+spot_text spot = number_text spot.row ++ number_text spot.column
+
+abbrev pub severity_code : Severity → ℕ
+severity_code Advice = 0x31
+severity_code Warning = 0x32
+severity_code Error = 0x33
+
+-- all that repetitions have in common: file, scope, code, message, place and severity
+unfoldable pub exact_text : FindingParts → List ℕ
+exact_text it =
+    utf8_lossy (line_of it.file ++ line_of it.scope ++ line_of it.code ++ line_of it.message ++ spot_text it.start ++ spot_text it.end ++ severity_code it.severity ∷ [])

@@ -12,8 +12,10 @@ mod selection;
 mod texts;
 mod tokens;
 
+pub use baseline::{Item, known};
 pub use changed::{Changed, FilterMode};
 pub use finding::{FindingView, Spot};
 pub use laws::{glob_means, rule_means};
 pub use patterns::{Glob, Rule};
 pub use selection::Selection;
+pub use texts::{class_of, exact_of, kind_of};

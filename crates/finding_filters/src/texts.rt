@@ -6,9 +6,12 @@ ghost use Rattle.finding_filters.specs.Texts.{is_blank as is_blank_byte, is_digi
 ghost use Rattle.finding_filters.specs.Texts.{is_number as is_number_word, is_space as is_space_byte};
 ghost use Rattle.finding_filters.specs.Texts.{is_word as is_word_byte, joined_on, kind_text, on_line};
 ghost use Rattle.finding_filters.specs.Texts.{plain_message, plain_word, row_class, with_word};
+ghost use Rattle.finding_filters.specs.Texts.{exact_text, number_text, severity_code, spot_text};
 ghost use Rattle.finding_filters.specs.Texts.{zeroed_from};
 
-use crate::finding::FindingView;
+use crate::finding::{FindingView, Spot};
+use itoa::Buffer;
+use oxc_protocol::Severity;
 use std::alloc::{AllocError, Global};
 
 /// The kind of a finding: its file, scope, code and message, each on a line. Findings with equal
@@ -35,6 +38,52 @@ pub fn class_of(alloc: Global, kind: &str, row: &str) -> Result<String, AllocErr
     class.push(b'\n')?;
     push_dense(&mut class, row.as_bytes())?;
     String::from_utf8_lossy(alloc, &class)
+}
+
+/// The file, scope, code and message of a finding, each on a line, and then its place and its
+/// severity. Findings with equal texts are repetitions.
+#[tactic(auto, unfolding(crate::specs::Texts::exact_text))]
+pub fn exact_of(alloc: Global, finding: &FindingView<'_>) -> Result<String, AllocError>
+    ensures { IfOk result (λ text. string_bytes text ≡ exact_text (finding_parts finding.now)) }
+{
+    let mut text = Vec::new(alloc);
+    push_line(&mut text, finding.file.as_bytes())?;
+    push_line(&mut text, finding.scope.as_bytes())?;
+    push_line(&mut text, finding.code.as_bytes())?;
+    push_line(&mut text, finding.message.as_bytes())?;
+    push_spot(&mut text, finding.start)?;
+    push_spot(&mut text, finding.end)?;
+    text.push(severity_byte(finding.severity))?;
+    String::from_utf8_lossy(alloc, &text)
+}
+
+/// Appends a row and a column.
+fn push_spot(out: &mut Vec<u8>, spot: Spot) -> Result<(), AllocError>
+    ensures { OnOk result (out.new.items ≡ out.old.items ++ spot_text spot) }
+{
+    push_number(out, spot.row)?;
+    push_number(out, spot.column)
+}
+
+/// Appends a number, if there is one, and a comma.
+fn push_number(out: &mut Vec<u8>, number: Option<u32>) -> Result<(), AllocError>
+    ensures { OnOk result (out.new.items ≡ out.old.items ++ number_text number) }
+{
+    if let Some(number) = number {
+        out.extend_from_slice(Buffer::new().format(number).as_bytes())?;
+    }
+    out.push(b',')?;
+    Ok(())
+}
+
+fn severity_byte(severity: Severity) -> u8
+    ensures { result ≡ severity_code severity }
+{
+    match severity {
+        Severity::Advice => b'1',
+        Severity::Warning => b'2',
+        Severity::Error => b'3',
+    }
 }
 
 /// Appends a text, with its LFs and backslashes escaped, and an LF.
