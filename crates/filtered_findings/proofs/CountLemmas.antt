@@ -6,7 +6,7 @@ use Rattle.filtered_findings.specs.Counts.{is_verdict}
 use Rattle.filtered_findings.specs.declared.verdicts.Verdict.{Verdict}
 use Rattle.filtered_findings.specs.declared.verdicts.Verdict.TheVariants.{Stays, Twice, InBaseline, NotSelected, NotChanged}
 
-one_more : (wanted it : Verdict) (each : List Verdict) → count_by (λ v. is_verdict wanted v) (it ∷ each) ≡ cond (is_verdict wanted it) 1 0 + count_by (λ v. is_verdict wanted v) each
+pub one_more : (wanted it : Verdict) (each : List Verdict) → count_by (λ v. is_verdict wanted v) (it ∷ each) ≡ cond (is_verdict wanted it) 1 0 + count_by (λ v. is_verdict wanted v) each
 one_more wanted it each =
     sum_by-append (λ v. cond (is_verdict wanted v) 1 0) (it ∷ []) each ∙ ap (λ n. n + count_by (λ v. is_verdict wanted v) each) (zero-add (cond (is_verdict wanted it) 1 0))
 

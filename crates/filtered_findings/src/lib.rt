@@ -6,10 +6,12 @@
 
 mod counts;
 mod judged;
+mod laws;
 mod repeats;
 mod verdicts;
 
 pub use counts::{Counts, counts_of, stays_each, summary_line};
 pub use judged::{Verdicts, judge_all};
+pub use laws::{each_is_judged, nothing_takes_nothing};
 pub use repeats::Earlier;
 pub use verdicts::{Filters, Verdict};
