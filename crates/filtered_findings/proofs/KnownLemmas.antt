@@ -1,8 +1,7 @@
 -- Each finding has a verdict; without a baseline none is in it.
-use Rattle.std.proofs.Common.{◌≡◌, ℕ, ◌+◌, ◌-◌, ◌&&◌, ◌||◌, not, Bool, true, false, cond, if◌then◌else◌, List, [], ◌∷◌, ◌++◌, length, map, Option, Some, None, refl, sym, ap, ◌∙◌, arith, length-append, append_assoc, zero-add}
+use Rattle.std.proofs.Common.{◌≡◌, ℕ, ◌+◌, ◌-◌, ◌&&◌, not, Bool, true, false, cond, if◌then◌else◌, List, [], ◌∷◌, ◌++◌, length, Option, Some, None, refl, sym, ap, ◌∙◌, arith, length-append, append_assoc, zero-add}
 use Rattle.std.specs.List.{count_by}
 use Rattle.std.proofs.lemmas.List.{append-nil, length-map}
-use Rattle.std.proofs.lemmas.List.Sums.{sum_by-append}
 use Rattle.finding_filters.specs.Baseline.{ItemParts, Left, Passed, asked, asks, entries_in, first_round, known, left_by, less, less_if, none_left, one_of, passed, same, second_round, taken_away, taken_by, then_late, turned}
 use Rattle.finding_filters.specs.Finding.{FindingParts}
 use Rattle.finding_filters.specs.Selection.{is_selected}
@@ -13,8 +12,7 @@ use Rattle.filtered_findings.specs.Counts.{is_verdict}
 use Rattle.filtered_findings.specs.Repeats.{Seen, no_repeats, none_seen, repeats_from, repeats_if, with_seen}
 use Rattle.filtered_findings.specs.Verdicts.{entries_of, is_left, items_of, taken_in, twice_in, verdict_at, verdict_of, verdicts_from, verdicts_of}
 use Rattle.filtered_findings.specs.declared.verdicts.Filters.{Filters}
-use Rattle.filtered_findings.specs.declared.verdicts.Verdict.{Verdict}
-use Rattle.filtered_findings.specs.declared.verdicts.Verdict.TheVariants.{Stays, Twice, InBaseline, NotSelected, NotChanged}
+use Rattle.filtered_findings.specs.declared.verdicts.Verdict.TheVariants.{Stays, InBaseline, NotSelected, NotChanged}
 use Rattle.filtered_findings.proofs.CountLemmas.{one_more}
 
 -- ---- lengths

@@ -1,6 +1,5 @@
 -- What becomes of findings.
-use Rattle.std.specs.Prelude.{ℕ, ◌+◌, ◌-◌, ◌&&◌, not, Bool, true, false, List, [], ◌∷◌, map, filter, length, Option, Some, None, option_map, if◌then◌else◌}
-use Rattle.std.specs.List.{count_by}
+use Rattle.std.specs.Prelude.{◌&&◌, not, Bool, true, false, List, [], ◌∷◌, map, Option, Some, None, option_map, if◌then◌else◌}
 use Rattle.finding_filters.specs.Baseline.{ItemParts, known}
 use Rattle.finding_filters.specs.Changed.{is_changed}
 use Rattle.finding_filters.specs.Finding.{FindingParts}

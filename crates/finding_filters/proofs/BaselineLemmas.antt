@@ -1,5 +1,5 @@
 -- How many entries are left.
-use Rattle.std.proofs.Common.{◌≡◌, ◌+◌, ◌-◌, ◌<◌, ◌≤◌, [], ◌∷◌, length, map, drop, get_or, ℕ, Bool, true, false, cond, if◌then◌else◌, List, Option, Some, None, String, string_bytes, unwrap_or, refl, sym, ap, ◌∙◌, arith}
+use Rattle.std.proofs.Common.{◌≡◌, ◌+◌, ◌-◌, ◌<◌, ◌≤◌, [], length, map, drop, get_or, ℕ, Bool, true, false, cond, if◌then◌else◌, List, Option, Some, None, String, string_bytes, unwrap_or, refl, sym, ap, ◌∙◌, arith}
 use Rattle.std.specs.BTreeMap.{BTreeMap, Updates, UpdatesBy, get_by_text, is_at}
 use Rattle.std.specs.Cmp.Lexicographic.{slice_cmp}
 use Rattle.std.specs.Map.{lookup}

@@ -1,9 +1,9 @@
 -- The tests of patterns are what they mean.
-use Rattle.std.proofs.Common.{◌≡◌, ◌⊎◌, inl, inr, ℕ, Bool, true, false, ◌&&◌, ◌||◌, List, [], ◌∷◌, ◌++◌, length, nat_lt, codes, reverse, refl, sym, ap, ◌∙◌}
+use Rattle.std.proofs.Common.{◌≡◌, ◌⊎◌, inl, inr, ℕ, Bool, true, false, ◌&&◌, ◌||◌, List, ◌++◌, length, nat_lt, codes, reverse, refl}
 use Rattle.std.proofs.lemmas.Bool.{and_parts, false≢true}
 use Rattle.std.specs.Str.{chars}
 use Rattle.finding_filters.specs.Patterns.{GlobParts, IsRuled, IsTakenBy, IsText, rule_takes, takes_by, takes_scope, takes_whole}
-use Rattle.finding_filters.specs.Tokens.{Takes, end_of, takes_all, takes_one}
+use Rattle.finding_filters.specs.Tokens.{end_of, takes_all, takes_one}
 use Rattle.finding_filters.specs.declared.tokens.Ending.TheVariants.{Nothing}
 use Rattle.finding_filters.specs.declared.tokens.Token.{Token}
 use Rattle.finding_filters.specs.declared.tokens.Token.TheVariants.{Exactly, Any}

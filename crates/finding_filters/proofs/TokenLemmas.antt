@@ -1,5 +1,5 @@
 -- Tests of the end parts of a text.
-use Rattle.std.proofs.Common.{◌≡◌, ℕ, suc, ◌-◌, ◌≤◌, length, map, get_or, take, drop, reverse, arith, Bool, true, false, ◌==◌, ◌&&◌, ◌||◌, not, List, [], ◌∷◌, ◌++◌, refl, sym, ap, ◌∙◌}
+use Rattle.std.proofs.Common.{◌≡◌, ℕ, suc, ◌-◌, ◌≤◌, length, map, get_or, take, drop, reverse, arith, Bool, true, false, ◌&&◌, ◌||◌, List, [], ◌∷◌, refl, ap, ◌∙◌}
 use mathlib.Core.List.{reverse_aux}
 use Rattle.std.proofs.lemmas.List.{take_all}
 use Rattle.finding_filters.specs.Tokens.{end_of, first_value, head_value, last_value, row_of, step_first, step_row, stepped, takes_all, takes_one, value_of, values_of}

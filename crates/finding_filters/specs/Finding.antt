@@ -1,5 +1,5 @@
 -- What filters read of a finding.
-use Rattle.std.specs.Prelude.{ℕ, ◌-◌, ◌==◌, ◌&&◌, nat_lt, max, Bool, false, List, Option, Some, None, option_map, unwrap_or, if◌then◌else◌}
+use Rattle.std.specs.Prelude.{ℕ, ◌-◌, ◌==◌, ◌&&◌, nat_lt, max, Bool, false, List, Option, Some, None, unwrap_or, if◌then◌else◌}
 use Rattle.std.specs.Option.{option_copied}
 use Rattle.oxc_protocol.specs.declared.protocol.Severity.{Severity}
 use Rattle.finding_filters.specs.declared.finding.FindingView.{FindingView}

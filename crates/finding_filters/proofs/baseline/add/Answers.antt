@@ -1,4 +1,4 @@
-use Rattle.std.proofs.Common.{rules, arith, ◌≡◌, ◌+◌, unwrap_or}
+use Rattle.std.proofs.Common.{rules, arith, ◌≡◌, unwrap_or}
 use Rattle.std.specs.BTreeMap.{get_by_text}
 use Rattle.finding_filters.specs.Baseline.{left_in}
 use Rattle.finding_filters.proofs.BaselineLemmas.{added}

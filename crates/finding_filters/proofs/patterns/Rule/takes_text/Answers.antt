@@ -1,4 +1,4 @@
-use Rattle.std.proofs.Common.{ℕ, List, reverse, ap, ◌∙◌}
+use Rattle.std.proofs.Common.{List, reverse, ap, ◌∙◌}
 use Rattle.std.proofs.lemmas.List.{reverse-reverse}
 use Rattle.std.specs.Str.{chars}
 use Rattle.finding_filters.specs.Tokens.{end_of, last_value, takes_all}
