@@ -2,3 +2,4 @@ pub mod TokenLemmas
 pub mod MeaningLemmas
 pub mod LawLemmas
 pub mod BaselineLemmas
+pub mod OrderLemmas

@@ -1,6 +1,7 @@
 // Laws of the definitions, as contracts of functions that do nothing.
-ghost use Rattle.std.specs.Prelude.{◌↔◌, IsTrue};
+ghost use Rattle.std.specs.Prelude.{◌≡◌, ◌↔◌, Bool, List, IsPermutation, IsTrue};
 ghost use Rattle.std.specs.Str.{chars};
+ghost use Rattle.finding_filters.specs.Baseline.{ItemParts, known};
 ghost use Rattle.finding_filters.specs.Patterns.{IsRuled, IsTaken, glob_takes, rule_takes};
 
 use crate::patterns::{Glob, Rule};
@@ -15,4 +16,10 @@ pub fn glob_means(_glob: &Glob, _name: &str)
 pub fn rule_means(_rule: &Rule, _scope: &str, _code: &str)
     ensures { IsTrue (rule_takes _rule.now _scope.now _code.now)
         ↔ IsRuled _rule.now _scope.now _code.now }
+{}
+
+/// The order of a baseline's entries is no matter.
+pub fn order_is_no_matter()
+    ensures { (items entries others : List ItemParts) (flags : List Bool)
+        → IsPermutation entries others → known items flags entries ≡ known items flags others }
 {}

@@ -15,7 +15,7 @@ mod tokens;
 pub use baseline::{Item, known};
 pub use changed::{Changed, FilterMode};
 pub use finding::{FindingView, Spot};
-pub use laws::{glob_means, rule_means};
+pub use laws::{glob_means, order_is_no_matter, rule_means};
 pub use patterns::{Glob, Rule};
 pub use selection::Selection;
 pub use texts::{class_of, exact_of, kind_of};
