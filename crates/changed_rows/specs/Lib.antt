@@ -1,0 +1,9 @@
+pub mod Names
+pub mod Files
+pub mod Lines
+pub mod Refused
+pub mod Quoted
+pub mod Heads
+pub mod Rows
+pub mod Reading
+pub mod Changes

@@ -1,0 +1,5 @@
+pub mod TokenLemmas
+pub mod MeaningLemmas
+pub mod LawLemmas
+pub mod BaselineLemmas
+pub mod OrderLemmas
