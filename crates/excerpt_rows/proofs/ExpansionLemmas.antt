@@ -1,5 +1,5 @@
 -- An expansion, one character of the source after another.
-use Rattle.std.proofs.Common.{OnOk, Result, Ok, Err, drop, ◌≡◌, ℕ, ◌+◌, ◌-◌, ◌*◌, ◌<◌, ◌≤◌, ◌==◌, if◌then◌else◌, Bool, true, false, List, [], ◌∷◌, ◌++◌, length, take, replicate, slice_index, refl, sym, ap, ◌∙◌, subst, inl, inr, arith, append_assoc, length-append}
+use Rattle.std.proofs.Common.{OnOk, Result, Ok, Err, drop, zero, suc, not, ◌&&◌, append-nil, ◌≡◌, ℕ, ◌+◌, ◌-◌, ◌*◌, ◌<◌, ◌≤◌, ◌==◌, if◌then◌else◌, Bool, true, false, List, [], ◌∷◌, ◌++◌, length, take, replicate, slice_index, refl, sym, ap, ◌∙◌, subst, inl, inr, arith, append_assoc, length-append}
 use Rattle.std.proofs.lemmas.Bool.{cases_lt}
 use Rattle.std.proofs.lemmas.Bool.Decides.{nat_tests}
 use Rattle.std.proofs.lemmas.List.{drop_at, take_all, take_more, take_rest, length-replicate, get_or_append_left, get_or-append_right, get_or-replicate}
@@ -12,7 +12,7 @@ use Rattle.excerpt_rows.specs.declared.expansion.Tabs.{Tabs}
 use Rattle.excerpt_rows.specs.declared.expansion.Tabs.TheVariants.{Stops8, Blanks4, Blanks1, Blanks2, Stops4, ByteStops8}
 use Rattle.excerpt_rows.specs.declared.expansion.Rule.{Rule}
 use Rattle.excerpt_rows.specs.declared.expansion.Rule.TheVariants.{Same, Expanded}
-use Rattle.excerpt_rows.specs.Expansion.{ArePlaces, bytes_of, cells_of, code_of, digits_of, expanded, expanded_after, hidden_as, is_hidden, printed_len, shown, tab_len, width_of}
+use Rattle.excerpt_rows.specs.Expansion.{ArePlaces, bytes_of, cells_of, code_of, digits_of, expanded, expanded_after, hidden_as, is_as_is, is_hidden, is_plain, printed_len, shown, tab_len, width_of}
 
 pub cells_append : (xs ys : List ℕ) → cells_of (xs ++ ys) ≡ cells_of xs + cells_of ys
 unfolding cells_of
@@ -179,3 +179,52 @@ new_part old new xs n size is = take_rest new n ∙ ap (drop n) is ∙ drop_at o
 pub resized : (old new text : List ℕ) (n m offset : ℕ) → new ≡ take n old ++ replicate (n - m) offset → n ≡ length text → m ≡ length old → new ≡ take (length text) old ++ replicate (length text - length old) offset
 resized old new text n m offset is text_len old_len =
     is ∙ ap (λ k. take k old ++ replicate (k - m) offset) text_len ∙ ap (λ k. take (length text) old ++ replicate (length text - k) offset) old_len
+
+-- ---- rows that each rule prints as they are
+
+as_is_by : (tab hidden : Bool) (blanks xs : List ℕ) (c : ℕ) → (not tab && not hidden) ≡ true → (if tab then blanks else if hidden then xs else c ∷ []) ≡ c ∷ []
+as_is_by true hidden blanks xs c is = cc
+as_is_by false true blanks xs c is = cc
+as_is_by false false blanks xs c is = refl
+
+as_is : (rule : Rule) (text : List ℕ) (c : ℕ) → is_as_is c ≡ true → shown rule text c ≡ c ∷ []
+as_is Same text c is = refl
+as_is (Expanded tabs hidden) text c is = as_is_by (c == 0x09) (is_hidden c) (replicate (tab_len tabs (cells_of text) (bytes_of text)) 0x20) (hidden_as hidden c) c is
+
+and_left : (a b : Bool) → (a && b) ≡ true → a ≡ true
+and_left true b is = refl
+and_left false b is = is
+
+and_right : (a b : Bool) → (a && b) ≡ true → b ≡ true
+and_right true b is = is
+and_right false b is = cc
+
+plain_after : (rule : Rule) (text row : List ℕ) → is_plain row ≡ true → expanded_after rule text row ≡ text ++ row
+unfolding expanded_after
+plain_after rule text [] is = sym (append-nil text)
+plain_after rule text (c ∷ cs) is =
+    ap (λ (t : List ℕ). expanded_after rule (text ++ t) cs) (as_is rule text c (and_left _ _ is)) ∙ plain_after rule (text ++ c ∷ []) cs (and_right _ _ is) ∙ append_assoc text (c ∷ []) cs
+
+pub plain_is : (rule : Rule) (row : List ℕ) → is_plain row ≡ true → expanded rule row ≡ row
+plain_is rule row is = plain_after rule [] row is
+
+same_after : (text row : List ℕ) → expanded_after Same text row ≡ text ++ row
+unfolding expanded_after
+same_after text [] = sym (append-nil text)
+same_after text (c ∷ cs) = same_after (text ++ c ∷ []) cs ∙ append_assoc text (c ∷ []) cs
+
+pub same_is : (row : List ℕ) → expanded Same row ≡ row
+same_is row = same_after [] row
+
+-- ---- each printed character is printed for one of the source
+
+place_below : (rule : Rule) (row : List ℕ) (k at : ℕ) → k ≤ length row → at < printed_len rule row k → (j : ℕ) × ((j < k) × (printed_len rule row j ≤ at) × (at < printed_len rule row (j + 1)))
+place_below rule row zero at within below = absurd (omega (arith, below, ap length (expanded_none rule)))
+place_below rule row (suc k) at within below =
+    elim (cases_lt at (printed_len rule row k)) [
+      | inl before ↦ (let found = place_below rule row k at (omega (arith, within)) before in (found.0, (omega (arith, found.1.0), found.1.1, found.1.2)))
+      | inr here ↦ (k, (omega arith, here, subst (λ n. at < printed_len rule row n) (let e : suc k ≡ k + 1 = omega arith in e) below))
+    ]
+
+pub place_found : (rule : Rule) (row : List ℕ) (at : ℕ) → at < length (expanded rule row) → (j : ℕ) × ((j < length row) × (printed_len rule row j ≤ at) × (at < printed_len rule row (j + 1)))
+place_found rule row at within = place_below rule row (length row) at (omega arith) (omega (arith, within, ap length (ap (expanded rule) (take_all (length row) row (omega arith)))))

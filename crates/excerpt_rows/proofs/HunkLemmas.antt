@@ -1,21 +1,24 @@
 -- The rows of a hunk, one after another.
-use Rattle.std.proofs.Common.{min, inl, inr, Option, Some, None, MatchOption, is_some, nat_le, nat_lt, ◌&&◌, ◌||◌, Bool, true, false, MatchBool, if◌then◌else◌, ◌≡◌, ℕ, ◌+◌, ◌<◌, ◌≤◌, List, [], ◌∷◌, ◌++◌, length, get_or, drop, take, map, Bor, append-nil, sym, ap, ◌∙◌, subst, arith, append_assoc}
+use Rattle.std.proofs.Common.{not, option_to_list, refl, Bool, Bor, IsSomeAnd, List, MatchBool, MatchOption, None, Option, Some, [], ap, append-nil, append_assoc, arith, drop, false, filter, get_or, if◌then◌else◌, inl, inr, is_some, length, map, min, nat_le, nat_lt, slice_get, subst, suc, sym, take, true, ℕ, ◌&&◌, ◌++◌, ◌+◌, ◌-◌, ◌<◌, ◌||◌, ◌∙◌, ◌∷◌, ◌≡◌, ◌≤◌, ◌⊎◌}
 use Rattle.std.specs.List.{flat_map, list_any, sum_by}
 use Rattle.std.proofs.lemmas.Bool.{cases_lt}
 use Rattle.std.proofs.lemmas.Bool.Decides.{nat_tests}
-use Rattle.std.proofs.lemmas.List.{drop_all, drop_more, length-map, length-append, take_all, take_more}
+use Rattle.std.proofs.lemmas.List.{drop_all, drop_more, length-map, length-append, take_all, take_more, drop-drop, length-take-le, take-append-drop}
 use Rattle.excerpt_rows.specs.declared.hunk.HunkRow.{HunkRow}
 use Rattle.excerpt_rows.specs.declared.hunk.Marked.{Marked}
 use Rattle.excerpt_rows.specs.declared.hunk.Edit.{Edit}
 use Rattle.excerpt_rows.specs.Ends.{is_blank}
-use Rattle.std.proofs.lemmas.List.Sums.{sum_by_more}
-use Rattle.std.proofs.lemmas.Option.{slice_get_within}
+use Rattle.std.proofs.lemmas.List.Sums.{sum_by-cons, sum_by_more}
+use Rattle.std.proofs.lemmas.Option.{get_or_from_slice_get, slice_get_within}
 use Rattle.excerpt_rows.specs.declared.alignment.TheConstants.{RULES}
 use Rattle.excerpt_rows.specs.declared.alignment.Alignment.{Alignment}
 use Rattle.excerpt_rows.specs.declared.alignment.Shift.{Shift}
 use Rattle.excerpt_rows.specs.declared.expansion.Rule.{Rule}
 use Rattle.excerpt_rows.specs.Alignment.{HasNoAlignment, IsAlignment, IsOther, IsPrintedBy}
-use Rattle.excerpt_rows.specs.Hunk.{AreSteps, IsAligned, IsStep, IsSumOf, covers, left_of, row_list, taken}
+use Rattle.excerpt_rows.specs.Hunk.{Agrees, AreSteps, EditsAreDrawn, IsAligned, IsStep, IsSumOf, StepBy, covers, is_marked, left_of, middle, old_by, old_list, row_list, taken, taken_by}
+use Rattle.std.specs.Option.{option_copied}
+use Rattle.excerpt_rows.specs.declared.hunk.Sign.{Sign}
+use Rattle.excerpt_rows.specs.declared.hunk.Sign.TheVariants.{Unsigned, Added, Removed, Changed}
 
 steps_cons : (row : HunkRow) (rows : List HunkRow) (old new : ℕ) → AreSteps (row ∷ rows) old new → IsStep row old new × AreSteps rows (old + taken row) (new + length (row_list row))
 unfolding AreSteps
@@ -156,3 +159,78 @@ aligned_if (Some a) true printed source so is = record {
   by = so.rule;
 }
 aligned_if (Some a) false printed source so is = cc
+
+-- ---- what an edit does
+
+-- a row takes no row of the source, or the one with its number
+abbrev Takes : ℕ → List (List ℕ) → HunkRow → ℕ → Type 0
+Takes count olds row old = ((count ≡ 0) × (olds ≡ [])) ⊎ ((count ≡ 1) × (row.number ≡ Some old) × ((s : List ℕ) × ((olds ≡ s ∷ []) × (option_copied row.source ≡ Some s))))
+
+some_source : (P : Bor (List ℕ) → Type 0) (source : Option (Bor (List ℕ))) → IsSomeAnd source P → (s : List ℕ) × ((option_to_list (option_copied source) ≡ s ∷ []) × (option_copied source ≡ Some s))
+some_source P None so = absurd so
+some_source P (Some s) so = (s.now, (refl, refl))
+
+either : {A B X : Type 0} (b : Bool) → MatchBool b A B → (A → X) → (B → X) → X
+either true so f g = f so
+either false so f g = g so
+
+takes_by : (sign : Sign) (row : HunkRow) (old new : ℕ) → StepBy sign row old new → Takes (taken_by sign) (old_by sign row) row old
+takes_by Unsigned row old new so =
+    inr (
+      refl,
+      so.0,
+      either (is_marked row) so.1
+          (λ restores. some_source (λ source. left_of row.marks.now 0 row.text.now ≡ filter (λ c. not (is_blank c)) source.now) row.source restores)
+          (λ same. some_source (λ source. IsAligned row.text.now source.now) row.source same),
+    )
+takes_by Added row old new so = inl (refl, refl)
+takes_by Removed row old new so = inr (refl, so.0, some_source (λ source. IsAligned row.text.now source.now) row.source so.1)
+takes_by Changed row old new so = absurd so
+
+agrees_rest : (row : HunkRow) (rows : List HunkRow) (source : List (List ℕ)) → Agrees (row ∷ rows) source → Agrees rows source
+agrees_rest row rows source so = λ k other number there is. so (suc k) other number there is
+
+-- the rows that a hunk takes are those of the source from the first number on
+old_side : (rows : List HunkRow) (old new : ℕ) (source : List (List ℕ)) → AreSteps rows old new → Agrees rows source → 0 < old → flat_map old_list rows ≡ take (sum_by taken rows) (drop (old - 1) source)
+old_side [] old new source steps so some = refl
+old_side (row ∷ rows) old new source steps so some =
+    let here = steps_cons row rows old new steps in
+    let rest = old_side rows (old + taken row) (new + length (row_list row)) source here.1 (agrees_rest row rows source so) (omega (arith, some)) in
+    let count : sum_by taken (row ∷ rows) ≡ taken row + sum_by taken rows = sum_by-cons taken row rows in
+    elim (takes_by row.sign row old new here.0) [
+      | inl none ↦
+          (let e : old + taken row - 1 ≡ old - 1 = omega (arith, none.0) in
+          let f : sum_by taken rows ≡ sum_by taken (row ∷ rows) = omega (arith, count, none.0) in
+          ap (λ (xs : List (List ℕ)). xs ++ flat_map old_list rows) none.1 ∙ rest ∙ ap (λ n. take (sum_by taken rows) (drop n source)) e ∙ ap (λ n. take n (drop (old - 1) source)) f)
+      | inr one ↦
+          (let s = one.2.0 in
+          let there : slice_get source (old - 1) ≡ Some s = sym (so 0 row old refl one.1) ∙ one.2.1.1 in
+          let within : old - 1 < length source = slice_get_within source (old - 1) s there in
+          let next : old + taken row - 1 ≡ old - 1 + 1 = omega (arith, one.0, some) in
+          let split : drop (old - 1) source ≡ s ∷ drop (old - 1 + 1) source =
+          drop_more source (old - 1) s within ∙ ap (λ (x : List ℕ). x ∷ drop (old - 1 + 1) source) (get_or_from_slice_get source (old - 1) s s there) in
+          let f : suc (sum_by taken rows) ≡ sum_by taken (row ∷ rows) = omega (arith, count, one.0) in
+          ap (λ (xs : List (List ℕ)). xs ++ flat_map old_list rows) one.2.1.0 ∙ ap (λ (xs : List (List ℕ)). s ∷ xs) (rest ∙ ap (λ n. take (sum_by taken rows) (drop n source)) next)
+          ∙ ap (take (suc (sum_by taken rows))) (sym split) ∙ ap (λ n. take n (drop (old - 1) source)) f)
+    ]
+
+parts_are : (source : List (List ℕ)) (n count : ℕ) → take n source ++ take count (drop n source) ++ drop (n + count) source ≡ source
+parts_are source n count =
+    append_assoc (take n source) (take count (drop n source)) (drop (n + count) source)
+    ∙ ap (λ (xs : List (List ℕ)). take n source ++ xs) (ap (λ (xs : List (List ℕ)). take count (drop n source) ++ xs) (sym (drop-drop count n source)) ∙ take-append-drop count (drop n source))
+    ∙ take-append-drop n source
+
+pub edits_are_drawn : EditsAreDrawn
+edits_are_drawn rows edit source is so within =
+    let first = edit.first in
+    let some : 0 < first = is.placed.numbered in
+    record {
+      before = take (first - 1) source;
+      after = drop (first - 1 + edit.count) source;
+      at = (let size : length (take (first - 1) source) ≡ first - 1 = length-take-le (first - 1) source (omega (arith, within)) in omega (arith, size, some));
+      was =
+          ap (λ (xs : List (List ℕ)). take (first - 1) source ++ xs ++ drop (first - 1 + edit.count) source)
+          (old_side (middle rows) first first source is.placed.steps so some ∙ ap (λ n. take n (drop (first - 1) source)) (sym is.sum.count))
+          ∙ parts_are source (first - 1) edit.count;
+      becomes = ap (λ (xs : List (List ℕ)). take (first - 1) source ++ xs ++ drop (first - 1 + edit.count) source) (sym is.sum.rows_are);
+    }

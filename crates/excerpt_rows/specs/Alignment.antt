@@ -1,5 +1,5 @@
 -- A printed row, laid over a row of the source.
-use Rattle.std.specs.Prelude.{◌≡◌, ◌≢◌, ◌⊎◌, ℕ, ◌+◌, ◌-◌, ◌<◌, ◌≤◌, List, ◌++◌, length, drop, Some, slice_get, slice_index_or, true}
+use Rattle.std.specs.Prelude.{◌≡◌, ◌≢◌, ◌⊎◌, ℕ, ◌+◌, ◌-◌, ◌<◌, ◌≤◌, List, ◌++◌, length, drop, take, slice_index, Some, slice_get, slice_index_or, true}
 use Rattle.std.specs.List.{list_all}
 use Rattle.excerpt_rows.specs.declared.alignment.TheConstants.{RULES, LIMIT}
 use Rattle.excerpt_rows.specs.declared.alignment.Alignment.{Alignment}
@@ -7,7 +7,7 @@ use Rattle.excerpt_rows.specs.declared.alignment.Shift.{Shift}
 use Rattle.excerpt_rows.specs.declared.expansion.Rule.{Rule}
 use Rattle.excerpt_rows.specs.declared.expansion.Rule.TheVariants.{Same}
 use Rattle.excerpt_rows.specs.Ends.{IsDotted, core, core_end, core_start, first_of, is_blank}
-use Rattle.excerpt_rows.specs.Expansion.{ArePlaces, bytes_of, expanded}
+use Rattle.excerpt_rows.specs.Expansion.{ArePlaces, bytes_of, expanded, printed_len}
 use Rattle.excerpt_rows.specs.Search.{IsOnlyPlace}
 use Rattle.excerpt_rows.specs.declared.ends.Edge.TheVariants.{Blank}
 
@@ -25,15 +25,15 @@ pub record IsWhole (printed text : List ℕ) : Type 0 where
 pub record IsPart (printed text : List ℕ) (shift : Shift) : Type 0 where
   pub dotted : IsDotted printed
   pub some : core_start printed < core_end printed
-  pub place : IsOnlyPlace (core printed) text shift.ahead
-  pub begun : shift.behind ≡ core_start printed
+  pub place : IsOnlyPlace (core printed) text shift.skipped
+  pub begun : shift.lead ≡ core_start printed
 
 abbrev pub IsNoPart : List ℕ → List ℕ → Type 0
 IsNoPart printed text = (shift : Shift) → IsPart printed text shift → ⊥
 
 -- a printed row is a text, or else a part of it
 abbrev pub IsLaid : List ℕ → List ℕ → Shift → Type 0
-IsLaid printed text shift = (IsWhole printed text × (shift.ahead ≡ 0) × (shift.behind ≡ spare printed text)) ⊎ ((IsWhole printed text → ⊥) × IsPart printed text shift)
+IsLaid printed text shift = (IsWhole printed text × (shift.skipped ≡ 0) × (shift.lead ≡ spare printed text)) ⊎ ((IsWhole printed text → ⊥) × IsPart printed text shift)
 
 abbrev pub IsNotLaid : List ℕ → List ℕ → Type 0
 IsNotLaid printed text = (shift : Shift) → IsLaid printed text shift → ⊥
@@ -51,7 +51,7 @@ pub record FirstLaid (rules : List Rule) (printed source : List ℕ) (rule : Rul
 
 -- a printed row is the source's row as it is, or else by the first rule by which it is
 abbrev pub IsPrintedBy : List Rule → List ℕ → List ℕ → Rule → Shift → Type 0
-IsPrintedBy rules printed source rule shift = ((printed ≡ source) × (rule ≡ Same) × (shift.ahead ≡ 0) × (shift.behind ≡ 0)) ⊎ ((printed ≢ source) × FirstLaid rules printed source rule shift)
+IsPrintedBy rules printed source rule shift = ((printed ≡ source) × (rule ≡ Same) × (shift.skipped ≡ 0) × (shift.lead ≡ 0)) ⊎ ((printed ≢ source) × FirstLaid rules printed source rule shift)
 
 pub record IsOther (rules : List Rule) (printed source : List ℕ) : Type 0 where
   pub differs : printed ≢ source
@@ -69,7 +69,26 @@ HasNoAlignment printed source = length printed ≤ LIMIT → length source ≤ L
 
 -- the character of the expansion that a printed column is
 abbrev pub shifted : Shift → ℕ → ℕ
-shifted shift column = column + shift.ahead - shift.behind
+shifted shift column = column + shift.skipped - shift.lead
 
 abbrev pub offset_at : Alignment → ℕ → ℕ
 offset_at a column = slice_index_or a.places.items (shifted a.shift column) a.end
+
+-- ---- columns
+
+-- the columns of a printed row that are of the source: after its lead, and if it was cut, before what was put after it
+pub record IsOfSource (printed : List ℕ) (shift : Shift) (column : ℕ) : Type 0 where
+  pub after : shift.lead ≤ column
+  pub within : column < length printed
+  pub uncut : IsDotted printed → column < core_end printed
+
+-- the character at a column is one of those that are printed for the source's character `at`, and the offset is that character's
+pub record IsColumn (printed source : List ℕ) (a : Alignment) (column at : ℕ) : Type 0 where
+  pub there : at < length source
+  pub offset : offset_at a column ≡ bytes_of (take at source)
+  pub from : printed_len a.rule source at ≤ shifted a.shift column
+  pub to : shifted a.shift column < printed_len a.rule source (at + 1)
+  pub same : slice_index printed column ≡ slice_index (expanded a.rule source) (shifted a.shift column)
+
+abbrev pub ColumnsAreRight : Type 0
+ColumnsAreRight = (printed source : List ℕ) (a : Alignment) (column : ℕ) → IsAlignment printed source a → IsOfSource printed a.shift column → (at : ℕ) × IsColumn printed source a column at

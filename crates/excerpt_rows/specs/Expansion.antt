@@ -1,6 +1,6 @@
 -- A row of a source as a tool prints it.
-use Rattle.std.specs.Prelude.{◌≡◌, ℕ, ◌+◌, ◌-◌, ◌/◌, ◌%◌, ◌<◌, ◌≤◌, ◌==◌, ◌||◌, nat_lt, if◌then◌else◌, Bool, List, [], ◌∷◌, ◌++◌, length, take, replicate, slice_index, unwrap_or, false}
-use Rattle.std.specs.List.{sum_by}
+use Rattle.std.specs.Prelude.{◌≡◌, ℕ, ◌+◌, ◌-◌, ◌/◌, ◌%◌, ◌<◌, ◌≤◌, ◌==◌, ◌||◌, ◌&&◌, not, nat_lt, if◌then◌else◌, Bool, List, [], ◌∷◌, ◌++◌, length, take, replicate, slice_index, unwrap_or, false}
+use Rattle.std.specs.List.{list_all, sum_by}
 use Rattle.std.specs.Char.{len_utf8}
 use Rattle.unicode_width.specs.Width.{char_width}
 use Rattle.ucd_category.specs.GeneralCategory.{general_category, general_category_eq}
@@ -35,6 +35,13 @@ tab_len ByteStops8 cells bytes = 8 - bytes % 8
 -- a control or format character
 abbrev pub is_hidden : ℕ → Bool
 is_hidden c = general_category_eq (general_category c) Control || general_category_eq (general_category c) Format
+
+-- neither that nor a tab
+abbrev pub is_as_is : ℕ → Bool
+is_as_is c = not (c == 0x09) && not (is_hidden c)
+
+abbrev pub is_plain : List ℕ → Bool
+is_plain row = list_all is_as_is row
 
 -- U+2400 is the picture of U+0000
 abbrev pub picture_of : ℕ → ℕ

@@ -1,5 +1,5 @@
 -- The rows of a suggestion, as an edit.
-use Rattle.std.specs.Prelude.{◌≡◌, ℕ, ◌+◌, ◌-◌, ◌<◌, ◌≤◌, ◌&&◌, ◌||◌, not, nat_lt, nat_le, if◌then◌else◌, Bool, true, false, List, [], ◌∷◌, ◌++◌, length, map, filter, slice_range, slice_get, slice_index, Option, Some, None, IfSome, IsSomeAnd, MatchBool, SomeIndex, option_to_list}
+use Rattle.std.specs.Prelude.{◌≡◌, ℕ, ◌+◌, ◌-◌, ◌<◌, ◌≤◌, ◌&&◌, ◌||◌, not, nat_lt, nat_le, if◌then◌else◌, Bool, true, false, List, [], ◌∷◌, ◌++◌, length, take, drop, map, filter, slice_range, slice_get, slice_index, Option, Some, None, IfSome, IsSomeAnd, MatchBool, SomeIndex, option_to_list}
 use Rattle.std.specs.List.{find, flat_map, list_all, list_any, prefix_len, suffix_len, sum_by}
 use Rattle.std.specs.Option.{option_copied, option_and_then}
 use Rattle.excerpt_rows.specs.declared.alignment.TheConstants.{RULES, LIMIT}
@@ -159,3 +159,34 @@ pub record IsEdit (rows : List HunkRow) (edit : Edit) : Type 0 where
 
 abbrev pub HasNoEdit : List HunkRow → Type 0
 HasNoEdit rows = (first : ℕ) → IsPlaced rows first → ⊥
+
+-- ---- what an edit does
+
+-- the row that a row is in the source
+abbrev pub old_by : Sign → HunkRow → List (List ℕ)
+old_by Unsigned row = option_to_list (option_copied row.source)
+old_by Added row = []
+old_by Removed row = option_to_list (option_copied row.source)
+old_by Changed row = []
+
+abbrev pub old_list : HunkRow → List (List ℕ)
+old_list row = old_by row.sign row
+
+-- the rows of a source are those that the rows of a hunk have with their numbers
+abbrev pub Agrees : List HunkRow → List (List ℕ) → Type 0
+Agrees rows source = (k : ℕ) (row : HunkRow) (number : ℕ) → slice_get rows k ≡ Some row → row.number ≡ Some number → option_copied row.source ≡ slice_get source (number - 1)
+
+-- the rows of a source after an edit
+abbrev pub applied : Edit → List (List ℕ) → List (List ℕ)
+applied edit source = take (edit.first - 1) source ++ map (λ row. row.now) edit.rows.items ++ drop (edit.first - 1 + edit.count) source
+
+-- the source had what the rows were, has what they are, and is otherwise the same
+pub record IsDrawn (rows : List HunkRow) (first : ℕ) (old new : List (List ℕ)) : Type 0 where
+  pub before : List (List ℕ)
+  pub after : List (List ℕ)
+  pub at : length before + 1 ≡ first
+  pub was : before ++ flat_map old_list rows ++ after ≡ old
+  pub becomes : before ++ flat_map row_list rows ++ after ≡ new
+
+abbrev pub EditsAreDrawn : Type 0
+EditsAreDrawn = (rows : List HunkRow) (edit : Edit) (source : List (List ℕ)) → IsEdit rows edit → Agrees (middle rows) source → edit.first ≤ length source + 1 → IsDrawn (middle rows) edit.first source (applied edit source)

@@ -2,17 +2,17 @@
 ghost use Rattle.std.specs.Prelude.{◌≡◌, ◌+◌, ◌-◌, ◌*◌, ◌^◌, ◌≤◌, ◌<◌, IfOk, MatchBool, MatchOption, length, min};
 ghost use Rattle.std.specs.List.{list_all};
 ghost use Rattle.excerpt_rows.specs.Ends.{is_blank as blank};
-ghost use Rattle.excerpt_rows.specs.Alignment.{FirstLaid, HasNoAlignment, IsAlignment, IsLaid, IsNoPart, IsNotLaid, IsOther};
+ghost use Rattle.excerpt_rows.specs.Alignment.{ColumnsAreRight, FirstLaid, HasNoAlignment, IsAlignment, IsLaid, IsNoPart, IsNotLaid, IsOther};
 ghost use Rattle.excerpt_rows.specs.Alignment.{IsPart, IsPrintedBy, IsWhole, NoneLaid, offset_at, shifted};
 ghost use Rattle.excerpt_rows.specs.Alignment.{spare as spare_blanks};
 
 use crate::ends::{Edge, core_of, is_blank, leading};
-use crate::expansion::{Hidden, Rule, Tabs, byte_len, expanded, places_of};
+use crate::expansion::{Hidden, Rule, Tabs, byte_len, expanded, is_plain, places_of};
 use crate::search::only_place;
 use std::alloc::{AllocError, Global};
 
 /// The most characters of a row that is aligned.
-pub const LIMIT: usize = 0x10_0000;
+pub const LIMIT: usize = 0x1_0000;
 
 /// The rules by which a row may be printed otherwise than it is. The first that fits counts.
 pub const RULES: [Rule; 24] = [
@@ -42,14 +42,14 @@ pub const RULES: [Rule; 24] = [
     Rule::Expanded(Tabs::ByteStops8, Hidden::Kept),
 ];
 
-/// How far what is printed is moved against the expansion of the source's row: a character at `k` of
-/// the printed row is at `k + ahead - behind` of the expansion.
+/// How a printed row lies over the expansion of a source's row: the character at `k` of the printed
+/// row is the one at `k + skipped - lead` of the expansion.
 #[derive(Clone, Copy)]
 pub struct Shift {
-    /// The characters of the expansion before the first that is printed.
-    pub ahead: usize,
-    /// The characters of the printed row before it.
-    pub behind: usize,
+    /// How many characters of the expansion come before the first that is printed.
+    pub skipped: usize,
+    /// How many characters of the printed row come before it.
+    pub lead: usize,
 }
 
 /// A printed row that is a row of the source.
@@ -66,9 +66,9 @@ pub struct Alignment {
 
 /// How a printed row is the source's row: as it is, or else by the first of [`RULES`] by which it is
 /// the row's expansion, but for blanks before it and at its end, or, if it was cut by `...`, a part of
-/// it that is there exactly once. None too if one of the rows has more than [`LIMIT`] characters.
+/// it that is there exactly once. Rows of more than [`LIMIT`] characters aren't looked at.
 ///
-/// It takes time in the length of both rows, once for each rule.
+/// For each rule it takes time in the length of both rows.
 ///
 /// # Errors
 ///
@@ -102,16 +102,20 @@ fn rule_of(
     printed: &[char],
     source: &[char],
 ) -> Result<Option<(Rule, Shift)>, AllocError>
-    requires { length source.now ≤ 2 ^ 20 }
+    requires some { 0 < length rules.now }
+    requires short { length source.now ≤ 2 ^ 20 }
     ensures { IfOk result (λ found. MatchOption found (IsOther rules.now printed.now source.now)
         (λ by. IsPrintedBy rules.now printed.now source.now by.0 by.1)) }
 {
     if printed == source {
         let shift = Shift {
-            ahead: 0,
-            behind: 0,
+            skipped: 0,
+            lead: 0,
         };
         return Ok(Some((Rule::Same, shift)));
+    }
+    if is_plain(source) {
+        return first_laid(alloc, &rules[..1], printed, source);
     }
     first_laid(alloc, rules, printed, source)
 }
@@ -142,9 +146,9 @@ fn laid(alloc: Global, printed: &[char], text: &[char]) -> Result<Option<Shift>,
     ensures { IfOk result (λ found.
         MatchOption found (IsNotLaid printed.now text.now) (IsLaid printed.now text.now)) }
 {
-    let behind = spare(printed, text);
-    if is_whole(printed, text, behind) {
-        return Ok(Some(Shift { ahead: 0, behind }));
+    let lead = spare(printed, text);
+    if is_whole(printed, text, lead) {
+        return Ok(Some(Shift { skipped: 0, lead }));
     }
     part(alloc, printed, text)
 }
@@ -185,9 +189,9 @@ fn part(alloc: Global, printed: &[char], text: &[char]) -> Result<Option<Shift>,
         return Ok(None);
     };
     match only_place(alloc, &printed[start..end], text)? {
-        Some(ahead) => Ok(Some(Shift {
-            ahead,
-            behind: start,
+        Some(skipped) => Ok(Some(Shift {
+            skipped,
+            lead: start,
         })),
         None => Ok(None),
     }
@@ -198,10 +202,10 @@ impl Shift {
     fn at(self, column: usize) -> usize
         ensures { result ≡ min (shifted self column) (2 ^ 64 - 1) }
     {
-        if self.behind <= self.ahead {
-            column.saturating_add(self.ahead - self.behind)
+        if self.lead <= self.skipped {
+            column.saturating_add(self.skipped - self.lead)
         } else {
-            column.saturating_sub(self.behind - self.ahead)
+            column.saturating_sub(self.lead - self.skipped)
         }
     }
 }
@@ -218,3 +222,9 @@ impl Alignment {
         }
     }
 }
+
+/// At the columns of a printed row that are of the source, [`Alignment::offset`] is the offset of the
+/// source's character that is printed there.
+pub fn columns_are_right()
+    ensures { ColumnsAreRight }
+{}

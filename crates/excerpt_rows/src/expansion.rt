@@ -1,7 +1,7 @@
 //! A row of a source as a tool prints it: its tabs, and the characters that have no width.
 ghost use Rattle.std.specs.Prelude.{◌≡◌, ◌+◌, ◌*◌, ◌/◌, ◌%◌, ◌^◌, ◌≤◌, ◌<◌, ◌++◌, ◌∷◌, [], IfOk, OnOk, length, replicate};
 ghost use Rattle.excerpt_rows.specs.Expansion.{ArePlaces, IsMeasured, bytes_of, cells_of, code_of, digits_of, expanded as expansion, hex as hex_digit};
-ghost use Rattle.excerpt_rows.specs.Expansion.{hidden_as, is_hidden as is_hidden_char, last_digits, picture_of, shown, tab_len as tab_length, width_of};
+ghost use Rattle.excerpt_rows.specs.Expansion.{hidden_as, is_as_is as is_as_is_char, is_hidden as is_hidden_char, is_plain as is_plain_row, last_digits, picture_of, shown, tab_len as tab_length, width_of};
 
 use std::alloc::{AllocError, Global};
 use ucd_category::GeneralCategory;
@@ -63,6 +63,19 @@ pub(crate) fn expanded(alloc: Global, rule: Rule, row: &[char]) -> Result<Vec<ch
         printed.show(rule, *c)?;
     }
     Ok(printed.text)
+}
+
+/// Whether each rule prints a row as it is.
+pub(crate) fn is_plain(row: &[char]) -> bool
+    ensures { result ≡ is_plain_row row.now }
+{
+    row.iter().all(|c| is_as_is(*c))
+}
+
+fn is_as_is(c: char) -> bool
+    ensures { result ≡ is_as_is_char c }
+{
+    c != '\t' && !is_hidden(c)
 }
 
 /// For each character that is printed of a row, the offset in bytes of the row's character that it

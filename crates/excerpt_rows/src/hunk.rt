@@ -3,7 +3,7 @@ ghost use Rattle.std.specs.Prelude.{◌≡◌, ℕ, ◌+◌, ◌-◌, ◌≤◌,
 ghost use Rattle.std.specs.Prelude.{Some, IfOk, IfSome, IsTrue, MatchBool, MatchOption, OnOk, length, map, option_to_list};
 ghost use Rattle.std.specs.List.{find, list_all, prefix_len, slice_index_or, suffix_len};
 ghost use Rattle.std.specs.Option.{option_copied};
-ghost use Rattle.excerpt_rows.specs.Hunk.{AreExact, AreSteps, HasDots, HasNoEdit, IsEdit, IsExact};
+ghost use Rattle.excerpt_rows.specs.Hunk.{AreExact, AreSteps, EditsAreDrawn, HasDots, HasNoEdit, IsEdit, IsExact};
 ghost use Rattle.excerpt_rows.specs.Hunk.{IsAligned, IsSourceRow, IsStep, IsSumOf, Restores, left_of};
 ghost use Rattle.excerpt_rows.specs.Hunk.{begin as begin_of, end as end_of, given as row_given};
 ghost use Rattle.excerpt_rows.specs.Hunk.{is_changed_by, is_context as is_context_row, is_of_source, number_at as number_of_row};
@@ -390,3 +390,9 @@ fn mark(flags: &mut [bool], start: usize, end: usize)
         flags[k] = true;
     }
 }
+
+/// If a source has the rows that the rows of a suggestion name, an edit of them changes exactly what
+/// is drawn: its rows are those that were drawn before, and become those that were drawn after.
+pub fn edits_are_drawn()
+    ensures { EditsAreDrawn }
+{}
