@@ -11,9 +11,8 @@ use Rattle.excerpt_rows.specs.declared.alignment.Shift.{Shift}
 use Rattle.excerpt_rows.specs.declared.expansion.Rule.{Rule}
 use Rattle.excerpt_rows.specs.Ends.{IsCore, core, core_end, core_start, is_blank}
 use Rattle.excerpt_rows.specs.Search.{HasNoOnlyPlace, IsOnlyPlace}
-use Rattle.excerpt_rows.specs.Expansion.{expanded, is_plain}
+use Rattle.excerpt_rows.specs.Expansion.{expanded, is_plain, rules}
 use Rattle.excerpt_rows.specs.Alignment.{ColumnsAreRight, FirstLaid, IsOther, IsLaid, IsNoPart, IsNotLaid, IsOfSource, IsPart, IsPrintedBy, IsWhole, NoneLaid, shifted, spare}
-use Rattle.excerpt_rows.specs.declared.alignment.TheConstants.{RULES}
 use Rattle.excerpt_rows.proofs.ExpansionLemmas.{place_found, plain_is, same_is}
 
 -- ---- the whole text
@@ -175,7 +174,7 @@ by_column rules printed source rule shift column by of =
 
 pub columns_are_right : ColumnsAreRight
 columns_are_right printed source a column is of =
-    let here = by_column RULES printed source a.rule a.shift column is.rule of in
+    let here = by_column rules printed source a.rule a.shift column is.rule of in
     let found = place_found a.rule source (shifted a.shift column) here.0 in
     let within : shifted a.shift column < length a.places.items = omega (arith, is.places.count, here.0) in (
       found.0,

@@ -10,7 +10,7 @@ use Rattle.excerpt_rows.specs.declared.hunk.Edit.{Edit}
 use Rattle.excerpt_rows.specs.Ends.{is_blank}
 use Rattle.std.proofs.lemmas.List.Sums.{sum_by-cons, sum_by_more}
 use Rattle.std.proofs.lemmas.Option.{get_or_from_slice_get, slice_get_within}
-use Rattle.excerpt_rows.specs.declared.alignment.TheConstants.{RULES}
+use Rattle.excerpt_rows.specs.Expansion.{rules}
 use Rattle.excerpt_rows.specs.declared.alignment.Alignment.{Alignment}
 use Rattle.excerpt_rows.specs.declared.alignment.Shift.{Shift}
 use Rattle.excerpt_rows.specs.declared.expansion.Rule.{Rule}
@@ -150,7 +150,7 @@ not_other rules printed source rule shift other by =
 pub aligned_if : (found : Option Alignment) (yes : Bool) (printed source : List ℕ) → MatchOption found (HasNoAlignment printed source) (IsAlignment printed source) → yes ≡ is_some found
     → MatchBool yes (IsAligned printed source) (IsAligned printed source → ⊥)
 aligned_if None true printed source so is = cc
-aligned_if None false printed source so is = λ there. not_other RULES printed source there.rule there.shift (so there.printed_short there.source_short) there.by
+aligned_if None false printed source so is = λ there. not_other rules printed source there.rule there.shift (so there.printed_short there.source_short) there.by
 aligned_if (Some a) true printed source so is = record {
   printed_short = so.printed_short;
   source_short = so.source_short;

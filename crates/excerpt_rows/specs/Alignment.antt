@@ -1,13 +1,13 @@
 -- A printed row, laid over a row of the source.
 use Rattle.std.specs.Prelude.{◌≡◌, ◌≢◌, ◌⊎◌, ℕ, ◌+◌, ◌-◌, ◌<◌, ◌≤◌, List, ◌++◌, length, drop, take, slice_index, Some, slice_get, slice_index_or, true}
 use Rattle.std.specs.List.{list_all}
-use Rattle.excerpt_rows.specs.declared.alignment.TheConstants.{RULES, LIMIT}
+use Rattle.excerpt_rows.specs.declared.alignment.TheConstants.{LIMIT}
 use Rattle.excerpt_rows.specs.declared.alignment.Alignment.{Alignment}
 use Rattle.excerpt_rows.specs.declared.alignment.Shift.{Shift}
 use Rattle.excerpt_rows.specs.declared.expansion.Rule.{Rule}
 use Rattle.excerpt_rows.specs.declared.expansion.Rule.TheVariants.{Same}
 use Rattle.excerpt_rows.specs.Ends.{IsDotted, core, core_end, core_start, first_of, is_blank}
-use Rattle.excerpt_rows.specs.Expansion.{ArePlaces, bytes_of, expanded, printed_len}
+use Rattle.excerpt_rows.specs.Expansion.{ArePlaces, bytes_of, expanded, printed_len, rules}
 use Rattle.excerpt_rows.specs.Search.{IsOnlyPlace}
 use Rattle.excerpt_rows.specs.declared.ends.Edge.TheVariants.{Blank}
 
@@ -40,32 +40,32 @@ IsNotLaid printed text = (shift : Shift) → IsLaid printed text shift → ⊥
 
 -- by none of the first so many rules a printed row is a row of the source
 abbrev pub NoneLaid : List Rule → ℕ → List ℕ → List ℕ → Type 0
-NoneLaid rules count printed source = (k : ℕ) (rule : Rule) → k < count → slice_get rules k ≡ Some rule → IsNotLaid printed (expanded rule source)
+NoneLaid table count printed source = (k : ℕ) (rule : Rule) → k < count → slice_get table k ≡ Some rule → IsNotLaid printed (expanded rule source)
 
 -- by this rule it is, and by no earlier one
-pub record FirstLaid (rules : List Rule) (printed source : List ℕ) (rule : Rule) (shift : Shift) : Type 0 where
+pub record FirstLaid (table : List Rule) (printed source : List ℕ) (rule : Rule) (shift : Shift) : Type 0 where
   pub at : ℕ
-  pub here : slice_get rules at ≡ Some rule
+  pub here : slice_get table at ≡ Some rule
   pub laid : IsLaid printed (expanded rule source) shift
-  pub before : NoneLaid rules at printed source
+  pub before : NoneLaid table at printed source
 
 -- a printed row is the source's row as it is, or else by the first rule by which it is
 abbrev pub IsPrintedBy : List Rule → List ℕ → List ℕ → Rule → Shift → Type 0
-IsPrintedBy rules printed source rule shift = ((printed ≡ source) × (rule ≡ Same) × (shift.skipped ≡ 0) × (shift.lead ≡ 0)) ⊎ ((printed ≢ source) × FirstLaid rules printed source rule shift)
+IsPrintedBy table printed source rule shift = ((printed ≡ source) × (rule ≡ Same) × (shift.skipped ≡ 0) × (shift.lead ≡ 0)) ⊎ ((printed ≢ source) × FirstLaid table printed source rule shift)
 
-pub record IsOther (rules : List Rule) (printed source : List ℕ) : Type 0 where
+pub record IsOther (table : List Rule) (printed source : List ℕ) : Type 0 where
   pub differs : printed ≢ source
-  pub none : NoneLaid rules (length rules) printed source
+  pub none : NoneLaid table (length table) printed source
 
 pub record IsAlignment (printed source : List ℕ) (a : Alignment) : Type 0 where
   pub printed_short : length printed ≤ LIMIT
   pub source_short : length source ≤ LIMIT
-  pub rule : IsPrintedBy RULES printed source a.rule a.shift
+  pub rule : IsPrintedBy rules printed source a.rule a.shift
   pub places : ArePlaces a.rule source a.places.items
   pub end : a.end ≡ bytes_of source
 
 abbrev pub HasNoAlignment : List ℕ → List ℕ → Type 0
-HasNoAlignment printed source = length printed ≤ LIMIT → length source ≤ LIMIT → IsOther RULES printed source
+HasNoAlignment printed source = length printed ≤ LIMIT → length source ≤ LIMIT → IsOther rules printed source
 
 -- the character of the expansion that a printed column is
 abbrev pub shifted : Shift → ℕ → ℕ

@@ -1,6 +1,6 @@
 -- A row of a source as a tool prints it.
-use Rattle.std.specs.Prelude.{◌≡◌, ℕ, ◌+◌, ◌-◌, ◌/◌, ◌%◌, ◌<◌, ◌≤◌, ◌==◌, ◌||◌, ◌&&◌, not, nat_lt, if◌then◌else◌, Bool, List, [], ◌∷◌, ◌++◌, length, take, replicate, slice_index, unwrap_or, false}
-use Rattle.std.specs.List.{list_all, sum_by}
+use Rattle.std.specs.Prelude.{◌≡◌, ℕ, ◌+◌, ◌-◌, ◌/◌, ◌%◌, ◌<◌, ◌≤◌, ◌==◌, ◌||◌, ◌&&◌, not, nat_lt, if◌then◌else◌, Bool, List, [], ◌∷◌, ◌++◌, length, map, take, replicate, slice_index, unwrap_or, false}
+use Rattle.std.specs.List.{flat_map, list_all, sum_by}
 use Rattle.std.specs.Char.{len_utf8}
 use Rattle.unicode_width.specs.Width.{char_width}
 use Rattle.ucd_category.specs.GeneralCategory.{general_category, general_category_eq}
@@ -98,3 +98,15 @@ pub record ArePlaces (rule : Rule) (row places : List ℕ) : Type 0 where
 pub record IsMeasured (printed : Printed) : Type 0 where
   pub cells : printed.cells ≡ cells_of printed.text.items
   pub bytes : printed.bytes ≡ bytes_of printed.text.items
+
+-- ---- all rules, in their order
+
+abbrev pub tabs_in_order : List Tabs
+tabs_in_order = Stops8 ∷ Blanks4 ∷ Blanks1 ∷ Blanks2 ∷ Stops4 ∷ ByteStops8 ∷ []
+
+abbrev pub hidden_in_order : List Hidden
+hidden_in_order = Dropped ∷ Pictured ∷ Coded ∷ Kept ∷ []
+
+-- by tabs, and by hidden characters for each of these
+unfoldable pub rules : List Rule
+rules = flat_map (λ tabs. map (λ hidden. Expanded tabs hidden) hidden_in_order) tabs_in_order

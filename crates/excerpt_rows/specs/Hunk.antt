@@ -2,7 +2,7 @@
 use Rattle.std.specs.Prelude.{◌≡◌, ℕ, ◌+◌, ◌-◌, ◌<◌, ◌≤◌, ◌&&◌, ◌||◌, not, nat_lt, nat_le, if◌then◌else◌, Bool, true, false, List, [], ◌∷◌, ◌++◌, length, take, drop, map, filter, slice_range, slice_get, slice_index, Option, Some, None, IfSome, IsSomeAnd, MatchBool, SomeIndex, option_to_list}
 use Rattle.std.specs.List.{find, flat_map, list_all, list_any, prefix_len, suffix_len, sum_by}
 use Rattle.std.specs.Option.{option_copied, option_and_then}
-use Rattle.excerpt_rows.specs.declared.alignment.TheConstants.{RULES, LIMIT}
+use Rattle.excerpt_rows.specs.declared.alignment.TheConstants.{LIMIT}
 use Rattle.excerpt_rows.specs.declared.alignment.Shift.{Shift}
 use Rattle.excerpt_rows.specs.declared.expansion.Rule.{Rule}
 use Rattle.excerpt_rows.specs.declared.hunk.Sign.{Sign}
@@ -12,6 +12,7 @@ use Rattle.excerpt_rows.specs.declared.hunk.HunkRow.{HunkRow}
 use Rattle.excerpt_rows.specs.declared.hunk.Edit.{Edit}
 use Rattle.excerpt_rows.specs.Alignment.{IsPrintedBy}
 use Rattle.excerpt_rows.specs.Ends.{is_blank}
+use Rattle.excerpt_rows.specs.Expansion.{rules}
 
 -- ---- one row
 
@@ -44,7 +45,7 @@ pub record IsAligned (printed source : List ℕ) : Type 0 where
   pub source_short : length source ≤ LIMIT
   pub rule : Rule
   pub shift : Shift
-  pub by : IsPrintedBy RULES printed source rule shift
+  pub by : IsPrintedBy rules printed source rule shift
 
 abbrev pub IsSourceRow : HunkRow → Type 0
 IsSourceRow row = IsSomeAnd row.source (λ source. IsAligned row.text.now source.now)

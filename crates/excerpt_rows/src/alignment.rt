@@ -73,6 +73,7 @@ pub struct Alignment {
 /// # Errors
 ///
 /// Out of memory.
+#[tactic(auto, unfolding(crate::specs::Expansion::rules))]
 pub fn aligned(
     alloc: Global,
     printed: &[char],
