@@ -1,10 +1,10 @@
 -- The directories of a build.
-use Rattle.std.proofs.Common.{◌≡◌, ◌⊎◌, ℕ, zero, suc, ◌+◌, ◌-◌, ◌<◌, ◌≤◌, nat_lt, if◌then◌else◌, Bool, true, false, List, [], ◌∷◌, ◌++◌, length, take, drop, map, reverse, remove, get_or, slice_get, Option, Some, None, option_map, unwrap_or, Result, Ok, Err, OnOk, refl, sym, ap, ap₂, ◌∙◌, subst, inl, inr, arith}
+use Rattle.std.proofs.Common.{◌≡◌, ℕ, suc, ◌+◌, ◌-◌, ◌<◌, ◌≤◌, nat_lt, if◌then◌else◌, Bool, true, false, List, [], ◌∷◌, ◌++◌, length, take, drop, map, reverse, remove, get_or, slice_get, Option, Some, None, option_map, unwrap_or, Result, Ok, Err, OnOk, refl, sym, ap, ap₂, ◌∙◌, inl, inr, arith}
 use Rattle.std.specs.List.{find}
 use Rattle.std.specs.String.{string_bytes}
 use Rattle.std.proofs.lemmas.Bool.{cases_lt}
 use Rattle.std.proofs.lemmas.Bool.Decides.{nat_tests}
-use Rattle.std.proofs.lemmas.List.{drop-map, get_or_append_left, get_or-append_right, get_or_at, get_or-reverse, length-append, length-map, length-reverse, map-append, reverse-append, take-map, take_all, take_more}
+use Rattle.std.proofs.lemmas.List.{drop-map, get_or_append_left, get_or-append_right, get_or-reverse, length-append, length-map, length-reverse, map-append, reverse-append, take-map, take_more}
 use Rattle.std.proofs.lemmas.Option.{get_or_from_slice_get, slice_get-get_or, slice_get-map, slice_get_past, slice_get_read, slice_get_within}
 use Rattle.build_dirs.specs.declared.dirs.TheConstants.{LIMIT}
 use Rattle.build_dirs.specs.declared.dirs.OpenDir.{OpenDir}

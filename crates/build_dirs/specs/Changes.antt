@@ -1,8 +1,8 @@
 -- Lines that say that a build enters or leaves a directory.
-use Rattle.std.specs.Prelude.{◌≡◌, ◌⊎◌, ℕ, ◌==◌, ◌&&◌, ◌||◌, not, Bool, true, false, List, [], ◌∷◌, ◌++◌, length, codes, Option, Some, None}
+use Rattle.std.specs.Prelude.{◌≡◌, ◌⊎◌, ℕ, ◌==◌, ◌&&◌, ◌||◌, not, Bool, true, false, List, [], ◌∷◌, ◌++◌, length, codes, Some}
 use Rattle.std.specs.List.{list_all}
 use Rattle.std.specs.Char.{is_ascii_alphanumeric}
-use Rattle.escapes.specs.Cuts.{behind, number_of, without_last}
+use Rattle.escapes.specs.Cuts.{number_of}
 
 -- letters, digits, `_`, `.`, `+`, `-` and `/`
 abbrev pub is_program_byte : ℕ → Bool

@@ -1,5 +1,5 @@
 -- The directories of a build, and where a name may be.
-use Rattle.std.specs.Prelude.{◌≡◌, ◌⊎◌, ℕ, ◌+◌, ◌-◌, ◌<◌, ◌≤◌, ◌==◌, ◌||◌, nat_le, nat_lt, if◌then◌else◌, Bool, true, false, List, [], ◌∷◌, ◌++◌, length, drop, map, reverse, remove, Option, Some, None, MatchBool, slice_get, option_map, unwrap_or}
+use Rattle.std.specs.Prelude.{◌≡◌, ◌⊎◌, ℕ, ◌+◌, ◌<◌, ◌==◌, ◌||◌, nat_lt, if◌then◌else◌, Bool, false, List, [], ◌∷◌, ◌++◌, length, drop, map, reverse, remove, Option, Some, MatchBool, slice_get, option_map, unwrap_or}
 use Rattle.std.specs.List.{find}
 use Rattle.std.specs.String.{string_bytes}
 use Rattle.build_dirs.specs.declared.dirs.TheConstants.{LIMIT}

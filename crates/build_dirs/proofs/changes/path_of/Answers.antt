@@ -1,5 +1,5 @@
 -- The quotes around it.
-use Rattle.build_dirs.proofs.ChangeLemmas.{is_path, no_path_close, no_path_empty, no_path_open}
+use Rattle.build_dirs.proofs.ChangeLemmas.{no_path_close, no_path_open}
 use Rattle.build_dirs.proofs.changes.path_of.Goals as goal
 
 pub returns-in_default : goal.returns-in_default

@@ -1,5 +1,5 @@
 -- One directory after another, from the last.
-use Rattle.std.proofs.Common.{◌≡◌, ◌+◌, ◌-◌, ◌∙◌, ap, sym, length, arith}
+use Rattle.std.proofs.Common.{◌-◌, ◌∙◌, ap, arith}
 use Rattle.std.proofs.lemmas.List.{length-map, take_all}
 use Rattle.build_dirs.specs.Dirs.{base_of, dir_of, opens_of}
 use Rattle.build_dirs.proofs.DirLemmas.{base_end, base_found, base_goes}

@@ -1,5 +1,5 @@
 -- In each part of the order.
-use Rattle.std.proofs.Common.{◌-◌, ◌∙◌, ap, Some, refl, length, arith}
+use Rattle.std.proofs.Common.{◌-◌, ◌∙◌, ap, arith}
 use Rattle.std.specs.String.{string_bytes}
 use Rattle.build_dirs.proofs.DirLemmas.{order_end, order_ever, order_open, order_start, text_at}
 use Rattle.build_dirs.proofs.dirs.BuildDirs.dir.Goals as goal
