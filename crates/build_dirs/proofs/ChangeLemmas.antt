@@ -39,18 +39,18 @@ ends_by byte (x ∷ (y ∷ rest)) front is = go (without_last byte (y ∷ rest))
     go None none some later = cc
     go (Some inner) there some later = (let e : front ≡ x ∷ inner = cc in rw e (ap (λ (xs : List ℕ). x ∷ xs) (later inner there)))
 
-both_left : (a b : Bool) → (a && b) ≡ true → a ≡ true
+pub both_left : (a b : Bool) → (a && b) ≡ true → a ≡ true
 both_left true b is = refl
 both_left false b is = is
 
-both_right : (a b : Bool) → (a && b) ≡ true → b ≡ true
+pub both_right : (a b : Bool) → (a && b) ≡ true → b ≡ true
 both_right true b is = is
 both_right false b is = cc
 
-firsts : (a b c d : List ℕ) → ◌≡◌ {A = Option (List ℕ × List ℕ)} (Some (a, b)) (Some (c, d)) → a ≡ c
+pub firsts : (a b c d : List ℕ) → ◌≡◌ {A = Option (List ℕ × List ℕ)} (Some (a, b)) (Some (c, d)) → a ≡ c
 firsts a b c d e = ap (λ (o : Option (List ℕ × List ℕ)). (unwrap_or o (a, b)).0) e
 
-seconds : (a b c d : List ℕ) → ◌≡◌ {A = Option (List ℕ × List ℕ)} (Some (a, b)) (Some (c, d)) → b ≡ d
+pub seconds : (a b c d : List ℕ) → ◌≡◌ {A = Option (List ℕ × List ℕ)} (Some (a, b)) (Some (c, d)) → b ≡ d
 seconds a b c d e = ap (λ (o : Option (List ℕ × List ℕ)). (unwrap_or o (a, b)).1) e
 
 cut_by : (byte n : ℕ) (text front rest : List ℕ) (within : Bool) (value : Option (List ℕ × List ℕ)) → n ≡ position_or_len (λ b. b == byte) text → nat_lt n (length text) ≡ within → value ≡ Some (take n text, drop (n + 1) text)
