@@ -1,9 +1,12 @@
 //! Lines that say that a build enters or leaves a directory.
 ghost use Rattle.std.specs.Prelude.{◌≡◌, MatchOption};
 ghost use Rattle.std.specs.List.{list_all};
-ghost use Rattle.build_dirs.specs.Changes.{HasNoHead, HasNoPath, HasNoVerb, IsChange, IsHead, IsNoChange};
-ghost use Rattle.build_dirs.specs.Changes.{IsPath, IsVerb, HasNoClose, HasNoOpen, IsClosed, IsOpened};
-ghost use Rattle.build_dirs.specs.Changes.{is_program as is_program_text, is_program_byte as is_program_char};
+ghost use Rattle.build_dirs.specs.Changes.{HasNoHead, HasNoPath, HasNoVerb, IsChange, IsHead};
+ghost use Rattle.build_dirs.specs.Changes.{IsNoChange};
+ghost use Rattle.build_dirs.specs.Changes.{IsPath, IsVerb, HasNoClose, HasNoOpen, IsClosed};
+ghost use Rattle.build_dirs.specs.Changes.{IsOpened};
+ghost use Rattle.build_dirs.specs.Changes.{is_program as is_program_text};
+ghost use Rattle.build_dirs.specs.Changes.{is_program_byte as is_program_char};
 
 use escapes::{behind, cut, number, without_last};
 
@@ -19,8 +22,8 @@ pub struct Change<'a> {
     pub path: &'a str,
 }
 
-/// What a line says of a directory: `PROGRAM[N]: Entering directory 'D'`, or `Leaving`. There may be
-/// no `[N]`, and another quote before the directory.
+/// What a line says of a directory: `PROGRAM[N]: Entering directory 'D'`, or `Leaving`. There may
+/// be no `[N]`, and other quotes.
 pub fn change_in(line: &str) -> Option<Change<'_>>
     ensures { MatchOption result (IsNoChange line.now)
         (λ c. IsChange line.now c.program.now c.level c.opens c.path.now) }

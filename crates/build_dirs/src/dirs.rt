@@ -1,18 +1,21 @@
 //! The directories of a build, and where a name may be.
-ghost use Rattle.std.specs.Prelude.{◌≡◌, ◌↔◌, [], IfOk, IsTrue, MatchBool, MatchOption, OnOk, OnErr, option_map};
+ghost use Rattle.std.specs.Prelude.{◌≡◌, ◌↔◌, [], IfOk, IsTrue, MatchBool, MatchOption, OnOk};
+ghost use Rattle.std.specs.Prelude.{OnErr, option_map};
 ghost use Rattle.std.specs.Option.{option_copied};
 ghost use Rattle.std.specs.String.{string_bytes};
 ghost use Rattle.build_dirs.specs.Changes.{IsNoChange};
-ghost use Rattle.build_dirs.specs.Dirs.{IsEntered, IsEqual, IsLastEqual, IsLeft, IsTaken, IsUnchanged, NoneEqual};
-ghost use Rattle.build_dirs.specs.Dirs.{appended, base_of, dirs_in_order, ever_of, is_absolute as is_absolute_path};
+ghost use Rattle.build_dirs.specs.Dirs.{IsEntered, IsEqual, IsLastEqual, IsLeft, IsTaken};
+ghost use Rattle.build_dirs.specs.Dirs.{IsUnchanged, NoneEqual};
+ghost use Rattle.build_dirs.specs.Dirs.{appended, base_of, dirs_in_order, ever_of};
+ghost use Rattle.build_dirs.specs.Dirs.{is_absolute as is_absolute_path};
 ghost use Rattle.build_dirs.specs.Dirs.{joined as joined_path, opens_of, place_of};
 ghost use Rattle.std.specs.List.{slice_get};
 
 use crate::changes::change_in;
 use std::alloc::{AllocError, Global};
 
-/// How many directories are kept at most that are open, and that ever were. Of more the first ones are
-/// forgotten.
+/// How many directories are kept at most that are open, and that ever were. Of more the first ones
+/// are forgotten.
 pub const LIMIT: usize = 0x400;
 
 /// A directory that a program has entered and not left.
@@ -45,8 +48,8 @@ impl BuildDirs {
     }
 
     /// Takes a line of the build, and says whether it enters or leaves a directory. A relative
-    /// directory is below the last open one of a lower level. A line that leaves one closes the last
-    /// that is equal.
+    /// directory is below the last open one of a lower level. A line that leaves one closes the
+    /// last that is equal.
     ///
     /// # Errors
     ///
@@ -90,7 +93,8 @@ impl BuildDirs {
         level: usize,
         path: String,
     ) -> Result<(), AllocError>
-        ensures entered { OnOk result (IsEntered program.now level (string_bytes path) self.old self.new) }
+        ensures entered { OnOk result
+            (IsEntered program.now level (string_bytes path) self.old self.new) }
         ensures err { OnErr result (opens_of self.new ≡ opens_of self.old) }
     {
         let program = String::from_str(alloc, program)?;
@@ -137,7 +141,8 @@ impl BuildDirs {
     ///
     /// Out of memory.
     pub fn place(&self, alloc: Global, name: &str, k: usize) -> Result<Option<String>, AllocError>
-        ensures { IfOk result (λ place. option_map string_bytes place ≡ place_of self.now name.now k) }
+        ensures { IfOk result (λ place.
+            option_map string_bytes place ≡ place_of self.now name.now k) }
     {
         if is_absolute(name) {
             return if k == 0 {

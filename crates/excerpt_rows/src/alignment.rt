@@ -1,9 +1,12 @@
 //! What a tool printed of a row of a source, laid over the source's own row.
-ghost use Rattle.std.specs.Prelude.{◌≡◌, ◌+◌, ◌-◌, ◌*◌, ◌^◌, ◌≤◌, ◌<◌, IfOk, MatchBool, MatchOption, length, min};
+ghost use Rattle.std.specs.Prelude.{◌≡◌, ◌+◌, ◌-◌, ◌*◌, ◌^◌, ◌≤◌, ◌<◌, IfOk, MatchBool};
+ghost use Rattle.std.specs.Prelude.{MatchOption, length, min};
 ghost use Rattle.std.specs.List.{list_all};
 ghost use Rattle.excerpt_rows.specs.Ends.{is_blank as blank};
-ghost use Rattle.excerpt_rows.specs.Alignment.{ColumnsAreRight, FirstLaid, HasNoAlignment, IsAlignment, IsLaid, IsNoPart, IsNotLaid, IsOther};
-ghost use Rattle.excerpt_rows.specs.Alignment.{IsPart, IsPrintedBy, IsWhole, NoneLaid, offset_at, shifted};
+ghost use Rattle.excerpt_rows.specs.Alignment.{ColumnsAreRight, FirstLaid, HasNoAlignment};
+ghost use Rattle.excerpt_rows.specs.Alignment.{IsAlignment, IsLaid, IsNoPart, IsNotLaid, IsOther};
+ghost use Rattle.excerpt_rows.specs.Alignment.{IsPart, IsPrintedBy, IsWhole, NoneLaid, offset_at};
+ghost use Rattle.excerpt_rows.specs.Alignment.{shifted};
 ghost use Rattle.excerpt_rows.specs.Alignment.{spare as spare_blanks};
 
 use crate::ends::{Edge, core_of, is_blank, leading};
@@ -57,16 +60,16 @@ pub struct Shift {
 pub struct Alignment {
     pub rule: Rule,
     pub shift: Shift,
-    /// For each character of the expansion, the offset in bytes of the character of the source's row
-    /// that it is printed for.
+    /// For each character of the expansion, the offset in bytes of the character of the source's
+    /// row that it is printed for.
     pub places: Vec<usize>,
     /// The length of the source's row in bytes.
     pub end: usize,
 }
 
-/// How a printed row is the source's row: as it is, or else by the first of [`RULES`] by which it is
-/// the row's expansion, but for blanks before it and at its end, or, if it was cut by `...`, a part of
-/// it that is there exactly once. Rows of more than [`LIMIT`] characters aren't looked at.
+/// How a printed row is the source's row: as it is, or else by the first of [`RULES`] by which it
+/// is the row's expansion, but for blanks before it and at its end, or, if it was cut by `...`, a
+/// part of it that is there exactly once. Rows of more than [`LIMIT`] characters aren't looked at.
 ///
 /// For each rule it takes time in the length of both rows.
 ///
@@ -80,7 +83,8 @@ pub fn aligned(
     source: &[char],
 ) -> Result<Option<Alignment>, AllocError>
     ensures { IfOk result (λ found.
-        MatchOption found (HasNoAlignment printed.now source.now) (IsAlignment printed.now source.now)) }
+        MatchOption found (HasNoAlignment printed.now source.now)
+        (IsAlignment printed.now source.now)) }
 {
     if printed.len() > LIMIT || source.len() > LIMIT {
         return Ok(None);
@@ -224,8 +228,8 @@ impl Alignment {
     }
 }
 
-/// At the columns of a printed row that are of the source, [`Alignment::offset`] is the offset of the
-/// source's character that is printed there.
+/// At the columns of a printed row that are of the source, [`Alignment::offset`] is the offset of
+/// the source's character that is printed there.
 pub fn columns_are_right()
     ensures { ColumnsAreRight }
 {}

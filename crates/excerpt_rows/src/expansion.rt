@@ -1,7 +1,13 @@
 //! A row of a source as a tool prints it: its tabs, and the characters that have no width.
-ghost use Rattle.std.specs.Prelude.{◌≡◌, ◌+◌, ◌*◌, ◌/◌, ◌%◌, ◌^◌, ◌≤◌, ◌<◌, ◌++◌, ◌∷◌, [], IfOk, OnOk, length, replicate};
-ghost use Rattle.excerpt_rows.specs.Expansion.{ArePlaces, IsMeasured, bytes_of, cells_of, code_of, digits_of, expanded as expansion, hex as hex_digit};
-ghost use Rattle.excerpt_rows.specs.Expansion.{hidden_as, is_as_is as is_as_is_char, is_hidden as is_hidden_char, is_plain as is_plain_row, last_digits, picture_of, shown, tab_len as tab_length, width_of};
+ghost use Rattle.std.specs.Prelude.{◌≡◌, ◌+◌, ◌*◌, ◌/◌, ◌%◌, ◌^◌, ◌≤◌, ◌<◌, ◌++◌, ◌∷◌, [], IfOk};
+ghost use Rattle.std.specs.Prelude.{OnOk, length, replicate};
+ghost use Rattle.excerpt_rows.specs.Expansion.{ArePlaces, IsMeasured, bytes_of, cells_of};
+ghost use Rattle.excerpt_rows.specs.Expansion.{code_of, digits_of, expanded as expansion};
+ghost use Rattle.excerpt_rows.specs.Expansion.{hex as hex_digit};
+ghost use Rattle.excerpt_rows.specs.Expansion.{hidden_as, is_as_is as is_as_is_char};
+ghost use Rattle.excerpt_rows.specs.Expansion.{is_hidden as is_hidden_char};
+ghost use Rattle.excerpt_rows.specs.Expansion.{is_plain as is_plain_row, last_digits, picture_of};
+ghost use Rattle.excerpt_rows.specs.Expansion.{shown, tab_len as tab_length, width_of};
 
 use std::alloc::{AllocError, Global};
 use ucd_category::GeneralCategory;

@@ -1,12 +1,17 @@
 //! The rows of a suggestion, as an edit of the source's rows.
-ghost use Rattle.std.specs.Prelude.{◌≡◌, ℕ, ◌+◌, ◌-◌, ◌≤◌, ◌<◌, ◌^◌, ◌↔◌, ◌++◌, ◌∷◌, [], ◌||◌, ◌&&◌, if◌then◌else◌, Bool, nat_le, nat_lt};
-ghost use Rattle.std.specs.Prelude.{Some, IfOk, IfSome, IsTrue, MatchBool, MatchOption, OnOk, length, map, option_to_list};
+ghost use Rattle.std.specs.Prelude.{◌≡◌, ℕ, ◌+◌, ◌-◌, ◌≤◌, ◌<◌, ◌^◌, ◌↔◌, ◌++◌, ◌∷◌, [], ◌||◌};
+ghost use Rattle.std.specs.Prelude.{◌&&◌, if◌then◌else◌, Bool, nat_le, nat_lt};
+ghost use Rattle.std.specs.Prelude.{Some, IfOk, IfSome, IsTrue, MatchBool, MatchOption, OnOk};
+ghost use Rattle.std.specs.Prelude.{length, map, option_to_list};
 ghost use Rattle.std.specs.List.{find, list_all, prefix_len, slice_index_or, suffix_len};
 ghost use Rattle.std.specs.Option.{option_copied};
-ghost use Rattle.excerpt_rows.specs.Hunk.{AreExact, AreSteps, EditsAreDrawn, HasDots, HasNoEdit, IsEdit, IsExact};
-ghost use Rattle.excerpt_rows.specs.Hunk.{IsAligned, IsSourceRow, IsStep, IsSumOf, Restores, left_of};
+ghost use Rattle.excerpt_rows.specs.Hunk.{AreExact, AreSteps, EditsAreDrawn, HasDots, HasNoEdit};
+ghost use Rattle.excerpt_rows.specs.Hunk.{IsEdit, IsExact};
+ghost use Rattle.excerpt_rows.specs.Hunk.{IsAligned, IsSourceRow, IsStep, IsSumOf, Restores};
+ghost use Rattle.excerpt_rows.specs.Hunk.{left_of};
 ghost use Rattle.excerpt_rows.specs.Hunk.{begin as begin_of, end as end_of, given as row_given};
-ghost use Rattle.excerpt_rows.specs.Hunk.{is_changed_by, is_context as is_context_row, is_of_source, number_at as number_of_row};
+ghost use Rattle.excerpt_rows.specs.Hunk.{is_changed_by, is_context as is_context_row};
+ghost use Rattle.excerpt_rows.specs.Hunk.{is_of_source, number_at as number_of_row};
 ghost use Rattle.excerpt_rows.specs.Hunk.{place as place_of, taken as rows_taken};
 ghost use Rattle.excerpt_rows.specs.Ends.{is_blank as blank};
 
@@ -391,8 +396,8 @@ fn mark(flags: &mut [bool], start: usize, end: usize)
     }
 }
 
-/// If a source has the rows that the rows of a suggestion name, an edit of them changes exactly what
-/// is drawn: its rows are those that were drawn before, and become those that were drawn after.
+/// If a source has the rows that the rows of a suggestion name, an edit of them changes exactly
+/// what is drawn: its rows are those that are drawn before, and become those that are drawn after.
 pub fn edits_are_drawn()
     ensures { EditsAreDrawn }
 {}

@@ -1,10 +1,11 @@
 //! The one place of a text in another, found in a single pass.
-ghost use Rattle.std.specs.Prelude.{◌≡◌, ◌<◌, ◌≤◌, ◌+◌, ◌-◌, IfOk, OnOk, MatchOption, length, slice_index};
+ghost use Rattle.std.specs.Prelude.{◌≡◌, ◌<◌, ◌≤◌, ◌+◌, ◌-◌, IfOk, OnOk, MatchOption, length};
+ghost use Rattle.std.specs.Prelude.{slice_index};
 ghost use Rattle.excerpt_rows.specs.Search.{AreBorders, IsNext, IsOnlyPlace, HasNoOnlyPlace};
 
 use std::alloc::{AllocError, Global};
 
-/// Where `core` is in `text`, if it is there exactly once. Takes time and memory in the length of both.
+/// Where `core` is in `text`, if it is there exactly once. It takes time in the length of both.
 pub(crate) fn only_place(
     alloc: Global,
     core: &[char],
