@@ -1,0 +1,7 @@
+use Rattle.std.proofs.Common.{◌≡◌, ◌++◌, map, take}
+use Rattle.std.specs.String.{string_bytes}
+use Rattle.build_dirs.specs.Again.{key_lines, tagged}
+use Rattle.build_dirs.proofs.again.push_lines.Given as goal
+
+abbrev pub invariant-loop-line : goal.invariant-loop-line
+invariant-loop-line l = string_bytes l.key ≡ string_bytes l.initial.key ++ key_lines (map (λ line. tagged 0x20 line.now) (take l.line-index l.lines))

@@ -1,0 +1,5 @@
+pub mod AlignmentLemmas
+pub mod EndLemmas
+pub mod ExpansionLemmas
+pub mod HunkLemmas
+pub mod SearchLemmas

@@ -1,0 +1,5 @@
+pub mod Alignment
+pub mod Ends
+pub mod Expansion
+pub mod Hunk
+pub mod Search
