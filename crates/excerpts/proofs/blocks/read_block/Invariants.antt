@@ -1,0 +1,10 @@
+use Rattle.std.proofs.Common.{◌+◌, ◌<◌, ◌^◌, drop, length, map}
+use Rattle.excerpts.specs.Below.{state_of}
+use Rattle.excerpts.proofs.BlockLemmas.{SoFar}
+use Rattle.excerpts.proofs.blocks.read_block.Given as goal
+
+abbrev pub invariant-loop-k : goal.invariant-loop-k
+invariant-loop-k l = record {
+  short : length l.above < 2 ^ 32;
+  so_far : let all = map (λ line. line.now) l.lines in SoFar l.first all l.kinds (l.first + l.k) (drop l.k all) (drop l.k l.kinds) l.above (state_of l.below);
+}

@@ -1,0 +1,5 @@
+//! What a compiler or linter drew below a finding, read back: rows, labels, notes and suggestions.
+#![tactic(auto)]
+
+pub mod below;
+pub mod blocks;
