@@ -3,7 +3,7 @@ use Rattle.std.proofs.Common.{◌≡◌, ◌⊎◌, inl, inr, ℕ, zero, suc, �
 use Rattle.std.proofs.lemmas.List.{drop_all}
 use Rattle.std.proofs.lemmas.List.Elements.{All-cons, All-nil}
 use Rattle.excerpt_lines.specs.declared.items.Item.{Item}
-use Rattle.excerpt_lines.specs.declared.kinds.LineKind.{LineKind}
+use Rattle.excerpts.specs.declared.blocks.Role.{Role}
 use Rattle.excerpt_lines.specs.declared.items.Part.{Part}
 use Rattle.excerpt_lines.specs.Items.{Covers}
 use Rattle.excerpt_lines.specs.Lines.{HasItems}
@@ -25,16 +25,16 @@ pub within_items : (line hung : List ℕ) (text : ℕ) (suits : Part → Bool) (
 within_items line hung text suits items short so = within_all line text hung 0 items short so.covers
 
 -- what is read of the rest completes what is read, and what is refused in it is refused
-pub record SoFar (first : ℕ) (lines : List (List ℕ)) (kinds : List LineKind) (number : ℕ) (left : List (List ℕ)) (left_kinds : List LineKind) (above : List ℕ) (s : State) : Type 0 where
-  pub whole : (end : State) → Adds number left left_kinds above s end → Adds first lines kinds [] empty_state end
-  pub refused : Refuses number left left_kinds above s → Refuses first lines kinds [] empty_state
+pub record SoFar (first : ℕ) (lines : List (List ℕ)) (roles : List Role) (number : ℕ) (left : List (List ℕ)) (left_roles : List Role) (above : List ℕ) (s : State) : Type 0 where
+  pub whole : (end : State) → Adds number left left_roles above s end → Adds first lines roles [] empty_state end
+  pub refused : Refuses number left left_roles above s → Refuses first lines roles [] empty_state
 
-pub begun : (first : ℕ) (lines : List (List ℕ)) (kinds : List LineKind) → SoFar first lines kinds first lines kinds [] empty_state
-begun first lines kinds = record { whole = λ end h. h; refused = λ h. h }
+pub begun : (first : ℕ) (lines : List (List ℕ)) (roles : List Role) → SoFar first lines roles first lines roles [] empty_state
+begun first lines roles = record { whole = λ end h. h; refused = λ h. h }
 
-more : (first : ℕ) (lines : List (List ℕ)) (kinds : List LineKind) (number : ℕ) (line : List ℕ) (left : List (List ℕ)) (kind : LineKind) (left_kinds : List LineKind) (above next : List ℕ) (s mid : State)
-    → SoFar first lines kinds number (line ∷ left) (kind ∷ left_kinds) above s → LineAdds number line kind above s next mid → SoFar first lines kinds (number + 1) left left_kinds next mid
-more first lines kinds number line left kind left_kinds above next s mid so adds = record {
+more : (first : ℕ) (lines : List (List ℕ)) (roles : List Role) (number : ℕ) (line : List ℕ) (left : List (List ℕ)) (role : Role) (left_roles : List Role) (above next : List ℕ) (s mid : State)
+    → SoFar first lines roles number (line ∷ left) (role ∷ left_roles) above s → LineAdds number line role above s next mid → SoFar first lines roles (number + 1) left left_roles next mid
+more first lines roles number line left role left_roles above next s mid so adds = record {
   whole = λ end h. so.whole end (next, mid, adds, h);
   refused = λ h. so.refused (inr (next, mid, adds, h));
 }
@@ -57,30 +57,30 @@ at_any (x ∷ xs) zero d e within = refl
 at_any (x ∷ xs) (suc k) d e within = at_any xs k d e (omega (arith, within))
 
 -- one line more
-pub goes_on : (first : ℕ) (lines : List (List ℕ)) (kinds : List LineKind) (k : ℕ) (line : List ℕ) (kind : LineKind) (above next : List ℕ) (s mid : State) → k < length lines → k < length kinds
-    → line ≡ get_or lines k line → kind ≡ get_or kinds k kind
-    → SoFar first lines kinds (first + k) (drop k lines) (drop k kinds) above s → LineAdds (first + k) line kind above s next mid
-    → SoFar first lines kinds (first + (k + 1)) (drop (k + 1) lines) (drop (k + 1) kinds) next mid
-goes_on first lines kinds k line kind above next s mid within within_kinds is kind_is so adds =
+pub goes_on : (first : ℕ) (lines : List (List ℕ)) (roles : List Role) (k : ℕ) (line : List ℕ) (role : Role) (above next : List ℕ) (s mid : State) → k < length lines → k < length roles
+    → line ≡ get_or lines k line → role ≡ get_or roles k role
+    → SoFar first lines roles (first + k) (drop k lines) (drop k roles) above s → LineAdds (first + k) line role above s next mid
+    → SoFar first lines roles (first + (k + 1)) (drop (k + 1) lines) (drop (k + 1) roles) next mid
+goes_on first lines roles k line role above next s mid within within_roles is role_is so adds =
     let number : first + (k + 1) ≡ first + k + 1 = omega arith in
-    let here = subst (λ (ls : List (List ℕ)). SoFar first lines kinds (first + k) ls (drop k kinds) above s) (cut lines k line within is) so in
-    let both = subst (λ (ks : List LineKind). SoFar first lines kinds (first + k) (line ∷ drop (k + 1) lines) ks above s) (cut kinds k kind within_kinds kind_is) here in
-    subst (λ (n : ℕ). SoFar first lines kinds n (drop (k + 1) lines) (drop (k + 1) kinds) next mid) (sym number)
-    (more first lines kinds (first + k) line (drop (k + 1) lines) kind (drop (k + 1) kinds) above next s mid both adds)
+    let here = subst (λ (ls : List (List ℕ)). SoFar first lines roles (first + k) ls (drop k roles) above s) (cut lines k line within is) so in
+    let both = subst (λ (ks : List Role). SoFar first lines roles (first + k) (line ∷ drop (k + 1) lines) ks above s) (cut roles k role within_roles role_is) here in
+    subst (λ (n : ℕ). SoFar first lines roles n (drop (k + 1) lines) (drop (k + 1) roles) next mid) (sym number)
+    (more first lines roles (first + k) line (drop (k + 1) lines) role (drop (k + 1) roles) above next s mid both adds)
 
 -- the line there is refused
-pub stops : (first : ℕ) (lines : List (List ℕ)) (kinds : List LineKind) (k : ℕ) (line : List ℕ) (kind : LineKind) (above : List ℕ) (s : State) → k < length lines → k < length kinds
-    → line ≡ get_or lines k line → kind ≡ get_or kinds k kind
-    → SoFar first lines kinds (first + k) (drop k lines) (drop k kinds) above s → LineRefused (first + k) line kind above s
-    → Refuses first lines kinds [] empty_state
-stops first lines kinds k line kind above s within within_kinds is kind_is so why =
-    let here = subst (λ (ls : List (List ℕ)). SoFar first lines kinds (first + k) ls (drop k kinds) above s) (cut lines k line within is) so in
-    let both = subst (λ (ks : List LineKind). SoFar first lines kinds (first + k) (line ∷ drop (k + 1) lines) ks above s) (cut kinds k kind within_kinds kind_is) here in
+pub stops : (first : ℕ) (lines : List (List ℕ)) (roles : List Role) (k : ℕ) (line : List ℕ) (role : Role) (above : List ℕ) (s : State) → k < length lines → k < length roles
+    → line ≡ get_or lines k line → role ≡ get_or roles k role
+    → SoFar first lines roles (first + k) (drop k lines) (drop k roles) above s → LineRefused (first + k) line role above s
+    → Refuses first lines roles [] empty_state
+stops first lines roles k line role above s within within_roles is role_is so why =
+    let here = subst (λ (ls : List (List ℕ)). SoFar first lines roles (first + k) ls (drop k roles) above s) (cut lines k line within is) so in
+    let both = subst (λ (ks : List Role). SoFar first lines roles (first + k) (line ∷ drop (k + 1) lines) ks above s) (cut roles k role within_roles role_is) here in
     both.refused (inl why)
 
 -- no line is left
-pub ends : (first : ℕ) (lines : List (List ℕ)) (kinds : List LineKind) (k : ℕ) (above : List ℕ) (s : State) → length lines ≤ k → length kinds ≡ length lines
-    → SoFar first lines kinds (first + k) (drop k lines) (drop k kinds) above s → Adds first lines kinds [] empty_state s
-ends first lines kinds k above s past same so =
-    let here = subst (λ (ls : List (List ℕ)). SoFar first lines kinds (first + k) ls (drop k kinds) above s) (drop_all k lines past) so in
+pub ends : (first : ℕ) (lines : List (List ℕ)) (roles : List Role) (k : ℕ) (above : List ℕ) (s : State) → length lines ≤ k → length roles ≡ length lines
+    → SoFar first lines roles (first + k) (drop k lines) (drop k roles) above s → Adds first lines roles [] empty_state s
+ends first lines roles k above s past same so =
+    let here = subst (λ (ls : List (List ℕ)). SoFar first lines roles (first + k) ls (drop k roles) above s) (drop_all k lines past) so in
     here.whole s refl

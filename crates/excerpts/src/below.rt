@@ -25,6 +25,9 @@ pub struct Row {
     /// Where its text begins: a place, in characters from 0, and a cell, from 0.
     pub text: usize,
     pub cell: usize,
+    /// How many marks and texts of the block come before its own.
+    pub marks: usize,
+    pub texts: usize,
 }
 
 /// A run of marks below a row.

@@ -7,10 +7,30 @@ ghost use Rattle.excerpts.specs.Blocks.{row_of as row_meant};
 
 use crate::below::{Below, Refusal, Row};
 use excerpt_lines::cells::{cell_at, places_in};
-use excerpt_lines::gutter::{Gutter, text_of};
-use excerpt_lines::kinds::LineKind;
+use excerpt_lines::gutter::Sign;
 use excerpt_lines::lines::mark_items;
 use std::alloc::Global;
+
+/// What comes before a row's text.
+#[derive(Clone, Copy)]
+pub struct RowHead {
+    pub number: Option<u32>,
+    pub sign: Sign,
+    /// Where the text begins, in characters from 0.
+    pub text: usize,
+}
+
+/// What a line is in a block.
+#[derive(Clone, Copy)]
+pub enum Role {
+    Row(RowHead),
+    /// Marks and texts below a row; they begin at this place.
+    Marks(usize),
+    /// Frames, and gutters alone.
+    Frame,
+    /// No part of a block.
+    Other,
+}
 
 /// How long a line may be, in characters.
 const LIMIT: usize = 0x1_0000_0000;
@@ -23,20 +43,20 @@ const LIMIT: usize = 0x1_0000_0000;
 pub fn read_block(
     alloc: Global,
     lines: &[&[char]],
-    kinds: &[LineKind],
+    roles: &[Role],
     first: usize,
 ) -> Result<Below, Refusal>
-    requires kinds { length lines.now ≡ length kinds.now }
+    requires roles { length lines.now ≡ length roles.now }
     requires few { first + length lines.now < 2 ^ 64 }
-    ensures read { IfOk result (λ below. Adds first (map (λ line. line.now) lines.now) kinds.now
+    ensures read { IfOk result (λ below. Adds first (map (λ line. line.now) lines.now) roles.now
         [] empty_state (state_of below)) }
     ensures refused { IfErr result (λ why. (why ≡ OutOfMemory → ⊥)
-        → Refuses first (map (λ line. line.now) lines.now) kinds.now [] empty_state) }
+        → Refuses first (map (λ line. line.now) lines.now) roles.now [] empty_state) }
 {
     let mut below = Below::new(alloc);
     let mut above: &[char] = &[];
     for (k, line) in lines.iter().enumerate() {
-        match add_line(alloc, &mut below, above, line, first + k, kinds[k]) {
+        match add_line(alloc, &mut below, above, line, first + k, roles[k]) {
             Ok(next) => above = next,
             Err(refusal) => return Err(refusal),
         }
@@ -51,49 +71,46 @@ fn add_line<'a>(
     above: &'a [char],
     line: &'a [char],
     number: usize,
-    kind: LineKind,
+    role: Role,
 ) -> Result<&'a [char], Refusal>
     requires { length above.now < 2 ^ 32 }
-    ensures added { IfOk result (λ next. LineAdds number line.now kind above.now
+    ensures added { IfOk result (λ next. LineAdds number line.now role above.now
         (state_of below.old) next.now (state_of below.new)) }
     ensures short { IfOk result (λ next. length next.now < 2 ^ 32) }
     ensures refused { IfErr result (λ why. (why ≡ OutOfMemory → ⊥)
-        → LineRefused number line.now kind above.now (state_of below.old)) }
+        → LineRefused number line.now role above.now (state_of below.old)) }
 {
-    match kind {
-        LineKind::Row(gutter) => {
+    match role {
+        Role::Row(head) => {
             if line.len() >= LIMIT {
                 return Err(Refusal::NotRead);
             }
-            below.begin_row(row_of(line, number, gutter))?;
+            below.begin_row(row_of(below, line, number, head))?;
             Ok(line)
         }
-        LineKind::Marks(gutter) => {
-            add_marks(alloc, below, above, line, number, gutter)?;
+        Role::Marks(text) => {
+            add_marks(alloc, below, above, line, number, text)?;
             Ok(above)
         }
-        LineKind::Space(_) | LineKind::Frame => Ok(above),
-        LineKind::Empty
-        | LineKind::Place(_)
-        | LineKind::Note(_)
-        | LineKind::Inserted(_)
-        | LineKind::Loose
-        | LineKind::Plain => Err(Refusal::NotRead),
+        Role::Frame => Ok(above),
+        Role::Other => Err(Refusal::NotRead),
     }
 }
 
-/// The row that a line with this gutter prints.
-fn row_of(line: &[char], number: usize, gutter: Gutter) -> Row
+/// The row that a line prints.
+fn row_of(below: &Below, line: &[char], number: usize, head: RowHead) -> Row
     requires { length line.now < 2 ^ 32 }
-    ensures { result ≡ row_meant number line.now gutter }
+    ensures { result ≡ row_meant number line.now head (state_of below.now) }
 {
-    let text = text_of(line, gutter.bar);
+    let text = head.text.min(line.len());
     Row {
         line: number,
-        number: gutter.number,
-        sign: gutter.sign,
+        number: head.number,
+        sign: head.sign,
         text,
         cell: cell_at(line, text),
+        marks: below.marks.len(),
+        texts: below.texts.len(),
     }
 }
 
@@ -104,19 +121,19 @@ fn add_marks(
     above: &[char],
     line: &[char],
     number: usize,
-    gutter: Gutter,
+    text: usize,
 ) -> Result<(), Refusal>
     requires { length above.now < 2 ^ 32 }
-    ensures added { OnOk result (MarksAdd number line.now gutter above.now
+    ensures added { OnOk result (MarksAdd number line.now text above.now
         (state_of below.old) (state_of below.new)) }
     ensures refused { IfErr result (λ why. (why ≡ OutOfMemory → ⊥)
-        → MarksRefused number line.now gutter above.now (state_of below.old)) }
+        → MarksRefused number line.now text above.now (state_of below.old)) }
 {
     if line.len() >= LIMIT || below.rows.is_empty() {
         return Err(Refusal::NotRead);
     }
     let cells = below.hung(alloc)?;
     let places = places_in(alloc, line, cells.as_slice())?;
-    let items = mark_items(alloc, line, text_of(line, gutter.bar), places.as_slice())?;
+    let items = mark_items(alloc, line, text.min(line.len()), places.as_slice())?;
     below.read(above, line, number, items.as_slice())
 }

@@ -6,5 +6,5 @@ use Rattle.excerpts.proofs.blocks.read_block.Given as goal
 abbrev pub invariant-loop-k : goal.invariant-loop-k
 invariant-loop-k l = record {
   short : length l.above < 2 ^ 32;
-  so_far : let all = map (λ line. line.now) l.lines in SoFar l.first all l.kinds (l.first + l.k) (drop l.k all) (drop l.k l.kinds) l.above (state_of l.below);
+  so_far : let all = map (λ line. line.now) l.lines in SoFar l.first all l.roles (l.first + l.k) (drop l.k all) (drop l.k l.roles) l.above (state_of l.below);
 }
