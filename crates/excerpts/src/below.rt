@@ -485,14 +485,18 @@ enum Owner {
 }
 
 /// The elements from a place on.
-fn tail<T>(items: &[T], at: usize) -> &[T]
+pub fn tail<T>(items: &[T], at: usize) -> &[T]
     ensures { result.now ≡ drop at items.now }
 {
-    if at < items.len() { &items[at..] } else { &items[items.len()..] }
+    if at < items.len() {
+        &items[at..]
+    } else {
+        &items[items.len()..]
+    }
 }
 
 /// Whether a text is a mark's.
-fn is_of(text: &Text, mark: usize) -> bool
+pub fn is_of(text: &Text, mark: usize) -> bool
     ensures { result ≡ is_text_of mark text.now }
 {
     match text.mark {

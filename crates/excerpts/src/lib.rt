@@ -3,3 +3,4 @@
 
 pub mod below;
 pub mod blocks;
+pub mod labels;
