@@ -19,7 +19,7 @@ use Rattle.excerpts.specs.declared.below.Owner.TheVariants.{Beside, Hung, Nobody
 use Rattle.excerpts.specs.declared.below.TheConstants.{LIMIT}
 
 -- what is drawn so far: all rows, marks, hangs and texts, how many come before the last row's, where its text begins,
--- and how many items are below it
+-- how many items are below it, and where the last empty gutter is
 pub record State : Type 0 where
   pub rows : List Row
   pub marks : List Mark
@@ -31,12 +31,13 @@ pub record State : Type 0 where
   pub text : ℕ
   pub cell : ℕ
   pub items : ℕ
+  pub gap : ℕ
 
 abbrev pub state_of : Below → State
-state_of b = record { rows = b.rows.items; marks = b.marks.items; hangs = b.hangs.items; texts = b.texts.items; marks_before = b.marks_before; hangs_before = b.hangs_before; texts_before = b.texts_before; text = b.text; cell = b.cell; items = b.items }
+state_of b = record { rows = b.rows.items; marks = b.marks.items; hangs = b.hangs.items; texts = b.texts.items; marks_before = b.marks_before; hangs_before = b.hangs_before; texts_before = b.texts_before; text = b.text; cell = b.cell; items = b.items; gap = b.gap }
 
 abbrev pub empty_state : State
-empty_state = record { rows = []; marks = []; hangs = []; texts = []; marks_before = 0; hangs_before = 0; texts_before = 0; text = 0; cell = 0; items = 0 }
+empty_state = record { rows = []; marks = []; hangs = []; texts = []; marks_before = 0; hangs_before = 0; texts_before = 0; text = 0; cell = 0; items = 0; gap = 0 }
 
 -- a row begins
 abbrev pub with_row : State → Row → State

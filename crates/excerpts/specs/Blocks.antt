@@ -6,12 +6,12 @@ use Rattle.excerpt_lines.specs.Lines.{HasItems, is_marks}
 use Rattle.excerpts.specs.declared.below.Row.{Row}
 use Rattle.excerpts.specs.declared.blocks.RowHead.{RowHead}
 use Rattle.excerpts.specs.declared.blocks.Role.{Role}
-use Rattle.excerpts.specs.declared.blocks.Role.TheVariants.{Row as RowRole, Marks, Frame, Other}
+use Rattle.excerpts.specs.declared.blocks.Role.TheVariants.{Row as RowRole, Marks, Gap, Frame, Other}
 use Rattle.excerpts.specs.Below.{State, add_all, hung_cells, with_row}
 
 -- the row that a line prints
 abbrev pub row_of : ℕ → List ℕ → RowHead → State → Row
-row_of number line head s = let text = min head.text (length line) in record { line = number; number = head.number; sign = head.sign; text = text; cell = cell_at line text; marks = length s.marks; texts = length s.texts }
+row_of number line head s = let text = min head.text (length line) in record { line = number; number = head.number; sign = head.sign; text = text; cell = cell_at line text; marks = length s.marks; texts = length s.texts; gap = s.gap }
 
 -- these are the items of a line of marks; its texts end before the cells at which others will hang
 abbrev pub AreItems : List ℕ → ℕ → State → List Item → Type 0
@@ -39,6 +39,7 @@ MarksRefused number line text above s = (2 ^ 32 ≤ length line) ⊎ (s.rows ≡
 abbrev pub LineAdds : ℕ → List ℕ → Role → List ℕ → State → List ℕ → State → Type 0
 LineAdds number line (RowRole head) above s next end = (length line < 2 ^ 32) × (next ≡ line) × (end ≡ with_row s (row_of number line head s))
 LineAdds number line (Marks text) above s next end = (next ≡ above) × MarksAdd number line text above s end
+LineAdds number line Gap above s next end = (next ≡ above) × (end ≡ record s { gap = number })
 LineAdds number line Frame above s next end = (next ≡ above) × (end ≡ s)
 LineAdds number line Other above s next end = ⊥
 
@@ -46,6 +47,7 @@ LineAdds number line Other above s next end = ⊥
 abbrev pub LineRefused : ℕ → List ℕ → Role → List ℕ → State → Type 0
 LineRefused number line (RowRole head) above s = 2 ^ 32 ≤ length line
 LineRefused number line (Marks text) above s = MarksRefused number line text above s
+LineRefused number line Gap above s = ⊥
 LineRefused number line Frame above s = ⊥
 LineRefused number line Other above s = Unit {0}
 

@@ -28,6 +28,8 @@ pub struct Row {
     /// How many marks and texts of the block come before its own.
     pub marks: usize,
     pub texts: usize,
+    /// The line of the last empty gutter before it, or 0. In a suggestion it ends a hunk.
+    pub gap: usize,
 }
 
 /// A run of marks below a row.
@@ -89,6 +91,8 @@ pub struct Below {
     pub cell: usize,
     /// How many items are below the last row.
     pub items: usize,
+    /// The line of the last empty gutter, or 0.
+    pub gap: usize,
 }
 
 /// Why a line isn't read.
@@ -125,6 +129,7 @@ impl Below {
             text: 0,
             cell: 0,
             items: 0,
+            gap: 0,
         }
     }
 

@@ -26,7 +26,8 @@ pub enum Role {
     Row(RowHead),
     /// Marks and texts below a row; they begin at this place.
     Marks(usize),
-    /// Frames, and gutters alone.
+    /// An empty gutter, which ends a hunk.
+    Gap,
     Frame,
     /// No part of a block.
     Other,
@@ -92,6 +93,10 @@ fn add_line<'a>(
             add_marks(alloc, below, above, line, number, text)?;
             Ok(above)
         }
+        Role::Gap => {
+            below.gap = number;
+            Ok(above)
+        }
         Role::Frame => Ok(above),
         Role::Other => Err(Refusal::NotRead),
     }
@@ -111,6 +116,7 @@ fn row_of(below: &Below, line: &[char], number: usize, head: RowHead) -> Row
         cell: cell_at(line, text),
         marks: below.marks.len(),
         texts: below.texts.len(),
+        gap: below.gap,
     }
 }
 

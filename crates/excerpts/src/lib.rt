@@ -3,4 +3,5 @@
 
 pub mod below;
 pub mod blocks;
+pub mod cuts;
 pub mod labels;
