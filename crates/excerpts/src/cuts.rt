@@ -136,6 +136,7 @@ pub fn part_at(spot: Spot, state: Open, first: usize, lines: &[Outline]) -> Opti
     ensures value { result ≡ part_in spot state first lines.now }
     ensures some { IfSome result (λ part. 0 < part.lines) }
     ensures within { IfSome result (λ part. part.lines ≤ length lines.now) }
+    ensures first { IfSome result (λ part. part.first ≡ first) }
 {
     if let Some(below) = state.below {
         if goes_on(state, below, lines[0]) {
@@ -213,6 +214,7 @@ fn drawing_or_kept(spot: Spot, state: Open, first: usize, lines: &[Outline]) -> 
     ensures value { result ≡ drawing_or_kept_in spot state first lines.now }
     ensures some { IfSome result (λ part. 0 < part.lines) }
     ensures within { IfSome result (λ part. part.lines ≤ length lines.now) }
+    ensures first { IfSome result (λ part. part.first ≡ first) }
 {
     let count = block_len(state.under, lines);
     if count > 0 {
@@ -238,6 +240,7 @@ fn loose_or_kept(spot: Spot, state: Open, first: usize, lines: &[Outline]) -> Op
     ensures value { result ≡ loose_or_kept_in spot state first lines.now }
     ensures some { IfSome result (λ part. 0 < part.lines) }
     ensures within { IfSome result (λ part. part.lines ≤ length lines.now) }
+    ensures first { IfSome result (λ part. part.first ≡ first) }
 {
     if is_loose(lines[0]) {
         return None;

@@ -3,5 +3,7 @@
 
 pub mod below;
 pub mod blocks;
+pub mod body;
 pub mod cuts;
 pub mod labels;
+pub mod roles;

@@ -1,0 +1,72 @@
+-- What each line of a part is in a block.
+use Rattle.std.specs.Prelude.{ℕ, ◌+◌, min, if◌then◌else◌, Bool, true, false, List, [], ◌∷◌, Option, Some, None}
+use Rattle.excerpt_lines.specs.declared.gutter.Sign.{Sign}
+use Rattle.excerpt_lines.specs.declared.gutter.Sign.TheVariants.{Unsigned, Added}
+use Rattle.excerpt_lines.specs.declared.kinds.LineKind.{LineKind}
+use Rattle.excerpt_lines.specs.declared.kinds.LineKind.TheVariants.{Empty as EmptyLine, Place as PlaceLine, Note as NoteLine, Row as RowLine, Marks as MarksLine, Space, Inserted, Loose as LooseLine, Frame as FrameLine, Plain}
+use Rattle.excerpts.specs.declared.blocks.RowHead.{RowHead}
+use Rattle.excerpts.specs.declared.blocks.Role.{Role}
+use Rattle.excerpts.specs.declared.blocks.Role.TheVariants.{Row, Marks, Gap, Frame, Other}
+use Rattle.excerpts.specs.declared.cuts.Outline.{Outline}
+use Rattle.excerpts.specs.declared.cuts.PartKind.{PartKind}
+use Rattle.excerpts.specs.declared.cuts.PartKind.TheVariants.{Empty, Place, Note, GoesOn, Frames, Source, Loose, Suggestion, Kept}
+use Rattle.excerpts.specs.declared.labels.Spot.{Spot}
+
+abbrev pub head_with : Option ℕ → Sign → ℕ → Role
+head_with number sign text = Row (record { number = number; sign = sign; text = text })
+
+abbrev pub after_bar : Outline → ℕ → ℕ
+after_bar line bar = min (bar + 2) line.length
+
+abbrev pub source_by : Outline → LineKind → Role
+source_by line EmptyLine = Other
+source_by line (PlaceLine p) = Other
+source_by line (NoteLine n) = Other
+source_by line (RowLine g) = head_with g.number g.sign (after_bar line g.bar)
+source_by line (MarksLine g) = Marks (after_bar line g.bar)
+source_by line (Space g) = Frame
+source_by line (Inserted text) = Other
+source_by line LooseLine = Other
+source_by line FrameLine = Frame
+source_by line Plain = Other
+
+-- what a line is in a drawing of the source
+abbrev pub source_role : Outline → Role
+source_role line = source_by line line.kind
+
+-- a row without a number and without a bar, or something else
+abbrev pub signed_or : Outline → Option Sign → Role → Role
+signed_or line (Some sign) other = head_with None sign (after_bar line line.indent)
+signed_or line None other = other
+
+abbrev pub suggested_by : Outline → LineKind → Role
+suggested_by line EmptyLine = Other
+suggested_by line (PlaceLine p) = Other
+suggested_by line (NoteLine n) = signed_or line line.sign Other
+suggested_by line (RowLine g) = head_with g.number g.sign (after_bar line g.bar)
+suggested_by line (MarksLine g) = Marks (after_bar line g.bar)
+suggested_by line (Space g) = Gap
+suggested_by line (Inserted text) = head_with None Added text
+suggested_by line LooseLine = signed_or line line.sign Other
+suggested_by line FrameLine = signed_or line line.sign (if line.dots then head_with None Unsigned line.indent else Frame)
+suggested_by line Plain = signed_or line line.sign Other
+
+-- what a line is in a suggestion; dots are a row without a number
+abbrev pub suggested_role : Outline → Role
+suggested_role line = suggested_by line line.kind
+
+-- what a line of a part is; without a gutter, the first is the row that the finding is in
+abbrev pub role_of : PartKind → Spot → Bool → Outline → Role
+role_of Empty spot first line = Other
+role_of (Place p) spot first line = Other
+role_of (Note n) spot first line = Other
+role_of (GoesOn below) spot first line = Other
+role_of Frames spot first line = Other
+role_of Source spot first line = source_role line
+role_of Loose spot first line = if first then head_with spot.line Unsigned 0 else Marks 0
+role_of Suggestion spot first line = suggested_role line
+role_of Kept spot first line = Other
+
+abbrev pub roles_from : PartKind → Spot → Bool → List Outline → List Role
+roles_from kind spot first [] = []
+roles_from kind spot first (line ∷ lines) = role_of kind spot first line ∷ roles_from kind spot false lines
