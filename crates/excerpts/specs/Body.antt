@@ -1,5 +1,7 @@
 -- A body read as a whole, or kept.
 use Rattle.std.specs.Prelude.{◌≡◌, ◌⊎◌, ℕ, ◌+◌, ◌<◌, Bool, true, false, List, [], ◌∷◌, ◌++◌, length, take, drop, map, Option, Some, None}
+use Rattle.excerpts.specs.declared.below.Hang.{Hang}
+use Rattle.excerpts.specs.declared.below.Text.{Text}
 use Rattle.excerpts.specs.declared.cuts.Open.{Open}
 use Rattle.excerpts.specs.declared.cuts.Outline.{Outline}
 use Rattle.excerpts.specs.declared.cuts.Part.{Part}
@@ -42,14 +44,39 @@ is_block Loose = true
 is_block Suggestion = true
 is_block Kept = false
 
+abbrev pub is_nothing : List Text → List Hang → Bool
+is_nothing [] [] = true
+is_nothing [] (hang ∷ hangs) = false
+is_nothing (text ∷ texts) hangs = false
+
+-- below the rows of a suggestion there are marks alone
+abbrev pub suits : PartKind → State → Bool
+suits Empty s = true
+suits (Place p) s = true
+suits (Note n) s = true
+suits (GoesOn below) s = true
+suits Frames s = true
+suits Source s = true
+suits Loose s = true
+suits Suggestion s = is_nothing s.texts s.hangs
+suits Kept s = true
+
 -- the block of a part: all its lines are read, and the labels are those of what is drawn
 pub record IsBlock (spot : Spot) (part : Part) (lines : List (List ℕ)) (outlines : List Outline) (block : BlockRead) : Type 0 where
   pub adds : Adds part.first lines (roles_from part.kind spot true outlines) [] empty_state block.below
+  pub suited : suits part.kind block.below ≡ true
   pub labels : block.labels ≡ labels_in spot block.below
 
--- a line of a block isn't read
+-- all lines of a block are read, but it has more than its part may have
+pub record IsUnsuited (spot : Spot) (part : Part) (lines : List (List ℕ)) (outlines : List Outline) : Type 0 where
+  pub below : State
+  pub adds : Adds part.first lines (roles_from part.kind spot true outlines) [] empty_state below
+  pub unsuited : suits part.kind below ≡ false
+
+-- a line of a block isn't read, or the block is unsuited
 abbrev pub BlockRefused : Spot → Part → List (List ℕ) → List Outline → Type 0
-BlockRefused spot part lines outlines = Refuses part.first lines (roles_from part.kind spot true outlines) [] empty_state
+BlockRefused spot part lines outlines =
+    Refuses part.first lines (roles_from part.kind spot true outlines) [] empty_state ⊎ IsUnsuited spot part lines outlines
 
 abbrev pub HasBlocks : Bool → Spot → Part → List (List ℕ) → List Outline → List BlockRead → Type 0
 HasBlocks true spot part lines outlines blocks = (block : BlockRead) × (blocks ≡ block ∷ []) × IsBlock spot part lines outlines block

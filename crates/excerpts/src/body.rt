@@ -3,6 +3,8 @@ ghost use Rattle.std.specs.Prelude.{◌≡◌, ◌+◌, ◌++◌, ◌∷◌, [],
 ghost use Rattle.excerpts.specs.declared.below.Refusal.TheVariants.{OutOfMemory};
 ghost use Rattle.excerpts.specs.Body.{AddsPart, AreOutlines, BlockRefused, IsBlock, IsKept, IsRead};
 ghost use Rattle.excerpts.specs.Body.{IsStopped, PartRefused, Reads, block_of, is_block};
+ghost use Rattle.excerpts.specs.Body.{suits as suits_part};
+ghost use Rattle.excerpts.specs.Below.{state_of};
 
 use crate::below::{Below, Refusal, tail};
 use crate::blocks::read_block;
@@ -156,10 +158,30 @@ fn block_in(
     let roles = roles_of(alloc, part.kind, spot, outlines)?;
     match read_block(alloc, lines, roles.as_slice(), part.first) {
         Ok(below) => {
+            if !suits(part.kind, &below) {
+                return Err(Refusal::NotRead);
+            }
             let labels = labels_of(alloc, &below, spot)?;
             Ok(Block { below, labels })
         }
         Err(refusal) => Err(refusal),
+    }
+}
+
+/// Whether a block has what its part may have: no texts and no bars below the rows of a suggestion.
+fn suits(kind: PartKind, below: &Below) -> bool
+    ensures { result ≡ suits_part kind (state_of below.now) }
+{
+    match kind {
+        PartKind::Suggestion => below.texts.is_empty() && below.hangs.is_empty(),
+        PartKind::Source
+        | PartKind::Loose
+        | PartKind::Empty
+        | PartKind::Place(_)
+        | PartKind::Note(_)
+        | PartKind::GoesOn(_)
+        | PartKind::Frames
+        | PartKind::Kept => true,
     }
 }
 
