@@ -1,5 +1,5 @@
 -- A body, one part after another.
-use Rattle.std.proofs.Common.{◌≡◌, ◌⊎◌, inl, inr, ℕ, zero, suc, ◌+◌, ◌<◌, ◌≤◌, List, [], ◌∷◌, ◌++◌, map, length, take, drop, refl, sym, ap, ◌∙◌, subst, arith, append_assoc, append-nil, Option, Some, None, get_or, Bor, Bool, true, false, length-drop}
+use Rattle.std.proofs.Common.{◌≡◌, ◌⊎◌, inl, inr, ℕ, zero, suc, ◌+◌, ◌<◌, ◌≤◌, List, [], ◌∷◌, ◌++◌, map, length, take, drop, refl, sym, ap, ◌∙◌, subst, arith, append_assoc, append-nil, Option, Some, None, get_or, Bor, Bool, true, false, length-drop, drop-cons, add-one}
 use Rattle.std.proofs.lemmas.List.{drop_all, drop-map, length-map, map-append, take-map}
 use Rattle.std.proofs.Math.Nat.{suc-add, zero-add}
 use Rattle.std.proofs.Math.Seq.{drop-nil}
@@ -7,12 +7,19 @@ use Rattle.excerpts.specs.declared.cuts.Open.{Open}
 use Rattle.excerpts.specs.declared.cuts.Outline.{Outline}
 use Rattle.excerpts.specs.declared.cuts.Part.{Part}
 use Rattle.excerpts.specs.declared.cuts.TheConstants.{START}
-use Rattle.excerpts.specs.declared.labels.Spot.{Spot}
+use Rattle.excerpt_blocks.specs.declared.labels.Spot.{Spot}
 use Rattle.excerpts.specs.Cuts.{IsOutline, after, part_in}
 use Rattle.excerpts.specs.declared.body.Block.{Block}
 use Rattle.excerpts.specs.declared.body.Excerpt.{Excerpt}
 use Rattle.excerpts.specs.Body.{AddsPart, AreOutlines, BlockRead, HasBlocks, IsBlock, IsPart, IsRefused, IsStopped, PartBlocks, PartRefused, Reads, Stops, block_of, is_block}
-use Rattle.excerpts.proofs.BlockLemmas.{cut}
+
+pub now_at : (lines : List (Bor (List ℕ))) (k : ℕ) (d : Bor (List ℕ)) (e : List ℕ) → k < length lines → (get_or lines k d).now ≡ get_or (map (λ line. line.now) lines) k e
+now_at [] k d e within = absurd (omega (arith, within))
+now_at (line ∷ lines) zero d e within = refl
+now_at (line ∷ lines) (suc k) d e within = now_at lines k d e (omega (arith, within))
+
+cut : {A : Type 0} (xs : List A) (k : ℕ) (x : A) → k < length xs → x ≡ get_or xs k x → drop k xs ≡ x ∷ drop (k + 1) xs
+cut xs k x within is = rw (add-one k) (drop-cons xs k x within ∙ ap (λ y. y ∷ drop (suc k) xs) (sym is))
 
 -- the outlines so far, which those of the rest complete
 pub record OutlinesSoFar (lines left : List (List ℕ)) (outlines : List Outline) : Type 0 where

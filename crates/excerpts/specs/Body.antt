@@ -1,21 +1,21 @@
 -- A body read as a whole, or kept.
 use Rattle.std.specs.Prelude.{◌≡◌, ◌⊎◌, ℕ, ◌+◌, ◌<◌, Bool, true, false, List, [], ◌∷◌, ◌++◌, length, take, drop, map, Option, Some, None}
-use Rattle.excerpts.specs.declared.below.Hang.{Hang}
-use Rattle.excerpts.specs.declared.below.Text.{Text}
+use Rattle.excerpt_blocks.specs.declared.below.Hang.{Hang}
+use Rattle.excerpt_blocks.specs.declared.below.Text.{Text}
 use Rattle.excerpts.specs.declared.cuts.Open.{Open}
 use Rattle.excerpts.specs.declared.cuts.Outline.{Outline}
 use Rattle.excerpts.specs.declared.cuts.Part.{Part}
 use Rattle.excerpts.specs.declared.cuts.PartKind.{PartKind}
 use Rattle.excerpts.specs.declared.cuts.PartKind.TheVariants.{Empty, Place, Note, GoesOn, Frames, Source, Loose, Suggestion, Kept}
 use Rattle.excerpts.specs.declared.cuts.TheConstants.{START}
-use Rattle.excerpts.specs.declared.labels.Label.{Label}
-use Rattle.excerpts.specs.declared.labels.Spot.{Spot}
+use Rattle.excerpt_blocks.specs.declared.labels.Label.{Label}
+use Rattle.excerpt_blocks.specs.declared.labels.Spot.{Spot}
 use Rattle.excerpts.specs.declared.body.Block.{Block}
 use Rattle.excerpts.specs.declared.body.Excerpt.{Excerpt}
-use Rattle.excerpts.specs.Below.{State, empty_state, state_of}
-use Rattle.excerpts.specs.Blocks.{Adds, Refuses}
+use Rattle.excerpt_blocks.specs.Below.{State, empty_state, state_of}
+use Rattle.excerpt_blocks.specs.Blocks.{Adds, Refuses}
 use Rattle.excerpts.specs.Cuts.{IsOutline, after, part_in}
-use Rattle.excerpts.specs.Labels.{labels_in}
+use Rattle.excerpt_blocks.specs.Labels.{labels_in}
 use Rattle.excerpts.specs.Roles.{roles_from}
 
 -- each line has its outline

@@ -15,7 +15,7 @@ use Rattle.excerpts.specs.declared.cuts.Open.{Open}
 use Rattle.excerpts.specs.declared.cuts.Part.{Part}
 use Rattle.excerpts.specs.declared.cuts.PartKind.{PartKind}
 use Rattle.excerpts.specs.declared.cuts.PartKind.TheVariants.{Empty, Place, Note, GoesOn, Frames, Source, Loose, Suggestion, Kept}
-use Rattle.excerpts.specs.declared.labels.Spot.{Spot}
+use Rattle.excerpt_blocks.specs.declared.labels.Spot.{Spot}
 
 abbrev pub sign_before : ℕ → ℕ → Option Sign
 sign_before c next = if next == 0x20 || next == 0 then (if c == 0x2B then Some Added else if c == 0x2D then Some Removed else None) else None

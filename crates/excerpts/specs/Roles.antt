@@ -4,13 +4,13 @@ use Rattle.excerpt_lines.specs.declared.gutter.Sign.{Sign}
 use Rattle.excerpt_lines.specs.declared.gutter.Sign.TheVariants.{Unsigned, Added}
 use Rattle.excerpt_lines.specs.declared.kinds.LineKind.{LineKind}
 use Rattle.excerpt_lines.specs.declared.kinds.LineKind.TheVariants.{Empty as EmptyLine, Place as PlaceLine, Note as NoteLine, Row as RowLine, Marks as MarksLine, Space, Inserted, Loose as LooseLine, Frame as FrameLine, Plain}
-use Rattle.excerpts.specs.declared.blocks.RowHead.{RowHead}
-use Rattle.excerpts.specs.declared.blocks.Role.{Role}
-use Rattle.excerpts.specs.declared.blocks.Role.TheVariants.{Row, Marks, Gap, Frame, Other}
+use Rattle.excerpt_blocks.specs.declared.blocks.RowHead.{RowHead}
+use Rattle.excerpt_blocks.specs.declared.blocks.Role.{Role}
+use Rattle.excerpt_blocks.specs.declared.blocks.Role.TheVariants.{Row, Marks, Gap, Frame, Other}
 use Rattle.excerpts.specs.declared.cuts.Outline.{Outline}
 use Rattle.excerpts.specs.declared.cuts.PartKind.{PartKind}
 use Rattle.excerpts.specs.declared.cuts.PartKind.TheVariants.{Empty, Place, Note, GoesOn, Frames, Source, Loose, Suggestion, Kept}
-use Rattle.excerpts.specs.declared.labels.Spot.{Spot}
+use Rattle.excerpt_blocks.specs.declared.labels.Spot.{Spot}
 
 abbrev pub head_with : Option ℕ → Sign → ℕ → Role
 head_with number sign text = Row (record { number = number; sign = sign; text = text })

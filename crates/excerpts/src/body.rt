@@ -1,15 +1,15 @@
 //! A body read as a whole, or kept.
 ghost use Rattle.std.specs.Prelude.{◌≡◌, ◌+◌, ◌++◌, ◌∷◌, [], ◌<◌, ◌^◌, IfErr, IfNone, IfOk, IfSome, OnOk, length, map};
-ghost use Rattle.excerpts.specs.declared.below.Refusal.TheVariants.{OutOfMemory};
+ghost use Rattle.excerpt_blocks.specs.declared.below.Refusal.TheVariants.{OutOfMemory};
 ghost use Rattle.excerpts.specs.Body.{AddsPart, AreOutlines, BlockRefused, IsBlock, IsKept, IsRead};
 ghost use Rattle.excerpts.specs.Body.{IsStopped, PartRefused, Reads, block_of, is_block};
 ghost use Rattle.excerpts.specs.Body.{suits as suits_part};
-ghost use Rattle.excerpts.specs.Below.{state_of};
+ghost use Rattle.excerpt_blocks.specs.Below.{state_of};
 
-use crate::below::{Below, Refusal, tail};
-use crate::blocks::read_block;
+use excerpt_blocks::below::{Below, Refusal, tail};
+use excerpt_blocks::blocks::read_block;
 use crate::cuts::{Open, Outline, Part, PartKind, START, after, head, outline_of, part_at};
-use crate::labels::{Label, Spot, labels_of};
+use excerpt_blocks::labels::{Label, Spot, labels_of};
 use crate::roles::roles_of;
 use std::alloc::{AllocError, Global};
 

@@ -12,8 +12,8 @@ ghost use Rattle.excerpts.specs.Cuts.{is_straight as is_straight_from, line_part
 ghost use Rattle.excerpts.specs.Cuts.{loose_or_kept as loose_or_kept_in, loose_run as loose_run_in};
 ghost use Rattle.excerpts.specs.Cuts.{part_in};
 
-use crate::below::tail;
-use crate::labels::Spot;
+use excerpt_blocks::below::tail;
+use excerpt_blocks::labels::Spot;
 use excerpt_lines::gutter::Sign;
 use excerpt_lines::kinds::{LineKind, kind_of};
 use excerpt_lines::places::{Note, NoteForm, Place};

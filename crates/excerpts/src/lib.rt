@@ -1,9 +1,6 @@
-//! What a compiler or linter drew below a finding, read back: rows, labels, notes and suggestions.
+//! What a compiler or linter printed below a finding, read back: notes, locations, labels and suggestions.
 #![tactic(auto)]
 
-pub mod below;
-pub mod blocks;
 pub mod body;
 pub mod cuts;
-pub mod labels;
 pub mod roles;

@@ -3,9 +3,9 @@ ghost use Rattle.std.specs.Prelude.{◌≡◌, ◌+◌, ◌++◌, ◌∷◌, [],
 ghost use Rattle.excerpts.specs.Roles.{head_with, role_of as role_in, roles_from, source_role as source_role_in};
 ghost use Rattle.excerpts.specs.Roles.{suggested_role as suggested_role_in};
 
-use crate::blocks::{Role, RowHead};
+use excerpt_blocks::blocks::{Role, RowHead};
 use crate::cuts::{Outline, PartKind};
-use crate::labels::Spot;
+use excerpt_blocks::labels::Spot;
 use excerpt_lines::gutter::Sign;
 use excerpt_lines::kinds::LineKind;
 use std::alloc::{AllocError, Global};

@@ -1,7 +1,0 @@
-use Rattle.std.proofs.Common.{◌≡◌, ◌+◌, ◌++◌, ◌∷◌, [], ◌<◌, ◌^◌, None, length, take, drop, true}
-use Rattle.std.specs.List.{list_any}
-use Rattle.excerpts.specs.Below.{is_of, state_of}
-use Rattle.excerpts.proofs.labels.is_said.Given as goal
-
-abbrev pub invariant-loop-text : goal.invariant-loop-text
-invariant-loop-text l = list_any (is_of l.mark) (drop l.text-index l.texts) ≡ list_any (is_of l.mark) l.texts

@@ -1,8 +1,0 @@
-use Rattle.std.proofs.Common.{◌≡◌, ◌+◌, ◌++◌, ◌∷◌, [], ◌<◌, ◌^◌, None, length, take, drop, true}
-use Rattle.std.specs.List.{list_any}
-use Rattle.excerpts.specs.Labels.{rows_labels}
-use Rattle.excerpts.specs.Below.{is_of, state_of}
-use Rattle.excerpts.proofs.labels.labels_of.Given as goal
-
-abbrev pub invariant-loop-k : goal.invariant-loop-k
-invariant-loop-k l = l.labels.items ++ rows_labels l.strong l.spot (state_of l.below) (drop l.k l.below.rows.items) ≡ rows_labels l.strong l.spot (state_of l.below) l.below.rows.items

@@ -1,8 +1,0 @@
-use Rattle.std.proofs.Common.{◌≡◌, ◌+◌, ◌++◌, ◌∷◌, [], ◌<◌, ◌^◌, None, length, take, drop, true}
-use Rattle.std.specs.List.{list_any}
-use Rattle.excerpts.specs.declared.labels.Phase.TheVariants.{First}
-use Rattle.excerpts.specs.Labels.{overlaid_from}
-use Rattle.excerpts.proofs.labels.overlaid.Given as goal
-
-abbrev pub invariant-loop-k : goal.invariant-loop-k
-invariant-loop-k l = l.out.items ++ overlaid_from l.phase (drop l.k l.runs) ≡ overlaid_from First l.runs

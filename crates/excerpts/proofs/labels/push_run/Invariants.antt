@@ -1,7 +1,0 @@
-use Rattle.std.proofs.Common.{◌≡◌, ◌+◌, ◌++◌, ◌∷◌, [], ◌<◌, ◌^◌, None, length, take, drop, true}
-use Rattle.std.specs.List.{list_any}
-use Rattle.excerpts.specs.Labels.{parts_from}
-use Rattle.excerpts.proofs.labels.push_run.Given as goal
-
-abbrev pub invariant-loop-k : goal.invariant-loop-k
-invariant-loop-k l = l.labels.items ++ parts_from l.strong l.run l.texts (take l.k l.texts) (drop l.k l.texts) ≡ l.initial.labels.items ++ parts_from l.strong l.run l.texts [] l.texts
