@@ -83,19 +83,19 @@ added_all line hung at old next new so blank = record {
   parts = so.parts;
 }
 
-front_is : (line : List ℕ) (text : ℕ) (hung : List ℕ) (part : Part) (start end : ℕ) → is_front part ≡ true → end ≡ text → IsPart line text hung part start end
-front_is line text hung Gutter start end suits is = is
-front_is line text hung Row start end suits is = cc
-front_is line text hung (Mark class) start end suits is = cc
-front_is line text hung Bar start end suits is = cc
-front_is line text hung Link start end suits is = cc
-front_is line text hung (Hook rest) start end suits is = cc
-front_is line text hung Text start end suits is = cc
-front_is line text hung Whole start end suits is = cc
-front_is line text hung Lead start end suits is = is
+front_is : (line : List ℕ) (text : ℕ) (hung : List ℕ) (part : Part) (start end : ℕ) → is_front part ≡ true → is_in Ink (slice_index line start) ≡ true → end ≡ text → IsPart line text hung part start end
+front_is line text hung Gutter start end suits ink is = (ink, is)
+front_is line text hung Row start end suits ink is = cc
+front_is line text hung (Mark class) start end suits ink is = cc
+front_is line text hung Bar start end suits ink is = cc
+front_is line text hung Link start end suits ink is = cc
+front_is line text hung (Hook rest) start end suits ink is = cc
+front_is line text hung Text start end suits ink is = cc
+front_is line text hung Whole start end suits ink is = cc
+front_is line text hung Lead start end suits ink is = (ink, is)
 
-front_part : (line : List ℕ) (text : ℕ) (hung : List ℕ) (part : Part) (item : Item) → is_front part ≡ true → item.part ≡ part → item.end ≡ text → IsPart line text hung item.part item.start item.end
-front_part line text hung part item suits is end = subst (λ (p : Part). IsPart line text hung p item.start item.end) (sym is) (front_is line text hung part item.start item.end suits end)
+front_part : (line : List ℕ) (text : ℕ) (hung : List ℕ) (part : Part) (item : Item) → is_front part ≡ true → is_in Ink (slice_index line item.start) ≡ true → item.part ≡ part → item.end ≡ text → IsPart line text hung item.part item.start item.end
+front_part line text hung part item suits ink is end = subst (λ (p : Part). IsPart line text hung p item.start item.end) (sym is) (front_is line text hung part item.start item.end suits ink end)
 
 wider : (line : List ℕ) (begin : ℕ) (hung : List ℕ) (at : ℕ) (items : List Item) → EachIn Blank line 0 at → Covers line begin hung at items → Covers line begin hung 0 items
 wider line begin hung at [] blanks covers = λ k from within. elim (cases_lt k at) [
@@ -124,13 +124,13 @@ front_none line part text start past blanks = record {
   parts = All-nil (λ (item : Item). item.part ≡ part);
 }
 
-pub front_one : (line : List ℕ) (part : Part) (text start : ℕ) (item : Item) → is_front part ≡ true → start < text → text ≤ length line → EachIn Blank line 0 start → IsItem line part start text item → IsFront line part text (item ∷ [])
-front_one line part text start item suits less within blanks is = record {
+pub front_one : (line : List ℕ) (part : Part) (text start : ℕ) (item : Item) → is_front part ≡ true → start < text → text ≤ length line → EachIn Blank line 0 start → is_in Ink (slice_index line start) ≡ true → IsItem line part start text item → IsFront line part text (item ∷ [])
+front_one line part text start item suits less within blanks ink is = record {
   leads = λ hung rest h. (
     record {
       from = omega arith;
       gap = rw is.start_is blanks;
-      part = record { some = omega (arith, is.start_is, is.end_is); within = omega (arith, is.end_is); is = front_part line text hung part item suits is.part_is is.end_is };
+      part = record { some = omega (arith, is.start_is, is.end_is); within = omega (arith, is.end_is); is = front_part line text hung part item suits (rw is.start_is ink) is.part_is is.end_is };
       cell_is = is.cell_is ∙ ap (cell_at line) (sym is.start_is);
       end_cell_is = is.end_cell_is ∙ ap (cell_at line) (sym is.end_is);
       few_cell = omega (arith, is.few_cell, is.start_is);
@@ -142,15 +142,15 @@ front_one line part text start item suits less within blanks is = record {
 }
 
 pub added_whole : (line : List ℕ) (at start end : ℕ) (old new : List Item) (item : Item) → at ≤ start → start < end → end ≤ length line → EachIn Blank line at start → EachIn Blank line end (length line)
-    → is_in Ink (slice_index line (end - 1)) ≡ true → IsItem line Whole start end item → new ≡ old ++ item ∷ [] → AddsWhole line at old new
-added_whole line at start end old new item from less within before after ink is put = record {
+    → is_in Ink (slice_index line start) ≡ true → is_in Ink (slice_index line (end - 1)) ≡ true → IsItem line Whole start end item → new ≡ old ++ item ∷ [] → AddsWhole line at old new
+added_whole line at start end old new item from less within before after first ink is put = record {
   more = item ∷ [];
   added = put;
   covers = λ hung. (
     record {
       from = omega (arith, is.start_is);
       gap = rw is.start_is before;
-      part = record { some = omega (arith, is.start_is, is.end_is); within = omega (arith, is.end_is); is = rw (is.part_is, is.end_is) (ink, after) };
+      part = record { some = omega (arith, is.start_is, is.end_is); within = omega (arith, is.end_is); is = rw (is.part_is, is.start_is, is.end_is) (first, ink, after) };
       cell_is = is.cell_is ∙ ap (cell_at line) (sym is.start_is);
       end_cell_is = is.end_cell_is ∙ ap (cell_at line) (sym is.end_is);
       few_cell = omega (arith, is.few_cell, is.start_is);

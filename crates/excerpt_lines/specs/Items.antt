@@ -74,15 +74,15 @@ pub record IsNoPart (line : List ℕ) (begin start : ℕ) : Type 0 where
 
 -- what each part is, of a line whose text begins at `begin`
 abbrev pub IsPart : List ℕ → ℕ → List ℕ → Part → ℕ → ℕ → Type 0
-IsPart line begin hung Gutter start end = end ≡ begin
+IsPart line begin hung Gutter start end = (is_in Ink (slice_index line start) ≡ true) × (end ≡ begin)
 IsPart line begin hung Row start end = (start ≡ begin) × (end ≡ length line)
 IsPart line begin hung (Mark class) start end = (mark_in line start ≡ Some class) × (end ≡ run_end class line start)
 IsPart line begin hung Bar start end = (mark_in line start ≡ None) × (is_in BarClass (slice_index line start) ≡ true) × (end ≡ start + 1)
 IsPart line begin hung Link start end = (mark_in line start ≡ None) × (is_in BarClass (slice_index line start) ≡ false) × (link_in line begin start ≡ true) × (end ≡ run_end Underscore line start)
 IsPart line begin hung (Hook rest) start end = (mark_in line start ≡ None) × (is_in BarClass (slice_index line start) ≡ false) × (link_in line begin start ≡ false) × (hook_in line start ≡ Some rest) × (end ≡ run_end rest line (start + 1))
-IsPart line begin hung Text start end = IsNoPart line begin start × IsTextEnd line hung start end
-IsPart line begin hung Whole start end = (is_in Ink (slice_index line (end - 1)) ≡ true) × EachIn Blank line end (length line)
-IsPart line begin hung Lead start end = end ≡ begin
+IsPart line begin hung Text start end = (is_in Ink (slice_index line start) ≡ true) × IsNoPart line begin start × IsTextEnd line hung start end
+IsPart line begin hung Whole start end = (is_in Ink (slice_index line start) ≡ true) × (is_in Ink (slice_index line (end - 1)) ≡ true) × EachIn Blank line end (length line)
+IsPart line begin hung Lead start end = (is_in Ink (slice_index line start) ≡ true) × (end ≡ begin)
 
 -- a part that begins and ends at these places
 pub record HasPart (line : List ℕ) (begin : ℕ) (hung : List ℕ) (start : ℕ) (part : Part) (end : ℕ) : Type 0 where

@@ -55,6 +55,8 @@ pub fn first_ink(line: &[char]) -> usize
     ensures value { result ≡ first_ink_of line.now }
     ensures within { result ≤ length line.now }
     ensures each { EachIn Blank line.now 0 result }
+    ensures stops { result < length line.now
+        → belongs Blank (slice_index line.now result) ≡ false }
 {
     run_from(CharClass::Blank, line, 0)
 }
