@@ -80,7 +80,14 @@ stops first lines roles k line role above s within within_roles is role_is so wh
 
 -- no line is left
 pub ends : (first : ℕ) (lines : List (List ℕ)) (roles : List Role) (k : ℕ) (above : List ℕ) (s : State) → length lines ≤ k → length roles ≡ length lines
-    → SoFar first lines roles (first + k) (drop k lines) (drop k roles) above s → Adds first lines roles [] empty_state s
-ends first lines roles k above s past same so =
+    → SoFar first lines roles (first + k) (drop k lines) (drop k roles) above s → length s.opens ≡ 0 → Adds first lines roles [] empty_state s
+ends first lines roles k above s past same so closed =
     let here = subst (λ (ls : List (List ℕ)). SoFar first lines roles (first + k) ls (drop k roles) above s) (drop_all k lines past) so in
-    here.whole s refl
+    here.whole s (refl, closed)
+
+-- a span is open at the end
+pub stays_open : (first : ℕ) (lines : List (List ℕ)) (roles : List Role) (k : ℕ) (above : List ℕ) (s : State) → length lines ≤ k
+    → SoFar first lines roles (first + k) (drop k lines) (drop k roles) above s → 0 < length s.opens → Refuses first lines roles [] empty_state
+stays_open first lines roles k above s past so unclosed =
+    let here = subst (λ (ls : List (List ℕ)). SoFar first lines roles (first + k) ls (drop k roles) above s) (drop_all k lines past) so in
+    here.refused unclosed

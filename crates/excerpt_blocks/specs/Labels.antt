@@ -1,6 +1,7 @@
 -- Labels: the marks of a block with the texts that are theirs.
 use Rattle.std.specs.Prelude.{◌≡◌, ℕ, ◌+◌, ◌-◌, ◌==◌, ◌&&◌, ◌||◌, not, nat_lt, if◌then◌else◌, Bool, true, false, List, [], ◌∷◌, ◌++◌, length, take, drop, Option, Some, None}
 use Rattle.std.specs.List.{list_any}
+use Rattle.std.specs.Option.{is_none}
 use Rattle.excerpt_lines.specs.declared.tables.CharClass.{CharClass}
 use Rattle.excerpt_lines.specs.declared.tables.CharClass.TheVariants.{Caret, Dash, Plus, Thick, Thin, Triangle}
 use Rattle.excerpt_blocks.specs.declared.below.Row.{Row}
@@ -11,23 +12,11 @@ use Rattle.excerpt_blocks.specs.declared.labels.Label.{Label}
 use Rattle.excerpt_blocks.specs.declared.labels.Run.{Run}
 use Rattle.excerpt_blocks.specs.declared.labels.Phase.{Phase}
 use Rattle.excerpt_blocks.specs.declared.labels.Phase.TheVariants.{First, Over, Covered}
-use Rattle.excerpt_blocks.specs.Below.{State, is_of}
+use Rattle.excerpt_blocks.specs.declared.below.Begun.{Begun}
+use Rattle.excerpt_blocks.specs.Below.{State, class_number, is_of, is_same}
 
 abbrev pub is_first_mark : Mark → Bool
 is_first_mark mark = mark.first
-
--- the place of a class among those of marks
-abbrev pub class_number : CharClass → ℕ
-class_number Caret = 0
-class_number Dash = 1
-class_number Plus = 2
-class_number Thick = 3
-class_number Thin = 4
-class_number Triangle = 5
-class_number _ = 6
-
-abbrev pub is_same : CharClass → CharClass → Bool
-is_same one other = class_number one == class_number other
 
 abbrev pub is_dash : CharClass → Bool
 is_dash class = class_number class == 1
@@ -51,13 +40,21 @@ runs_from spot row texts number [] = []
 runs_from spot row texts number (mark ∷ marks) =
     record { mark = mark; number = number; said = list_any (is_of number) texts; begins = begins spot row mark } ∷ runs_from spot row texts (number + 1) marks
 
+-- no span of rows ends at a run
+abbrev pub is_plain : Run → Bool
+is_plain run = is_none run.mark.begun
+
+-- three runs touch, and no span of rows ends at one of them
+abbrev pub are_joined : Run → Run → Run → Bool
+are_joined run over covered = is_plain run && is_plain over && is_plain covered && run.mark.end_cell == over.mark.cell && over.mark.end_cell == covered.mark.cell
+
 -- the next run is drawn over one that goes on after it: they touch, the outer two are of one class, the first has a text
 -- or begins at the finding's place, and the last has no text
 abbrev pub covers_two : Run → List Run → Bool
 covers_two run [] = false
 covers_two run (over ∷ []) = false
 covers_two run (over ∷ (covered ∷ rest)) =
-    run.mark.end_cell == over.mark.cell && over.mark.end_cell == covered.mark.cell && is_same run.mark.class covered.mark.class
+    are_joined run over covered && is_same run.mark.class covered.mark.class
     && not (is_same run.mark.class over.mark.class) && (run.said || run.begins) && not covered.said
 
 abbrev pub extended : Run → List Run → Run
@@ -74,7 +71,7 @@ overlaid_from Covered (run ∷ rest) = overlaid_from First rest
 
 -- a run of `^` that goes on from one of `-` at the finding's place begins there
 abbrev pub goes_on : Run → Run → Bool
-goes_on first run = first.mark.end_cell == run.mark.cell && first.begins && is_dash first.mark.class && run.mark.first && is_caret run.mark.class
+goes_on first run = is_plain first && is_plain run && first.mark.end_cell == run.mark.cell && first.begins && is_dash first.mark.class && run.mark.first && is_caret run.mark.class
 
 abbrev pub shifted : Option Run → Run → Run
 shifted None run = run
@@ -117,8 +114,17 @@ is_least run texts text = not (list_any (is_left run text.cell) texts)
 abbrev pub is_primary : Bool → Mark → Bool
 is_primary strong mark = mark.first || (not strong && is_caret mark.class)
 
+abbrev pub begun_row : ℕ → Option Begun → ℕ
+begun_row row None = row
+begun_row row (Some begun) = begun.row
+
+abbrev pub begun_column : ℕ → Option Begun → ℕ
+begun_column start None = start
+begun_column start (Some begun) = begun.column
+
+-- where a span of rows ends, the label begins where that does
 abbrev pub label_at : Bool → Run → ℕ → Option ℕ → Bool → Label
-label_at strong run start hung beside = record { row = run.mark.row; mark = run.number; start = start; end = run.mark.end; primary = is_primary strong run.mark; hung = hung; beside = beside }
+label_at strong run start hung beside = record { row = run.mark.row; mark = run.number; start_row = begun_row run.mark.row run.mark.begun; start = begun_column start run.mark.begun; end = run.mark.end; primary = is_primary strong run.mark; hung = hung; beside = beside }
 
 -- the label of the texts that hang from one cell of a run: it begins there, or with the run, if it is the first
 abbrev pub part_label : Bool → Run → List Text → Text → Label

@@ -1,5 +1,5 @@
 //! What is drawn below the rows of a block: marks, and the texts beside them or hanging from them.
-ghost use Rattle.std.specs.Prelude.{◌≡◌, ◌++◌, ◌∷◌, [], ◌<◌, ◌^◌, IfErr, IfOk, OnOk, drop, length};
+ghost use Rattle.std.specs.Prelude.{◌≡◌, ◌++◌, ◌∷◌, [], ◌<◌, ◌^◌, IfErr, IfOk, IfSome, ◌+◌, OnOk, drop, length, vec_len};
 ghost use Rattle.std.specs.List.{list_any};
 ghost use Rattle.excerpt_blocks.specs.declared.below.Refusal.TheVariants.{OutOfMemory};
 ghost use Rattle.excerpt_blocks.specs.Below.{AreWithin, IsWithin, add as added_item, add_all, any_in};
@@ -7,11 +7,15 @@ ghost use Rattle.excerpt_blocks.specs.Below.{barred, empty_state, holder as hold
 ghost use Rattle.excerpt_blocks.specs.Below.{is_first_char, is_of as is_text_of, is_said as is_said_in};
 ghost use Rattle.excerpt_blocks.specs.Below.{is_said_at as is_said_there, is_tick as is_tick_in, mark_in};
 ghost use Rattle.excerpt_blocks.specs.Below.{marked, owner as owner_of, state_of, step_to, taker as taker_of};
+ghost use Rattle.excerpt_blocks.specs.Below.{class_number as number_of_class, linked, margin_from};
+ghost use Rattle.excerpt_blocks.specs.Below.{is_same as is_one_class, margin_step, may_close as may_close_at};
+ghost use Rattle.excerpt_blocks.specs.Below.{opening_in, read_all, run_added, span_closed, span_opened};
 ghost use Rattle.excerpt_blocks.specs.Below.{text_in, touches as is_touched, unsaid_in, with_row, worded};
 
 use excerpt_lines::cells::{end_column, start_column};
 use excerpt_lines::gutter::Sign;
 use excerpt_lines::items::{Item, Part};
+use excerpt_lines::runs::run_from;
 use excerpt_lines::tables::{CharClass, is_in};
 use std::alloc::{AllocError, Global};
 
@@ -46,6 +50,25 @@ pub struct Mark {
     pub class: CharClass,
     /// Marks of what was found are among them.
     pub first: bool,
+    /// Where the span of rows begins that ends here.
+    pub begun: Option<Begun>,
+}
+
+/// Where a span of rows begins: a row of the block, and a character of its text.
+#[derive(Clone, Copy)]
+pub struct Begun {
+    pub row: usize,
+    pub column: usize,
+}
+
+/// A span of rows that is open.
+#[derive(Clone, Copy)]
+pub struct Opening {
+    /// The place of its bars in the margin, in characters from 0.
+    pub place: usize,
+    pub begun: Begun,
+    /// The class of the marks that it begins and ends with; nothing if it began with a row.
+    pub class: Option<CharClass>,
 }
 
 /// A cell of a mark below which a text hangs or will hang, or in which the text beside it begins.
@@ -82,6 +105,10 @@ pub struct Below {
     pub marks: Vec<Mark>,
     pub hangs: Vec<Hang>,
     pub texts: Vec<Text>,
+    /// The spans that are open.
+    pub opens: Vec<Opening>,
+    /// Where a link begins that no mark follows yet.
+    pub link: Option<usize>,
     /// What comes before the last row's: so many marks, hangs and texts.
     pub marks_before: usize,
     pub hangs_before: usize,
@@ -123,6 +150,8 @@ impl Below {
             marks: Vec::new(alloc),
             hangs: Vec::new(alloc),
             texts: Vec::new(alloc),
+            opens: Vec::new(alloc),
+            link: None,
             marks_before: 0,
             hangs_before: 0,
             texts_before: 0,
@@ -166,16 +195,19 @@ impl Below {
         requires above { length above.now < 2 ^ 32 }
         requires line { length line.now < 2 ^ 32 }
         requires items { AreWithin line.now items.now }
-        ensures read { OnOk result (add_all above.now line.now number None None items.now
+        ensures read { OnOk result (read_all above.now line.now number items.now
             (state_of self.old) ≡ Some (state_of self.new)) }
         ensures refused { IfErr result (λ why. (why ≡ OutOfMemory → ⊥)
-            → add_all above.now line.now number None None items.now (state_of self.old) ≡ None) }
+            → read_all above.now line.now number items.now (state_of self.old) ≡ None) }
     {
         let mut previous = None;
         let mut last = None;
         for item in items {
             last = self.add(above, line, number, previous, last, *item)?;
             previous = Some(*item);
+        }
+        if self.link.is_some() {
+            return Err(Refusal::NotRead);
         }
         Ok(())
     }
@@ -209,12 +241,13 @@ impl Below {
             Part::Mark(class) => {
                 let first = has_first(&line[item.start..item.end]);
                 let mark = self.mark_over(above, item.cell, item.end_cell, class, first);
-                self.add_mark(mark)
+                self.add_run(line, item, mark)
             }
+            Part::Link => self.add_link(item),
             Part::Bar => self.add_bar(item),
             Part::Hook(_) => self.add_hook(above, line, item),
             Part::Text => self.add_text(above, number, previous, last, item),
-            Part::Link | Part::Row | Part::Whole | Part::Lead => Err(Refusal::NotRead),
+            Part::Row | Part::Whole | Part::Lead => Err(Refusal::NotRead),
         }
     }
 
@@ -240,7 +273,160 @@ impl Below {
             end: end_column(above, self.text, end_cell),
             class,
             first,
+            begun: None,
         }
+    }
+
+    /// Adds a run of marks; after a link, a span of rows begins or ends there.
+    #[tactic(auto, unfolding(crate::specs::Below::run_added))]
+    fn add_run(&mut self, line: &[char], item: Item, mark: Mark) -> Result<Option<usize>, Refusal>
+        requires { IsWithin line.now item }
+        ensures added { IfOk result (λ next.
+            run_added line.now item mark (state_of self.old) ≡ Some (step_to (state_of self.new) next)) }
+        ensures refused { IfErr result (λ why. (why ≡ OutOfMemory → ⊥)
+            → run_added line.now item mark (state_of self.old) ≡ None) }
+    {
+        let Some(start) = self.link else {
+            return self.add_mark(mark);
+        };
+        if start == 0 || start > line.len() || item.end - item.start != 1 {
+            return Err(Refusal::NotRead);
+        }
+        self.link = None;
+        let place = start - 1;
+        match line[place] {
+            ' ' => self.open_span(place, mark),
+            '|' => self.close_span(place, mark),
+            _ => Err(Refusal::NotRead),
+        }
+    }
+
+    /// A span of rows begins at a mark, which isn't kept.
+    #[tactic(auto, unfolding(crate::specs::Below::span_opened))]
+    fn open_span(&mut self, place: usize, mark: Mark) -> Result<Option<usize>, Refusal>
+        ensures added { IfOk result (λ next.
+            span_opened place mark (state_of self.old) ≡ Some (step_to (state_of self.new) next)) }
+        ensures refused { IfErr result (λ why. (why ≡ OutOfMemory → ⊥)
+            → span_opened place mark (state_of self.old) ≡ None) }
+    {
+        if self.opening_at(place).is_some() || mark.cell < self.cell {
+            return Err(Refusal::NotRead);
+        }
+        let opening = Opening {
+            place,
+            begun: Begun {
+                row: mark.row,
+                column: mark.start,
+            },
+            class: Some(mark.class),
+        };
+        push_opening(&mut self.opens, opening)?;
+        Ok(None)
+    }
+
+    /// The span with bars at a place ends at a mark of its class.
+    #[tactic(auto, unfolding(crate::specs::Below::span_closed))]
+    fn close_span(&mut self, place: usize, mark: Mark) -> Result<Option<usize>, Refusal>
+        ensures added { IfOk result (λ next.
+            span_closed place mark (state_of self.old) ≡ Some (step_to (state_of self.new) next)) }
+        ensures refused { IfErr result (λ why. (why ≡ OutOfMemory → ⊥)
+            → span_closed place mark (state_of self.old) ≡ None) }
+    {
+        let Some(number) = self.opening_at(place) else {
+            return Err(Refusal::NotRead);
+        };
+        let opening = self.opens[number];
+        if !may_close(opening, mark) {
+            return Err(Refusal::NotRead);
+        }
+        let _opening = self.opens.remove(number);
+        self.add_mark(Mark {
+            begun: Some(opening.begun),
+            ..mark
+        })
+    }
+
+    /// The number of the span that is open with bars at a place.
+    #[tactic(auto, unfolding(crate::specs::Below::opening_in))]
+    fn opening_at(&self, place: usize) -> Option<usize>
+        ensures value { result ≡ opening_in place (state_of self.now) }
+        ensures within { IfSome result (λ k. k < vec_len self.now.opens) }
+    {
+        for (k, opening) in self.opens.iter().enumerate() {
+            if opening.place == place {
+                return Some(k);
+            }
+        }
+        None
+    }
+
+    /// Adds a link, which a mark has to follow.
+    #[tactic(auto, unfolding(crate::specs::Below::linked))]
+    fn add_link(&mut self, item: Item) -> Result<Option<usize>, Refusal>
+        ensures added { IfOk result (λ next.
+            linked item (state_of self.old) ≡ Some (step_to (state_of self.new) next)) }
+        ensures refused { IfErr result (λ why. (why ≡ OutOfMemory → ⊥)
+            → linked item (state_of self.old) ≡ None) }
+    {
+        if self.link.is_some() {
+            return Err(Refusal::NotRead);
+        }
+        self.link = Some(item.start);
+        Ok(None)
+    }
+
+    /// Reads the margin of the last row, whose first character has a place in its line: `/` opens a span at
+    /// the row's first character, `|` needs an open one.
+    pub fn read_margin(
+        &mut self,
+        line: &[char],
+        from: usize,
+        mut margin: &[char],
+    ) -> Result<(), Refusal>
+        requires { from + length margin.now < 2 ^ 64 }
+        ensures read { OnOk result (margin_from line.now from margin.entry.now
+            (state_of self.old) ≡ Some (state_of self.new)) }
+        ensures refused { IfErr result (λ why. (why ≡ OutOfMemory → ⊥)
+            → margin_from line.now from margin.entry.now (state_of self.old) ≡ None) }
+    {
+        let mut place = from;
+        while let [c, rest @ ..] = margin {
+            self.margin_char(line, place, *c)?;
+            place += 1;
+            margin = rest;
+        }
+        Ok(())
+    }
+
+    /// Reads a character of the margin.
+    #[tactic(auto, unfolding(crate::specs::Below::margin_step))]
+    fn margin_char(&mut self, line: &[char], place: usize, c: char) -> Result<(), Refusal>
+        ensures read { OnOk result (margin_step line.now place c (state_of self.old)
+            ≡ Some (state_of self.new)) }
+        ensures refused { IfErr result (λ why. (why ≡ OutOfMemory → ⊥)
+            → margin_step line.now place c (state_of self.old) ≡ None) }
+    {
+        if c == ' ' {
+            return Ok(());
+        }
+        let opening = self.opening_at(place);
+        if c == '|' && opening.is_some() {
+            return Ok(());
+        }
+        if c != '/' || opening.is_some() {
+            return Err(Refusal::NotRead);
+        }
+        let text = self.text.min(line.len());
+        let opening = Opening {
+            place,
+            begun: Begun {
+                row: self.rows.len().saturating_sub(1),
+                column: run_from(CharClass::Blank, line, text) - text,
+            },
+            class: None,
+        };
+        push_opening(&mut self.opens, opening)?;
+        Ok(())
     }
 
     /// Adds a mark, which must not begin left of its row's text.
@@ -267,6 +453,12 @@ impl Below {
         ensures refused { IfErr result (λ why. (why ≡ OutOfMemory → ⊥)
             → barred item (state_of self.old) ≡ None) }
     {
+        if self.link.is_some() {
+            return Err(Refusal::NotRead);
+        }
+        if item.end < self.text {
+            return Ok(None);
+        }
         let Some(mark) = self.holder(item.cell) else {
             return Err(Refusal::NotRead);
         };
@@ -295,6 +487,9 @@ impl Below {
         ensures refused { IfErr result (λ why. (why ≡ OutOfMemory → ⊥)
             → hooked above.now line.now item (state_of self.old) ≡ None) }
     {
+        if self.link.is_some() {
+            return Err(Refusal::NotRead);
+        }
         if let Some(mark) = self.holder(item.cell) {
             return Ok(Some(mark));
         }
@@ -322,7 +517,7 @@ impl Below {
         ensures refused { IfErr result (λ why. (why ≡ OutOfMemory → ⊥)
             → worded above.now number previous last item (state_of self.old) ≡ None) }
     {
-        if touches(previous, item) {
+        if touches(previous, item) || self.link.is_some() {
             return Err(Refusal::NotRead);
         }
         let Some(owner) = self.owner(last, item.cell) else {
@@ -500,6 +695,38 @@ pub fn tail<T>(items: &[T], at: usize) -> &[T]
     }
 }
 
+/// Whether a span may end at a mark.
+fn may_close(opening: Opening, mark: Mark) -> bool
+    ensures { result ≡ may_close_at opening mark }
+{
+    match opening.class {
+        Some(class) => is_same(class, mark.class),
+        None => true,
+    }
+}
+
+/// Whether marks are of one class.
+pub fn is_same(one: CharClass, other: CharClass) -> bool
+    ensures { result ≡ is_one_class one other }
+{
+    class_number(one) == class_number(other)
+}
+
+/// The place of a class among those of marks; others come last.
+fn class_number(class: CharClass) -> usize
+    ensures { result ≡ number_of_class class }
+{
+    match class {
+        CharClass::Caret => 0,
+        CharClass::Dash => 1,
+        CharClass::Plus => 2,
+        CharClass::Thick => 3,
+        CharClass::Thin => 4,
+        CharClass::Triangle => 5,
+        _ => 6,
+    }
+}
+
 /// Whether a text is a mark's.
 pub fn is_of(text: &Text, mark: usize) -> bool
     ensures { result ≡ is_text_of mark text.now }
@@ -551,6 +778,13 @@ fn push_mark(marks: &mut Vec<Mark>, mark: Mark) -> Result<(), AllocError>
     ensures { OnOk result (marks.new.items ≡ marks.old.items ++ mark ∷ []) }
 {
     marks.push(mark)?;
+    Ok(())
+}
+
+fn push_opening(opens: &mut Vec<Opening>, opening: Opening) -> Result<(), AllocError>
+    ensures { OnOk result (opens.new.items ≡ opens.old.items ++ opening ∷ []) }
+{
+    opens.push(opening)?;
     Ok(())
 }
 

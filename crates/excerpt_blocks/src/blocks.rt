@@ -18,6 +18,8 @@ pub struct RowHead {
     pub sign: Sign,
     /// Where the text begins, in characters from 0.
     pub text: usize,
+    /// Where the margin begins, in which bars join the ends of spans of rows; where there is none, the same.
+    pub margin: usize,
 }
 
 /// What a line is in a block.
@@ -62,6 +64,9 @@ pub fn read_block(
             Err(refusal) => return Err(refusal),
         }
     }
+    if below.opens.len() > 0 {
+        return Err(Refusal::NotRead);
+    }
     Ok(below)
 }
 
@@ -86,7 +91,10 @@ fn add_line<'a>(
             if line.len() >= LIMIT {
                 return Err(Refusal::NotRead);
             }
-            below.begin_row(row_of(below, line, number, head))?;
+            let row = row_of(below, line, number, head);
+            below.begin_row(row)?;
+            let from = head.margin.min(row.text);
+            below.read_margin(line, from, &line[from..row.text])?;
             Ok(line)
         }
         Role::Marks(text) => {

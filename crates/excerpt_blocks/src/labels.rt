@@ -4,15 +4,16 @@ ghost use Rattle.std.specs.List.{list_any};
 ghost use Rattle.excerpt_blocks.specs.Below.{is_of as is_of_mark, state_of};
 ghost use Rattle.excerpt_blocks.specs.declared.labels.Phase.TheVariants.{First};
 ghost use Rattle.excerpt_blocks.specs.Labels.{begins as begins_there, begun_from, covers_two as covers_both};
-ghost use Rattle.excerpt_blocks.specs.Labels.{class_number as number_of_class, is_elsewhere, is_first_mark};
-ghost use Rattle.excerpt_blocks.specs.Labels.{is_same as is_one_class, next_marks, next_texts};
+ghost use Rattle.excerpt_blocks.specs.Labels.{are_joined as are_runs_joined, is_elsewhere};
+ghost use Rattle.excerpt_blocks.specs.Labels.{is_first_mark, is_plain as is_plain_run};
+ghost use Rattle.excerpt_blocks.specs.Labels.{next_marks, next_texts};
 ghost use Rattle.excerpt_blocks.specs.Labels.{extended as extended_by, has_many as has_many_in};
 ghost use Rattle.excerpt_blocks.specs.Labels.{is_hung as is_hung_text, is_least as is_least_in, is_new as is_new_in};
 ghost use Rattle.excerpt_blocks.specs.Labels.{is_primary as is_primary_in, label_at, labels_in, overlaid_from};
 ghost use Rattle.excerpt_blocks.specs.Labels.{row_labels, run_labels, runs_from, says as says_so};
 ghost use Rattle.excerpt_blocks.specs.Labels.{shifted as shifted_by};
 
-use crate::below::{Below, Mark, Row, Text, is_of, tail};
+use crate::below::{Below, Mark, Row, Text, is_of, is_same, tail};
 use excerpt_lines::tables::CharClass;
 use std::alloc::{AllocError, Global};
 
@@ -30,7 +31,9 @@ pub struct Label {
     pub row: usize,
     /// The mark's place among the block's marks.
     pub mark: usize,
-    /// The characters of the row's text that it covers, from 0.
+    /// The row in which it begins: the same, or that where a span of rows begins.
+    pub start_row: usize,
+    /// The character of that row's text at which it begins, and the one of its own at which it ends, from 0.
     pub start: usize,
     pub end: usize,
     /// It marks what was found, not what belongs to it.
@@ -252,8 +255,7 @@ fn covers_two(run: Run, rest: &[Run]) -> bool
 {
     match rest {
         [over, covered, ..] => {
-            run.mark.end_cell == over.mark.cell
-                && over.mark.end_cell == covered.mark.cell
+            are_joined(run, *over, *covered)
                 && is_same(run.mark.class, covered.mark.class)
                 && !is_same(run.mark.class, over.mark.class)
                 && (run.said || run.begins)
@@ -261,6 +263,24 @@ fn covers_two(run: Run, rest: &[Run]) -> bool
         }
         _ => false,
     }
+}
+
+/// Whether three runs touch, and no span of rows ends at one of them.
+fn are_joined(run: Run, over: Run, covered: Run) -> bool
+    ensures { result ≡ are_runs_joined run over covered }
+{
+    is_plain(run)
+        && is_plain(over)
+        && is_plain(covered)
+        && run.mark.end_cell == over.mark.cell
+        && over.mark.end_cell == covered.mark.cell
+}
+
+/// Whether no span of rows ends at a run.
+fn is_plain(run: Run) -> bool
+    ensures { result ≡ is_plain_run run }
+{
+    run.mark.begun.is_none()
 }
 
 /// A run up to the end of the second one after it.
@@ -301,7 +321,9 @@ fn shifted(before: Option<Run>, run: Run) -> Run
     let Some(first) = before else {
         return run;
     };
-    if first.mark.end_cell == run.mark.cell
+    if is_plain(first)
+        && is_plain(run)
+        && first.mark.end_cell == run.mark.cell
         && first.begins
         && matches!(first.mark.class, CharClass::Dash)
         && run.mark.first
@@ -347,9 +369,14 @@ fn push_run(
 fn label_of(strong: bool, run: Run, start: usize, hung: Option<usize>, beside: bool) -> Label
     ensures { result ≡ label_at strong run start hung beside }
 {
+    let (start_row, start) = match run.mark.begun {
+        Some(begun) => (begun.row, begun.column),
+        None => (run.mark.row, start),
+    };
     Label {
         row: run.mark.row,
         mark: run.number,
+        start_row,
         start,
         end: run.mark.end,
         primary: is_primary(strong, run.mark),
@@ -421,28 +448,6 @@ fn is_least(run: Run, texts: &[Text], text: Text) -> bool
         }
     }
     true
-}
-
-/// Whether marks are of one class.
-fn is_same(one: CharClass, other: CharClass) -> bool
-    ensures { result ≡ is_one_class one other }
-{
-    class_number(one) == class_number(other)
-}
-
-/// The place of a class among those of marks; others come last.
-fn class_number(class: CharClass) -> usize
-    ensures { result ≡ number_of_class class }
-{
-    match class {
-        CharClass::Caret => 0,
-        CharClass::Dash => 1,
-        CharClass::Plus => 2,
-        CharClass::Thick => 3,
-        CharClass::Thin => 4,
-        CharClass::Triangle => 5,
-        _ => 6,
-    }
 }
 
 /// Whether one of the marks marks what was found.
