@@ -3,7 +3,7 @@ use Rattle.std.specs.Prelude.{ℕ, ◌+◌, ◌==◌, ◌&&◌, ◌||◌, not, n
 use Rattle.std.specs.List.{list_any, starts_with}
 use Rattle.std.specs.Char.{to_ascii_lowercase}
 use Rattle.excerpt_lines.specs.declared.tables.CharClass.{CharClass}
-use Rattle.excerpt_lines.specs.declared.tables.CharClass.TheVariants.{Blank, Ink, Space, Digit, Bar, Caret, Dash, Plus, Thick, Thin, Triangle, Underscore, First, Frame, Loose, Trail}
+use Rattle.excerpt_lines.specs.declared.tables.CharClass.TheVariants.{Blank, Ink, Space, Digit, Bar, Caret, Dash, Plus, Thick, Thin, Triangle, Underscore, First, Frame, Loose, Trail, Margin}
 use Rattle.excerpt_lines.specs.declared.tables.NoteKind.{NoteKind}
 use Rattle.excerpt_lines.specs.declared.tables.NoteKind.TheVariants.{Note, Help, Hint, Warning, Error, Info, Suggestion, Advice}
 use Rattle.excerpt_lines.specs.declared.tables.TheConstants.{FRAME}
@@ -29,6 +29,7 @@ is_in First c = c == 0x5E || c == 0x2501 || c == 0x25B2 || c == 0x252C
 is_in Frame c = c == 0x20 || c == 0x09 || is_frame c
 is_in Loose c = c == 0x20 || c == 0x09 || c == 0x5E || c == 0x7E || c == 0x2D || c == 0x2B || c == 0x5F || c == 0x3D
 is_in Trail c = c == 0x20 || c == 0x3A || c == 0x5D || c == 0x2500
+is_in Margin c = c == 0x20 || c == 0x7C
 
 -- the class of marks that a character is of
 abbrev pub class_of : ℕ → Option CharClass

@@ -201,7 +201,7 @@ fn may_end(line: &[char], end: usize) -> bool
 
 /// Whether a line to the margin begins here.
 #[tactic(auto, unfolding(crate::specs::Items::link_in))]
-fn is_link(line: &[char], begin: usize, start: usize) -> bool
+pub fn is_link(line: &[char], begin: usize, start: usize) -> bool
     requires { start < length line.now }
     ensures value { result ≡ link_in line.now begin start }
     ensures member { result ≡ true → belongs Underscore (slice_index line.now start) ≡ true }

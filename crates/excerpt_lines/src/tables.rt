@@ -34,6 +34,8 @@ pub enum CharClass {
     Loose,
     /// What may follow the location on a line of its own.
     Trail,
+    /// What joins the ends of spans of rows: spaces and `|`.
+    Margin,
 }
 
 /// What frames are made of.
@@ -63,6 +65,7 @@ pub fn is_in(class: CharClass, c: char) -> bool
         CharClass::Frame => c == ' ' || c == '\t' || is_frame(c),
         CharClass::Loose => matches!(c, ' ' | '\t' | '^' | '~' | '-' | '+' | '_' | '='),
         CharClass::Trail => matches!(c, ' ' | ':' | ']' | '─'),
+        CharClass::Margin => c == ' ' || c == '|',
     }
 }
 

@@ -16,7 +16,7 @@ use Rattle.excerpt_blocks.specs.Below.{State, empty_state, state_of}
 use Rattle.excerpt_blocks.specs.Blocks.{Adds, Refuses}
 use Rattle.excerpts.specs.Cuts.{IsOutline, after, part_in}
 use Rattle.excerpt_blocks.specs.Labels.{labels_in}
-use Rattle.excerpts.specs.Roles.{roles_from}
+use Rattle.excerpts.specs.Roles.{margin_of, roles_from}
 
 -- each line has its outline
 abbrev pub AreOutlines : List (List ℕ) → List Outline → Type 0
@@ -63,20 +63,20 @@ suits Kept s = true
 
 -- the block of a part: all its lines are read, and the labels are those of what is drawn
 pub record IsBlock (spot : Spot) (part : Part) (lines : List (List ℕ)) (outlines : List Outline) (block : BlockRead) : Type 0 where
-  pub adds : Adds part.first lines (roles_from part.kind spot true outlines) [] empty_state block.below
+  pub adds : Adds part.first lines (roles_from part.kind spot (margin_of outlines) true outlines) [] empty_state block.below
   pub suited : suits part.kind block.below ≡ true
   pub labels : block.labels ≡ labels_in spot block.below
 
 -- all lines of a block are read, but it has more than its part may have
 pub record IsUnsuited (spot : Spot) (part : Part) (lines : List (List ℕ)) (outlines : List Outline) : Type 0 where
   pub below : State
-  pub adds : Adds part.first lines (roles_from part.kind spot true outlines) [] empty_state below
+  pub adds : Adds part.first lines (roles_from part.kind spot (margin_of outlines) true outlines) [] empty_state below
   pub unsuited : suits part.kind below ≡ false
 
 -- a line of a block isn't read, or the block is unsuited
 abbrev pub BlockRefused : Spot → Part → List (List ℕ) → List Outline → Type 0
 BlockRefused spot part lines outlines =
-    Refuses part.first lines (roles_from part.kind spot true outlines) [] empty_state ⊎ IsUnsuited spot part lines outlines
+    Refuses part.first lines (roles_from part.kind spot (margin_of outlines) true outlines) [] empty_state ⊎ IsUnsuited spot part lines outlines
 
 abbrev pub HasBlocks : Bool → Spot → Part → List (List ℕ) → List Outline → List BlockRead → Type 0
 HasBlocks true spot part lines outlines blocks = (block : BlockRead) × (blocks ≡ block ∷ []) × IsBlock spot part lines outlines block

@@ -9,7 +9,10 @@ use Rattle.excerpt_lines.specs.declared.places.NoteForm.TheVariants.{Led, Margin
 use Rattle.excerpt_lines.specs.declared.kinds.LineKind.{LineKind}
 use Rattle.excerpt_lines.specs.declared.kinds.LineKind.TheVariants.{Empty as EmptyLine, Place as PlaceLine, Note as NoteLine, Row, Marks, Space, Inserted, Loose as LooseLine, Frame, Plain}
 use Rattle.excerpt_lines.specs.Kinds.{IsKind}
-use Rattle.excerpt_lines.specs.Runs.{first_ink}
+use Rattle.excerpt_lines.specs.declared.tables.CharClass.TheVariants.{Margin}
+use Rattle.excerpt_lines.specs.Gutter.{text_at}
+use Rattle.excerpt_lines.specs.Items.{link_in}
+use Rattle.excerpt_lines.specs.Runs.{first_ink, run_end}
 use Rattle.excerpts.specs.declared.cuts.Outline.{Outline}
 use Rattle.excerpts.specs.declared.cuts.Open.{Open}
 use Rattle.excerpts.specs.declared.cuts.Part.{Part}
@@ -27,6 +30,23 @@ bare_sign line = let start = first_ink line in if start == 0 then None else sign
 abbrev pub is_dot : ℕ → Bool
 is_dot c = c == 0x2E
 
+-- where the link begins that follows blanks and bars
+unfoldable pub margin_link : List ℕ → ℕ → Option ℕ
+margin_link line text = let start = run_end Margin line text in if nat_lt start (length line) && link_in line text start then Some start else None
+
+-- the same, if a line has marks
+abbrev pub link_of : List ℕ → LineKind → Option ℕ
+link_of line EmptyLine = None
+link_of line (PlaceLine p) = None
+link_of line (NoteLine n) = None
+link_of line (Row g) = None
+link_of line (Marks g) = margin_link line (text_at line g.bar)
+link_of line (Space g) = None
+link_of line (Inserted text) = None
+link_of line LooseLine = None
+link_of line Frame = None
+link_of line Plain = None
+
 -- what is to be known of a line before it is read
 pub record IsOutline (line : List ℕ) (outline : Outline) : Type 0 where
   pub kind : IsKind line outline.kind
@@ -34,6 +54,7 @@ pub record IsOutline (line : List ℕ) (outline : Outline) : Type 0 where
   pub length_is : outline.length ≡ length line
   pub sign : outline.sign ≡ bare_sign line
   pub dots : outline.dots ≡ list_any is_dot line
+  pub link : outline.link ≡ link_of line outline.kind
 
 abbrev pub line_part : PartKind → ℕ → Part
 line_part kind first = record { kind = kind; first = first; lines = 1 }

@@ -6,11 +6,11 @@ ghost use Rattle.excerpts.specs.Body.{IsStopped, PartRefused, Reads, block_of, i
 ghost use Rattle.excerpts.specs.Body.{suits as suits_part};
 ghost use Rattle.excerpt_blocks.specs.Below.{state_of};
 
+use crate::cuts::{Open, Outline, Part, PartKind, START, after, head, outline_of, part_at};
+use crate::roles::roles_of;
 use excerpt_blocks::below::{Below, Refusal, tail};
 use excerpt_blocks::blocks::read_block;
-use crate::cuts::{Open, Outline, Part, PartKind, START, after, head, outline_of, part_at};
 use excerpt_blocks::labels::{Label, Spot, labels_of};
-use crate::roles::roles_of;
 use std::alloc::{AllocError, Global};
 
 /// A drawing or a suggestion.

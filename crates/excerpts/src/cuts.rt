@@ -10,14 +10,16 @@ ghost use Rattle.excerpts.specs.Cuts.{indented_len as indented_run, is_dot, is_f
 ghost use Rattle.excerpts.specs.Cuts.{is_kind_signed, is_loose as is_loose_line, is_signed};
 ghost use Rattle.excerpts.specs.Cuts.{is_straight as is_straight_from, line_part};
 ghost use Rattle.excerpts.specs.Cuts.{loose_or_kept as loose_or_kept_in, loose_run as loose_run_in};
-ghost use Rattle.excerpts.specs.Cuts.{part_in};
+ghost use Rattle.excerpts.specs.Cuts.{link_of as link_of_kind, margin_link as margin_link_in, part_in};
 
 use excerpt_blocks::below::tail;
 use excerpt_blocks::labels::Spot;
-use excerpt_lines::gutter::Sign;
+use excerpt_lines::gutter::{Sign, text_of};
+use excerpt_lines::items::is_link;
 use excerpt_lines::kinds::{LineKind, kind_of};
 use excerpt_lines::places::{Note, NoteForm, Place};
-use excerpt_lines::runs::{char_at, first_ink};
+use excerpt_lines::runs::{char_at, first_ink, run_from};
+use excerpt_lines::tables::CharClass;
 
 /// What a part of a body is.
 #[derive(Clone, Copy)]
@@ -85,18 +87,54 @@ pub struct Outline {
     pub sign: Option<Sign>,
     /// There are dots in it.
     pub dots: bool,
+    /// Where the link begins that follows the margin, if it has marks.
+    pub link: Option<usize>,
 }
 
 /// The outline of a line.
 pub fn outline_of(line: &[char]) -> Outline
     ensures { IsOutline line.now result }
 {
+    let kind = kind_of(line);
     Outline {
-        kind: kind_of(line),
+        kind,
         indent: first_ink(line),
         length: line.len(),
         sign: bare_sign(line),
         dots: has_dots(line),
+        link: link_in_kind(line, kind),
+    }
+}
+
+/// Where the link begins that follows the margin of a line of marks.
+fn link_in_kind(line: &[char], kind: LineKind) -> Option<usize>
+    ensures { result ≡ link_of_kind line.now kind }
+{
+    match kind {
+        LineKind::Marks(gutter) => margin_link(line, text_of(line, gutter.bar)),
+        LineKind::Empty
+        | LineKind::Place(_)
+        | LineKind::Note(_)
+        | LineKind::Row(_)
+        | LineKind::Space(_)
+        | LineKind::Inserted(_)
+        | LineKind::Loose
+        | LineKind::Frame
+        | LineKind::Plain => None,
+    }
+}
+
+/// Where the link begins that follows blanks and bars.
+#[tactic(auto, unfolding(crate::specs::Cuts::margin_link))]
+fn margin_link(line: &[char], text: usize) -> Option<usize>
+    requires { text ≤ length line.now }
+    ensures { result ≡ margin_link_in line.now text }
+{
+    let start = run_from(CharClass::Margin, line, text);
+    if start < line.len() && is_link(line, text, start) {
+        Some(start)
+    } else {
+        None
     }
 }
 

@@ -1,10 +1,11 @@
 //! What each line of a part is in a block.
 ghost use Rattle.std.specs.Prelude.{◌≡◌, ◌+◌, ◌++◌, ◌∷◌, [], min, IfOk, OnOk, length, true};
+ghost use Rattle.excerpts.specs.Roles.{margin_of as margin_in};
 ghost use Rattle.excerpts.specs.Roles.{head_with, role_of as role_in, roles_from, source_role as source_role_in};
 ghost use Rattle.excerpts.specs.Roles.{suggested_role as suggested_role_in};
 
-use excerpt_blocks::blocks::{Role, RowHead};
 use crate::cuts::{Outline, PartKind};
+use excerpt_blocks::blocks::{Role, RowHead};
 use excerpt_blocks::labels::Spot;
 use excerpt_lines::gutter::Sign;
 use excerpt_lines::kinds::LineKind;
@@ -21,24 +22,26 @@ pub fn roles_of(
     spot: Spot,
     lines: &[Outline],
 ) -> Result<Vec<Role>, AllocError>
-    ensures value { IfOk result (λ roles. roles.items ≡ roles_from kind spot true lines.now) }
+    ensures value { IfOk result (λ roles.
+        roles.items ≡ roles_from kind spot (margin_in lines.now) true lines.now) }
     ensures same { IfOk result (λ roles. length roles.items ≡ length lines.now) }
 {
+    let margin = margin_of(lines);
     let mut roles = Vec::new(alloc);
     let mut first = true;
     for line in lines {
-        push_role(&mut roles, role_of(kind, spot, first, *line))?;
+        push_role(&mut roles, role_of(kind, spot, margin, first, *line))?;
         first = false;
     }
     Ok(roles)
 }
 
 /// What a line is; without a gutter, the first is the row that the finding is in.
-fn role_of(kind: PartKind, spot: Spot, first: bool, line: Outline) -> Role
-    ensures { result ≡ role_in kind spot first line }
+fn role_of(kind: PartKind, spot: Spot, margin: usize, first: bool, line: Outline) -> Role
+    ensures { result ≡ role_in kind spot margin first line }
 {
     match kind {
-        PartKind::Source => source_role(line),
+        PartKind::Source => source_role(margin, line),
         PartKind::Suggestion => suggested_role(line),
         PartKind::Loose => {
             if first {
@@ -46,6 +49,7 @@ fn role_of(kind: PartKind, spot: Spot, first: bool, line: Outline) -> Role
                     number: spot.line,
                     sign: Sign::Unsigned,
                     text: 0,
+                    margin: 0,
                 })
             } else {
                 Role::Marks(0)
@@ -60,12 +64,35 @@ fn role_of(kind: PartKind, spot: Spot, first: bool, line: Outline) -> Role
     }
 }
 
-/// What a line is in a drawing of the source.
-fn source_role(line: Outline) -> Role
-    ensures { result ≡ source_role_in line }
+/// Where the margin of a drawing ends: one place after the last beginning of a link, or 0.
+fn margin_of(lines: &[Outline]) -> usize
+    ensures { result ≡ margin_in lines.now }
+{
+    let mut margin = 0;
+    for line in lines {
+        if let Some(link) = line.link {
+            if link >= margin && link < line.length {
+                margin = link + 1;
+            }
+        }
+    }
+    margin
+}
+
+/// What a line is in a drawing of the source, of which the margin ends at this place.
+fn source_role(margin: usize, line: Outline) -> Role
+    ensures { result ≡ source_role_in margin line }
 {
     match line.kind {
-        LineKind::Row(gutter) => row(gutter.number, gutter.sign, after_bar(line, gutter.bar)),
+        LineKind::Row(gutter) => {
+            let text = after_bar(line, gutter.bar);
+            Role::Row(RowHead {
+                number: gutter.number,
+                sign: gutter.sign,
+                text: text.max(margin),
+                margin: text,
+            })
+        }
         LineKind::Marks(gutter) => Role::Marks(after_bar(line, gutter.bar)),
         LineKind::Space(_) | LineKind::Frame => Role::Frame,
         LineKind::Empty
@@ -107,7 +134,12 @@ fn suggested_role(line: Outline) -> Role
 fn row(number: Option<u32>, sign: Sign, text: usize) -> Role
     ensures { result ≡ head_with number sign text }
 {
-    Role::Row(RowHead { number, sign, text })
+    Role::Row(RowHead {
+        number,
+        sign,
+        text,
+        margin: text,
+    })
 }
 
 /// Where the text after a bar or sign and a blank begins.
