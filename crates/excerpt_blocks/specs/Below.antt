@@ -1,5 +1,5 @@
 -- What is drawn below the rows of a block.
-use Rattle.std.specs.Prelude.{◌≡◌, ℕ, ◌+◌, ◌-◌, ◌<◌, ◌≤◌, ◌^◌, ◌==◌, ◌&&◌, ◌||◌, not, min, nat_le, nat_lt, if◌then◌else◌, Bool, true, false, List, [], ◌∷◌, ◌++◌, length, drop, slice_get, slice_index, slice_range, Option, Some, None, All, filter, map}
+use Rattle.std.specs.Prelude.{ℕ, ◌+◌, ◌-◌, ◌<◌, ◌≤◌, ◌^◌, ◌==◌, ◌&&◌, ◌||◌, not, min, nat_le, nat_lt, if◌then◌else◌, Bool, true, false, List, [], ◌∷◌, ◌++◌, length, drop, slice_get, slice_index, slice_range, Option, Some, None, All, filter, map}
 use Rattle.std.specs.List.{find, list_any, position_from, remove}
 use Rattle.std.specs.Option.{is_none, is_some}
 use Rattle.excerpt_lines.specs.declared.tables.CharClass.{CharClass}
@@ -14,7 +14,6 @@ use Rattle.excerpt_blocks.specs.declared.below.Row.{Row}
 use Rattle.excerpt_blocks.specs.declared.below.Mark.{Mark}
 use Rattle.excerpt_blocks.specs.declared.below.Hang.{Hang}
 use Rattle.excerpt_blocks.specs.declared.below.Text.{Text}
-use Rattle.excerpt_blocks.specs.declared.below.Begun.{Begun}
 use Rattle.excerpt_blocks.specs.declared.below.Opening.{Opening}
 use Rattle.excerpt_blocks.specs.declared.below.Below.{Below}
 use Rattle.excerpt_blocks.specs.declared.below.Owner.{Owner}

@@ -1,9 +1,8 @@
 -- Labels: the marks of a block with the texts that are theirs.
-use Rattle.std.specs.Prelude.{◌≡◌, ℕ, ◌+◌, ◌-◌, ◌==◌, ◌&&◌, ◌||◌, not, nat_lt, if◌then◌else◌, Bool, true, false, List, [], ◌∷◌, ◌++◌, length, take, drop, Option, Some, None}
+use Rattle.std.specs.Prelude.{ℕ, ◌+◌, ◌-◌, ◌==◌, ◌&&◌, ◌||◌, not, nat_lt, if◌then◌else◌, Bool, true, false, List, [], ◌∷◌, ◌++◌, length, take, drop, Option, Some, None}
 use Rattle.std.specs.List.{list_any}
 use Rattle.std.specs.Option.{is_none}
 use Rattle.excerpt_lines.specs.declared.tables.CharClass.{CharClass}
-use Rattle.excerpt_lines.specs.declared.tables.CharClass.TheVariants.{Caret, Dash, Plus, Thick, Thin, Triangle}
 use Rattle.excerpt_blocks.specs.declared.below.Row.{Row}
 use Rattle.excerpt_blocks.specs.declared.below.Mark.{Mark}
 use Rattle.excerpt_blocks.specs.declared.below.Text.{Text}

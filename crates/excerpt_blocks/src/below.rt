@@ -1,5 +1,5 @@
 //! What is drawn below the rows of a block: marks, and the texts beside them or hanging from them.
-ghost use Rattle.std.specs.Prelude.{◌≡◌, ◌++◌, ◌∷◌, [], ◌<◌, ◌^◌, IfErr, IfOk, IfSome, ◌+◌, OnOk, drop, length, vec_len};
+ghost use Rattle.std.specs.Prelude.{◌≡◌, ◌<◌, ◌^◌, IfErr, IfOk, IfSome, ◌+◌, OnOk, drop, length, vec_len};
 ghost use Rattle.std.specs.List.{list_any};
 ghost use Rattle.excerpt_blocks.specs.declared.below.Refusal.TheVariants.{OutOfMemory};
 ghost use Rattle.excerpt_blocks.specs.Below.{AreWithin, IsWithin, add as added_item, add_all, any_in};
@@ -12,6 +12,7 @@ ghost use Rattle.excerpt_blocks.specs.Below.{is_same as is_one_class, margin_ste
 ghost use Rattle.excerpt_blocks.specs.Below.{opening_in, read_all, run_added, span_closed, span_opened};
 ghost use Rattle.excerpt_blocks.specs.Below.{text_in, touches as is_touched, unsaid_in, with_row, worded};
 
+use crate::pushes::{push_cell, push_hang, push_mark, push_opening, push_row, push_text};
 use excerpt_lines::cells::{end_column, start_column};
 use excerpt_lines::gutter::Sign;
 use excerpt_lines::items::{Item, Part};
@@ -765,46 +766,4 @@ fn has_first(marks: &[char]) -> bool
         }
     }
     false
-}
-
-fn push_row(rows: &mut Vec<Row>, row: Row) -> Result<(), AllocError>
-    ensures { OnOk result (rows.new.items ≡ rows.old.items ++ row ∷ []) }
-{
-    rows.push(row)?;
-    Ok(())
-}
-
-fn push_mark(marks: &mut Vec<Mark>, mark: Mark) -> Result<(), AllocError>
-    ensures { OnOk result (marks.new.items ≡ marks.old.items ++ mark ∷ []) }
-{
-    marks.push(mark)?;
-    Ok(())
-}
-
-fn push_opening(opens: &mut Vec<Opening>, opening: Opening) -> Result<(), AllocError>
-    ensures { OnOk result (opens.new.items ≡ opens.old.items ++ opening ∷ []) }
-{
-    opens.push(opening)?;
-    Ok(())
-}
-
-fn push_hang(hangs: &mut Vec<Hang>, hang: Hang) -> Result<(), AllocError>
-    ensures { OnOk result (hangs.new.items ≡ hangs.old.items ++ hang ∷ []) }
-{
-    hangs.push(hang)?;
-    Ok(())
-}
-
-fn push_text(texts: &mut Vec<Text>, text: Text) -> Result<(), AllocError>
-    ensures { OnOk result (texts.new.items ≡ texts.old.items ++ text ∷ []) }
-{
-    texts.push(text)?;
-    Ok(())
-}
-
-fn push_cell(cells: &mut Vec<usize>, cell: usize) -> Result<(), AllocError>
-    ensures { OnOk result (cells.new.items ≡ cells.old.items ++ cell ∷ []) }
-{
-    cells.push(cell)?;
-    Ok(())
 }

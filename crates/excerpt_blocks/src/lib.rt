@@ -4,3 +4,4 @@
 pub mod below;
 pub mod blocks;
 pub mod labels;
+mod pushes;

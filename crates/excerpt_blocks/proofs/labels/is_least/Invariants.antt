@@ -1,4 +1,4 @@
-use Rattle.std.proofs.Common.{◌≡◌, ◌+◌, ◌++◌, ◌∷◌, [], ◌<◌, ◌^◌, None, length, take, drop, true}
+use Rattle.std.proofs.Common.{◌≡◌, drop}
 use Rattle.std.specs.List.{list_any}
 use Rattle.excerpt_blocks.specs.Labels.{is_left}
 use Rattle.excerpt_blocks.proofs.labels.is_least.Given as goal

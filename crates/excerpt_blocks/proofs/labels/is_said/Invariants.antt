@@ -1,6 +1,6 @@
-use Rattle.std.proofs.Common.{◌≡◌, ◌+◌, ◌++◌, ◌∷◌, [], ◌<◌, ◌^◌, None, length, take, drop, true}
+use Rattle.std.proofs.Common.{◌≡◌, drop}
 use Rattle.std.specs.List.{list_any}
-use Rattle.excerpt_blocks.specs.Below.{is_of, state_of}
+use Rattle.excerpt_blocks.specs.Below.{is_of}
 use Rattle.excerpt_blocks.proofs.labels.is_said.Given as goal
 
 abbrev pub invariant-loop-text : goal.invariant-loop-text

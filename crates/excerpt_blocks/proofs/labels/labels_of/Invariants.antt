@@ -1,7 +1,6 @@
-use Rattle.std.proofs.Common.{◌≡◌, ◌+◌, ◌++◌, ◌∷◌, [], ◌<◌, ◌^◌, None, length, take, drop, true}
-use Rattle.std.specs.List.{list_any}
+use Rattle.std.proofs.Common.{◌≡◌, ◌++◌, drop}
 use Rattle.excerpt_blocks.specs.Labels.{rows_labels}
-use Rattle.excerpt_blocks.specs.Below.{is_of, state_of}
+use Rattle.excerpt_blocks.specs.Below.{state_of}
 use Rattle.excerpt_blocks.proofs.labels.labels_of.Given as goal
 
 abbrev pub invariant-loop-k : goal.invariant-loop-k

@@ -1,5 +1,4 @@
-use Rattle.std.proofs.Common.{◌≡◌, ◌+◌, ◌++◌, ◌∷◌, [], ◌<◌, ◌^◌, None, length, take, drop, true}
-use Rattle.std.specs.List.{list_any}
+use Rattle.std.proofs.Common.{◌≡◌, ◌++◌, drop}
 use Rattle.excerpt_blocks.specs.declared.labels.Phase.TheVariants.{First}
 use Rattle.excerpt_blocks.specs.Labels.{overlaid_from}
 use Rattle.excerpt_blocks.proofs.labels.overlaid.Given as goal

@@ -1,5 +1,4 @@
-use Rattle.std.proofs.Common.{◌≡◌, ◌+◌, ◌++◌, ◌∷◌, [], ◌<◌, ◌^◌, None, length, take, drop, true}
-use Rattle.std.specs.List.{list_any}
+use Rattle.std.proofs.Common.{◌≡◌, ◌++◌, [], take, drop}
 use Rattle.excerpt_blocks.specs.Labels.{parts_from}
 use Rattle.excerpt_blocks.proofs.labels.push_run.Given as goal
 
