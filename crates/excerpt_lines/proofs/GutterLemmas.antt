@@ -1,5 +1,5 @@
 -- A line has one gutter at most, at one place.
-use Rattle.std.proofs.Common.{◌≡◌, ℕ, ◌+◌, ◌^◌, ◌<◌, ◌≤◌, inl, inr, slice_range, MatchOption, List, length, slice_index, true, false, Option, Some, None, arith}
+use Rattle.std.proofs.Common.{◌≡◌, ℕ, ◌+◌, ◌<◌, ◌≤◌, inl, inr, slice_range, MatchOption, List, length, slice_index, true, false, Option, Some, None, arith}
 use Rattle.std.proofs.lemmas.Bool.{cases_order, cases_lt}
 use Rattle.std.proofs.lemmas.Bool.Decides.{nat_tests}
 use Rattle.excerpt_lines.specs.declared.tables.CharClass.{CharClass}

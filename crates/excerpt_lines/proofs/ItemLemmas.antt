@@ -1,5 +1,5 @@
 -- What it means that items cover a line.
-use Rattle.std.proofs.Common.{◌≡◌, ℕ, zero, suc, ◌+◌, ◌-◌, ◌<◌, ◌≤◌, inl, inr, List, [], ◌∷◌, length, min, slice_index, slice_index_or, true, false, refl, sym, ap, ◌∙◌, subst, append_assoc, append-nil, ◌++◌, arith, Any, All}
+use Rattle.std.proofs.Common.{◌≡◌, ℕ, zero, suc, ◌-◌, ◌<◌, ◌≤◌, inl, inr, List, [], ◌∷◌, length, min, slice_index, slice_index_or, true, false, refl, sym, ap, ◌∙◌, subst, append_assoc, append-nil, ◌++◌, arith, Any, All}
 use Rattle.std.proofs.lemmas.Bool.{cases_lt}
 use Rattle.std.proofs.lemmas.List.Elements.{All-nil, All-push}
 use Rattle.excerpt_lines.specs.declared.tables.CharClass.TheVariants.{Blank, Ink}

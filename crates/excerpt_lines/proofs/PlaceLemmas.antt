@@ -1,5 +1,5 @@
 -- A line has one place at most.
-use Rattle.std.proofs.Common.{◌≡◌, ℕ, ◌+◌, ◌-◌, ◌<◌, ◌≤◌, inl, inr, slice_range, MatchOption, List, length, drop, take, slice_index, true, false, Option, Some, None, IfSome, IfNone, arith, ap, sym, ◌∙◌, subst}
+use Rattle.std.proofs.Common.{◌≡◌, ℕ, ◌+◌, ◌-◌, ◌<◌, ◌≤◌, inl, inr, MatchOption, List, length, drop, take, slice_index, true, false, Option, Some, None, IfSome, IfNone, arith, ap, sym, ◌∙◌, subst}
 use Rattle.std.proofs.lemmas.Bool.{cases_order}
 use Rattle.std.proofs.lemmas.List.{take_rest}
 use Rattle.std.proofs.lemmas.Bool.Decides.{nat_tests}
@@ -8,8 +8,7 @@ use Rattle.excerpt_lines.specs.declared.tables.CharClass.TheVariants.{Digit, Spa
 use Rattle.excerpt_lines.specs.declared.places.Place.{Place}
 use Rattle.excerpt_lines.specs.Tables.{arrow_len, is_in}
 use Rattle.excerpt_lines.specs.Runs.{EachIn, first_ink, run_end}
-use Rattle.excerpt_lines.specs.Gutter.{number_of}
-use Rattle.excerpt_lines.specs.Places.{AreNumbers, HasNoName, HasNoNumberBefore, HasNoPlace, IsName, IsNamed, IsNumberBefore, IsPlace, name_at}
+use Rattle.excerpt_lines.specs.Places.{HasNoName, HasNoNumberBefore, HasNoPlace, IsName, IsNamed, IsNumberBefore, IsPlace, name_at}
 
 pub no_arrow : (line : List ℕ) → arrow_len (drop (first_ink line) line) ≡ 0 → HasNoPlace line
 no_arrow line none = λ p so. omega (arith, so.arrow)

@@ -1,5 +1,5 @@
 -- What a gutter is.
-use Rattle.std.specs.Prelude.{◌≡◌, ℕ, ◌+◌, ◌^◌, ◌<◌, ◌≤◌, ◌==◌, ◌&&◌, ◌||◌, min, nat_lt, if◌then◌else◌, List, [], ◌∷◌, length, slice_index, slice_range, Option, Some, None, MatchOption, ◌⊎◌}
+use Rattle.std.specs.Prelude.{◌≡◌, ℕ, ◌+◌, ◌<◌, ◌≤◌, ◌==◌, ◌&&◌, ◌||◌, min, if◌then◌else◌, List, [], ◌∷◌, length, slice_index, slice_range, Option, Some, None, MatchOption, ◌⊎◌}
 use Rattle.excerpt_lines.specs.declared.tables.CharClass.TheVariants.{Blank, Digit, Bar}
 use Rattle.excerpt_lines.specs.declared.gutter.Gutter.{Gutter}
 use Rattle.excerpt_lines.specs.declared.gutter.Sign.{Sign}

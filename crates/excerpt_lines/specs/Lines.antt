@@ -1,14 +1,12 @@
 -- A line with its items.
-use Rattle.std.specs.Prelude.{◌≡◌, ℕ, ◌+◌, ◌<◌, ◌≤◌, min, Bool, true, false, List, [], ◌∷◌, ◌++◌, length, All}
-use Rattle.excerpt_lines.specs.declared.tables.CharClass.TheVariants.{Blank}
+use Rattle.std.specs.Prelude.{◌≡◌, ℕ, min, Bool, true, false, List, ◌++◌, length, All}
 use Rattle.excerpt_lines.specs.declared.items.Part.{Part}
 use Rattle.excerpt_lines.specs.declared.items.Part.TheVariants.{Gutter, Row, Mark, Bar, Link, Hook, Text, Whole, Lead}
 use Rattle.excerpt_lines.specs.declared.items.Item.{Item}
 use Rattle.excerpt_lines.specs.declared.kinds.LineKind.{LineKind}
 use Rattle.excerpt_lines.specs.declared.kinds.LineKind.TheVariants.{Empty, Place, Note, Row as RowLine, Marks, Space, Inserted, Loose, Frame, Plain}
-use Rattle.excerpt_lines.specs.Runs.{EachIn}
 use Rattle.excerpt_lines.specs.Gutter.{text_at}
-use Rattle.excerpt_lines.specs.Items.{Covers, is_drawn}
+use Rattle.excerpt_lines.specs.Items.{Covers}
 
 -- what may come before the text of a line
 abbrev pub is_front : Part → Bool

@@ -1,5 +1,5 @@
 -- Lines that have a location or begin a note.
-use Rattle.std.specs.Prelude.{◌≡◌, ℕ, ◌+◌, ◌-◌, ◌<◌, ◌≤◌, ◌==◌, ◌||◌, ◌&&◌, nat_lt, if◌then◌else◌, Bool, true, false, List, [], ◌∷◌, length, drop, slice_index, slice_range, Option, Some, None, MatchOption}
+use Rattle.std.specs.Prelude.{◌≡◌, ℕ, ◌+◌, ◌-◌, ◌<◌, ◌≤◌, ◌==◌, ◌||◌, ◌&&◌, nat_lt, if◌then◌else◌, Bool, true, List, [], ◌∷◌, length, drop, slice_index, slice_range, Option, Some, None, MatchOption}
 use Rattle.excerpt_lines.specs.declared.tables.CharClass.TheVariants.{Blank, Ink, Space, Digit, Trail}
 use Rattle.excerpt_lines.specs.declared.tables.NoteKind.{NoteKind}
 use Rattle.excerpt_lines.specs.declared.tables.NoteKind.TheVariants.{Note as NoteWord}

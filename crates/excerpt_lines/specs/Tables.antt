@@ -1,5 +1,5 @@
 -- What drawings are made of.
-use Rattle.std.specs.Prelude.{ℕ, ◌+◌, ◌==◌, ◌&&◌, ◌||◌, not, nat_eq, nat_le, if◌then◌else◌, Bool, true, false, List, [], ◌∷◌, Option, Some, None, codes}
+use Rattle.std.specs.Prelude.{ℕ, ◌==◌, ◌&&◌, ◌||◌, not, nat_eq, nat_le, if◌then◌else◌, Bool, true, false, List, [], ◌∷◌, Option, Some, None, codes}
 use Rattle.std.specs.List.{list_any, starts_with}
 use Rattle.std.specs.Char.{to_ascii_lowercase}
 use Rattle.excerpt_lines.specs.declared.tables.CharClass.{CharClass}

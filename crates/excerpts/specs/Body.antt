@@ -1,5 +1,5 @@
 -- A body read as a whole, or kept.
-use Rattle.std.specs.Prelude.{◌≡◌, ◌⊎◌, ℕ, ◌+◌, ◌<◌, Bool, true, false, List, [], ◌∷◌, ◌++◌, length, take, drop, map, Option, Some, None}
+use Rattle.std.specs.Prelude.{◌≡◌, ◌⊎◌, ℕ, ◌+◌, ◌<◌, Bool, true, false, List, [], ◌∷◌, ◌++◌, length, take, drop, map, Some, None}
 use Rattle.excerpt_blocks.specs.declared.below.Hang.{Hang}
 use Rattle.excerpt_blocks.specs.declared.below.Text.{Text}
 use Rattle.excerpts.specs.declared.cuts.Open.{Open}

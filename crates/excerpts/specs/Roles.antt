@@ -1,10 +1,9 @@
 -- What each line of a part is in a block.
-use Rattle.std.specs.Prelude.{ℕ, ◌+◌, ◌&&◌, min, max, nat_le, nat_lt, if◌then◌else◌, Bool, true, false, List, [], ◌∷◌, Option, Some, None}
+use Rattle.std.specs.Prelude.{ℕ, ◌+◌, ◌&&◌, min, max, nat_le, nat_lt, if◌then◌else◌, Bool, false, List, [], ◌∷◌, Option, Some, None}
 use Rattle.excerpt_lines.specs.declared.gutter.Sign.{Sign}
 use Rattle.excerpt_lines.specs.declared.gutter.Sign.TheVariants.{Unsigned, Added}
 use Rattle.excerpt_lines.specs.declared.kinds.LineKind.{LineKind}
 use Rattle.excerpt_lines.specs.declared.kinds.LineKind.TheVariants.{Empty as EmptyLine, Place as PlaceLine, Note as NoteLine, Row as RowLine, Marks as MarksLine, Space, Inserted, Loose as LooseLine, Frame as FrameLine, Plain}
-use Rattle.excerpt_blocks.specs.declared.blocks.RowHead.{RowHead}
 use Rattle.excerpt_blocks.specs.declared.blocks.Role.{Role}
 use Rattle.excerpt_blocks.specs.declared.blocks.Role.TheVariants.{Row, Marks, Gap, Frame, Other}
 use Rattle.excerpts.specs.declared.cuts.Outline.{Outline}

@@ -1,5 +1,4 @@
-use Rattle.std.proofs.Common.{◌≡◌, ◌≤◌, ◌*◌, ◌-◌, List, ◌++◌, length, true, All}
-use Rattle.excerpt_lines.specs.declared.items.Item.{Item}
+use Rattle.std.proofs.Common.{◌≡◌, ◌≤◌, ◌*◌, ◌-◌, length}
 use Rattle.excerpt_lines.specs.Cells.{cell_at}
 use Rattle.excerpt_lines.proofs.ItemLemmas.{AddedSoFar}
 use Rattle.excerpt_lines.proofs.items.push_items.Given as goal

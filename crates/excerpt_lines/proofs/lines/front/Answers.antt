@@ -1,5 +1,5 @@
 -- A line begins with blanks, and perhaps an item.
-use Rattle.std.proofs.Common.{◌≡◌, List, [], ◌∷◌, ◌++◌, subst, sym, ap, ◌∙◌, arith, slice_index}
+use Rattle.std.proofs.Common.{List, [], ◌∷◌, ◌++◌, subst, sym, ap, ◌∙◌, arith, slice_index}
 use Rattle.excerpt_lines.specs.declared.items.Item.{Item}
 use Rattle.excerpt_lines.specs.Lines.{IsFront}
 use Rattle.excerpt_lines.proofs.ItemLemmas.{front_none, front_one}

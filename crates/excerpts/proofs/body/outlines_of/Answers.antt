@@ -1,5 +1,5 @@
 -- One line after another.
-use Rattle.std.proofs.Common.{◌≡◌, ◌+◌, ◌<◌, ◌≤◌, ap, ◌∙◌, arith, length, map}
+use Rattle.std.proofs.Common.{◌<◌, ◌≤◌, ap, ◌∙◌, arith, length, map}
 use Rattle.std.proofs.lemmas.List.{length-map, length_push}
 use Rattle.excerpts.proofs.BodyLemmas.{now_at, outlines_end, outlines_go_on}
 use Rattle.excerpts.proofs.body.outlines_of.Goals as goal

@@ -1,5 +1,5 @@
-use Rattle.std.proofs.Common.{◌≡◌, ◌+◌, drop}
-use Rattle.std.specs.List.{list_all, list_any}
+use Rattle.std.proofs.Common.{◌≡◌, drop}
+use Rattle.std.specs.List.{list_any}
 use Rattle.excerpts.specs.Cuts.{is_dot}
 use Rattle.excerpts.proofs.cuts.has_dots.Given as goal
 

@@ -1,5 +1,4 @@
-use Rattle.std.proofs.Common.{◌≡◌, ◌+◌, drop}
-use Rattle.std.specs.List.{list_all, list_any}
+use Rattle.std.proofs.Common.{◌≡◌, drop}
 use Rattle.excerpts.specs.Cuts.{is_straight}
 use Rattle.excerpts.proofs.cuts.is_straight.Given as goal
 

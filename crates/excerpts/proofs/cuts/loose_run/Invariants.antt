@@ -1,5 +1,4 @@
 use Rattle.std.proofs.Common.{◌≡◌, ◌+◌, drop}
-use Rattle.std.specs.List.{list_all, list_any}
 use Rattle.excerpts.specs.Cuts.{loose_run}
 use Rattle.excerpts.proofs.cuts.loose_run.Given as goal
 
