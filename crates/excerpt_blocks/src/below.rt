@@ -1,16 +1,25 @@
 //! What is drawn below the rows of a block: marks, and the texts beside them or hanging from them.
-ghost use Rattle.std.specs.Prelude.{◌≡◌, ◌<◌, ◌^◌, IfErr, IfOk, IfSome, ◌+◌, OnOk, drop, length, vec_len};
+ghost use Rattle.std.specs.Prelude.{◌≡◌, ◌<◌, ◌^◌, IfErr, IfOk, IfSome, ◌+◌, OnOk, drop, length};
+ghost use Rattle.std.specs.Prelude.{vec_len};
 ghost use Rattle.std.specs.List.{list_any};
 ghost use Rattle.excerpt_blocks.specs.declared.below.Refusal.TheVariants.{OutOfMemory};
-ghost use Rattle.excerpt_blocks.specs.Below.{AreWithin, IsWithin, add as added_item, add_all, any_in};
-ghost use Rattle.excerpt_blocks.specs.Below.{barred, empty_state, holder as holder_of, hooked, hung_cells};
-ghost use Rattle.excerpt_blocks.specs.Below.{is_first_char, is_of as is_text_of, is_said as is_said_in};
-ghost use Rattle.excerpt_blocks.specs.Below.{is_said_at as is_said_there, is_tick as is_tick_in, mark_in};
-ghost use Rattle.excerpt_blocks.specs.Below.{marked, owner as owner_of, state_of, step_to, taker as taker_of};
+ghost use Rattle.excerpt_blocks.specs.Below.{AreWithin, IsWithin, add as added_item, add_all};
+ghost use Rattle.excerpt_blocks.specs.Below.{any_in};
+ghost use Rattle.excerpt_blocks.specs.Below.{barred, empty_state, holder as holder_of, hooked};
+ghost use Rattle.excerpt_blocks.specs.Below.{hung_cells};
+ghost use Rattle.excerpt_blocks.specs.Below.{is_first_char, is_of as is_text_of};
+ghost use Rattle.excerpt_blocks.specs.Below.{is_said as is_said_in};
+ghost use Rattle.excerpt_blocks.specs.Below.{is_said_at as is_said_there, is_tick as is_tick_in};
+ghost use Rattle.excerpt_blocks.specs.Below.{mark_in};
+ghost use Rattle.excerpt_blocks.specs.Below.{marked, owner as owner_of, state_of, step_to};
+ghost use Rattle.excerpt_blocks.specs.Below.{taker as taker_of};
 ghost use Rattle.excerpt_blocks.specs.Below.{class_number as number_of_class, linked, margin_from};
-ghost use Rattle.excerpt_blocks.specs.Below.{is_same as is_one_class, margin_step, may_close as may_close_at};
-ghost use Rattle.excerpt_blocks.specs.Below.{opening_in, read_all, run_added, span_closed, span_opened};
-ghost use Rattle.excerpt_blocks.specs.Below.{text_in, touches as is_touched, unsaid_in, with_row, worded};
+ghost use Rattle.excerpt_blocks.specs.Below.{is_same as is_one_class, margin_step};
+ghost use Rattle.excerpt_blocks.specs.Below.{may_close as may_close_at};
+ghost use Rattle.excerpt_blocks.specs.Below.{opening_in, read_all, run_added, span_closed};
+ghost use Rattle.excerpt_blocks.specs.Below.{span_opened};
+ghost use Rattle.excerpt_blocks.specs.Below.{text_in, touches as is_touched, unsaid_in, with_row};
+ghost use Rattle.excerpt_blocks.specs.Below.{worded};
 
 use crate::pushes::{push_cell, push_hang, push_mark, push_opening, push_row, push_text};
 use excerpt_lines::cells::{end_column, start_column};
@@ -110,7 +119,7 @@ pub struct Below {
     pub opens: Vec<Opening>,
     /// Where a link begins that no mark follows yet.
     pub link: Option<usize>,
-    /// What comes before the last row's: so many marks, hangs and texts.
+    /// How many marks, hangs and texts come before those of the last row.
     pub marks_before: usize,
     pub hangs_before: usize,
     pub texts_before: usize,
@@ -213,8 +222,8 @@ impl Below {
         Ok(())
     }
 
-    /// Adds an item after the previous one. `last` is the mark that a text here is beside of. Gives that mark
-    /// for the next item.
+    /// Adds an item after the previous one. `last` is the mark that a text here is beside of. Gives that
+    /// mark for the next item.
     #[tactic(auto, unfolding(crate::specs::Below::add))]
     fn add(
         &mut self,
@@ -282,8 +291,8 @@ impl Below {
     #[tactic(auto, unfolding(crate::specs::Below::run_added))]
     fn add_run(&mut self, line: &[char], item: Item, mark: Mark) -> Result<Option<usize>, Refusal>
         requires { IsWithin line.now item }
-        ensures added { IfOk result (λ next.
-            run_added line.now item mark (state_of self.old) ≡ Some (step_to (state_of self.new) next)) }
+        ensures added { IfOk result (λ next. run_added line.now item mark (state_of self.old)
+            ≡ Some (step_to (state_of self.new) next)) }
         ensures refused { IfErr result (λ why. (why ≡ OutOfMemory → ⊥)
             → run_added line.now item mark (state_of self.old) ≡ None) }
     {
@@ -376,8 +385,8 @@ impl Below {
         Ok(None)
     }
 
-    /// Reads the margin of the last row, whose first character has a place in its line: `/` opens a span at
-    /// the row's first character, `|` needs an open one.
+    /// Reads the margin of the last row, whose first character has a place in its line: `/` opens a
+    /// span at the row's first character, `|` needs an open one.
     pub fn read_margin(
         &mut self,
         line: &[char],
@@ -472,8 +481,8 @@ impl Below {
         Ok(None)
     }
 
-    /// Adds a hook: the text after it belongs to the mark over it. A short one is a mark itself where no
-    /// other is over it.
+    /// Adds a hook: the text after it belongs to the mark over it. A short one is a mark itself where
+    /// no other is over it.
     #[tactic(auto, unfolding(crate::specs::Below::hooked))]
     fn add_hook(
         &mut self,

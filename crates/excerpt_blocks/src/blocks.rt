@@ -2,7 +2,8 @@
 ghost use Rattle.std.specs.Prelude.{◌≡◌, ◌<◌, ◌≤◌, ◌+◌, ◌^◌, [], IfErr, IfOk, OnOk, length, map};
 ghost use Rattle.excerpt_blocks.specs.declared.below.Refusal.TheVariants.{OutOfMemory};
 ghost use Rattle.excerpt_blocks.specs.Below.{empty_state, state_of};
-ghost use Rattle.excerpt_blocks.specs.Blocks.{Adds, LineAdds, LineRefused, MarksAdd, MarksRefused, Refuses};
+ghost use Rattle.excerpt_blocks.specs.Blocks.{Adds, LineAdds, LineRefused, MarksAdd, MarksRefused};
+ghost use Rattle.excerpt_blocks.specs.Blocks.{Refuses};
 ghost use Rattle.excerpt_blocks.specs.Blocks.{row_of as row_meant};
 
 use crate::below::{Below, Refusal, Row};
@@ -18,7 +19,8 @@ pub struct RowHead {
     pub sign: Sign,
     /// Where the text begins, in characters from 0.
     pub text: usize,
-    /// Where the margin begins, in which bars join the ends of spans of rows; where there is none, the same.
+    /// Where the margin begins, in which bars join the ends of spans of rows; the same where there is
+    /// none.
     pub margin: usize,
 }
 
@@ -70,7 +72,8 @@ pub fn read_block(
     Ok(below)
 }
 
-/// Reads a line of a block below the last row, whose line is `above`. Gives the line that is above the next.
+/// Reads a line of a block below the last row, whose line is `above`. Gives the line that is above the
+/// next.
 fn add_line<'a>(
     alloc: Global,
     below: &mut Below,

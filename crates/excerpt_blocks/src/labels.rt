@@ -1,15 +1,19 @@
 //! Labels: the marks of a block with the texts that are theirs.
-ghost use Rattle.std.specs.Prelude.{◌≡◌, ◌++◌, ◌∷◌, [], ◌+◌, ◌-◌, ◌<◌, ◌^◌, IfOk, OnOk, drop, length, take};
+ghost use Rattle.std.specs.Prelude.{◌≡◌, ◌++◌, ◌∷◌, [], ◌+◌, ◌-◌, ◌<◌, ◌^◌, IfOk, OnOk, drop};
+ghost use Rattle.std.specs.Prelude.{length, take};
 ghost use Rattle.std.specs.List.{list_any};
 ghost use Rattle.excerpt_blocks.specs.Below.{is_of as is_of_mark, state_of};
 ghost use Rattle.excerpt_blocks.specs.declared.labels.Phase.TheVariants.{First};
-ghost use Rattle.excerpt_blocks.specs.Labels.{begins as begins_there, begun_from, covers_two as covers_both};
+ghost use Rattle.excerpt_blocks.specs.Labels.{begins as begins_there, begun_from};
+ghost use Rattle.excerpt_blocks.specs.Labels.{covers_two as covers_both};
 ghost use Rattle.excerpt_blocks.specs.Labels.{are_joined as are_runs_joined, is_elsewhere};
 ghost use Rattle.excerpt_blocks.specs.Labels.{is_first_mark, is_plain as is_plain_run};
 ghost use Rattle.excerpt_blocks.specs.Labels.{next_marks, next_texts};
 ghost use Rattle.excerpt_blocks.specs.Labels.{extended as extended_by, has_many as has_many_in};
-ghost use Rattle.excerpt_blocks.specs.Labels.{is_hung as is_hung_text, is_least as is_least_in, is_new as is_new_in};
-ghost use Rattle.excerpt_blocks.specs.Labels.{is_primary as is_primary_in, label_at, labels_in, overlaid_from};
+ghost use Rattle.excerpt_blocks.specs.Labels.{is_hung as is_hung_text, is_least as is_least_in};
+ghost use Rattle.excerpt_blocks.specs.Labels.{is_new as is_new_in};
+ghost use Rattle.excerpt_blocks.specs.Labels.{is_primary as is_primary_in, label_at, labels_in};
+ghost use Rattle.excerpt_blocks.specs.Labels.{overlaid_from};
 ghost use Rattle.excerpt_blocks.specs.Labels.{row_labels, run_labels, runs_from, says as says_so};
 ghost use Rattle.excerpt_blocks.specs.Labels.{shifted as shifted_by};
 
@@ -33,7 +37,8 @@ pub struct Label {
     pub mark: usize,
     /// The row in which it begins: the same, or that where a span of rows begins.
     pub start_row: usize,
-    /// The character of that row's text at which it begins, and the one of its own at which it ends, from 0.
+    /// The character of that row's text at which it begins, and that of its own row's at which it ends,
+    /// from 0.
     pub start: usize,
     pub end: usize,
     /// It marks what was found, not what belongs to it.

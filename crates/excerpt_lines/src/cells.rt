@@ -1,9 +1,12 @@
 //! The cells that characters take on a screen.
-ghost use Rattle.std.specs.Prelude.{◌≡◌, ◌+◌, ◌*◌, ◌≤◌, ◌<◌, ◌^◌, ◌++◌, ◌∷◌, [], IfOk, OnOk, false, length, slice_index};
+ghost use Rattle.std.specs.Prelude.{◌≡◌, ◌+◌, ◌*◌, ◌≤◌, ◌<◌, ◌^◌, ◌++◌, ◌∷◌, [], IfOk, OnOk, false};
+ghost use Rattle.std.specs.Prelude.{length, slice_index};
 ghost use Rattle.excerpt_lines.specs.Cells.{EachNarrow, IsOver, cell_at as cell_there};
-ghost use Rattle.excerpt_lines.specs.Cells.{end_column as last_column, start_column as first_column};
+ghost use Rattle.excerpt_lines.specs.Cells.{end_column as last_column};
+ghost use Rattle.excerpt_lines.specs.Cells.{start_column as first_column};
 ghost use Rattle.excerpt_lines.specs.Cells.{is_narrow as is_narrow_char};
-ghost use Rattle.excerpt_lines.specs.Cells.{cells_of, narrow_end, over_cell, places_of, step as cells_taken};
+ghost use Rattle.excerpt_lines.specs.Cells.{cells_of, narrow_end, over_cell, places_of};
+ghost use Rattle.excerpt_lines.specs.Cells.{step as cells_taken};
 
 use std::alloc::{AllocError, Global};
 use unicode_width::UnicodeWidthChar;
@@ -100,7 +103,8 @@ pub fn start_column(row: &[char], text: usize, cell: usize) -> usize
     over(row, cell).saturating_sub(text)
 }
 
-/// The end of the characters over the cells before `end_cell`, with those without a width that follow.
+/// The end of the characters over the cells before `end_cell`, with those without a width that follow
+/// them.
 #[tactic(auto, unfolding(crate::specs::Cells::end_column))]
 pub fn end_column(row: &[char], text: usize, end_cell: usize) -> usize
     requires short { length row.now < 2 ^ 32 }

@@ -1,5 +1,6 @@
 //! What a line is made of: gutters, runs of marks, bars, links, hooks and texts.
-ghost use Rattle.std.specs.Prelude.{◌≡◌, ◌+◌, ◌*◌, ◌≤◌, ◌<◌, ◌-◌, ◌^◌, IfSome, IfNone, IfOk, true, length};
+ghost use Rattle.std.specs.Prelude.{◌≡◌, ◌+◌, ◌*◌, ◌≤◌, ◌<◌, ◌-◌, ◌^◌, IfSome, IfNone, IfOk, true};
+ghost use Rattle.std.specs.Prelude.{length};
 ghost use Rattle.std.specs.Prelude.{slice_index, OnOk, ◌++◌, ◌∷◌, []};
 ghost use Rattle.excerpt_lines.specs.Cells.{cell_at as cell_there};
 ghost use Rattle.excerpt_lines.specs.Items.{AddsItems, HasPart, IsItem, IsNext, IsTextEnd};

@@ -65,7 +65,8 @@ fn items_of(
 /// All of a line from its first character that is no blank to its last.
 fn whole(alloc: Global, line: &[char]) -> Result<Vec<Item>, AllocError>
     requires { length line.now < 2 ^ 32 }
-    ensures { IfOk result (λ items. (hung : List ℕ) → HasItems line.now hung 0 is_whole items.items) }
+    ensures { IfOk result (λ items. (hung : List ℕ)
+        → HasItems line.now hung 0 is_whole items.items) }
 {
     let mut items = Vec::new(alloc);
     push_whole(&mut items, line, 0)?;
@@ -76,7 +77,8 @@ fn whole(alloc: Global, line: &[char]) -> Result<Vec<Item>, AllocError>
 fn row_items(alloc: Global, line: &[char], text: usize) -> Result<Vec<Item>, AllocError>
     requires short { length line.now < 2 ^ 32 }
     requires within { text ≤ length line.now }
-    ensures { IfOk result (λ items. (hung : List ℕ) → HasItems line.now hung text is_row items.items) }
+    ensures { IfOk result (λ items. (hung : List ℕ)
+        → HasItems line.now hung text is_row items.items) }
 {
     let mut items = front(alloc, line, Part::Gutter, text)?;
     if text >= line.len() {
@@ -94,7 +96,8 @@ fn row_items(alloc: Global, line: &[char], text: usize) -> Result<Vec<Item>, All
 fn note_items(alloc: Global, line: &[char], text: usize) -> Result<Vec<Item>, AllocError>
     requires short { length line.now < 2 ^ 32 }
     requires within { text ≤ length line.now }
-    ensures { IfOk result (λ items. (hung : List ℕ) → HasItems line.now hung text is_note items.items) }
+    ensures { IfOk result (λ items. (hung : List ℕ)
+        → HasItems line.now hung text is_note items.items) }
 {
     let mut items = front(alloc, line, Part::Lead, text)?;
     push_whole(&mut items, line, text)?;

@@ -110,8 +110,8 @@ pub enum NoteForm {
 pub struct Note {
     pub form: NoteForm,
     pub kind: NoteKind,
-    /// Where its text begins, in characters from 0. Where nothing follows the colon it is one more than
-    /// the line's length.
+    /// Where its text begins, in characters from 0. Where nothing follows the colon it is one more
+    /// than the line's length.
     pub text: usize,
 }
 

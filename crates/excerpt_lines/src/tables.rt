@@ -4,7 +4,8 @@ ghost use Rattle.std.specs.List.{list_any};
 ghost use Rattle.excerpt_lines.specs.Tables.{is_frame as frames};
 ghost use Rattle.excerpt_lines.specs.Tables.{arrow_len as arrow_length, class_of as class_meant};
 ghost use Rattle.excerpt_lines.specs.Tables.{hook_of as hook_meant, is_in as belongs};
-ghost use Rattle.excerpt_lines.specs.Tables.{is_capital_note as is_capital, leader_len as leader_length};
+ghost use Rattle.excerpt_lines.specs.Tables.{is_capital_note as is_capital};
+ghost use Rattle.excerpt_lines.specs.Tables.{leader_len as leader_length};
 ghost use Rattle.excerpt_lines.specs.Tables.{kind_of_word as kind_meant, spells as is_spelled};
 ghost use Rattle.excerpt_lines.specs.Tables.{word_len as word_length};
 

@@ -1,5 +1,6 @@
 //! A body read as a whole, or kept.
-ghost use Rattle.std.specs.Prelude.{◌≡◌, ◌+◌, ◌++◌, ◌∷◌, [], ◌<◌, ◌^◌, IfErr, IfNone, IfOk, IfSome, OnOk, length, map};
+ghost use Rattle.std.specs.Prelude.{◌≡◌, ◌+◌, ◌++◌, ◌∷◌, [], ◌<◌, ◌^◌, IfErr, IfNone, IfOk, IfSome};
+ghost use Rattle.std.specs.Prelude.{OnOk, length, map};
 ghost use Rattle.excerpt_blocks.specs.declared.below.Refusal.TheVariants.{OutOfMemory};
 ghost use Rattle.excerpts.specs.Body.{AddsPart, AreOutlines, BlockRefused, IsBlock, IsKept, IsRead};
 ghost use Rattle.excerpts.specs.Body.{IsStopped, PartRefused, Reads, block_of, is_block};
@@ -29,8 +30,8 @@ pub struct Excerpt {
     pub blocks: Vec<Block>,
 }
 
-/// Reads the lines of a body, without ANSI escapes and CR; the head of the finding is not among them. It
-/// gives nothing if one of the lines can't be read: then the body is kept as a whole.
+/// Reads the lines of a body, without ANSI escapes and CR; the head of the finding is not among them.
+/// It gives nothing if one of the lines can't be read: then the body is kept as a whole.
 ///
 /// # Errors
 ///

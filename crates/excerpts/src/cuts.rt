@@ -10,7 +10,8 @@ ghost use Rattle.excerpts.specs.Cuts.{indented_len as indented_run, is_dot, is_f
 ghost use Rattle.excerpts.specs.Cuts.{is_kind_signed, is_loose as is_loose_line, is_signed};
 ghost use Rattle.excerpts.specs.Cuts.{is_straight as is_straight_from, line_part};
 ghost use Rattle.excerpts.specs.Cuts.{loose_or_kept as loose_or_kept_in, loose_run as loose_run_in};
-ghost use Rattle.excerpts.specs.Cuts.{link_of as link_of_kind, margin_link as margin_link_in, part_in};
+ghost use Rattle.excerpts.specs.Cuts.{link_of as link_of_kind, margin_link as margin_link_in};
+ghost use Rattle.excerpts.specs.Cuts.{part_in};
 
 use excerpt_blocks::below::tail;
 use excerpt_blocks::labels::Spot;
@@ -166,8 +167,8 @@ fn has_dots(line: &[char]) -> bool
     false
 }
 
-/// The part that lines begin with, of which the first has this number in the body; nothing if it isn't
-/// read.
+/// The part that lines begin with, of which the first has this number in the body; nothing if it
+/// isn't read.
 #[tactic(auto, unfolding(crate::specs::Cuts::part_in))]
 pub fn part_at(spot: Spot, state: Open, first: usize, lines: &[Outline]) -> Option<Part>
     requires { 0 < length lines.now }
@@ -299,7 +300,7 @@ fn loose_or_kept(spot: Spot, state: Open, first: usize, lines: &[Outline]) -> Op
     })
 }
 
-/// The first elements, so many.
+/// The first elements, up to a count.
 pub fn head<T>(items: &[T], count: usize) -> &[T]
     ensures { result.now ≡ take count items.now }
 {

@@ -1,4 +1,5 @@
-//! What a compiler or linter printed below a finding, read back: notes, locations, labels and suggestions.
+//! What a compiler or linter printed below a finding, read back: notes, locations, labels and
+//! suggestions.
 #![tactic(auto)]
 
 pub mod body;

@@ -1,7 +1,8 @@
 //! What each line of a part is in a block.
 ghost use Rattle.std.specs.Prelude.{◌≡◌, ◌+◌, ◌++◌, ◌∷◌, [], min, IfOk, OnOk, length, true};
 ghost use Rattle.excerpts.specs.Roles.{margin_of as margin_in};
-ghost use Rattle.excerpts.specs.Roles.{head_with, role_of as role_in, roles_from, source_role as source_role_in};
+ghost use Rattle.excerpts.specs.Roles.{head_with, role_of as role_in, roles_from};
+ghost use Rattle.excerpts.specs.Roles.{source_role as source_role_in};
 ghost use Rattle.excerpts.specs.Roles.{suggested_role as suggested_role_in};
 
 use crate::cuts::{Outline, PartKind};
@@ -104,7 +105,7 @@ fn source_role(margin: usize, line: Outline) -> Role
     }
 }
 
-/// What a line is in a suggestion. Dots stand for rows that are left out, and are a row without a number.
+/// What a line is in a suggestion. Dots, where rows are left out, are a row without a number.
 fn suggested_role(line: Outline) -> Role
     ensures { result ≡ suggested_role_in line }
 {
