@@ -242,7 +242,7 @@ is_mark RowPart = false
 is_mark (MarkPart class) = true
 is_mark Bar = false
 is_mark Link = false
-is_mark (Hook tail) = false
+is_mark (Hook class) = false
 is_mark TextPart = false
 is_mark Whole = false
 is_mark Lead = false
@@ -294,7 +294,7 @@ add_part (MarkPart class) above line number previous last item s =
     run_added line item (mark_in above item.cell item.end_cell class (list_any is_first_char (slice_range line item.start item.end)) s) s
 add_part Bar above line number previous last item s = barred item s
 add_part Link above line number previous last item s = linked item s
-add_part (Hook tail) above line number previous last item s = hooked above line item s
+add_part (Hook class) above line number previous last item s = hooked above line item s
 add_part TextPart above line number previous last item s = worded above number previous last item s
 add_part Whole above line number previous last item s = None
 add_part Lead above line number previous last item s = None

@@ -50,8 +50,8 @@ source_role margin line = source_by margin line line.kind
 
 -- a row without a number and without a bar, or something else
 abbrev pub signed_or : Outline → Option Sign → Role → Role
-signed_or line (Some sign) other = head_with None sign (after_bar line line.indent)
-signed_or line None other = other
+signed_or line (Some sign) role = head_with None sign (after_bar line line.indent)
+signed_or line None role = role
 
 abbrev pub suggested_by : Outline → LineKind → Role
 suggested_by line EmptyLine = Other
