@@ -1,0 +1,6 @@
+pub mod CellLemmas
+pub mod GutterLemmas
+pub mod ItemLemmas
+pub mod PlaceLemmas
+pub mod RunLemmas
+pub mod TextLemmas

@@ -1,0 +1,143 @@
+//! The cells that characters take on a screen.
+ghost use Rattle.std.specs.Prelude.{◌≡◌, ◌+◌, ◌*◌, ◌≤◌, ◌<◌, ◌^◌, ◌++◌, ◌∷◌, [], IfOk, OnOk, false};
+ghost use Rattle.std.specs.Prelude.{length, slice_index};
+ghost use Rattle.excerpt_lines.specs.Cells.{EachNarrow, IsOver, cell_at as cell_there};
+ghost use Rattle.excerpt_lines.specs.Cells.{end_column as last_column};
+ghost use Rattle.excerpt_lines.specs.Cells.{start_column as first_column};
+ghost use Rattle.excerpt_lines.specs.Cells.{is_narrow as is_narrow_char};
+ghost use Rattle.excerpt_lines.specs.Cells.{cells_of, narrow_end, over_cell, places_of};
+ghost use Rattle.excerpt_lines.specs.Cells.{step as cells_taken};
+
+use std::alloc::{AllocError, Global};
+use unicode_width::UnicodeWidthChar;
+
+/// How many cells a character takes that begins in this cell. A tab goes to the next multiple of 8.
+fn step(cell: usize, c: char) -> usize
+    ensures value { result ≡ cells_taken cell c }
+    ensures few { result ≤ 8 }
+{
+    if c == '\t' {
+        8 - cell % 8
+    } else {
+        c.width().unwrap_or(0)
+    }
+}
+
+/// The cell after a text that begins in this cell.
+pub fn cell_after(cell: usize, mut text: &[char]) -> usize
+    requires short { length text.now < 2 ^ 32 }
+    requires few { cell ≤ 2 ^ 40 }
+    ensures value { result ≡ cells_of cell text.entry.now }
+    ensures few { result ≤ cell + 8 * length text.entry.now }
+{
+    let mut after = cell;
+    while let [c, rest @ ..] = text {
+        after += step(after, *c);
+        text = rest;
+    }
+    after
+}
+
+/// The cell in which the character at a place begins.
+pub fn cell_at(line: &[char], at: usize) -> usize
+    requires within { at ≤ length line.now }
+    requires short { length line.now < 2 ^ 32 }
+    ensures value { result ≡ cell_there line.now at }
+    ensures few { result ≤ 8 * at }
+{
+    cell_after(0, &line[..at])
+}
+
+/// The place of the character over a cell. After the end each cell counts as one character.
+#[tactic(auto, using(crate::proofs::CellLemmas::cell_next, crate::proofs::CellLemmas::overs), unfolding(crate::specs::Cells::over_cell))]
+pub fn over(line: &[char], cell: usize) -> usize
+    requires short { length line.now < 2 ^ 32 }
+    requires few { cell < 2 ^ 40 }
+    ensures value { result ≡ over_cell line.now cell }
+    ensures over { IsOver line.now cell result }
+{
+    let mut begin = 0;
+    let mut k = 0;
+    while k < line.len() {
+        let end = begin + step(begin, line[k]);
+        if cell < end {
+            return k;
+        }
+        begin = end;
+        k += 1;
+    }
+    k + (cell - begin)
+}
+
+/// Whether a character has no cell of its own.
+#[tactic(auto, unfolding(crate::specs::Cells::is_narrow))]
+fn is_narrow(c: char) -> bool
+    ensures { result ≡ is_narrow_char c }
+{
+    step(0, c) == 0
+}
+
+/// Where the characters without a width end that follow from a place on.
+#[tactic(auto, using(crate::proofs::CellLemmas::narrows))]
+pub fn past_narrow(line: &[char], at: usize) -> usize
+    ensures value { result ≡ narrow_end line.now at }
+    ensures from { at ≤ result }
+    ensures each { EachNarrow line.now at result }
+    ensures stops { result < length line.now
+        → is_narrow_char (slice_index line.now result) ≡ false }
+{
+    let mut end = at;
+    while end < line.len() && is_narrow(line[end]) {
+        end += 1;
+    }
+    end
+}
+
+/// The character over a cell, of a row whose text begins at a place.
+#[tactic(auto, unfolding(crate::specs::Cells::start_column))]
+pub fn start_column(row: &[char], text: usize, cell: usize) -> usize
+    requires short { length row.now < 2 ^ 32 }
+    requires few { cell < 2 ^ 40 }
+    ensures { result ≡ first_column row.now text cell }
+{
+    over(row, cell).saturating_sub(text)
+}
+
+/// The end of the characters over the cells before `end_cell`, with those without a width that follow
+/// them.
+#[tactic(auto, unfolding(crate::specs::Cells::end_column))]
+pub fn end_column(row: &[char], text: usize, end_cell: usize) -> usize
+    requires short { length row.now < 2 ^ 32 }
+    requires few { end_cell < 2 ^ 40 }
+    ensures { result ≡ last_column row.now text end_cell }
+{
+    past_narrow(row, over(row, end_cell.saturating_sub(1)) + 1).saturating_sub(text)
+}
+
+/// The places of the characters that begin in one of these cells.
+///
+/// # Errors
+///
+/// Out of memory.
+#[tactic(auto, unfolding(crate::specs::Cells::places_of))]
+pub fn places_in(alloc: Global, line: &[char], cells: &[usize]) -> Result<Vec<usize>, AllocError>
+    requires { length line.now < 2 ^ 32 }
+    ensures { IfOk result (λ places. places.items ≡ places_of cells.now line.now) }
+{
+    let mut places = Vec::new(alloc);
+    let mut cell = 0;
+    for (k, c) in line.iter().enumerate() {
+        if cells.contains(&cell) {
+            push_place(&mut places, k)?;
+        }
+        cell += step(cell, *c);
+    }
+    Ok(places)
+}
+
+fn push_place(places: &mut Vec<usize>, place: usize) -> Result<(), AllocError>
+    ensures { OnOk result (places.new.items ≡ places.old.items ++ place ∷ []) }
+{
+    places.push(place)?;
+    Ok(())
+}
