@@ -34,7 +34,7 @@ pub enum Manner {
 
 /// The level words in small letters, their severities, and whether they belong to the finding
 /// before. If one begins with another, it comes first.
-pub const LEVEL_WORDS: [(&[u8], Severity, bool); 30] = [
+pub const LEVEL_WORDS: [(&[u8], Severity, bool); 31] = [
     (b"error", Severity::Error, false),
     (b"warning", Severity::Warning, false),
     (b"note", Severity::Advice, true),
@@ -51,6 +51,7 @@ pub const LEVEL_WORDS: [(&[u8], Severity, bool); 30] = [
     // `×`
     (b"\xC3\x97", Severity::Error, false),
     (b"warn", Severity::Warning, false),
+    (b"alert", Severity::Warning, false),
     (b"style", Severity::Warning, false),
     (b"performance", Severity::Warning, false),
     (b"portability", Severity::Warning, false),
@@ -71,6 +72,9 @@ pub const LEVEL_WORDS: [(&[u8], Severity, bool); 30] = [
     // `ℹ`
     (b"\xE2\x84\xB9", Severity::Advice, false),
 ];
+
+/// What messages of linkers begin with that are errors, in small letters.
+pub const ERROR_BEGINNINGS: [&[u8]; 2] = [b"undefined reference to ", b"multiple definition of "];
 
 /// What may come before a name, and the kind of name that follows.
 pub const LEADS: [(&str, &[Part], NameKind); 4] = [
@@ -94,7 +98,7 @@ pub const LEADS: [(&str, &[Part], NameKind); 4] = [
 ];
 
 /// What may come after a name.
-pub const AFTERS: [(&str, &[Part]); 13] = [
+pub const AFTERS: [(&str, &[Part]); 21] = [
     (
         ":{line}:{column}:{endline}:{endcolumn}: ",
         &[
@@ -154,7 +158,7 @@ pub const AFTERS: [(&str, &[Part]); 13] = [
         ],
     ),
     (
-        ":{line}:{column} - ",
+        ":{line}:{column} - {apart}",
         &[
             Part::Byte(b':'),
             Part::Decimal(Figure::Line),
@@ -163,6 +167,7 @@ pub const AFTERS: [(&str, &[Part]); 13] = [
             Part::Blanks,
             Part::Byte(b'-'),
             Part::Blanks,
+            Part::SetApart,
         ],
     ),
     (
@@ -277,10 +282,150 @@ pub const AFTERS: [(&str, &[Part]); 13] = [
             Part::Blanks,
         ],
     ),
+    (
+        ":{line}.{column}-{endline}.{endcolumn}: ",
+        &[
+            Part::Byte(b':'),
+            Part::Decimal(Figure::Line),
+            Part::Byte(b'.'),
+            Part::Decimal(Figure::Column),
+            Part::Byte(b'-'),
+            Part::Decimal(Figure::EndLine),
+            Part::Byte(b'.'),
+            Part::Decimal(Figure::EndColumn),
+            Part::Byte(b':'),
+            Part::Blanks,
+        ],
+    ),
+    (
+        ":{line}.{column}-{endcolumn}: ",
+        &[
+            Part::Byte(b':'),
+            Part::Decimal(Figure::Line),
+            Part::Byte(b'.'),
+            Part::Decimal(Figure::Column),
+            Part::Byte(b'-'),
+            Part::Decimal(Figure::EndColumn),
+            Part::Byte(b':'),
+            Part::Blanks,
+        ],
+    ),
+    (
+        ":{line}.{column}: {level}: ",
+        &[
+            Part::Byte(b':'),
+            Part::Decimal(Figure::Line),
+            Part::Byte(b'.'),
+            Part::Decimal(Figure::Column),
+            Part::Byte(b':'),
+            Part::Blanks,
+            Part::Level,
+            Part::Byte(b':'),
+            Part::Blanks,
+        ],
+    ),
+    (
+        ":{line}:0{column}: ",
+        &[
+            Part::Byte(b':'),
+            Part::Decimal(Figure::Line),
+            Part::Byte(b':'),
+            Part::Byte(b'0'),
+            Part::Decimal(Figure::Column),
+            Part::Byte(b':'),
+            Part::Blanks,
+        ],
+    ),
+    (
+        ":{line}:in `{program}': ",
+        &[
+            Part::Byte(b':'),
+            Part::Decimal(Figure::Line),
+            Part::Byte(b':'),
+            Part::Byte(b'i'),
+            Part::Byte(b'n'),
+            Part::Blanks,
+            Part::Byte(b'`'),
+            Part::Program,
+            Part::Byte(b'\''),
+            Part::Byte(b':'),
+            Part::Blanks,
+        ],
+    ),
+    (
+        ":{line}:in `<{program}>': ",
+        &[
+            Part::Byte(b':'),
+            Part::Decimal(Figure::Line),
+            Part::Byte(b':'),
+            Part::Byte(b'i'),
+            Part::Byte(b'n'),
+            Part::Blanks,
+            Part::Byte(b'`'),
+            Part::Byte(b'<'),
+            Part::Program,
+            Part::Byte(b'>'),
+            Part::Byte(b'\''),
+            Part::Byte(b':'),
+            Part::Blanks,
+        ],
+    ),
+    (
+        ":{line}:in `block in {program}': ",
+        &[
+            Part::Byte(b':'),
+            Part::Decimal(Figure::Line),
+            Part::Byte(b':'),
+            Part::Byte(b'i'),
+            Part::Byte(b'n'),
+            Part::Blanks,
+            Part::Byte(b'`'),
+            Part::Byte(b'b'),
+            Part::Byte(b'l'),
+            Part::Byte(b'o'),
+            Part::Byte(b'c'),
+            Part::Byte(b'k'),
+            Part::Blanks,
+            Part::Byte(b'i'),
+            Part::Byte(b'n'),
+            Part::Blanks,
+            Part::Program,
+            Part::Byte(b'\''),
+            Part::Byte(b':'),
+            Part::Blanks,
+        ],
+    ),
+    (
+        ":{line}:in `block in <{program}>': ",
+        &[
+            Part::Byte(b':'),
+            Part::Decimal(Figure::Line),
+            Part::Byte(b':'),
+            Part::Byte(b'i'),
+            Part::Byte(b'n'),
+            Part::Blanks,
+            Part::Byte(b'`'),
+            Part::Byte(b'b'),
+            Part::Byte(b'l'),
+            Part::Byte(b'o'),
+            Part::Byte(b'c'),
+            Part::Byte(b'k'),
+            Part::Blanks,
+            Part::Byte(b'i'),
+            Part::Byte(b'n'),
+            Part::Blanks,
+            Part::Byte(b'<'),
+            Part::Program,
+            Part::Byte(b'>'),
+            Part::Byte(b'\''),
+            Part::Byte(b':'),
+            Part::Blanks,
+        ],
+    ),
 ];
 
 /// What may come after a location, and the way in which it says something.
-pub const RESTS: [(&str, &[Part], Manner); 16] = [
+pub const RESTS: [(&str, &[Part], Manner); 18] = [
     (
         "{level}[{rule}]: {message}",
         &[
@@ -324,6 +469,22 @@ pub const RESTS: [(&str, &[Part], Manner); 16] = [
         "{level}: {message}",
         &[Part::Level, Part::Byte(b':'), Part::Blanks, Part::Message],
         Manner::Plain,
+    ),
+    (
+        "{level} {rule} [{rule}]: {message}",
+        &[
+            Part::Level,
+            Part::Blanks,
+            Part::Rule,
+            Part::Blanks,
+            Part::Byte(b'['),
+            Part::Rule,
+            Part::Byte(b']'),
+            Part::Byte(b':'),
+            Part::Blanks,
+            Part::Message,
+        ],
+        Manner::Ruled,
     ),
     (
         "{level} - {message}",
@@ -437,6 +598,17 @@ pub const RESTS: [(&str, &[Part], Manner); 16] = [
         Manner::Boxed,
     ),
     (
+        "({number}) {message}",
+        &[
+            Part::Byte(b'('),
+            Part::Number,
+            Part::Byte(b')'),
+            Part::Blanks,
+            Part::Message,
+        ],
+        Manner::Boxed,
+    ),
+    (
         "*** {message}",
         &[
             Part::Byte(b'*'),
@@ -495,7 +667,7 @@ pub const UNDER: [Part; 8] = [
 ];
 
 /// A line whose location is on the next line.
-pub const ANNOUNCED: [(&str, &[Part]); 3] = [
+pub const ANNOUNCED: [(&str, &[Part]); 8] = [
     (
         "{level}[{rule}]: {message}",
         &[
@@ -509,12 +681,60 @@ pub const ANNOUNCED: [(&str, &[Part]); 3] = [
         ],
     ),
     (
+        "{level}: × {message}",
+        &[
+            Part::Level,
+            Part::Byte(b':'),
+            Part::Blanks,
+            Part::Byte(0xC3),
+            Part::Byte(0x97),
+            Part::Blanks,
+            Part::Message,
+        ],
+    ),
+    (
         "{level}: {message}",
         &[Part::Level, Part::Byte(b':'), Part::Blanks, Part::Message],
     ),
     (
+        " {level} {rule}({rule}): {message}",
+        &[
+            Part::Blanks,
+            Part::Level,
+            Part::Blanks,
+            Part::Rule,
+            Part::Byte(b'('),
+            Part::Rule,
+            Part::Byte(b')'),
+            Part::Byte(b':'),
+            Part::Blanks,
+            Part::Message,
+        ],
+    ),
+    (
+        " {level} {message}",
+        &[Part::Blanks, Part::Level, Part::Blanks, Part::Message],
+    ),
+    (
+        "[{rule}] {level}: {message}",
+        &[
+            Part::Byte(b'['),
+            Part::Rule,
+            Part::Byte(b']'),
+            Part::Blanks,
+            Part::Level,
+            Part::Byte(b':'),
+            Part::Blanks,
+            Part::Message,
+        ],
+    ),
+    (
         "{number} {message}",
         &[Part::Number, Part::Blanks, Part::Message],
+    ),
+    (
+        "{rule}: {message}",
+        &[Part::Rule, Part::Byte(b':'), Part::Blanks, Part::Message],
     ),
 ];
 
@@ -538,9 +758,256 @@ pub const ARROW_PLACE: [Part; 4] = [
     Part::Decimal(Figure::Column),
 ];
 
+/// The same with other arrows: the text, the tokens before the name, and the tokens after it.
+pub const ARROWS: [(&str, &[Part], &[Part]); 7] = [
+    (
+        "{~}╭▸ {name}:{line}:{column}",
+        &[
+            Part::AnyBlanks,
+            Part::Byte(0xE2),
+            Part::Byte(0x95),
+            Part::Byte(0xAD),
+            Part::Byte(0xE2),
+            Part::Byte(0x96),
+            Part::Byte(0xB8),
+            Part::Blanks,
+        ],
+        &[
+            Part::Byte(b':'),
+            Part::Decimal(Figure::Line),
+            Part::Byte(b':'),
+            Part::Decimal(Figure::Column),
+        ],
+    ),
+    (
+        "{~}┌─ {name}:{line}:{column}",
+        &[
+            Part::AnyBlanks,
+            Part::Byte(0xE2),
+            Part::Byte(0x94),
+            Part::Byte(0x8C),
+            Part::Byte(0xE2),
+            Part::Byte(0x94),
+            Part::Byte(0x80),
+            Part::Blanks,
+        ],
+        &[
+            Part::Byte(b':'),
+            Part::Decimal(Figure::Line),
+            Part::Byte(b':'),
+            Part::Decimal(Figure::Column),
+        ],
+    ),
+    (
+        "{~}╭─[{name}:{line}:{column}]",
+        &[
+            Part::AnyBlanks,
+            Part::Byte(0xE2),
+            Part::Byte(0x95),
+            Part::Byte(0xAD),
+            Part::Byte(0xE2),
+            Part::Byte(0x94),
+            Part::Byte(0x80),
+            Part::Byte(b'['),
+        ],
+        &[
+            Part::Byte(b':'),
+            Part::Decimal(Figure::Line),
+            Part::Byte(b':'),
+            Part::Decimal(Figure::Column),
+            Part::Byte(b']'),
+        ],
+    ),
+    (
+        "{~}╭─[ {name}:{line}:{column} ]",
+        &[
+            Part::AnyBlanks,
+            Part::Byte(0xE2),
+            Part::Byte(0x95),
+            Part::Byte(0xAD),
+            Part::Byte(0xE2),
+            Part::Byte(0x94),
+            Part::Byte(0x80),
+            Part::Byte(b'['),
+            Part::Blanks,
+        ],
+        &[
+            Part::Byte(b':'),
+            Part::Decimal(Figure::Line),
+            Part::Byte(b':'),
+            Part::Decimal(Figure::Column),
+            Part::Blanks,
+            Part::Byte(b']'),
+        ],
+    ),
+    (
+        "{~},-[{name}:{line}:{column}]",
+        &[
+            Part::AnyBlanks,
+            Part::Byte(b','),
+            Part::Byte(b'-'),
+            Part::Byte(b'['),
+        ],
+        &[
+            Part::Byte(b':'),
+            Part::Decimal(Figure::Line),
+            Part::Byte(b':'),
+            Part::Decimal(Figure::Column),
+            Part::Byte(b']'),
+        ],
+    ),
+    (
+        "{~}::: {name}:{line}:{column}",
+        &[
+            Part::AnyBlanks,
+            Part::Byte(b':'),
+            Part::Byte(b':'),
+            Part::Byte(b':'),
+            Part::Blanks,
+        ],
+        &[
+            Part::Byte(b':'),
+            Part::Decimal(Figure::Line),
+            Part::Byte(b':'),
+            Part::Decimal(Figure::Column),
+        ],
+    ),
+    (
+        "{~}⸬ {name}:{line}:{column}",
+        &[
+            Part::AnyBlanks,
+            Part::Byte(0xE2),
+            Part::Byte(0xB8),
+            Part::Byte(0xAC),
+            Part::Blanks,
+        ],
+        &[
+            Part::Byte(b':'),
+            Part::Decimal(Figure::Line),
+            Part::Byte(b':'),
+            Part::Decimal(Figure::Column),
+        ],
+    ),
+];
+
+/// Lines with nothing but a location; the message is below, after a drawing: the text, the tokens
+/// before the name, the kind of name, and the tokens after it.
+pub const PLACES: [(&str, &[Part], NameKind, &[Part]); 4] = [
+    (
+        "{word}:{line}:{column}:{apart}",
+        &[],
+        NameKind::OneWord,
+        &[
+            Part::Byte(b':'),
+            Part::Decimal(Figure::Line),
+            Part::Byte(b':'),
+            Part::Decimal(Figure::Column),
+            Part::Byte(b':'),
+            Part::SetApart,
+        ],
+    ),
+    (
+        "In {word}:{line}:{column}{apart}",
+        &[Part::Byte(b'I'), Part::Byte(b'n'), Part::Blanks],
+        NameKind::OneWord,
+        &[
+            Part::Byte(b':'),
+            Part::Decimal(Figure::Line),
+            Part::Byte(b':'),
+            Part::Decimal(Figure::Column),
+            Part::SetApart,
+        ],
+    ),
+    (
+        "File \"{name}\", line {line}, characters {column}-{endcolumn}:{apart}",
+        &[
+            Part::Byte(b'F'),
+            Part::Byte(b'i'),
+            Part::Byte(b'l'),
+            Part::Byte(b'e'),
+            Part::Blanks,
+            Part::Byte(b'"'),
+        ],
+        NameKind::Any,
+        &[
+            Part::Byte(b'"'),
+            Part::Byte(b','),
+            Part::Blanks,
+            Part::Byte(b'l'),
+            Part::Byte(b'i'),
+            Part::Byte(b'n'),
+            Part::Byte(b'e'),
+            Part::Blanks,
+            Part::Decimal(Figure::Line),
+            Part::Byte(b','),
+            Part::Blanks,
+            Part::Byte(b'c'),
+            Part::Byte(b'h'),
+            Part::Byte(b'a'),
+            Part::Byte(b'r'),
+            Part::Byte(b'a'),
+            Part::Byte(b'c'),
+            Part::Byte(b't'),
+            Part::Byte(b'e'),
+            Part::Byte(b'r'),
+            Part::Byte(b's'),
+            Part::Blanks,
+            Part::Decimal(Figure::Column),
+            Part::Byte(b'-'),
+            Part::Decimal(Figure::EndColumn),
+            Part::Byte(b':'),
+            Part::SetApart,
+        ],
+    ),
+    (
+        "File \"{name}\", lines {line}-{endline}, characters {column}-{endcolumn}:{apart}",
+        &[
+            Part::Byte(b'F'),
+            Part::Byte(b'i'),
+            Part::Byte(b'l'),
+            Part::Byte(b'e'),
+            Part::Blanks,
+            Part::Byte(b'"'),
+        ],
+        NameKind::Any,
+        &[
+            Part::Byte(b'"'),
+            Part::Byte(b','),
+            Part::Blanks,
+            Part::Byte(b'l'),
+            Part::Byte(b'i'),
+            Part::Byte(b'n'),
+            Part::Byte(b'e'),
+            Part::Byte(b's'),
+            Part::Blanks,
+            Part::Decimal(Figure::Line),
+            Part::Byte(b'-'),
+            Part::Decimal(Figure::EndLine),
+            Part::Byte(b','),
+            Part::Blanks,
+            Part::Byte(b'c'),
+            Part::Byte(b'h'),
+            Part::Byte(b'a'),
+            Part::Byte(b'r'),
+            Part::Byte(b'a'),
+            Part::Byte(b'c'),
+            Part::Byte(b't'),
+            Part::Byte(b'e'),
+            Part::Byte(b'r'),
+            Part::Byte(b's'),
+            Part::Blanks,
+            Part::Decimal(Figure::Column),
+            Part::Byte(b'-'),
+            Part::Decimal(Figure::EndColumn),
+            Part::Byte(b':'),
+            Part::SetApart,
+        ],
+    ),
+];
+
 /// The patterns of tools that have to be named: the tool, the text, the tokens before the name,
 /// the kind of name, and the tokens after it. They match whole lines, and are tried in this order.
-pub const TOOL_SHAPES: [(&str, &str, &[Part], NameKind, &[Part]); 12] = [
+pub const TOOL_SHAPES: [(&str, &str, &[Part], NameKind, &[Part]); 15] = [
     (
         "dotenv-linter",
         "{name}:{line} {message}",
@@ -719,11 +1186,64 @@ pub const TOOL_SHAPES: [(&str, &str, &[Part], NameKind, &[Part]); 12] = [
             Part::Message,
         ],
     ),
+    (
+        "fpc",
+        "{name}({line},{column}) {level}: {message}",
+        &[],
+        NameKind::Any,
+        &[
+            Part::Byte(b'('),
+            Part::Decimal(Figure::Line),
+            Part::Byte(b','),
+            Part::Decimal(Figure::Column),
+            Part::Byte(b')'),
+            Part::Blanks,
+            Part::Level,
+            Part::Byte(b':'),
+            Part::Blanks,
+            Part::Message,
+        ],
+    ),
+    (
+        "fpc",
+        "{name}({line}) {level}: {message}",
+        &[],
+        NameKind::Any,
+        &[
+            Part::Byte(b'('),
+            Part::Decimal(Figure::Line),
+            Part::Byte(b')'),
+            Part::Blanks,
+            Part::Level,
+            Part::Byte(b':'),
+            Part::Blanks,
+            Part::Message,
+        ],
+    ),
+    (
+        "nim",
+        "{name}({line}, {column}) {level}: {message}",
+        &[],
+        NameKind::Any,
+        &[
+            Part::Byte(b'('),
+            Part::Decimal(Figure::Line),
+            Part::Byte(b','),
+            Part::Blanks,
+            Part::Decimal(Figure::Column),
+            Part::Byte(b')'),
+            Part::Blanks,
+            Part::Level,
+            Part::Byte(b':'),
+            Part::Blanks,
+            Part::Message,
+        ],
+    ),
 ];
 
 /// What the columns of a named tool count, the number of the first column, and whether an end
 /// column is that of the last character, not of the one after it.
-pub const TOOL_COLUMNS: [(&str, Unit, u32, bool); 14] = [
+pub const TOOL_COLUMNS: [(&str, Unit, u32, bool); 70] = [
     ("clang", Unit::Bytes, 1, true),
     ("gcc", Unit::Cells, 1, true),
     ("rustc", Unit::Characters, 1, true),
@@ -738,4 +1258,61 @@ pub const TOOL_COLUMNS: [(&str, Unit, u32, bool); 14] = [
     ("kotlin", Unit::Utf16, 1, true),
     ("psalm", Unit::Bytes, 1, true),
     ("problem-lines", Unit::Bytes, 1, false),
+    ("g++", Unit::Cells, 1, true),
+    ("go", Unit::Bytes, 1, true),
+    ("ocaml", Unit::Bytes, 0, false),
+    ("go vet", Unit::Bytes, 1, true),
+    // Of these nothing else is known than how most tools count.
+    ("ariadne", Unit::Characters, 1, true),
+    ("bash", Unit::Characters, 1, true),
+    ("bison", Unit::Characters, 1, true),
+    ("cmake", Unit::Characters, 1, true),
+    ("codespan", Unit::Characters, 1, true),
+    ("collect2", Unit::Characters, 1, true),
+    ("cppcheck", Unit::Characters, 1, true),
+    ("curl", Unit::Characters, 1, true),
+    ("dotenv-linter", Unit::Characters, 1, true),
+    ("dotnet", Unit::Characters, 1, true),
+    ("elixir", Unit::Characters, 1, true),
+    ("eslint_d", Unit::Characters, 1, true),
+    ("fasterer", Unit::Characters, 1, true),
+    ("fpc", Unit::Characters, 1, true),
+    ("gfortran", Unit::Characters, 1, true),
+    ("ghc", Unit::Characters, 1, true),
+    ("gnat", Unit::Characters, 1, true),
+    ("grep", Unit::Characters, 1, true),
+    ("hadolint", Unit::Characters, 1, true),
+    ("haml-lint", Unit::Characters, 1, true),
+    ("javac", Unit::Characters, 1, true),
+    ("jscs", Unit::Characters, 1, true),
+    ("ld", Unit::Characters, 1, true),
+    ("lua", Unit::Characters, 1, true),
+    ("luacheck", Unit::Characters, 1, true),
+    ("make", Unit::Characters, 1, true),
+    ("maven", Unit::Characters, 1, true),
+    ("miette", Unit::Characters, 1, true),
+    ("msvc", Unit::Characters, 1, true),
+    ("nginx", Unit::Characters, 1, true),
+    ("nim", Unit::Characters, 1, true),
+    ("node", Unit::Characters, 1, true),
+    ("oxlint", Unit::Characters, 1, true),
+    ("perl", Unit::Characters, 1, true),
+    ("php", Unit::Characters, 1, true),
+    ("phpstan", Unit::Characters, 1, true),
+    ("pycodestyle", Unit::Characters, 1, true),
+    ("python", Unit::Characters, 1, true),
+    ("rubocop", Unit::Characters, 1, true),
+    ("ruby", Unit::Characters, 1, true),
+    ("ruff", Unit::Characters, 1, true),
+    ("server", Unit::Characters, 1, true),
+    ("slim-lint", Unit::Characters, 1, true),
+    ("solc", Unit::Characters, 1, true),
+    ("stylelint", Unit::Characters, 1, true),
+    ("swift", Unit::Characters, 1, true),
+    ("swiftlint", Unit::Characters, 1, true),
+    ("terraform", Unit::Characters, 1, true),
+    ("vala", Unit::Characters, 1, true),
+    ("vint", Unit::Characters, 1, true),
+    ("xmllint", Unit::Characters, 1, true),
+    ("yamllint", Unit::Characters, 1, true),
 ];
