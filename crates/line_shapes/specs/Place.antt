@@ -5,7 +5,7 @@ use Rattle.std.specs.Option.{option_or}
 use Rattle.memchr.specs.Find.{IsFirst}
 use Rattle.line_shapes.specs.declared.part.Part.{Part}
 use Rattle.line_shapes.specs.declared.place.Placed.{Placed}
-use Rattle.line_shapes.specs.declared.tables.TheConstants.{AFTERS, LEADS}
+use Rattle.line_shapes.specs.declared.locations.TheConstants.{AFTERS, LEADS}
 use Rattle.line_shapes.specs.Part.{Seen, seen, before, fit}
 use Rattle.line_shapes.specs.declared.name.NameKind.{NameKind}
 use Rattle.line_shapes.specs.Name.{angle_len, begins_name, ends_name, is_name}

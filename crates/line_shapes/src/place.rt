@@ -16,9 +16,9 @@ ghost use Rattle.line_shapes.specs.Place.{has_figure as figure_in};
 ghost use Rattle.line_shapes.specs.Place.{in_angles as angled_place, placed};
 
 use crate::bytes::{Kind, byte_at, is_in, run};
+use crate::locations::{AFTERS, LEADS};
 use crate::name::{NameKind, angle_len, begins_name, ends_name, first_fault, is_angle};
 use crate::part::{Found, Part, begins, fit};
-use crate::tables::{AFTERS, LEADS};
 use memchr::memchr3;
 
 /// A name, and what was found before and after it.
