@@ -86,6 +86,7 @@ const APART: [&str; 11] = [
     "Error: y at (1)",
     "z",
 ];
+
 const APART_CUTS: [(Sort, usize); 4] = [
     (Sort::Spaced, 4),
     (Sort::Kept, 1),
