@@ -10,7 +10,7 @@ import sys
 ERROR, WARNING, ADVICE = "error", "warning", "advice"
 WORDS = {
     ERROR: "error/fatal error/internal error/internal compiler error/runtime error/fatal/critical/severe/err/✖/×",
-    WARNING: "warning/warn/style/performance/portability/convention/refactor/⚠/‼",
+    WARNING: "warning/warn/alert/style/performance/portability/convention/refactor/⚠/‼",
     ADVICE: "note/advice/info/information/hint/help/remark/suggestion/notice/ℹ",
 }
 LEVELS = {word.encode(): level for level, words in WORDS.items() for word in words.split("/")}
@@ -30,6 +30,7 @@ PARTS = {
     "~": rb"[ \t]*",
     " ": rb"[ \t]+",
     "message": rb"(?s:[^ \t].*)",
+    "apart": rb"",
 }
 PAINT = re.compile(rb"\x1b\[[0-9;]*[mK]|\x1b\]8;[^\x07\x1b\n]*(?:\x07|\x1b\\)")
 GUTTER = re.compile(rb"[ \t]*[0-9]*[ \t]*\|")
@@ -94,25 +95,38 @@ def is_name(text, one_word=False, bracket=True):
 LEADS = [(walk_of("[{level}] "), False, True), ([], False, True), (walk_of("{program}: "), False, False), (walk_of(" "), True, True)]
 AFTERS = [walk_of(text) for text in (
     ":{line}:{column}:{endline}:{endcolumn}: ", ":{line}:{column}-{endcolumn}: ", ":({line},{column})-({endline},{endcolumn}): ",
-    ":{line}:{column}: ", ":{line}:{column} - ", ":{line}: ", "({line},{column},{endline},{endcolumn}){~}: ", "({line},{column}){~}: ",
-    "({line}){~}: ", "[{line}, {column}]: ", ":[{line},{column}] ", ": line {line}, col {column}, ", ": ({line}, {column}): ")]
+    ":{line}:{column}: ", ":{line}:{column} - {apart}", ":{line}: ", "({line},{column},{endline},{endcolumn}){~}: ", "({line},{column}){~}: ",
+    "({line}){~}: ", "[{line}, {column}]: ", ":[{line},{column}] ", ": line {line}, col {column}, ", ": ({line}, {column}): ",
+    ":{line}.{column}-{endline}.{endcolumn}: ", ":{line}.{column}-{endcolumn}: ", ":{line}.{column}: {level}: ", ":{line}:0{column}: ",
+    ":{line}:in `{program}': ", ":{line}:in `<{program}>': ", ":{line}:in `block in {program}': ", ":{line}:in `block in <{program}>': ")]
 # Each with what else it says: a rule after a level, brackets, a colon after a number, stars, or just a message.
 RESTS = [(walk_of(text), manner) for text, manner in (
     ("{level}[{rule}]: {message}", "ruled"), ("{level} {rule}: {message}", "ruled"), ("{level}: [{rule}] {message}", "ruled"),
-    ("{level}: {message}", ""), ("{level} - {message}", "boxed"), ("[{level}] {message}", "boxed"), ("[{letter}] {message}", "boxed"),
+    ("{level}: {message}", ""), ("{level} {rule} [{rule}]: {message}", "ruled"), ("{level} - {message}", "boxed"), ("[{level}] {message}", "boxed"), ("[{letter}] {message}", "boxed"),
     ("{letter}: [Correctable] {cop}: {message}", ""), ("{letter}: {cop}: {message}", ""), ("{letter}: {message}", ""),
     ("{number}: {message}", "colon"), ("{number} {level}: {message}", ""), ("{number} {message}", ""), ("[{number}] {message}", "boxed"),
+    ("({number}) {message}", "boxed"),
     ("*** {message}", "stars"), ("{message}", "alone"))]
 BARE = [walk_of(text) for text in ("{level}:{~}", "{level}: [{rule}]{~}", "[{rule}]{~}")]
 UNDER = walk_of(" {line}:{column} {level} {message}")
-ANNOUNCED = [walk_of(text) for text in ("{level}[{rule}]: {message}", "{level}: {message}", "{number} {message}")]
+ANNOUNCED = [walk_of(text) for text in (
+    "{level}[{rule}]: {message}", "{level}: × {message}", "{level}: {message}", " {level} {rule}({rule}): {message}", " {level} {message}",
+    "[{rule}] {level}: {message}", "{number} {message}", "{rule}: {message}")]
 ARROW = Shape("{~}--> {name}:{line}:{column}")
+ARROWS = [Shape(text) for text in (
+    "{~}╭▸ {name}:{line}:{column}", "{~}┌─ {name}:{line}:{column}", "{~}╭─[{name}:{line}:{column}]", "{~}╭─[ {name}:{line}:{column} ]",
+    "{~},-[{name}:{line}:{column}]", "{~}::: {name}:{line}:{column}", "{~}⸬ {name}:{line}:{column}")]
+# Lines with nothing but a location.
+PLACES = [Shape(text) for text in (
+    "{word}:{line}:{column}:{apart}", "In {word}:{line}:{column}{apart}", 'File "{name}", line {line}, characters {column}-{endcolumn}:{apart}',
+    'File "{name}", lines {line}-{endline}, characters {column}-{endcolumn}:{apart}')]
 TOOLS = {tool: [Shape(text) for text in texts] for tool, texts in {
     "dotenv-linter": ["{name}:{line} {message}"], "fasterer": ["{name}:{line} {message}"],
     "haml-lint": ["{name}:{line} [{letter}] {message}"], "slim-lint": ["{name}:{line} [{letter}] {message}"],
     "phpstan": ["{name}:{line}:{message}"], "grep": ["{name}:{line}:{message}"],
     "psalm": ["{name}:{line}:{column}:{level} - {message}"], "hadolint": ["{name}:{line} {number} {level}: {message}"],
     "markdownlint": ["{name}:{line}:{column} {rule} {message}", "{name}:{line} {rule} {message}"],
+    "fpc": ["{name}({line},{column}) {level}: {message}", "{name}({line}) {level}: {message}"], "nim": ["{name}({line}, {column}) {level}: {message}"],
     "kotlin": ["{small}: {name}:{line}:{column} {message}", "{small}: {name}: ({line}, {column}): {message}"]}.items()}
 
 
@@ -182,11 +196,12 @@ def finding(found, manner=""):
             it = re.fullmatch(rb"(?is:(error|warning)/(.+))", code)
             if it:
                 code, severity = it[2], severity or it[1].lower().decode()
-    if severity is None and manner == "alone" and re.match(rb"[^:]*[Ee]rror[ \t]*:", message):
+    errors = rb"[^:]*[Ee]rror[ \t]*:|(?i:undefined reference to |multiple definition of )|(?s:.*Error\)\Z)"
+    if severity is None and manner == "alone" and re.match(errors, message):
         severity = ERROR
     figures = {key: int(found[key]) if key in found else None for key in ("line", "column", "endline", "endcolumn")}
     aside = found.get("level", b"").lower() in (b"note", b"help") and code is None
-    return {"name": found["name"], **figures, "severity": severity or WARNING, "code": code, "message": message, "aside": aside, "details": []}
+    return {"name": found["name"], **figures, "apart": "apart" in found, "told": "level" in found or code is not None, "severity": severity or WARNING, "code": code, "message": message, "aside": aside, "details": []}
 
 
 def gutter_of(line):
@@ -198,6 +213,43 @@ def are_marks(line):
     end = gutter_of(line)
     body = line[end or 0:]
     return not body.strip(b" \t^~-+_=") and bool(re.search(rb"[\^~]", body)) and (end is not None or body[:1] in (b" ", b"\t", b"^", b"~"))
+
+
+def arrow(line):
+    """The location in a line that is an arrow."""
+    there = ARROW.named(line[:-1] if line.endswith(b":") else line) if b"-->" in line else None
+    if there is None:
+        there = next(filter(None, (shape.named(line) for shape in ARROWS)), None)
+        return None if there is None or place(line) else there
+    return there
+
+
+def ends_message(line):
+    """Whether a line has a code at its end, two blanks before it or nothing."""
+    if len(line) >= 2 and line[:1] == b"[" and line[-1:] == b"]":
+        return True
+    behind = last_code(line, False)
+    return bool(behind) and len(behind[0]) + len(behind[1]) + 4 <= len(line)
+
+
+def is_row(line):
+    """Whether a line begins as a row of a source does: with a blank, or a number and a blank."""
+    return bool(re.match(rb"[0-9]*[ \t]", line))
+
+
+def is_drawn(line):
+    return are_marks(line) or gutter_of(line) is not None or line.lstrip(b" \t")[:1].isdigit()
+
+
+def retold(it):
+    """A finding of a line with nothing but a location says what the first line below says, if that has a level."""
+    if it["message"] or it["told"] or not it["details"]:
+        return it
+    found, manner = said(it["details"][0], 0) or ({}, "")
+    if "level" not in found:
+        return it
+    more = finding({"name": it["name"], **found}, manner)
+    return {**it, **{key: more[key] for key in ("severity", "code", "message")}, "details": it["details"][1:]}
 
 
 class Reader:
@@ -213,9 +265,7 @@ class Reader:
 
     def announced(self, at):
         after = self.line(at + 1)
-        if after is None or b"-->" not in after:
-            return None
-        there = ARROW.named(after[:-1] if after.endswith(b":") else after)
+        there = arrow(after) if after is not None else None
         found = there and next((it for it in (whole(walk, self.lines[at]) for walk in ANNOUNCED) if it is not None), None)
         return finding({**there, **found}) if found is not None and there else None
 
@@ -224,11 +274,19 @@ class Reader:
         return bool(line) and line[:1] not in (b" ", b"\t") and after is not None and whole(UNDER, after) is not None
 
     def placed(self, at):
-        line, after = self.lines[at], self.line(at + 1)
         for shape in self.shapes:
-            found = shape.named(line)
+            found = shape.named(self.lines[at])
             if found is not None:
                 return finding(found)
+        it = self.told_in(at)
+        if it is None:
+            there = next(filter(None, (shape.named(self.lines[at]) for shape in PLACES)), None)
+            return finding(there) if there else None
+        return it
+
+    def told_in(self, at):
+        """The finding of a line with a location and more."""
+        line, after = self.lines[at], self.line(at + 1)
         there = place(line)
         if there is None:
             return None
@@ -251,22 +309,37 @@ class Reader:
         if at not in self.known:
             announced = self.announced(at)
             placed = None if announced or self.heads(at) else self.placed(at)
-            self.known[at] = ("announced", announced) if announced else ("heading", None) if self.heads(at) else ("inline", placed) if placed else ("kept", None)
+            self.known[at] = ("announced", announced) if announced else ("heading", None) if self.heads(at) else ("spaced" if placed["apart"] else "inline", placed) if placed else ("kept", None)
         return self.known[at]
 
-    def may_trail(self, at):
+    def may_trail(self, at, apart):
         line, after = self.lines[at], self.line(at + 1)
+        if apart and (not line and after is not None and is_row(after) or line and (is_row(line) or "level" in (said(line, 0) or ({},))[0])):
+            return True
+        if line.startswith(b"In file included from ") and after is not None and self.is_note(after):
+            return True
+        if line.startswith(b'fix-it:"') or after is not None and after[:4] == b"    " and ends_message(line):
+            return True
         return bool(line) and bool(line[:1] in b" \t" or re.match(rb"[0-9]+ +\|", line) or are_marks(line) or after is not None and are_marks(after))
 
-    def trail(self, at):
+    def is_note(self, line):
+        """Whether a note begins at a line, whatever follows."""
+        it = Reader(line, self.shapes).begun(0)[1] if line else None
+        return it is not None and it["aside"]
+
+    def trail(self, at, apart):
         """Where the trail ends that begins at a line, its details, and the column of the caret in it."""
         end = at
-        while end < len(self.lines) and self.may_trail(end) and self.begun(end)[0] == "kept":
+        while end < len(self.lines) and self.may_trail(end, apart) and self.begun(end)[0] == "kept":
             end += 1
         run = self.lines[at:end]
+        if apart:
+            texts = [line.strip(b" \t") for line in run if not is_drawn(line) and not line.startswith(b'fix-it:"')]
+            return end, [text for text in texts if text], None
         marks = [number for number, line in enumerate(run) if are_marks(line)]
         adds = run[:max(marks[0] - 1, 0)] if marks else run
         behind = [line.strip(b" \t") for line in run[marks[-1] + 1:] if re.match(rb"  [a-z]", line)] if marks else []
+        adds = [line for line in adds if not line.startswith(b'fix-it:"')]
         texts = [line.strip(b" \t") for line in adds if gutter_of(line) is None or line[gutter_of(line):].strip(b" \t")]
         caret = run[marks[0]].find(b"^") if marks and marks[0] and gutter_of(run[marks[0]]) is None and gutter_of(run[marks[0] - 1]) is None else -1
         return end, [text for text in texts if text] + behind, None if caret < 0 else caret
@@ -280,7 +353,7 @@ class Reader:
                 gap = re.search(rb"(?<![ \t])(?:\t|  )", it["message"])
                 if gap and it["code"] is None:
                     rest = it["message"][gap.start():].lstrip(b" \t")
-                    it["message"], it["code"] = it["message"][:gap.start()], re.split(rb"\t|[ \t]{2}", rest)[0]
+                    it["message"], it["code"] = it["message"][:gap.start()], re.sub(rb"(?s)\A\((.+)\)\Z", rb"\1", re.split(rb"\t|[ \t]{2}", rest)[0])
                 yield "below", it, at, at + 1
                 at += 1
                 continue
@@ -290,9 +363,9 @@ class Reader:
                 name = self.lines[at]
             elif sort == "announced":
                 end, it = self.announced_run(at, it)
-            elif sort == "inline":
-                end, details, caret = self.trail(at + 1)
-                it = {**it, "details": details, "caret": caret}
+            elif sort in ("inline", "spaced"):
+                end, details, caret = self.trail(at + 1, sort == "spaced")
+                it = retold({**it, "details": details, "caret": caret})
                 if not it["message"] and details:
                     it = {**it, "message": details[0], "details": details[1:]}
             yield sort, it, at, end
@@ -301,7 +374,7 @@ class Reader:
     def announced_run(self, at, it):
         end, details = at + 2, []
         while end < len(self.lines) and self.lines[end] and not self.announced(end):
-            note = re.match(rb"(?s)(?:[ \t]*= )?(?:note|help): (.*)\Z", self.lines[end])
+            note = re.match(rb"(?s)(?:[ \t]*(?:= |\xe2\x94\x9c |\xe2\x95\xb0 ))?(?:note|help): (.*)\Z", self.lines[end])
             details += [note[1]] if note else []
             end += 1
         return end, {**it, "details": details}

@@ -34,18 +34,21 @@ SAMPLES = {
     "program": ["vet", "lua", "/usr/bin/ld", "g++", "a-b.c", "1x"],
     "~": ["", " ", "  ", "\t"],
     "message": ["no such name", "x", "x [y]", "x (no-undef)", "x  (a_b)", "x (y)", "x [error]", "x [warning/y]", "x [Error/no-undef]", "x [W1] (E2)", "parse error : bad",
-                "SyntaxError: bad", "Error: x [y]", "[a-b]", "[a b]", "x ", "  required from here", "a.c:3:5: y", "é → z", "*** x", "x (@a/b)", "[*] `os` unused", "x\ty  z", ":", "(in f)"],
+                "SyntaxError: bad", "Error: x [y]", "[a-b]", "[a b]", "x ", "  required from here", "a.c:3:5: y", "é → z", "*** x", "x (@a/b)", "[*] `os` unused", "undefined x (NameError)", "x\ty  z", ":", "(in f)"],
 }
 AROUND = ["", "1 error", "    int x;", "        ^", "        ^~~~", "  |", "1 | import os", "  |        ^^", "   3 |     y = 1;", "     |     ~^~", "  symbol: x", "\tat foo", "  = note: more", "  = help: do",
-          "note: here", "help: there", "a.js", "  1:2  error  no such  a-b", "  3:4 warning x\tno-y", "  5:6 note z", " --> a.rs:1:2", "  --> b.rs:3:4:", "error[E1]: one", "F401 two", "-->", " ^ x", "~~~^", "/p/a.js", "\x1b[31m", " "]
+          "note: here", "help: there", "a.js", "  1:2  error  no such  a-b", "  3:4 warning x\tno-y", "  5:6 note z", " --> a.rs:1:2", "  --> b.rs:3:4:", "error[E1]: one", "F401 two", "-->", " ^ x", "~~~^", "/p/a.js", "\x1b[31m", " ",
+          "  ╭▸ a.rs:6:13", "   ┌─ a.fun:1:2", "   ╭─[src/a.js:1:7]", "   ╭─[ s.tao:1:23 ]", "   ,-[a.rs:2:3]", "  ::: a.rs:1:2", "  ⸬  a.rs:1:2", "  × eslint(no-x): words", "  ⚠ words", "[E03] Error: words",
+          "Error:   × words", "invalid-syntax: x", "   ╰ note: more", "   ├ help: do", "In file included from a.c:1:", "a.h:1:2: note: y", 'fix-it:"a.c":{5:8-5:14}:"x"', "type)  [a-b]", "[a-b]", "        row", "  5:6  error  x  (colons)"]
 PAINTS = ["\x1b[1;31m", "\x1b[0m", "\x1b[K", "\x1b]8;;file:///a\x1b\\", "\x1b]8;;\x07", "\x1b[x"]
 SHAPES = {
     "lead": ["[{level}] ", "", "", "", "", "{program}: ", " ", "\t"],
     "after": [":{line}:{column}:{endline}:{endcolumn}: ", ":{line}:{column}-{endcolumn}: ", ":({line},{column})-({endline},{endcolumn}): ", ":{line}:{column}: ", ":{line}:{column} - ", ":{line}: ",
-              "({line},{column},{endline},{endcolumn}){~}: ", "({line},{column}){~}: ", "({line}){~}: ", "[{line}, {column}]: ", ":[{line},{column}] ", ": line {line}, col {column}, ", ": ({line}, {column}): "],
+              "({line},{column},{endline},{endcolumn}){~}: ", "({line},{column}){~}: ", "({line}){~}: ", "[{line}, {column}]: ", ":[{line},{column}] ", ": line {line}, col {column}, ", ": ({line}, {column}): ",
+              ":{line}.{column}-{endline}.{endcolumn}: ", ":{line}.{column}-{endcolumn}: ", ":{line}.{column}: ", ":{line}:0{column}: ", ":{line}:in `{program}': ", ":{line}:in `<{program}>': ", ":{line}:in `block in {program}': "],
     "rest": ["{level}[{rule}]: {message}", "{level} {rule}: {message}", "{level}: [{rule}] {message}", "{level}: {message}", "{level} - {message}", "[{level}] {message}", "[{letter}] {message}",
              "{letter}: [Correctable] {cop}: {message}", "{letter}: {cop}: {message}", "{letter}: {message}", "{number}: {message}", "{number} {level}: {message}", "{number} {message}", "[{number}] {message}",
-             "*** {message}", "{message}", "{message}", "{level}:", "{level}: [{rule}]", "[{rule}]", "{level}: [{rule}] [x-1]"],
+             "*** {message}", "({number}) {message}", "undefined reference to `{rule}'", "{message}", "{message}", "{level}:", "{level}: [{rule}]", "[{rule}]", "{level}: [{rule}] [x-1]"],
     "own": ["{name}:{line} {message}", "{name}:{line} [{letter}] {message}", "{name}:{line}:{message}", "{name}:{line}:{column}:{level} - {message}", "{small}: {name}:{line}:{column} {message}",
             "{small}: {name}: ({line}, {column}): {message}", "{name}:{line} {number} {level}: {message}", "{name}:{line}:{column} {rule} {message}"],
 }
@@ -253,6 +256,13 @@ def try_table(tries, root):
         tries.check(f"{tool}: {line!r}, kept", lines_in(err), expected.kept)
 
 
+def try_names(tries, root):
+    """The name of each tool of the table may be given, also where nothing else is known of it."""
+    for tool in sorted({row[0] for row in table()}):
+        run = subprocess.run([tries.program, "--tool", tool, "--root", root], input=b"", capture_output=True, timeout=60)
+        tries.check(f"--tool {tool}", (run.returncode, run.stderr), (0, b""))
+
+
 def main():
     if len(sys.argv) < 2:
         sys.exit(__doc__)
@@ -262,6 +272,7 @@ def main():
         empty, full = os.path.join(room, "empty"), os.path.join(room, "full")
         os.mkdir(empty)
         try_table(tries, empty)
+        try_names(tries, empty)
         line_rows.try_rows(tries, empty, read_reports)
         for path in [os.path.join(TOP, "tools", "lines.txt"), *sorted(glob.glob(os.path.join(TOP, "examples", "outputs", "*.txt")))]:
             with open(path, encoding="utf-8", newline="") as it:

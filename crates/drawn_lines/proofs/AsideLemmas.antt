@@ -3,16 +3,15 @@ use Rattle.std.proofs.Common.{◌≡◌, ℕ, Bool, true, false, not, ◌&&◌, 
 use Rattle.std.specs.Prelude.{option_and_then}
 use Rattle.std.specs.Option.{is_some}
 use Rattle.std.proofs.lemmas.Bool.{and_right}
-use Rattle.line_shapes.specs.declared.tables.TheConstants.{ANNOUNCED, ARROW, ARROW_PLACE}
+use Rattle.line_shapes.specs.declared.tables.TheConstants.{ANNOUNCED}
 use Rattle.line_shapes.specs.declared.tables.Manner.TheVariants.{Plain}
-use Rattle.line_shapes.specs.declared.name.NameKind.TheVariants.{Any}
 use Rattle.line_shapes.specs.Part.{Seen, before}
 use Rattle.line_shapes.specs.Place.{Place}
 use Rattle.line_shapes.specs.Said.{meant}
 use Rattle.line_shapes.specs.Name.{ends_name, first_fault}
-use Rattle.line_shapes.specs.Shape.{ShapeParts, first_named, first_own, own, own_at}
+use Rattle.line_shapes.specs.Shape.{ShapeParts, first_named, first_own, own_at}
 use Rattle.tool_lines.specs.Marks.{begins_blank, is_text}
-use Rattle.tool_lines.specs.Lines.{FindingParts, announced, announced_by, begun, begun_of, below, inline, inline_or, is_heading, text_below, uncoloned, whole_among}
+use Rattle.tool_lines.specs.Lines.{FindingParts, announced, announced_by, arrow, arrows, begun, begun_of, below, inline, inline_or, is_heading, text_below, whole_among}
 use Rattle.drawn_lines.specs.Seam.{OpensAlways, says_aside}
 
 -- a line of a text, and an arrow
@@ -25,10 +24,11 @@ an_arrow = 0x2D ∷ 0x2D ∷ 0x3E ∷ 0x20 ∷ 0x61 ∷ 0x3A ∷ 0x31 ∷ 0x3A �
 text_is : is_text a_text ≡ true
 text_is = refl
 
-no_arrow : own Any ARROW ARROW_PLACE (uncoloned a_text) ≡ None
+no_arrow : arrow a_text ≡ None
+unfolding arrows
 no_arrow = refl
 
-arrow_is : is_some (own Any ARROW ARROW_PLACE (uncoloned an_arrow)) ≡ true
+arrow_is : is_some (arrow an_arrow) ≡ true
 unfolding first_named own_at ends_name first_fault
 arrow_is = refl
 
@@ -78,7 +78,7 @@ announced_opens : (line : List ℕ) (next : Option (List ℕ)) → says_aside (a
 unfolding announced_by
 announced_opens line None is = refl
 announced_opens line (Some next) is =
-    says_same (whole_among (map (λ shape. shape.1.now) ANNOUNCED) (before line)) (own Any ARROW ARROW_PLACE (uncoloned an_arrow)) (own Any ARROW ARROW_PLACE (uncoloned next)) arrow_is is
+    says_same (whole_among (map (λ shape. shape.1.now) ANNOUNCED) (before line)) (arrow an_arrow) (arrow next) arrow_is is
 
 begun_opens : (a : Option FindingParts) (h : Bool) (i : Option FindingParts) → says_aside a ≡ false → says_aside i ≡ false → says_aside (begun_of a h i).finding ≡ false
 begun_opens (Some finding) h i a_is i_is = a_is

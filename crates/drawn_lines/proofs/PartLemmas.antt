@@ -11,10 +11,12 @@ use Rattle.line_shapes.specs.declared.tools.Columns.{Columns}
 use Rattle.tool_lines.specs.declared.lines.Sort.{Sort}
 use Rattle.tool_lines.specs.Details.{caret_at, details_of}
 use Rattle.tool_lines.specs.Lines.{FindingParts, PieceParts, is_kept}
-use Rattle.line_reports.specs.Told.{ToldParts, tellings, told_of}
+use Rattle.line_reports.specs.Told.{ToldParts, retold, tellings, told_of}
 use Rattle.line_reports.specs.Joined.{GroupParts, after, alone, belongs, ended, group_list, joined, with_note}
 use Rattle.line_reports.specs.Reports.{all_reports, group_reports, reports_in}
 use Rattle.line_reports.proofs.FileLemmas.{no_true}
+use Rattle.line_reports.proofs.NamesLemmas.{never_aside}
+use Rattle.std.proofs.lemmas.Bool.{not-true}
 use Rattle.report_texts.specs.Texts.{drawing_of, drawings, drawn_count, first_drawings, handler_of}
 use Rattle.ci_formats.specs.declared.format.CiFormat.TheVariants as ci
 use Rattle.ci_texts.specs.Texts.{ci_text}
@@ -118,9 +120,11 @@ reports_append asked given fore bs is =
     ∙ all_append (columns_of asked) given (joined None (tellings_by fore)) (joined None (tellings_by bs)))
 
 open_by : (run : List (List ℕ)) (sort : Sort) (found : Option FindingParts) (ts : List (Option ToldParts)) → not (says_aside found) ≡ true
-    → starts (option_map (λ finding. let t : ToldParts = record { finding = finding; behind = details_of sort (drop 1 run); caret = caret_at sort (drop 1 run) } in t) found ∷ ts) ≡ true
+    → starts (option_map (λ finding. let t : ToldParts = record { finding = finding; behind = details_of sort (drop 1 run); caret = caret_at sort (drop 1 run) } in retold t) found ∷ ts) ≡ true
 open_by run sort None ts is = refl
-open_by run sort (Some finding) ts is = is
+open_by run sort (Some finding) ts is =
+    let t : ToldParts = record { finding = finding; behind = details_of sort (drop 1 run); caret = caret_at sort (drop 1 run) } in
+    ap not (never_aside t (not-true (says_aside (Some finding)) is))
 
 open_starts : (q : Parcel) (qs : List Parcel) → opens q.piece ≡ true → starts (tellings_by (q ∷ qs)) ≡ true
 unfolding told_of
@@ -128,7 +132,7 @@ open_starts q qs is = open_by q.run q.piece.begun.sort q.piece.begun.finding (te
 
 -- a piece without a finding
 bare_by : (run : List (List ℕ)) (sort : Sort) (found : Option FindingParts) → found ≡ None
-    → option_map (λ finding. let t : ToldParts = record { finding = finding; behind = details_of sort (drop 1 run); caret = caret_at sort (drop 1 run) } in t) found ≡ None
+    → option_map (λ finding. let t : ToldParts = record { finding = finding; behind = details_of sort (drop 1 run); caret = caret_at sort (drop 1 run) } in retold t) found ≡ None
 bare_by run sort found is = rw is refl
 
 bare_told : (q : Parcel) → q.piece.begun.finding ≡ None → told_by q ≡ None

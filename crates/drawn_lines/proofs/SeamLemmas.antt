@@ -5,8 +5,8 @@ use Rattle.std.proofs.Math.Seq.{drop-append_seam, take-append_seam}
 use Rattle.std.proofs.lemmas.List.{drop-drop, drop-append-le, length-append, take-append-drop, take_all, take_more}
 use Rattle.line_shapes.specs.Shape.{ShapeParts}
 use Rattle.tool_lines.specs.declared.lines.Sort.{Sort}
-use Rattle.tool_lines.specs.declared.lines.Sort.TheVariants.{Kept, Heading, Below, Announced, Inline}
-use Rattle.tool_lines.specs.Lines.{ArePieces, BegunParts, FindingParts, PieceParts, announced, begun, begun_of, behind, below_at, head, inline, is_heading, is_kept, name_behind, piece, piece_of}
+use Rattle.tool_lines.specs.declared.lines.Sort.TheVariants.{Kept, Heading, Below, Announced, Inline, Spaced}
+use Rattle.tool_lines.specs.Lines.{ArePieces, BegunParts, FindingParts, PieceParts, announced, begun, begun_of, behind, below_at, head, inline, inline_sort, is_heading, is_kept, name_behind, piece, piece_of}
 use Rattle.fed_lines.specs.Feed.{ends_at, known_piece}
 use Rattle.fed_lines.proofs.FeedLemmas.{held_few, known_by_end, known_first, known_name, piece_some}
 use Rattle.drawn_lines.specs.Seam.{EndsKnown, IsEnd, IsGap, IsPart, OpensAlways, all_open, closes, ends_closed, opens, span}
@@ -24,6 +24,7 @@ none_behind Heading name lines is = cc
 none_behind Below name lines is = cc
 none_behind Announced name lines is = refl
 none_behind Inline name lines is = refl
+none_behind Spaced name lines is = refl
 
 pub closed_name : (closed : Bool) (name : Option (List ℕ)) (lines : List (List ℕ)) (ps : List PieceParts) → (closed ≡ true → name ≡ None) → ends_closed closed ps ≡ true
     → name_after name lines ps ≡ None
@@ -104,10 +105,14 @@ abbrev pub BarePieces : List PieceParts → Type 0
 BarePieces [] = ⊤
 BarePieces (p ∷ ps) = (is_kept p.begun.sort ≡ true → p.begun.finding ≡ None) × BarePieces ps
 
+never_kept : (apart : Bool) → is_kept (inline_sort apart) ≡ false
+never_kept true = refl
+never_kept false = refl
+
 kept_bare : (a : Option FindingParts) (h : Bool) (i : Option FindingParts) → is_kept (begun_of a h i).sort ≡ true → (begun_of a h i).finding ≡ None
 kept_bare (Some x) h i e = cc
 kept_bare None true i e = refl
-kept_bare None false (Some x) e = cc
+kept_bare None false (Some x) e = let never : is_kept (inline_sort x.place.found.apart) ≡ false = never_kept x.place.found.apart in cc
 kept_bare None false None e = refl
 
 begun_bare : (shapes : List ShapeParts) (line : List ℕ) (next : Option (List ℕ)) → is_kept (begun shapes line next).sort ≡ true → (begun shapes line next).finding ≡ None

@@ -2,7 +2,7 @@
 use Rattle.std.specs.Prelude.{◌≡◌, ℕ, ◌+◌, ◌-◌, ◌≤◌, IfSome, not, ◌&&◌, List, [], ◌∷◌, ◌++◌, length, take, drop, Option, Some, None, Bool, true, false}
 use Rattle.std.specs.Option.{is_none}
 use Rattle.tool_lines.specs.declared.lines.Sort.{Sort}
-use Rattle.tool_lines.specs.declared.lines.Sort.TheVariants.{Kept, Heading, Below, Announced, Inline}
+use Rattle.tool_lines.specs.declared.lines.Sort.TheVariants.{Kept, Heading, Below, Announced, Inline, Spaced}
 use Rattle.line_shapes.specs.Shape.{ShapeParts}
 use Rattle.tool_lines.specs.Lines.{ArePieces, FindingParts, PieceParts, begun}
 use Rattle.fed_lines.specs.Feed.{ends_at}
@@ -29,6 +29,7 @@ closes Heading = false
 closes Below = false
 closes Announced = true
 closes Inline = true
+closes Spaced = true
 
 -- the last of these pieces closes
 abbrev pub ends_closed : Bool → List PieceParts → Bool

@@ -138,7 +138,7 @@ pub(crate) fn is_kept(sort: Sort) -> bool
 {
     match sort {
         Sort::Kept => true,
-        Sort::Heading | Sort::Below | Sort::Announced | Sort::Inline => false,
+        Sort::Heading | Sort::Below | Sort::Announced | Sort::Inline | Sort::Spaced => false,
     }
 }
 

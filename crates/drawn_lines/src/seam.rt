@@ -160,7 +160,7 @@ fn closes(sort: Sort) -> bool
     ensures { result ≡ closes_sort sort }
 {
     match sort {
-        Sort::Kept | Sort::Announced | Sort::Inline => true,
+        Sort::Kept | Sort::Announced | Sort::Inline | Sort::Spaced => true,
         Sort::Heading | Sort::Below => false,
     }
 }

@@ -8,10 +8,11 @@ use Rattle.std.proofs.Math.Seq.{take-append_seam}
 use Rattle.std.specs.Prelude.{IfSome, option_map, option_and_then}
 use Rattle.std.specs.Option.{option_or, is_some, is_none}
 use Rattle.tool_lines.specs.declared.lines.Sort.{Sort}
-use Rattle.tool_lines.specs.declared.lines.Sort.TheVariants.{Kept, Heading, Below, Announced, Inline}
+use Rattle.tool_lines.specs.declared.lines.Sort.TheVariants.{Kept, Heading, Below, Announced, Inline, Spaced}
 use Rattle.line_shapes.specs.Place.{Place, place}
 use Rattle.line_shapes.specs.Shape.{ShapeParts, first_own}
-use Rattle.tool_lines.specs.Lines.{ArePieces, PieceParts, FindingParts, BegunParts, announced, announced_by, announced_len, bare, begun, begun_of, behind, below_at, coded_below, head, in_trail, inline, may_trail, inline_or, text_below, is_heading, is_kept, name_behind, piece, piece_of, spoken, told, trail_len}
+use Rattle.tool_lines.specs.Marks.{stands_apart}
+use Rattle.tool_lines.specs.Lines.{ArePieces, PieceParts, FindingParts, BegunParts, announced, announced_by, announced_len, bare, begun, begun_of, behind, below_at, coded_below, head, in_trail, inline, leads_to_note, inline_sort, may_trail, parted, inline_or, text_below, is_heading, is_kept, name_behind, piece, piece_of, spoken, told, trail_len}
 use Rattle.fed_lines.specs.declared.whole.Cut.{Cut}
 use Rattle.fed_lines.specs.Feed.{AreCut, Comes, Ends, IsEnding, IsFed, Leaves, StaysOpen, cut_of, goes_on, IsFirst, last_piece, announced_end, ends_at, ends_trails, known_piece, piece_behind, piece_or, run_end, so_long, trail_end}
 
@@ -24,18 +25,32 @@ told_more : (more : Bool) (line : List ℕ) (pl : Place) → is_some (told false
 told_more false line pl some = some
 told_more true line pl some = some_or (bare pl) (option_or (coded_below pl) (spoken line pl)) (some_or (coded_below pl) (spoken line pl) some)
 
+some_or_left : {A : Type 0} (b c : Option A) → is_some b ≡ true → is_some (option_or b c) ≡ true
+some_or_left (Some x) c some = refl
+some_or_left None c some = cc
+
+or_more : {A : Type 0} (a b c : Option A) → (is_some a ≡ true → is_some b ≡ true) → is_some (option_or a c) ≡ true → is_some (option_or b c) ≡ true
+or_more (Some x) b c more some = some_or_left b c (more refl)
+or_more None None c more some = some
+or_more None (Some y) c more some = refl
+
 place_more : (more : Bool) (line : List ℕ) (pl : Option Place) → is_some (option_and_then (told false line) pl) ≡ true → is_some (option_and_then (told more line) pl) ≡ true
 place_more more line None some = some
 place_more more line (Some pl) some = told_more more line pl some
 
 inline_more : (own : Option Place) (line : List ℕ) (more : Bool) → is_some (inline_or own line false) ≡ true → is_some (inline_or own line more) ≡ true
 inline_more (Some pl) line more some = refl
-inline_more None line more some = place_more more line (place line) some
+inline_more None line more some =
+    or_more (option_and_then (told false line) (place line)) (option_and_then (told more line) (place line)) (parted line) (place_more more line (place line)) some
+
+never_kept : (apart : Bool) → is_kept (inline_sort apart) ≡ false
+never_kept true = refl
+never_kept false = refl
 
 some_begins : (a : Option FindingParts) (heading : Bool) (i : Option FindingParts) → is_some i ≡ true → is_kept (begun_of a heading i).sort ≡ false
 some_begins (Some x) heading i some = refl
 some_begins None true i some = refl
-some_begins None false (Some x) some = refl
+some_begins None false (Some x) some = never_kept x.place.found.apart
 some_begins None false None some = sym some
 
 begins_some : (i : Option FindingParts) → is_kept (begun_of None false i).sort ≡ false → is_some i ≡ true
@@ -53,11 +68,16 @@ or_second a b e either = subst (λ v. (v || b) ≡ true) e either
 pub some_length : (x : ℕ) (xs : List ℕ) → (length (x ∷ xs) == 0) ≡ false
 some_length x xs = grind (arith, nat_tests)
 
-ends_more : (shapes : List ShapeParts) (line : List ℕ) (next : Option (List ℕ)) → ends_trails shapes line ≡ true → in_trail shapes line next ≡ false
-ends_more shapes [] next ends = refl
-ends_more shapes (x ∷ xs) next ends =
-    and_right (may_trail (x ∷ xs) next) (is_kept (begun shapes (x ∷ xs) next).sort)
-    (begins_more shapes (x ∷ xs) next (not-true (is_kept (begun shapes (x ∷ xs) None).sort) (or_second (length (x ∷ xs) == 0) (not (is_kept (begun shapes (x ∷ xs) None).sort)) (some_length x xs) ends)))
+begun_ends : (shapes : List ShapeParts) (apart : Bool) (line : List ℕ) (next : Option (List ℕ)) → not (is_kept (begun shapes line None).sort) ≡ true → in_trail shapes apart line next ≡ false
+begun_ends shapes apart line next begins =
+    and_right (may_trail line next || leads_to_note shapes line next || (apart && stands_apart line next)) (is_kept (begun shapes line next).sort)
+    (begins_more shapes line next (not-true (is_kept (begun shapes line None).sort) begins))
+
+ends_more : (shapes : List ShapeParts) (apart : Bool) (line : List ℕ) (next : Option (List ℕ)) → ends_trails shapes apart line ≡ true → in_trail shapes apart line next ≡ false
+ends_more shapes false [] next ends = refl
+ends_more shapes true [] next ends = begun_ends shapes true [] next ends
+ends_more shapes false (x ∷ xs) next ends = begun_ends shapes false (x ∷ xs) next (or_second (length (x ∷ xs) == 0) (not (is_kept (begun shapes (x ∷ xs) None).sort)) (some_length x xs) ends)
+ends_more shapes true (x ∷ xs) next ends = begun_ends shapes true (x ∷ xs) next ends
 
 -- the ends of runs stay
 one_later : (n m count : ℕ) → n + 1 + count ≡ m → n + (1 + count) ≡ m
@@ -74,13 +94,13 @@ if_some_is false n m e = elim (none-some m e) [ ]
 plus_none : (n m : ℕ) → n ≡ m → n + 0 ≡ m
 plus_none n m e = omega (arith, e)
 
-pub trail_stays : (shapes : List ShapeParts) (n m : ℕ) (lines more : List (List ℕ)) → trail_end shapes n lines ≡ Some m → n + trail_len shapes (lines ++ more) ≡ m
-trail_stays shapes n m [] more known = elim (none-some m known) [ ]
-trail_stays shapes n m (a ∷ []) more known =
-    subst (λ v. n + (if v then 1 + trail_len shapes more else 0) ≡ m) (sym (ends_more shapes a (head more) (if_some (ends_trails shapes a) n m known))) (plus_none n m (if_some_is (ends_trails shapes a) n m known))
-trail_stays shapes n m (a ∷ (b ∷ lines)) more known =
-    elim (in_trail shapes a (Some b)) as (λ v. (if v then trail_end shapes (n + 1) (b ∷ lines) else Some n) ≡ Some m → n + (if v then 1 + trail_len shapes (b ∷ (lines ++ more)) else 0) ≡ m)
-    [ true ↦ (λ so. one_later n m (trail_len shapes (b ∷ (lines ++ more))) (trail_stays shapes (n + 1) m (b ∷ lines) more so)) | false ↦ (λ so. plus_none n m (same_Some n m so)) ] known
+pub trail_stays : (shapes : List ShapeParts) (apart : Bool) (n m : ℕ) (lines more : List (List ℕ)) → trail_end shapes apart n lines ≡ Some m → n + trail_len shapes apart (lines ++ more) ≡ m
+trail_stays shapes apart n m [] more known = elim (none-some m known) [ ]
+trail_stays shapes apart n m (a ∷ []) more known =
+    subst (λ v. n + (if v then 1 + trail_len shapes apart more else 0) ≡ m) (sym (ends_more shapes apart a (head more) (if_some (ends_trails shapes apart a) n m known))) (plus_none n m (if_some_is (ends_trails shapes apart a) n m known))
+trail_stays shapes apart n m (a ∷ (b ∷ lines)) more known =
+    elim (in_trail shapes apart a (Some b)) as (λ v. (if v then trail_end shapes apart (n + 1) (b ∷ lines) else Some n) ≡ Some m → n + (if v then 1 + trail_len shapes apart (b ∷ (lines ++ more)) else 0) ≡ m)
+    [ true ↦ (λ so. one_later n m (trail_len shapes apart (b ∷ (lines ++ more))) (trail_stays shapes apart (n + 1) m (b ∷ lines) more so)) | false ↦ (λ so. plus_none n m (same_Some n m so)) ] known
 
 announced_one : (n m : ℕ) (a : List ℕ) (more : List (List ℕ)) → announced_end n (a ∷ []) ≡ Some m → n + announced_len (a ∷ more) ≡ m
 announced_one n m [] more known = plus_none n m (same_Some n m known)
@@ -103,7 +123,8 @@ run_stays shapes Heading lines more m known = same_Some 0 m known
 run_stays shapes Below lines more m known = same_Some 0 m known
 run_stays shapes Announced [] more m known = elim (none-some m known) [ ]
 run_stays shapes Announced (arrow ∷ lines) more m known = announced_stays 1 m lines more known
-run_stays shapes Inline lines more m known = zero_plus (trail_len shapes (lines ++ more)) m (trail_stays shapes 0 m lines more known)
+run_stays shapes Inline lines more m known = zero_plus (trail_len shapes false (lines ++ more)) m (trail_stays shapes false 0 m lines more known)
+run_stays shapes Spaced lines more m known = zero_plus (trail_len shapes true (lines ++ more)) m (trail_stays shapes true 0 m lines more known)
 
 long_stays : (b : BegunParts) (o : Option ℕ) (p : PieceParts) (count : ℕ) → ((m : ℕ) → o ≡ Some m → count ≡ m) → so_long b o ≡ Some p → (let q : PieceParts = record { lines = 1 + count; begun = b } in q) ≡ p
 long_stays b None p count same known = elim (none-some p known) [ ]
@@ -152,12 +173,12 @@ not_any view None p none is = sym is
 not_any view (Some x) p none is = elim (none-some {A = ℕ} 0 (ap (λ v. if v then Some 0 else None) none)) [ ]
 
 -- what isn't known yet is a piece, and a line behind it
-trail_open : (shapes : List ShapeParts) (n : ℕ) (lines : List (List ℕ)) → trail_end shapes n lines ≡ None → length lines ≤ trail_len shapes lines + 1
-trail_open shapes n [] open_yet = omega arith
-trail_open shapes n (a ∷ []) open_yet = omega arith
-trail_open shapes n (a ∷ (b ∷ lines)) open_yet =
-    elim (in_trail shapes a (Some b)) as (λ v. (if v then trail_end shapes (n + 1) (b ∷ lines) else Some n) ≡ None → length (a ∷ (b ∷ lines)) ≤ (if v then 1 + trail_len shapes (b ∷ lines) else 0) + 1)
-    [ true ↦ (λ so. one_longer a (b ∷ lines) (trail_len shapes (b ∷ lines)) (trail_open shapes (n + 1) (b ∷ lines) so)) | false ↦ (λ so. elim (none-some n (sym so)) [ ]) ] open_yet
+trail_open : (shapes : List ShapeParts) (apart : Bool) (n : ℕ) (lines : List (List ℕ)) → trail_end shapes apart n lines ≡ None → length lines ≤ trail_len shapes apart lines + 1
+trail_open shapes apart n [] open_yet = omega arith
+trail_open shapes apart n (a ∷ []) open_yet = omega arith
+trail_open shapes apart n (a ∷ (b ∷ lines)) open_yet =
+    elim (in_trail shapes apart a (Some b)) as (λ v. (if v then trail_end shapes apart (n + 1) (b ∷ lines) else Some n) ≡ None → length (a ∷ (b ∷ lines)) ≤ (if v then 1 + trail_len shapes apart (b ∷ lines) else 0) + 1)
+    [ true ↦ (λ so. one_longer a (b ∷ lines) (trail_len shapes apart (b ∷ lines)) (trail_open shapes apart (n + 1) (b ∷ lines) so)) | false ↦ (λ so. elim (none-some n (sym so)) [ ]) ] open_yet
 
 announced_open : (n : ℕ) (lines : List (List ℕ)) → announced_end n lines ≡ None → length lines ≤ announced_len lines + 1
 announced_open n [] open_yet = omega arith
@@ -171,7 +192,8 @@ run_open shapes Heading lines open_yet = elim (none-some 0 (sym open_yet)) [ ]
 run_open shapes Below lines open_yet = elim (none-some 0 (sym open_yet)) [ ]
 run_open shapes Announced [] open_yet = omega arith
 run_open shapes Announced (arrow ∷ lines) open_yet = one_longer arrow lines (announced_len lines) (announced_open 1 lines open_yet)
-run_open shapes Inline lines open_yet = trail_open shapes 0 lines open_yet
+run_open shapes Inline lines open_yet = trail_open shapes false 0 lines open_yet
+run_open shapes Spaced lines open_yet = trail_open shapes true 0 lines open_yet
 
 not_long : (b : BegunParts) (o : Option ℕ) → so_long b o ≡ None → o ≡ None
 not_long b None open_yet = refl
@@ -196,6 +218,7 @@ name_stays Below name line lines more = refl
 name_stays Kept name line lines more = refl
 name_stays Announced name line lines more = refl
 name_stays Inline name line lines more = refl
+name_stays Spaced name line lines more = refl
 
 pub known_name : (shapes : List ShapeParts) (name : Option (List ℕ)) (lines more : List (List ℕ)) (p : PieceParts) → known_piece shapes name lines ≡ Some p → name_behind p.begun.sort name lines ≡ name_behind p.begun.sort name (lines ++ more)
 known_name shapes name [] more p known = elim (none-some p known) [ ]
@@ -274,16 +297,16 @@ then_none b n o is_b none = subst (λ v. (if v then o else Some n) ≡ None) (sy
 both_false : (a b : Bool) → a ≡ false → b ≡ false → (a || b) ≡ false
 both_false a b no_a no_b = subst (λ v. (v || b) ≡ false) (sym no_a) no_b
 
-trail_more : (shapes : List ShapeParts) (n : ℕ) (front : List (List ℕ)) (last line : List ℕ) → trail_end shapes n (front ++ last ∷ []) ≡ None → in_trail shapes last (Some line) ≡ true → ends_trails shapes line ≡ false → trail_end shapes n (front ++ last ∷ (line ∷ [])) ≡ None
-trail_more shapes n [] last line open_yet in_it ends = then_none (in_trail shapes last (Some line)) n (trail_end shapes (n + 1) (line ∷ [])) in_it (if_none (ends_trails shapes line) (n + 1) None ends refl)
-trail_more shapes n (a ∷ []) last line open_yet in_it ends =
-    then_none (in_trail shapes a (Some last)) n (trail_end shapes (n + 1) (last ∷ (line ∷ [])))
-    (then_none_test (in_trail shapes a (Some last)) n (trail_end shapes (n + 1) (last ∷ [])) open_yet)
-    (trail_more shapes (n + 1) [] last line (then_none_rest (in_trail shapes a (Some last)) n (trail_end shapes (n + 1) (last ∷ [])) open_yet) in_it ends)
-trail_more shapes n (a ∷ (b ∷ front)) last line open_yet in_it ends =
-    then_none (in_trail shapes a (Some b)) n (trail_end shapes (n + 1) (b ∷ (front ++ last ∷ (line ∷ []))))
-    (then_none_test (in_trail shapes a (Some b)) n (trail_end shapes (n + 1) (b ∷ (front ++ last ∷ []))) open_yet)
-    (trail_more shapes (n + 1) (b ∷ front) last line (then_none_rest (in_trail shapes a (Some b)) n (trail_end shapes (n + 1) (b ∷ (front ++ last ∷ []))) open_yet) in_it ends)
+trail_more : (shapes : List ShapeParts) (apart : Bool) (n : ℕ) (front : List (List ℕ)) (last line : List ℕ) → trail_end shapes apart n (front ++ last ∷ []) ≡ None → in_trail shapes apart last (Some line) ≡ true → ends_trails shapes apart line ≡ false → trail_end shapes apart n (front ++ last ∷ (line ∷ [])) ≡ None
+trail_more shapes apart n [] last line open_yet in_it ends = then_none (in_trail shapes apart last (Some line)) n (trail_end shapes apart (n + 1) (line ∷ [])) in_it (if_none (ends_trails shapes apart line) (n + 1) None ends refl)
+trail_more shapes apart n (a ∷ []) last line open_yet in_it ends =
+    then_none (in_trail shapes apart a (Some last)) n (trail_end shapes apart (n + 1) (last ∷ (line ∷ [])))
+    (then_none_test (in_trail shapes apart a (Some last)) n (trail_end shapes apart (n + 1) (last ∷ [])) open_yet)
+    (trail_more shapes apart (n + 1) [] last line (then_none_rest (in_trail shapes apart a (Some last)) n (trail_end shapes apart (n + 1) (last ∷ [])) open_yet) in_it ends)
+trail_more shapes apart n (a ∷ (b ∷ front)) last line open_yet in_it ends =
+    then_none (in_trail shapes apart a (Some b)) n (trail_end shapes apart (n + 1) (b ∷ (front ++ last ∷ (line ∷ []))))
+    (then_none_test (in_trail shapes apart a (Some b)) n (trail_end shapes apart (n + 1) (b ∷ (front ++ last ∷ []))) open_yet)
+    (trail_more shapes apart (n + 1) (b ∷ front) last line (then_none_rest (in_trail shapes apart a (Some b)) n (trail_end shapes apart (n + 1) (b ∷ (front ++ last ∷ []))) open_yet) in_it ends)
 
 announced_more : (n : ℕ) (front : List (List ℕ)) (last line : List ℕ) → announced_end n (front ++ last ∷ []) ≡ None → ((length line == 0) || is_some (announced_by last line)) ≡ false → announced_end n (front ++ last ∷ (line ∷ [])) ≡ None
 announced_more n [] last line open_yet goes =
@@ -303,7 +326,9 @@ run_more shapes Heading second front last line open_yet goes = no_going false go
 run_more shapes Below second front last line open_yet goes = no_going false goes refl
 run_more shapes Announced second front last line open_yet goes = announced_more 1 front last line open_yet (not-true ((length line == 0) || is_some (announced_by last line)) goes)
 run_more shapes Inline second front last line open_yet goes =
-    trail_more shapes 0 (second ∷ front) last line open_yet (and_parts (in_trail shapes last (Some line)) (not (ends_trails shapes line)) goes).0 (not-true (ends_trails shapes line) (and_parts (in_trail shapes last (Some line)) (not (ends_trails shapes line)) goes).1)
+    trail_more shapes false 0 (second ∷ front) last line open_yet (and_parts (in_trail shapes false last (Some line)) (not (ends_trails shapes false line)) goes).0 (not-true (ends_trails shapes false line) (and_parts (in_trail shapes false last (Some line)) (not (ends_trails shapes false line)) goes).1)
+run_more shapes Spaced second front last line open_yet goes =
+    trail_more shapes true 0 (second ∷ front) last line open_yet (and_parts (in_trail shapes true last (Some line)) (not (ends_trails shapes true line)) goes).0 (not-true (ends_trails shapes true line) (and_parts (in_trail shapes true last (Some line)) (not (ends_trails shapes true line)) goes).1)
 
 or_none_first : (found : Option FindingParts) (o : Option PieceParts) → piece_or found o ≡ None → found ≡ None
 or_none_first None o e = refl
@@ -433,16 +458,16 @@ if_more_count : (b : Bool) (n m : ℕ) → (if b then 1 + n else 0) ≡ suc m �
 if_more_count true n m e = omega (arith, e)
 if_more_count false n m e = absurd (omega (arith, e))
 
-trail_known : (shapes : List ShapeParts) (n : ℕ) (rest : List (List ℕ)) (last : List ℕ) → trail_len shapes (rest ++ last ∷ []) ≡ length rest → ends_trails shapes last ≡ true
-    → trail_end shapes n (rest ++ last ∷ []) ≡ Some (n + length rest)
-trail_known shapes n [] last len ends = ap (λ v. if v then Some n else None) ends ∙ ap Some (omega arith)
-trail_known shapes n (a ∷ []) last len ends =
-    if_more (in_trail shapes a (Some last)) (trail_len shapes (last ∷ [])) 0 (trail_end shapes (n + 1) (last ∷ [])) n len
-    ∙ (trail_known shapes (n + 1) [] last (if_more_count (in_trail shapes a (Some last)) (trail_len shapes (last ∷ [])) 0 len) ends ∙ ap Some (omega arith))
-trail_known shapes n (a ∷ (b ∷ rest)) last len ends =
+trail_known : (shapes : List ShapeParts) (apart : Bool) (n : ℕ) (rest : List (List ℕ)) (last : List ℕ) → trail_len shapes apart (rest ++ last ∷ []) ≡ length rest → ends_trails shapes apart last ≡ true
+    → trail_end shapes apart n (rest ++ last ∷ []) ≡ Some (n + length rest)
+trail_known shapes apart n [] last len ends = ap (λ v. if v then Some n else None) ends ∙ ap Some (omega arith)
+trail_known shapes apart n (a ∷ []) last len ends =
+    if_more (in_trail shapes apart a (Some last)) (trail_len shapes apart (last ∷ [])) 0 (trail_end shapes apart (n + 1) (last ∷ [])) n len
+    ∙ (trail_known shapes apart (n + 1) [] last (if_more_count (in_trail shapes apart a (Some last)) (trail_len shapes apart (last ∷ [])) 0 len) ends ∙ ap Some (omega arith))
+trail_known shapes apart n (a ∷ (b ∷ rest)) last len ends =
     let more : List (List ℕ) = b ∷ (rest ++ last ∷ []) in
-    if_more (in_trail shapes a (Some b)) (trail_len shapes more) (length (b ∷ rest)) (trail_end shapes (n + 1) more) n len
-    ∙ (trail_known shapes (n + 1) (b ∷ rest) last (if_more_count (in_trail shapes a (Some b)) (trail_len shapes more) (length (b ∷ rest)) len) ends ∙ ap Some (omega arith))
+    if_more (in_trail shapes apart a (Some b)) (trail_len shapes apart more) (length (b ∷ rest)) (trail_end shapes apart (n + 1) more) n len
+    ∙ (trail_known shapes apart (n + 1) (b ∷ rest) last (if_more_count (in_trail shapes apart a (Some b)) (trail_len shapes apart more) (length (b ∷ rest)) len) ends ∙ ap Some (omega arith))
 
 if_goes : {A : Type 0} (b : Bool) (n m : ℕ) (here : A) (later : A) → (if b then 0 else 1 + n) ≡ suc m → (if b then here else later) ≡ later
 if_goes true n m here later e = absurd (omega (arith, e))
@@ -468,7 +493,8 @@ run_known shapes Heading rest last len ends = ap Some len
 run_known shapes Below rest last len ends = ap Some len
 run_known shapes Announced [] last len ends = absurd (omega (arith, len))
 run_known shapes Announced (arrow ∷ rest) last len ends = announced_known 1 rest last (omega (arith, len)) ends ∙ ap Some (omega arith)
-run_known shapes Inline rest last len ends = trail_known shapes 0 rest last len ends ∙ ap Some (omega arith)
+run_known shapes Inline rest last len ends = trail_known shapes false 0 rest last len ends ∙ ap Some (omega arith)
+run_known shapes Spaced rest last len ends = trail_known shapes true 0 rest last len ends ∙ ap Some (omega arith)
 
 behind_known : (shapes : List ShapeParts) (line : List ℕ) (rest : List (List ℕ)) (last : List ℕ)
     → (let b = begun shapes line (head (rest ++ last ∷ [])) in 1 + behind shapes b.sort (rest ++ last ∷ []) ≡ suc (length rest) → ends_at shapes b.sort last ≡ true

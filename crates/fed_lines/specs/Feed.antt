@@ -3,22 +3,22 @@ use Rattle.std.specs.Prelude.{◌≡◌, ℕ, ◌+◌, ◌==◌, ◌||◌, ◌&&
 use Rattle.std.specs.Option.{is_some}
 use Rattle.fed_lines.specs.declared.whole.Cut.{Cut}
 use Rattle.tool_lines.specs.declared.lines.Sort.{Sort}
-use Rattle.tool_lines.specs.declared.lines.Sort.TheVariants.{Kept, Heading, Below, Announced, Inline}
+use Rattle.tool_lines.specs.declared.lines.Sort.TheVariants.{Kept, Heading, Below, Announced, Inline, Spaced}
 use Rattle.line_shapes.specs.Shape.{ShapeParts}
 use Rattle.tool_lines.specs.Lines.{ArePieces, IsPiece, BegunParts, FindingParts, PieceParts, announced, announced_by, begun, below_at, head, in_trail, is_kept, name_behind, piece}
 
--- a line ends each trail, whatever stands behind it
-abbrev pub ends_trails : List ShapeParts → List ℕ → Bool
-ends_trails shapes line = (length line == 0) || not (is_kept (begun shapes line None).sort)
+-- a line ends each trail, whatever follows; `apart`: an empty line doesn't
+abbrev pub ends_trails : List ShapeParts → Bool → List ℕ → Bool
+ends_trails shapes apart line = (not apart && (length line == 0)) || not (is_kept (begun shapes line None).sort)
 
-abbrev pub trail_at : List ShapeParts → ℕ → List ℕ → Option (List ℕ) → Option ℕ → Option ℕ
-trail_at shapes n line None later = if ends_trails shapes line then Some n else None
-trail_at shapes n line (Some next) later = if in_trail shapes line (Some next) then later else Some n
+abbrev pub trail_at : List ShapeParts → Bool → ℕ → List ℕ → Option (List ℕ) → Option ℕ → Option ℕ
+trail_at shapes apart n line None later = if ends_trails shapes apart line then Some n else None
+trail_at shapes apart n line (Some next) later = if in_trail shapes apart line (Some next) then later else Some n
 
 -- where a trail ends, if no line behind these can change it; the first of these lines has this number
-abbrev pub trail_end : List ShapeParts → ℕ → List (List ℕ) → Option ℕ
-trail_end shapes n [] = None
-trail_end shapes n (line ∷ lines) = trail_at shapes n line (head lines) (trail_end shapes (n + 1) lines)
+abbrev pub trail_end : List ShapeParts → Bool → ℕ → List (List ℕ) → Option ℕ
+trail_end shapes apart n [] = None
+trail_end shapes apart n (line ∷ lines) = trail_at shapes apart n line (head lines) (trail_end shapes apart (n + 1) lines)
 
 -- the same of the lines behind an arrow
 abbrev pub announced_end : ℕ → List (List ℕ) → Option ℕ
@@ -35,7 +35,8 @@ run_end shapes Kept lines = Some 0
 run_end shapes Heading lines = Some 0
 run_end shapes Below lines = Some 0
 run_end shapes Announced lines = arrow_end lines
-run_end shapes Inline lines = trail_end shapes 0 lines
+run_end shapes Inline lines = trail_end shapes false 0 lines
+run_end shapes Spaced lines = trail_end shapes true 0 lines
 
 -- what belongs to a piece of this sort ends at a line, whatever stands behind it
 abbrev pub ends_at : List ShapeParts → Sort → List ℕ → Bool
@@ -43,7 +44,8 @@ ends_at shapes Kept line = true
 ends_at shapes Heading line = true
 ends_at shapes Below line = true
 ends_at shapes Announced line = length line == 0
-ends_at shapes Inline line = ends_trails shapes line
+ends_at shapes Inline line = ends_trails shapes false line
+ends_at shapes Spaced line = ends_trails shapes true line
 
 abbrev pub so_long : BegunParts → Option ℕ → Option PieceParts
 so_long begun_here None = None
@@ -103,7 +105,8 @@ goes_on shapes Kept last line = false
 goes_on shapes Heading last line = false
 goes_on shapes Below last line = false
 goes_on shapes Announced last line = not ((length line == 0) || is_some (announced_by last line))
-goes_on shapes Inline last line = in_trail shapes last (Some line) && not (ends_trails shapes line)
+goes_on shapes Inline last line = in_trail shapes false last (Some line) && not (ends_trails shapes false line)
+goes_on shapes Spaced last line = in_trail shapes true last (Some line) && not (ends_trails shapes true line)
 
 -- where the first piece of these lines isn't known, it isn't with this line behind them
 abbrev pub StaysOpen : List ShapeParts → List (List ℕ) → List ℕ → Type 0

@@ -34,7 +34,8 @@ pub(crate) fn run_end(shapes: &[Shape<'_>], sort: Sort, lines: &[Vec<u8>]) -> Op
             [_, rest @ ..] => announced_end(rest),
             [] => None,
         },
-        Sort::Inline => trail_end(shapes, lines),
+        Sort::Inline => trail_end(shapes, false, lines),
+        Sort::Spaced => trail_end(shapes, true, lines),
     }
 }
 
@@ -55,17 +56,18 @@ fn announced_end(mut lines: &[Vec<u8>]) -> Option<usize>
 }
 
 /// The same for a trail.
-fn trail_end(shapes: &[Shape<'_>], mut lines: &[Vec<u8>]) -> Option<usize>
+fn trail_end(shapes: &[Shape<'_>], apart: bool, mut lines: &[Vec<u8>]) -> Option<usize>
     ensures value { result
-        ≡ trail_ends (map shape_parts shapes.now) 0 (map (λ line. line.items) lines.entry.now) }
+        ≡ trail_ends (map shape_parts shapes.now) apart 0
+        (map (λ line. line.items) lines.entry.now) }
     ensures within { IfSome result (λ count. count ≤ length lines.entry.now) }
 {
     let mut count = 0;
     while let [first, rest @ ..] = lines {
         let Some(next) = first_of(rest) else {
-            return unless_open(ends_trails(shapes, first), count);
+            return unless_open(ends_trails(shapes, apart, first), count);
         };
-        if !in_trail(shapes, first, Some(next)) {
+        if !in_trail(shapes, apart, first, Some(next)) {
             return Some(count);
         }
         count += 1;
@@ -80,11 +82,11 @@ fn unless_open(ends: bool, count: usize) -> Option<usize>
     if ends { Some(count) } else { None }
 }
 
-/// Whether a line ends each trail, whatever follows.
-pub(crate) fn ends_trails(shapes: &[Shape<'_>], line: &[u8]) -> bool
-    ensures { result ≡ ends_all_trails (map shape_parts shapes.now) line.now }
+/// Whether a line ends each trail, whatever follows. With `apart`, an empty line doesn't.
+pub(crate) fn ends_trails(shapes: &[Shape<'_>], apart: bool, line: &[u8]) -> bool
+    ensures { result ≡ ends_all_trails (map shape_parts shapes.now) apart line.now }
 {
-    line.is_empty() || !matches!(what_begins(shapes, line, None).sort, Sort::Kept)
+    !apart && line.is_empty() || !matches!(what_begins(shapes, line, None).sort, Sort::Kept)
 }
 
 /// Whether a block of this kind ends at a line, whatever follows.
@@ -94,7 +96,8 @@ pub fn ends_at(shapes: &[Shape<'_>], sort: Sort, line: &[u8]) -> bool
     match sort {
         Sort::Kept | Sort::Heading | Sort::Below => true,
         Sort::Announced => line.is_empty(),
-        Sort::Inline => ends_trails(shapes, line),
+        Sort::Inline => ends_trails(shapes, false, line),
+        Sort::Spaced => ends_trails(shapes, true, line),
     }
 }
 
@@ -110,7 +113,8 @@ pub(crate) fn behind(shapes: &[Shape<'_>], sort: Sort, lines: &[Vec<u8>]) -> usi
             [_, rest @ ..] => 1 + announced_len(rest),
             [] => 0,
         },
-        Sort::Inline => trail_len(shapes, lines),
+        Sort::Inline => trail_len(shapes, false, lines),
+        Sort::Spaced => trail_len(shapes, true, lines),
     }
 }
 
@@ -129,14 +133,15 @@ fn announced_len(mut lines: &[Vec<u8>]) -> usize
     count
 }
 
-fn trail_len(shapes: &[Shape<'_>], mut lines: &[Vec<u8>]) -> usize
+fn trail_len(shapes: &[Shape<'_>], apart: bool, mut lines: &[Vec<u8>]) -> usize
     ensures value { result
-        ≡ trail_length (map shape_parts shapes.now) (map (λ line. line.items) lines.entry.now) }
+        ≡ trail_length (map shape_parts shapes.now) apart
+        (map (λ line. line.items) lines.entry.now) }
     ensures within { result ≤ length lines.entry.now }
 {
     let mut count = 0;
     while let [first, rest @ ..] = lines {
-        if !in_trail(shapes, first, first_of(rest)) {
+        if !in_trail(shapes, apart, first, first_of(rest)) {
             return count;
         }
         count += 1;

@@ -1,10 +1,11 @@
 //! Lines that are held until their blocks are known.
-ghost use Rattle.std.specs.Prelude.{◌≡◌, ◌≤◌, ◌+◌, ◌∷◌, ◌++◌, ◌&&◌, true, false, [], drop, None};
+ghost use Rattle.std.specs.Prelude.{◌≡◌, ◌≤◌, ◌+◌, ◌∷◌, ◌++◌, ◌&&◌, not, true, false, [], drop, None, Some};
 ghost use Rattle.std.specs.Prelude.{if◌then◌else◌, IfSome, is_ok, option_map, map, length, slice_get};
 ghost use Rattle.std.specs.Option.{option_copied, is_some};
 ghost use Rattle.line_shapes.specs.Shape.{shape_parts};
 ghost use Rattle.tool_lines.specs.Lines.{finding_parts, name_behind, piece as piece_there};
-ghost use Rattle.tool_lines.specs.Lines.{piece_parts};
+ghost use Rattle.tool_lines.specs.Lines.{in_trail as trails, piece_parts};
+ghost use Rattle.fed_lines.specs.Feed.{ends_trails as ends_all_trails};
 ghost use Rattle.fed_lines.specs.Feed.{IsFirst, StaysOpen, below_piece};
 ghost use Rattle.fed_lines.specs.Feed.{goes_on as goes_further, known_piece, last_piece};
 ghost use Rattle.fed_lines.specs.Feed.{piece_behind};
@@ -184,7 +185,7 @@ impl<'s> Lines<'s> {
                 drop_first(&mut self.held, lines - 1);
             }
             Sort::Below => drop_first(&mut self.held, lines),
-            Sort::Kept | Sort::Announced | Sort::Inline => {
+            Sort::Kept | Sort::Announced | Sort::Inline | Sort::Spaced => {
                 self.name = None;
                 drop_first(&mut self.held, lines);
             }
@@ -253,8 +254,18 @@ fn goes_on(shapes: &[Shape<'_>], sort: Sort, last: &[u8], line: &[u8]) -> bool
     match sort {
         Sort::Kept | Sort::Heading | Sort::Below => false,
         Sort::Announced => !(line.is_empty() || announced(last, Some(line)).is_some()),
-        Sort::Inline => in_trail(shapes, last, Some(line)) && !ends_trails(shapes, line),
+        Sort::Inline => trail_goes_on(shapes, false, last, line),
+        Sort::Spaced => trail_goes_on(shapes, true, last, line),
     }
+}
+
+/// Whether a line belongs to a trail with this last line, and doesn't end it.
+fn trail_goes_on(shapes: &[Shape<'_>], apart: bool, last: &[u8], line: &[u8]) -> bool
+    ensures { result
+        ≡ (trails (map shape_parts shapes.now) apart last.now (Some line.now)
+        && not (ends_all_trails (map shape_parts shapes.now) apart line.now)) }
+{
+    in_trail(shapes, apart, last, Some(line)) && !ends_trails(shapes, apart, line)
 }
 
 /// Removes the first of these lines.

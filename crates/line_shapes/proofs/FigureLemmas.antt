@@ -9,7 +9,7 @@ use Rattle.line_shapes.specs.declared.level.Severity.{Severity}
 use Rattle.line_shapes.specs.declared.name.NameKind.{NameKind}
 use Rattle.line_shapes.specs.declared.part.Figure.{Figure}
 use Rattle.line_shapes.specs.declared.part.Part.{Part}
-use Rattle.line_shapes.specs.declared.part.Part.TheVariants.{Byte, Blanks, AnyBlanks, Decimal, Level as ALevel, Letter, Small, Number, Rule, Cop, Program, Message}
+use Rattle.line_shapes.specs.declared.part.Part.TheVariants.{Byte, Blanks, AnyBlanks, Decimal, Level as ALevel, Letter, Small, Number, Rule, Cop, Program, Message, SetApart}
 use Rattle.line_shapes.specs.Bytes.{is_in, some_run, number_at, capitals_and_digits, cop_len, value_of}
 use Rattle.line_shapes.specs.Level.{level_at, letter_severity, small_severity}
 use Rattle.line_shapes.specs.Name.{is_name}
@@ -76,13 +76,14 @@ taken_figure Rule s t e none = mapped_figure (λ (count : ℕ). with_code false 
 taken_figure Cop s t e none = mapped_figure (λ (count : ℕ). with_code false count s) (cop_len s.rest) t e (λ n. drop_figure n s.rest none)
 taken_figure Program s t e none = program_figure (is_program_start (slice_index s.rest 0)) s t (prefix_len (is_in InProgram) s.rest) e (drop_figure (prefix_len (is_in InProgram) s.rest) s.rest none)
 taken_figure Message s t e none = message_figure s.rest s t e
+taken_figure SetApart s t e none = sym (ap (λ o. has_figure (left o)) e) ∙ none
 
 fit_figure_by : (part : Part) (parts : List Part) (s t : Seen) (o : Option Seen) → taken part s ≡ o → ((u : Seen) → fit parts u ≡ Some t → has_figure u.rest ≡ false → has_figure t.rest ≡ false) → option_and_then (fit parts) o ≡ Some t → has_figure s.rest ≡ false
     → has_figure t.rest ≡ false
 fit_figure_by part parts s t None is later e none = cc
 fit_figure_by part parts s t (Some u) is later e none = later u e (taken_figure part s u is none)
 
-fit_figure : (parts : List Part) (s t : Seen) → fit parts s ≡ Some t → has_figure s.rest ≡ false → has_figure t.rest ≡ false
+pub fit_figure : (parts : List Part) (s t : Seen) → fit parts s ≡ Some t → has_figure s.rest ≡ false → has_figure t.rest ≡ false
 fit_figure [] s t e none = sym (ap (λ o. has_figure (left o)) e) ∙ none
 fit_figure (part ∷ parts) s t e none = fit_figure_by part parts s t (taken part s) refl (λ u. fit_figure parts u t) e none
 

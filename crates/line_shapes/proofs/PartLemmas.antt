@@ -8,7 +8,7 @@ use Rattle.line_shapes.specs.declared.bytes.Kind.TheVariants.{Blank, Digit, InPr
 use Rattle.line_shapes.specs.declared.part.Figure.{Figure}
 use Rattle.line_shapes.specs.declared.part.Figure.TheVariants.{Line, Column, EndLine, EndColumn}
 use Rattle.line_shapes.specs.declared.part.Part.{Part}
-use Rattle.line_shapes.specs.declared.part.Part.TheVariants.{AnyBlanks, Byte, Blanks, Decimal, Program}
+use Rattle.line_shapes.specs.declared.part.Part.TheVariants.{AnyBlanks, SetApart, Byte, Blanks, Decimal, Program}
 use Rattle.line_shapes.specs.Bytes.{is_in, some_run, value_of}
 use Rattle.line_shapes.specs.Part.{Seen, behind, byte_taken, fit, is_program_start, is_quick, may_begin, past, past_byte, past_run, taken, with_figure}
 
@@ -55,6 +55,7 @@ program_left false n s t e = cc
 pub past_taken : (part : Part) (s t : Seen) → is_quick part ≡ true → taken part s ≡ Some t → past part s.rest ≡ Some t.rest
 past_taken (Byte byte) s t quick e = past_this byte s.rest s t e
 past_taken AnyBlanks s t quick e = ap (λ o. Some (left o)) e
+past_taken SetApart s t quick e = ap (λ o. Some (left o)) e
 past_taken Blanks s t quick e =
     past_some Blank (is_in Blank (slice_index s.rest 0)) s t (taken Blanks s) e
     (λ none. ap (λ n. option_map (λ (count : ℕ). behind count s) (some_run n)) (no_run Blank s.rest none))

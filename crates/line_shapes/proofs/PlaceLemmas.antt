@@ -19,7 +19,7 @@ use Rattle.line_shapes.specs.Bytes.{is_in}
 use Rattle.line_shapes.specs.declared.name.NameKind.{NameKind}
 use Rattle.line_shapes.specs.Name.{is_name, is_plain, is_angle, angle_len, angle_behind, first_fault, begins_name, ends_name}
 use Rattle.line_shapes.proofs.PartLemmas.{not_begun}
-use Rattle.line_shapes.specs.Place.{Place, behind_run, ends_number, is_bracket, numbers_end, opens_place, found_at, fits_behind, in_angles, in_lead, named, may_follow, may_name, first_some, first_fit, afters, placed_at, is_mark, IsNextMark}
+use Rattle.line_shapes.specs.Place.{Place, behind_run, ends_row, is_bracket, numbers_end, opens_place, found_at, fits_behind, in_angles, in_lead, named, may_follow, may_name, first_some, first_fit, afters, placed_at, is_mark, IsNextMark}
 
 -- the next mark, from the first in what is left of the text
 mark_back : (text : List ℕ) (from k : ℕ) → from ≤ k → is_mark (slice_index text k) ≡ true → is_mark (slice_index (drop from text) (k - from)) ≡ true
@@ -136,7 +136,7 @@ none_there f at whole all past e = sym (none_here f at whole past) ∙ e
 -- what is not followed as it should be doesn't fit
 abbrev begins_followed : List Part → Bool
 begins_followed (Byte byte ∷ (Byte other ∷ parts)) = is_bracket other
-begins_followed (Byte byte ∷ (Decimal figure ∷ (Byte other ∷ parts))) = ends_number other
+begins_followed (Byte byte ∷ (Decimal figure ∷ (Byte other ∷ parts))) = ends_row other
 begins_followed (Byte byte ∷ (Blanks ∷ (Byte other ∷ parts))) = opens_place other
 begins_followed _ = false
 
@@ -166,7 +166,7 @@ unfollowed : (shape : List Part) (first : ℕ) (rest : List ℕ) → begins_foll
 unfollowed (Byte byte ∷ (Byte other ∷ parts)) first rest followed no_more =
     second_not byte first (Byte other ∷ parts) rest (byte_not other parts rest is_bracket followed (or_parts (is_bracket (slice_index rest 0)) _ (or_parts (is_bracket (slice_index rest 0) || numbers_end rest) _ no_more).0).0)
 unfollowed (Byte byte ∷ (Decimal figure ∷ (Byte other ∷ parts))) first rest followed no_more =
-    second_not byte first (Decimal figure ∷ (Byte other ∷ parts)) rest (run_not Digit other parts rest ends_number followed (or_parts (is_bracket (slice_index rest 0)) _ (or_parts (is_bracket (slice_index rest 0) || numbers_end rest) _ no_more).0).1)
+    second_not byte first (Decimal figure ∷ (Byte other ∷ parts)) rest (run_not Digit other parts rest ends_row followed (or_parts (is_bracket (slice_index rest 0)) _ (or_parts (is_bracket (slice_index rest 0) || numbers_end rest) _ no_more).0).1)
 unfollowed (Byte byte ∷ (Blanks ∷ (Byte other ∷ parts))) first rest followed no_more =
     second_not byte first (Blanks ∷ (Byte other ∷ parts)) rest (run_not Blank other parts rest opens_place followed (or_parts (is_bracket (slice_index rest 0) || numbers_end rest) _ no_more).1)
 unfollowed shape first rest followed no_more = cc
@@ -199,6 +199,10 @@ not_followed kind s end no_more =
 pub found_so : (kind : NameKind) (s found : Seen) (end : ℕ) (may : Bool) → may ≡ true → may ≡ may_name kind s.rest end → Some found ≡ fits_behind s end → Some found ≡ found_at kind s end
 unfolding found_at
 found_so kind s found end may is same here = here ∙ sym (ap (λ v. if v then fits_behind s end else None) (sym same ∙ is))
+
+pub found_not : (kind : NameKind) (s : Seen) (end : ℕ) → None ≡ fits_behind s end → None ≡ found_at kind s end
+unfolding found_at
+found_not kind s end none = elim (may_name kind s.rest end) as (λ v. None ≡ (if v then fits_behind s end else None)) [ true ↦ none | false ↦ refl ]
 
 beyond_too : (end k fault : ℕ) → nat_le end fault ≡ false → end ≤ k → nat_le k fault ≡ false
 beyond_too end k fault beyond later = grind (arith, nat_tests)

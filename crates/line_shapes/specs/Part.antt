@@ -6,7 +6,7 @@ use Rattle.line_shapes.specs.declared.bytes.Kind.TheVariants.{Blank, Digit, InRu
 use Rattle.line_shapes.specs.declared.level.Severity.{Severity}
 use Rattle.line_shapes.specs.declared.level.Level.{Level}
 use Rattle.line_shapes.specs.declared.part.Part.{Part}
-use Rattle.line_shapes.specs.declared.part.Part.TheVariants.{Byte, Blanks, AnyBlanks, Decimal, Level as ALevel, Letter, Small, Number, Rule, Cop, Program, Message}
+use Rattle.line_shapes.specs.declared.part.Part.TheVariants.{Byte, Blanks, AnyBlanks, Decimal, Level as ALevel, Letter, Small, Number, Rule, Cop, Program, Message, SetApart}
 use Rattle.line_shapes.specs.declared.part.Figure.{Figure}
 use Rattle.line_shapes.specs.declared.part.Figure.TheVariants.{Line, Column, EndLine, EndColumn}
 use Rattle.line_shapes.specs.declared.part.Found.{Found}
@@ -26,6 +26,7 @@ pub record Seen : Type 0 where
   pub code : Option (List ℕ)
   pub numbered : Bool
   pub message : Option (List ℕ)
+  pub apart : Bool
 
 abbrev pub seen : Found → Seen
 seen found =
@@ -41,10 +42,11 @@ seen found =
       code = option_map (λ text. text.now) found.code;
       numbered = found.numbered;
       message = option_map (λ text. text.now) found.message;
+      apart = found.apart;
     }
 
 abbrev pub before : List ℕ → Seen
-before text = record { rest = text; line = None; column = None; end_line = None; end_column = None; severity = None; initial = None; aside = false; code = None; numbered = false; message = None }
+before text = record { rest = text; line = None; column = None; end_line = None; end_column = None; severity = None; initial = None; aside = false; code = None; numbered = false; message = None; apart = false }
 
 -- so many bytes are taken
 abbrev pub behind : ℕ → Seen → Seen
@@ -91,6 +93,7 @@ taken Rule s = option_map (λ count. with_code false count s) (some_run (prefix_
 taken Cop s = option_map (λ count. with_code false count s) (cop_len s.rest)
 taken Program s = if is_program_start (slice_index s.rest 0) then Some (behind (prefix_len (is_in InProgram) s.rest) s) else None
 taken Message s = message_taken s.rest s
+taken SetApart s = Some (record s { apart = true })
 
 -- a shape fits where its parts stand one after another: what they find
 abbrev pub fit : List Part → Seen → Option Seen
@@ -111,6 +114,7 @@ is_quick Rule = false
 is_quick Cop = false
 is_quick Program = true
 is_quick Message = false
+is_quick SetApart = true
 
 abbrev pub past_byte : ℕ → List ℕ → Option (List ℕ)
 past_byte byte [] = None
@@ -133,6 +137,7 @@ past Rule text = None
 past Cop text = None
 past Program text = past_run InProgram (is_program_start (slice_index text 0)) text
 past Message text = None
+past SetApart text = Some text
 
 -- parts may stand at the beginning of a text, by those before the first of another kind
 abbrev pub may_begin : List Part → List ℕ → Bool

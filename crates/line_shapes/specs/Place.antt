@@ -5,7 +5,7 @@ use Rattle.std.specs.Option.{option_or}
 use Rattle.memchr.specs.Find.{IsFirst}
 use Rattle.line_shapes.specs.declared.part.Part.{Part}
 use Rattle.line_shapes.specs.declared.place.Placed.{Placed}
-use Rattle.line_shapes.specs.declared.tables.TheConstants.{AFTERS, LEADS}
+use Rattle.line_shapes.specs.declared.locations.TheConstants.{AFTERS, LEADS}
 use Rattle.line_shapes.specs.Part.{Seen, seen, before, fit}
 use Rattle.line_shapes.specs.declared.name.NameKind.{NameKind}
 use Rattle.line_shapes.specs.Name.{angle_len, begins_name, ends_name, is_name}
@@ -61,6 +61,10 @@ in_angles s = let count = angle_len s.rest in if nat_le 1 count && nat_lt count 
 abbrev pub ends_number : ℕ → Bool
 ends_number byte = byte == 0x3A || byte == 0x2C || byte == 0x29
 
+-- the same, or the point between a row and a column
+abbrev pub ends_row : ℕ → Bool
+ends_row byte = ends_number byte || byte == 0x2E
+
 -- the byte behind the bytes of a kind that a text begins with
 abbrev pub behind_run : Kind → List ℕ → ℕ
 behind_run kind text = slice_index text (prefix_len (is_in kind) text)
@@ -74,7 +78,7 @@ opens_place byte = byte == 0x6C || byte == 0x28
 
 -- a text begins with a number that ends as in places
 abbrev pub numbers_end : List ℕ → Bool
-numbers_end text = is_in Digit (slice_index text 0) && ends_number (behind_run Digit text)
+numbers_end text = is_in Digit (slice_index text 0) && ends_row (behind_run Digit text)
 
 -- the same of blanks
 abbrev pub blanks_end : List ℕ → Bool

@@ -13,7 +13,7 @@ use Rattle.line_shapes.specs.declared.said.Statement.{Statement}
 use Rattle.line_shapes.specs.declared.said.Leveled.{Leveled}
 use Rattle.line_shapes.specs.declared.tables.Manner.{Manner}
 use Rattle.line_shapes.specs.declared.tables.Manner.TheVariants.{Plain, Ruled, Boxed, Colon, Stars, Alone}
-use Rattle.line_shapes.specs.declared.tables.TheConstants.{RESTS}
+use Rattle.line_shapes.specs.declared.tables.TheConstants.{ERROR_BEGINNINGS, RESTS}
 use Rattle.line_shapes.specs.Bytes.{is_in, is_letter, begins_with, capitals_and_digits, trimmed, before_last}
 use Rattle.line_shapes.specs.Level.{level_at}
 use Rattle.line_shapes.specs.Part.{Seen, fit}
@@ -184,9 +184,16 @@ leveled (Some severity) boxed message = record { severity = Some severity; boxed
 abbrev pub error_alone : List ℕ → Bool
 error_alone text = ends_with nat_eq text (codes "error") || ends_with nat_eq text (codes "Error")
 
--- what stands before the first colon of a message ends in `error`
+-- the text before the first colon of a message ends in `error`
+abbrev pub is_named_error : List ℕ → Bool
+is_named_error message = let count = prefix_len (λ byte. not (byte == 0x3A)) message in nat_lt count (length message) && error_alone (trimmed (take count message))
+
+unfoldable pub error_beginnings : List (List ℕ)
+error_beginnings = map (λ word. word.now) ERROR_BEGINNINGS
+
+-- a message alone is an error: the text before its first colon ends in `error`, it begins as messages of linkers do that are errors, or it ends in the name of an error in parentheses
 abbrev pub names_error : List ℕ → Bool
-names_error message = let count = prefix_len (λ byte. not (byte == 0x3A)) message in nat_lt count (length message) && error_alone (trimmed (take count message))
+names_error message = is_named_error message || list_any (begins_with message) error_beginnings || ends_with nat_eq message (codes "Error)")
 
 -- a severity, or error where a message alone names one, else warning
 abbrev pub finally : Option Severity → Bool → List ℕ → Severity

@@ -4,7 +4,7 @@ use Rattle.std.specs.Borrow.{Bor}
 use Rattle.line_shapes.specs.declared.name.NameKind.{NameKind}
 use Rattle.line_shapes.specs.declared.part.Part.{Part}
 use Rattle.line_shapes.specs.declared.tables.Unit.{Unit}
-use Rattle.line_shapes.specs.declared.tables.TheConstants.{TOOL_COLUMNS, TOOL_SHAPES}
+use Rattle.line_shapes.specs.declared.tool_tables.TheConstants.{TOOL_COLUMNS, TOOL_SHAPES}
 use Rattle.line_shapes.specs.declared.tools.Columns.{Columns}
 use Rattle.line_shapes.specs.Parse.{same}
 use Rattle.line_shapes.specs.Shape.{ShapeParts}

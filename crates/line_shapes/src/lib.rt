@@ -3,6 +3,7 @@
 
 pub mod bytes;
 pub mod level;
+pub mod locations;
 pub mod name;
 pub mod parse;
 pub mod part;
@@ -10,4 +11,5 @@ pub mod place;
 pub mod said;
 pub mod shape;
 pub mod tables;
+pub mod tool_tables;
 pub mod tools;

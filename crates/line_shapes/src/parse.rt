@@ -58,7 +58,7 @@ pub enum Item {
 }
 
 /// The names that braces may hold.
-pub const ITEMS: [(&[u8], Item); 15] = [
+pub const ITEMS: [(&[u8], Item); 16] = [
     (b"line", Item::One(Part::Decimal(Figure::Line))),
     (b"column", Item::One(Part::Decimal(Figure::Column))),
     (b"endline", Item::One(Part::Decimal(Figure::EndLine))),
@@ -72,6 +72,7 @@ pub const ITEMS: [(&[u8], Item); 15] = [
     (b"program", Item::One(Part::Program)),
     (b"~", Item::One(Part::AnyBlanks)),
     (b"message", Item::One(Part::Message)),
+    (b"apart", Item::One(Part::SetApart)),
     (b"name", Item::Name(NameKind::Any)),
     (b"word", Item::Name(NameKind::OneWord)),
 ];

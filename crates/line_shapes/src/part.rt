@@ -39,6 +39,8 @@ pub enum Part {
     Program,
     /// The rest, which is not empty and begins with no blank.
     Message,
+    /// Nothing: what follows on the next lines is set apart from the finding by an empty line.
+    SetApart,
 }
 
 /// What a number means.
@@ -69,6 +71,8 @@ pub struct Found<'a> {
     /// Whether the code is a number.
     pub numbered: bool,
     pub message: Option<&'a [u8]>,
+    /// Whether an empty line may part the finding's line from its drawing or its message.
+    pub apart: bool,
 }
 
 impl<'a> Found<'a> {
@@ -88,6 +92,7 @@ impl<'a> Found<'a> {
             code: None,
             numbered: false,
             message: None,
+            apart: false,
         }
     }
 }
@@ -130,7 +135,12 @@ fn is_quick(part: Part) -> bool
 {
     matches!(
         part,
-        Part::Byte(_) | Part::Blanks | Part::AnyBlanks | Part::Decimal(_) | Part::Program
+        Part::Byte(_)
+            | Part::Blanks
+            | Part::AnyBlanks
+            | Part::Decimal(_)
+            | Part::Program
+            | Part::SetApart
     )
 }
 
@@ -144,6 +154,7 @@ fn past<'a>(part: Part, text: &'a [u8]) -> Option<&'a [u8]>
         Part::AnyBlanks => past_run(Kind::Blank, true, text),
         Part::Decimal(_) => past_run(Kind::Digit, is_in(Kind::Digit, first_of(text)), text),
         Part::Program => past_run(Kind::InProgram, begins_program(first_of(text)), text),
+        Part::SetApart => Some(text),
         _ => None,
     }
 }
@@ -197,6 +208,10 @@ fn taken<'a>(part: Part, found: Found<'a>) -> Option<Found<'a>>
         Part::Cop => Some(coded(found, cop_len(text)?, false)),
         Part::Program => program(found),
         Part::Message => message(found),
+        Part::SetApart => Some(Found {
+            apart: true,
+            ..found
+        }),
     }
 }
 

@@ -8,6 +8,7 @@ ghost use Rattle.line_shapes.specs.Least.{IsLeastPlace};
 ghost use Rattle.line_shapes.specs.Place.{IsNextMark, may_follow, may_name as may_be_name};
 ghost use Rattle.line_shapes.specs.Place.{blanks_end, numbers_end, is_bracket as opens_bracket};
 ghost use Rattle.line_shapes.specs.Place.{ends_number as number_ends, opens_place as place_opens};
+ghost use Rattle.line_shapes.specs.Place.{ends_row as row_ends};
 ghost use Rattle.line_shapes.specs.Place.{ends_figure as figure_ends, found_at as found_behind};
 ghost use Rattle.line_shapes.specs.Place.{first_fit as fits_first, in_lead as place_in_lead};
 ghost use Rattle.line_shapes.specs.Place.{in_leads as place_in_leads, place as place_there};
@@ -15,9 +16,9 @@ ghost use Rattle.line_shapes.specs.Place.{has_figure as figure_in};
 ghost use Rattle.line_shapes.specs.Place.{in_angles as angled_place, placed};
 
 use crate::bytes::{Kind, byte_at, is_in, run};
+use crate::locations::{AFTERS, LEADS};
 use crate::name::{NameKind, angle_len, begins_name, ends_name, first_fault, is_angle};
 use crate::part::{Found, Part, begins, fit};
-use crate::tables::{AFTERS, LEADS};
 use memchr::memchr3;
 
 /// A name, and what was found before and after it.
@@ -230,7 +231,7 @@ fn is_bracket(byte: u8) -> bool
 fn begins_number(text: &[u8]) -> bool
     ensures { result ≡ numbers_end text.now }
 {
-    is_in(Kind::Digit, byte_at(text, 0)) && ends_number(byte_at(text, run(Kind::Digit, text)))
+    is_in(Kind::Digit, byte_at(text, 0)) && ends_row(byte_at(text, run(Kind::Digit, text)))
 }
 
 /// The same for blanks.
@@ -244,6 +245,13 @@ fn ends_number(byte: u8) -> bool
     ensures { result ≡ number_ends byte }
 {
     matches!(byte, b':' | b',' | b')')
+}
+
+/// The same, or the point between a row and a column.
+fn ends_row(byte: u8) -> bool
+    ensures { result ≡ row_ends byte }
+{
+    ends_number(byte) || byte == b'.'
 }
 
 fn opens_place(byte: u8) -> bool

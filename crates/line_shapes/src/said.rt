@@ -3,7 +3,7 @@ ghost use Rattle.std.specs.Prelude.{◌≡◌, ◌≤◌, option_map, unwrap_or}
 ghost use Rattle.std.specs.Prelude.{map, length, Some, None, [], IsTrue, not, ◌==◌};
 ghost use Rattle.std.specs.List.{list_all, list_any, prefix_len};
 ghost use Rattle.std.specs.Option.{option_or, option_copied};
-ghost use Rattle.line_shapes.specs.Bytes.{is_in as belongs};
+ghost use Rattle.line_shapes.specs.Bytes.{begins_with as begins_any_case, is_in as belongs};
 ghost use Rattle.line_shapes.specs.declared.bytes.Kind.TheVariants.{Joint};
 ghost use Rattle.line_shapes.specs.Part.{seen};
 ghost use Rattle.line_shapes.specs.Said.{bare_code as code_alone, closed as closed_there};
@@ -18,7 +18,8 @@ ghost use Rattle.line_shapes.specs.Said.{is_joined as looks_joined};
 ghost use Rattle.line_shapes.specs.Said.{is_number as looks_as_number, leveled as leveled_by};
 ghost use Rattle.line_shapes.specs.Said.{letter_severity as severity_of_letter, level_behind};
 ghost use Rattle.line_shapes.specs.Said.{leveled_parts, meant as meant_by};
-ghost use Rattle.line_shapes.specs.Said.{names_error as tells_error};
+ghost use Rattle.line_shapes.specs.Said.{error_beginnings, names_error as tells_error};
+ghost use Rattle.line_shapes.specs.Said.{is_named_error as error_named};
 ghost use Rattle.line_shapes.specs.Said.{number_severity as severity_of_number};
 ghost use Rattle.line_shapes.specs.Said.{opened as opened_there, said as said_there};
 ghost use Rattle.line_shapes.specs.Said.{set_apart as apart, tells as tells_severity};
@@ -32,7 +33,7 @@ use crate::bytes::{
 };
 use crate::level::{Severity, level_at};
 use crate::part::{Found, Part, fit};
-use crate::tables::{Manner, RESTS};
+use crate::tables::{ERROR_BEGINNINGS, Manner, RESTS};
 
 /// What a finding says.
 #[derive(Clone, Copy, Drop)]
@@ -232,12 +233,41 @@ fn last_severity(severity: Option<Severity>, alone: bool, message: &[u8]) -> Sev
     }
 }
 
-/// Whether the text before the first colon ends in `error`.
+/// Whether the text before the first colon ends in `error`, or a message begins or ends as errors
+/// do.
 fn names_error(message: &[u8]) -> bool
     ensures { result ≡ tells_error message.now }
 {
+    is_named_error(message) || begins_as_error(message) || message.ends_with(b"Error)")
+}
+
+/// Whether the text before the first colon ends in `error`.
+fn is_named_error(message: &[u8]) -> bool
+    ensures { result ≡ error_named message.now }
+{
     let count = before_colon(message);
     count < message.len() && ends_in_error(trimmed(&message[..count]))
+}
+
+/// Whether a message begins with a text of `ERROR_BEGINNINGS`.
+#[tactic(auto, unfolding(crate::specs::Said::error_beginnings))]
+fn begins_as_error(message: &[u8]) -> bool
+    ensures { result ≡ list_any (begins_any_case message.now) error_beginnings }
+{
+    begins_among(&ERROR_BEGINNINGS, message)
+}
+
+/// Whether a text begins with one of these words.
+fn begins_among(mut words: &[&[u8]], text: &[u8]) -> bool
+    ensures { result ≡ list_any (begins_any_case text.now) (map (λ word. word.now) words.entry.now) }
+{
+    while let [word, rest @ ..] = words {
+        if begins_with(text, word) {
+            return true;
+        }
+        words = rest;
+    }
+    false
 }
 
 /// The number of bytes before the first colon.

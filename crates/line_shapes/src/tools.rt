@@ -8,7 +8,8 @@ use crate::name::NameKind;
 use crate::parse::same;
 use crate::part::Part;
 use crate::shape::Shape;
-use crate::tables::{TOOL_COLUMNS, TOOL_SHAPES, Unit};
+use crate::tables::Unit;
+use crate::tool_tables::{TOOL_COLUMNS, TOOL_SHAPES};
 use std::alloc::{AllocError, Global};
 
 /// How a tool counts columns.

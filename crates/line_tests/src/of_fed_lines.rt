@@ -72,6 +72,28 @@ const CUTS: [(Sort, usize); 7] = [
     (Sort::Kept, 1),
 ];
 
+/// Findings that an empty line parts from their drawings, and how these lines are cut.
+const APART: [&str; 11] = [
+    "a.ts:1:5 - error TS1: x",
+    "",
+    "1 let",
+    "  ~~~",
+    "",
+    "a.f90:8:2:",
+    "",
+    "    8 | do",
+    "      | 1",
+    "Error: y at (1)",
+    "z",
+];
+
+const APART_CUTS: [(Sort, usize); 4] = [
+    (Sort::Spaced, 4),
+    (Sort::Kept, 1),
+    (Sort::Spaced, 5),
+    (Sort::Kept, 1),
+];
+
 fn coming(alloc: Global) -> Result<Vec<&'static [u8]>, AllocError> {
     let mut lines = Vec::new(alloc);
     for row in &COMING {
@@ -80,17 +102,25 @@ fn coming(alloc: Global) -> Result<Vec<&'static [u8]>, AllocError> {
     Ok(lines)
 }
 
-fn are_cut(cuts: &[Cut]) -> bool {
-    let mut so_far = cuts.len() == CUTS.len();
-    for (cut, wanted) in cuts.iter().zip(&CUTS) {
+fn coming_apart(alloc: Global) -> Result<Vec<&'static [u8]>, AllocError> {
+    let mut lines = Vec::new(alloc);
+    for line in &APART {
+        lines.push(line.as_bytes())?;
+    }
+    Ok(lines)
+}
+
+fn are_cut(cuts: &[Cut], all: &[(Sort, usize)]) -> bool {
+    let mut so_far = cuts.len() == all.len();
+    for (cut, wanted) in cuts.iter().zip(all) {
         so_far = so_far && cut.sort == wanted.0 && cut.lines == wanted.1;
     }
     so_far
 }
 
-fn is_cut_as_it_comes(alloc: Global, lines: &[&[u8]]) -> bool {
+fn is_cut_as_it_comes(alloc: Global, lines: &[&[u8]], all: &[(Sort, usize)]) -> bool {
     match cut_as_they_come(alloc, &[], lines) {
-        Ok(cuts) => are_cut(&cuts),
+        Ok(cuts) => are_cut(&cuts, all),
         Err(_) => false,
     }
 }
@@ -98,8 +128,13 @@ fn is_cut_as_it_comes(alloc: Global, lines: &[&[u8]]) -> bool {
 #[test]
 fn lines_are_cut_as_they_come(rt: HostRuntime) {
     let is_cut = match coming(rt.alloc()) {
-        Ok(lines) => is_cut_as_it_comes(rt.alloc(), &lines),
+        Ok(lines) => is_cut_as_it_comes(rt.alloc(), &lines, &CUTS),
         Err(_) => false,
     };
     assert!(rt; is_cut);
+    let is_cut_apart = match coming_apart(rt.alloc()) {
+        Ok(lines) => is_cut_as_it_comes(rt.alloc(), &lines, &APART_CUTS),
+        Err(_) => false,
+    };
+    assert!(rt; is_cut_apart);
 }

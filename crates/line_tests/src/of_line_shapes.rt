@@ -1,11 +1,12 @@
 //! The rows of the tables are what their texts are read as.
+use line_shapes::locations::{AFTERS, LEADS};
 use line_shapes::name::NameKind;
 use line_shapes::parse::{OwnShape, parse};
 use line_shapes::part::Part;
 use line_shapes::tables::{
-    AFTERS, ANNOUNCED, ARROW, ARROW_PLACE, ARROW_TEXT, BARE, LEADS, RESTS, TOOL_SHAPES, UNDER,
-    UNDER_TEXT,
+    ANNOUNCED, ARROW, ARROW_PLACE, ARROW_TEXT, ARROWS, BARE, PLACES, RESTS, UNDER, UNDER_TEXT,
 };
+use line_shapes::tool_tables::TOOL_SHAPES;
 use std::alloc::{AllocError, Global};
 
 fn joined(alloc: Global, front: &str, text: &str) -> Result<String, AllocError> {
@@ -89,4 +90,11 @@ fn rows_of_whole_lines_are_their_texts(rt: HostRuntime) {
         assert!(rt; has_name(rt.alloc(), row.1, row.3), "{}", row.1);
     }
     assert!(rt; is_around(rt.alloc(), ARROW_TEXT, &ARROW, &ARROW_PLACE));
+    for row in &ARROWS {
+        assert!(rt; is_around(rt.alloc(), row.0, row.1, row.2), "{}", row.0);
+    }
+    for row in &PLACES {
+        assert!(rt; is_around(rt.alloc(), row.0, row.1, row.3), "{}", row.0);
+        assert!(rt; has_name(rt.alloc(), row.0, row.2), "{}", row.0);
+    }
 }

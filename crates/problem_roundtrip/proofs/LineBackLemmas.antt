@@ -19,7 +19,7 @@ use Rattle.line_shapes.proofs.PartLemmas.{no_run}
 use Rattle.oxc_protocol.specs.declared.protocol.Severity.{Severity as OwnSeverity}
 use Rattle.oxc_protocol.specs.declared.protocol.Severity.TheVariants.{Error as AnError, Warning as AWarning, Advice as AnAdvice}
 use Rattle.tool_lines.specs.declared.lines.Sort.TheVariants.{Inline}
-use Rattle.tool_lines.specs.Lines.{FindingParts, bare, begun, begun_of, coded_below, finding_from, inline, is_heading, is_placing, is_ruled, is_tag, spoken, tag_behind, tagged, text_below, told, whole_among}
+use Rattle.tool_lines.specs.Lines.{FindingParts, bare, begun, begun_of, coded_below, finding_from, inline, inline_sort, is_heading, is_placing, is_ruled, is_tag, parted, spoken, tag_behind, tagged, text_below, told, whole_among}
 use Rattle.tool_lines.specs.Speaks.{speaks}
 use Rattle.tool_lines.proofs.PlainLemmas.{not_announced, not_heading}
 use Rattle.problem_lines.specs.Line.{severity_name}
@@ -108,13 +108,15 @@ told_is true line place finding no_bare no_below is =
     ap (λ o. option_or o (option_or (coded_below place) (spoken line place))) no_bare ∙ (ap (λ o. option_or o (spoken line place)) no_below ∙ is)
 
 inline_is : (line : List ℕ) (next : Option (List ℕ)) (p : Place) (finding : FindingParts) → place line ≡ Some p → told (text_below next) line p ≡ Some finding → inline [] line next ≡ Some finding
-inline_is line next p finding here is = ap (λ o. option_and_then (told (text_below next) line) o) here ∙ is
+inline_is line next p finding here is =
+    ap (λ o. option_or (option_and_then (told (text_below next) line) o) (parted line)) here ∙ ap (λ o. option_or o (parted line)) is
 
-begun_is : (line : List ℕ) (next : Option (List ℕ)) (finding : FindingParts) → is_placing next ≡ false → inline [] line next ≡ Some finding → begun [] line next ≡ record { sort = Inline; finding = Some finding }
+begun_is : (line : List ℕ) (next : Option (List ℕ)) (finding : FindingParts) → is_placing next ≡ false → finding.place.found.apart ≡ false → inline [] line next ≡ Some finding
+    → begun [] line next ≡ record { sort = Inline; finding = Some finding }
 unfolding begun
-begun_is line next finding away is =
+begun_is line next finding away near is =
     ap (λ o. begun_of o (is_heading line next) (inline [] line next)) (not_announced line next away)
-    ∙ (ap (λ v. begun_of None v (inline [] line next)) (not_heading line next away) ∙ ap (λ o. begun_of None false o) is)
+    ∙ (ap (λ v. begun_of None v (inline [] line next)) (not_heading line next away) ∙ (ap (λ o. begun_of None false o) is ∙ ap (λ v. record { sort = inline_sort v; finding = Some finding }) near))
 
 -- ---- the line
 
@@ -124,7 +126,7 @@ pub record IsNameable (name : List ℕ) : Type 0 where
   pub no_colon : has_no_colon name ≡ true
   pub no_bracket : (slice_index name 0 == 0x5B) ≡ false
 
-severity_first : (severity : OwnSeverity) (text : List ℕ) → is_in Blank (slice_index (severity_name severity ++ text) 0) ≡ false
+pub severity_first : (severity : OwnSeverity) (text : List ℕ) → is_in Blank (slice_index (severity_name severity ++ text) 0) ≡ false
 severity_first AnError text = refl
 severity_first AWarning text = refl
 severity_first AnAdvice text = refl
@@ -148,7 +150,7 @@ uncoded_back name message severity l c m d next nameable plain none low_l low_c 
     let says : said p.found ≡ Some (found, Plain) = said_uncoded severity message p.found plain in
     let is : told (text_below next) line p ≡ Some (finding_from name found Plain) =
     told_is (text_below next) line p (finding_from name found Plain) (bare_uncoded name severity message p.found plain) (below_uncoded p found says) (spoken_plain line p found says) in
-    begun_is line next (finding_from name found Plain) away (inline_is line next p (finding_from name found Plain) here is)
+    begun_is line next (finding_from name found Plain) away refl (inline_is line next p (finding_from name found Plain) here is)
     ∙ ap (λ words. record { sort = Inline; finding = Some (record { place = record { name = name; found = found }; says = words }) }) (meant_uncoded severity message text l c m d plain none)
 
 pub coded_back : (name code message : List ℕ) (severity : OwnSeverity) (l c m d : ℕ) (next : Option (List ℕ)) → IsNameable name → IsSayable message → nat_lt 0 (length code) ≡ true → list_all (is_in InRule) code ≡ true
@@ -171,5 +173,5 @@ coded_back name code message severity l c m d next nameable plain some all low_l
     let says : said p.found ≡ Some (found, Ruled) = said_coded severity code message p.found plain some all in
     let is : told (text_below next) line p ≡ Some (finding_from name found Ruled) =
     told_is (text_below next) line p (finding_from name found Ruled) (bare_coded name severity code message p.found) (below_coded p found says (no_tag message plain.no_bracket)) (spoken_ruled line p found says) in
-    begun_is line next (finding_from name found Ruled) away (inline_is line next p (finding_from name found Ruled) here is)
+    begun_is line next (finding_from name found Ruled) away refl (inline_is line next p (finding_from name found Ruled) here is)
     ∙ ap (λ words. record { sort = Inline; finding = Some (record { place = record { name = name; found = found }; says = words }) }) (meant_coded severity code message text l c m d plain)

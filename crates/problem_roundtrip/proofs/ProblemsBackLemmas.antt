@@ -1,7 +1,7 @@
 -- The lines of plain problems, one after another, are read as these problems.
 use Rattle.std.proofs.Common.{◌≡◌, ℕ, zero, suc, ◌+◌, ◌-◌, ◌^◌, ◌<◌, ◌≤◌, ◌==◌, ◌&&◌, ◌||◌, not, if◌then◌else◌, Bool, true, false, List, [], ◌∷◌, ◌++◌, length, take, drop, map, Option, Some, None, decimal, nat_le, refl, sym, ap, ap₂, ◌∙◌, subst, arith, append_assoc, eqb-true}
 use Rattle.std.specs.List.{All, flat_map, list_all, prefix_len, slice_index, slice_split}
-use Rattle.std.specs.Option.{option_map, unwrap_or}
+use Rattle.std.specs.Option.{is_some, option_and_then, option_map, unwrap_or}
 use Rattle.std.specs.Str.Parse.{AllDigits}
 use Rattle.std.proofs.lemmas.Bool.{and_from, and_parts, and_right, ne_eqb, or_parts}
 use Rattle.std.proofs.lemmas.Fmt.{decimal_is_IsNumeral}
@@ -17,7 +17,8 @@ use Rattle.line_shapes.specs.declared.part.Part.TheVariants.{AnyBlanks, Blanks, 
 use Rattle.line_shapes.specs.declared.tables.TheConstants.{UNDER}
 use Rattle.line_shapes.specs.Bytes.{is_in}
 use Rattle.line_shapes.specs.Name.{angle_behind, begins_name, ends_name, first_fault, is_fault, is_file, is_name, is_plain as is_plain_text, stops}
-use Rattle.line_shapes.specs.Part.{may_begin, past_run}
+use Rattle.line_shapes.specs.Part.{before, may_begin, past_run}
+use Rattle.line_shapes.specs.Place.{Place, place}
 use Rattle.line_shapes.specs.Shape.{ShapeParts}
 use Rattle.line_shapes.proofs.PartLemmas.{no_run}
 use Rattle.oxc_protocol.specs.declared.protocol.Severity.{Severity as OwnSeverity}
@@ -26,12 +27,14 @@ use Rattle.oxc_protocol.specs.declared.reporter.InfoPosition.{InfoPosition}
 use Rattle.oxc_protocol.specs.Info.{InfoParts}
 use Rattle.problem_lines.specs.Line.{problem_line, severity_name}
 use Rattle.tool_lines.specs.declared.lines.Sort.TheVariants.{Inline}
-use Rattle.tool_lines.specs.Lines.{ArePieces, BegunParts, PieceParts, behind, head, is_kept, is_placing, lines_of, may_trail, name_behind, piece, trail_len, uncoloned, without_cr}
+use Rattle.tool_lines.specs.Marks.{stands_apart}
+use Rattle.tool_lines.specs.Lines.{ArePieces, BegunParts, PieceParts, behind, arrows, first_arrow, head, is_kept, is_placing, leads_to_note, lines_of, may_trail, name_behind, other_arrow, piece, trail_len, uncoloned, without_cr}
 use Rattle.tool_lines.proofs.PlainLemmas.{begins_nothing}
 use Rattle.problem_roundtrip.specs.Plain.{is_own, is_plain, is_plain_code}
 use Rattle.problem_roundtrip.specs.Read.{AreReadBack, finding_of, last_piece, piece_back}
 use Rattle.problem_roundtrip.proofs.NameBackLemmas.{fault_none, name_some, not_this}
-use Rattle.problem_roundtrip.proofs.PlaceBackLemmas.{first_of, line_of, numbers_text}
+use Rattle.problem_roundtrip.proofs.LineBackLemmas.{IsNameable, severity_first}
+use Rattle.problem_roundtrip.proofs.PlaceBackLemmas.{first_of, line_of, numbers_text, place_back, places_found}
 use Rattle.problem_roundtrip.proofs.SaidBackLemmas.{IsSayable, coded_text, uncoded_text}
 use Rattle.problem_roundtrip.proofs.TextBackLemmas.{IsCode, IsPlainProblem, name_parts, own_parts, plain_code, plain_problem, problem_of, read_back, text_coded, text_uncoded}
 
@@ -117,14 +120,24 @@ uncoloned_first name tail some named =
 behind_no_blanks : (parts : List Part) (text : List ℕ) → is_in Blank (slice_index text 0) ≡ false → may_begin (AnyBlanks ∷ parts) text ≡ may_begin parts text
 behind_no_blanks parts text none = ap (λ n. may_begin parts (drop n text)) (no_run Blank text none)
 
-pub not_placing : (name tail : List ℕ) → 1 ≤ length tail → 1 ≤ length name → is_name Any name (length name) ≡ true → is_placing (Some (name ++ 0x3A ∷ tail)) ≡ false
-not_placing name tail some named is =
+none_then : (p : Place) (o : Option Place) → is_some (option_and_then (λ (q : Place). if is_some (Some p) then None else Some q) o) ≡ false
+none_then p None = refl
+none_then p (Some q) = refl
+
+-- a line that has a location before its message is no arrow
+no_other_arrow : (line : List ℕ) (p : Place) → place line ≡ Some p → is_some (other_arrow line) ≡ false
+no_other_arrow line p there = ap (λ (here : Option Place). is_some (option_and_then (λ (q : Place). if is_some here then None else Some q) (first_arrow arrows line))) there ∙ none_then p (first_arrow arrows line)
+
+pub not_placing : (name tail : List ℕ) (p : Place) → 1 ≤ length tail → 1 ≤ length name → is_name Any name (length name) ≡ true → place (name ++ 0x3A ∷ tail) ≡ Some p → is_placing (Some (name ++ 0x3A ∷ tail)) ≡ false
+not_placing name tail p some named is there =
     let line : List ℕ = name ++ 0x3A ∷ tail in
     let first : is_in Blank (slice_index name 0) ≡ false = no_blank_first name is in
     let above : is_in Blank (slice_index (uncoloned line) 0) ≡ false = ap (is_in Blank) (uncoloned_first name tail some named) ∙ first in
     let here : is_in Blank (slice_index line 0) ≡ false = ap (is_in Blank) (first_of name (0x3A ∷ tail) named) ∙ first in
-    ap₂ (λ a b. a || b) (behind_no_blanks (Byte 0x2D ∷ (Byte 0x2D ∷ (Byte 0x3E ∷ (Blanks ∷ [])))) (uncoloned line) above ∙ no_arrow_behind name tail some is)
-    (ap (λ v. unwrap_or (option_map (may_begin (drop 1 UNDER)) (past_run Blank v line)) false) here)
+    ap₂ (λ a b. a || b)
+    (ap₂ (λ a b. a || b) (behind_no_blanks (Byte 0x2D ∷ (Byte 0x2D ∷ (Byte 0x3E ∷ (Blanks ∷ [])))) (uncoloned line) above ∙ no_arrow_behind name tail some is)
+    (ap (λ v. unwrap_or (option_map (may_begin (drop 1 UNDER)) (past_run Blank v line)) false) here))
+    (no_other_arrow line p there)
 
 -- ---- no byte of a line ends it
 
@@ -208,6 +221,15 @@ next_lines p line more is =
 some_numbers : (l c m d : ℕ) (said : List ℕ) → 1 ≤ length (numbers_text l c m d said)
 some_numbers l c m d said = omega (arith, length-append (decimal l) (0x3A ∷ (decimal c ++ 0x3A ∷ (decimal m ++ 0x3A ∷ (decimal d ++ 0x3A ∷ 0x20 ∷ said)))))
 
+-- the location in a problem's line
+abbrev placed_problem : List ℕ → List ℕ → InfoPosition → InfoPosition → Place
+placed_problem name said start end = record { name = name; found = places_found start.line start.column end.line end.column (before said) }
+
+problem_placed : (name said : List ℕ) (start end : InfoPosition) → IsNameable name → (start.line < 2 ^ 32) × (start.column < 2 ^ 32) → (end.line < 2 ^ 32) × (end.column < 2 ^ 32) → is_in Blank (slice_index said 0) ≡ false
+    → place (line_of name (numbers_text start.line start.column end.line end.column said)) ≡ Some (placed_problem name said start end)
+problem_placed name said start end named low high none =
+    place_back name start.line start.column end.line end.column said named.no_colon named.is named.no_bracket low.0 low.1 high.0 high.1 none
+
 line_by : (start end : InfoPosition) (name message : List ℕ) (severity : OwnSeverity) (rule : Option (List ℕ))
     → name_parts name → (start.line < 2 ^ 32) × (start.column < 2 ^ 32) → (end.line < 2 ^ 32) × (end.column < 2 ^ 32) → IsSayable message × (list_all is_own message ≡ true) → is_plain_code rule message ≡ true
     → (line : List ℕ) × IsLineOf (problem_of start end name message severity rule) line
@@ -218,7 +240,7 @@ line_by start end name message severity None named low high says plain =
       record {
         same = text_uncoded start end name message severity named.1 named.0.no_colon says.1;
         own = own_line name said start.line start.column end.line end.column named.1 (own_uncoded severity message says.1) low.0 low.1 high.0 high.1;
-        away = not_placing name tail (some_numbers start.line start.column end.line end.column said) (name_some name named.0.is) named.0.is;
+        away = not_placing name tail (placed_problem name said start end) (some_numbers start.line start.column end.line end.column said) (name_some name named.0.is) named.0.is (problem_placed name said start end named.0 low high (severity_first severity (0x3A ∷ 0x20 ∷ message)));
       },
     )
 line_by start end name message severity (Some code) named low high says plain =
@@ -229,7 +251,7 @@ line_by start end name message severity (Some code) named low high says plain =
       record {
         same = text_coded start end name code message severity named.1 named.0.no_colon says.1 of.own of.in_rule;
         own = own_line name said start.line start.column end.line end.column named.1 (own_coded severity code message of.own says.1) low.0 low.1 high.0 high.1;
-        away = not_placing name tail (some_numbers start.line start.column end.line end.column said) (name_some name named.0.is) named.0.is;
+        away = not_placing name tail (placed_problem name said start end) (some_numbers start.line start.column end.line end.column said) (name_some name named.0.is) named.0.is (problem_placed name said start end named.0 low high (severity_first severity (0x5B ∷ (code ++ 0x5D ∷ (0x3A ∷ (0x20 ∷ message))))));
       },
     )
 
@@ -251,16 +273,18 @@ begun_back p = record { sort = Inline; finding = Some (finding_of p) }
 
 -- what follows a problem's line is no place of it, and belongs to it in no other way
 abbrev StandsApart : List (List ℕ) → Type 0
-StandsApart lines = (is_placing (head lines) ≡ false) × (trail_len [] lines ≡ 0)
+StandsApart lines = (is_placing (head lines) ≡ false) × (trail_len [] false lines ≡ 0)
 
 apart_front : (p : InfoParts) (line : List ℕ) (lines : List (List ℕ)) → is_plain p ≡ true → IsLineOf p line → StandsApart lines → StandsApart (line ∷ lines)
 apart_front p line lines plain is later = (
   is.away,
-  ap (λ (b : BegunParts). if may_trail line (head lines) && is_kept b.sort then 1 + trail_len [] lines else 0) (read_back p plain line (head lines) is.same later.0) ∙ no_trail (may_trail line (head lines)) (1 + trail_len [] lines),
+  ap (λ (b : BegunParts). if (may_trail line (head lines) || leads_to_note [] line (head lines) || (false && stands_apart line (head lines))) && is_kept b.sort then 1 + trail_len [] false lines else 0) (read_back p plain line (head lines) is.same later.0)
+      ∙ no_trail (may_trail line (head lines) || leads_to_note [] line (head lines) || (false && stands_apart line (head lines))) (1 + trail_len [] false lines),
 )
 
 apart_lines : (problems : List InfoParts) → ArePlain problems → StandsApart (lines_of (flat_map problem_line problems))
-apart_lines [] plain = (ap (λ lines. is_placing (head lines)) no_lines, ap (trail_len []) no_lines)
+unfolding arrows
+apart_lines [] plain = (ap (λ lines. is_placing (head lines)) no_lines, ap (trail_len [] false) no_lines)
 apart_lines (p ∷ more) plain =
     let parts : (is_plain p ≡ true) × (list_all is_plain more ≡ true) = and_parts (is_plain p) (list_all is_plain more) plain in
     let (line, is) = line_for p parts.0 in

@@ -30,6 +30,7 @@ seen_of p =
       aside = false;
       code = p.rule_id;
       numbered = false;
+      apart = false;
       message = Some p.message;
     }
 

@@ -1,5 +1,5 @@
 -- The pieces of a text.
-use Rattle.std.proofs.Common.{◌≡◌, ℕ, ◌+◌, ◌-◌, ◌<◌, ◌≤◌, ◌==◌, ◌||◌, if◌then◌else◌, List, [], ◌∷◌, ◌++◌, length, drop, take, get_or, map, Option, Some, None, true, false, refl, sym, ◌∙◌, ap, subst, arith, append_assoc}
+use Rattle.std.proofs.Common.{◌≡◌, ℕ, ◌+◌, ◌-◌, ◌<◌, ◌≤◌, ◌==◌, ◌||◌, if◌then◌else◌, List, [], ◌∷◌, ◌++◌, length, drop, take, get_or, map, Option, Some, None, Bool, true, false, refl, sym, ◌∙◌, ap, subst, arith, append_assoc}
 use Rattle.std.specs.List.{slice_split, position_or_len}
 use Rattle.std.proofs.lemmas.Bool.{false_from_ne_true}
 use Rattle.std.proofs.lemmas.Grind.{common_steps}
@@ -11,14 +11,14 @@ use Rattle.std.specs.Option.{is_some}
 use Rattle.memchr.specs.Find.{IsFirstByte, is_byte}
 use Rattle.line_shapes.proofs.PlaceLemmas.{rest_is}
 use Rattle.tool_lines.specs.declared.lines.Sort.{Sort}
-use Rattle.tool_lines.specs.declared.lines.Sort.TheVariants.{Kept, Heading, Below, Announced, Inline}
+use Rattle.tool_lines.specs.declared.lines.Sort.TheVariants.{Kept, Heading, Below, Announced, Inline, Spaced}
 use Rattle.line_shapes.specs.Shape.{ShapeParts}
 use Rattle.tool_lines.specs.Lines.{ArePieces, PieceParts, FindingParts, BegunParts, announced, announced_len, behind, head, in_trail, lines_of, name_behind, piece, piece_of, runs, trail_len, without_cr}
 
-trail_within : (shapes : List ShapeParts) (lines : List (List ℕ)) → trail_len shapes lines ≤ length lines
-trail_within shapes [] = omega arith
-trail_within shapes (line ∷ lines) =
-    elim (in_trail shapes line (head lines)) as (λ v. (if v then 1 + trail_len shapes lines else 0) ≤ length (line ∷ lines)) [ true ↦ omega (arith, trail_within shapes lines) | false ↦ omega arith ]
+trail_within : (shapes : List ShapeParts) (apart : Bool) (lines : List (List ℕ)) → trail_len shapes apart lines ≤ length lines
+trail_within shapes apart [] = omega arith
+trail_within shapes apart (line ∷ lines) =
+    elim (in_trail shapes apart line (head lines)) as (λ v. (if v then 1 + trail_len shapes apart lines else 0) ≤ length (line ∷ lines)) [ true ↦ omega (arith, trail_within shapes apart lines) | false ↦ omega arith ]
 
 announced_within : (lines : List (List ℕ)) → announced_len lines ≤ length lines
 announced_within [] = omega arith
@@ -31,7 +31,8 @@ behind_within shapes Heading lines = omega arith
 behind_within shapes Below lines = omega arith
 behind_within shapes Announced [] = omega arith
 behind_within shapes Announced (arrow ∷ lines) = omega (arith, announced_within lines)
-behind_within shapes Inline lines = trail_within shapes lines
+behind_within shapes Inline lines = trail_within shapes false lines
+behind_within shapes Spaced lines = trail_within shapes true lines
 
 piece_of_within : (found : Option FindingParts) (b : BegunParts) (count whole : ℕ) → count ≤ whole → (piece_of found b count).lines ≤ 1 + whole
 piece_of_within None b count whole le = omega arith

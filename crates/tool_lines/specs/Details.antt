@@ -1,14 +1,14 @@
 -- What the lines behind a finding add to it.
-use Rattle.std.specs.Prelude.{ℕ, ◌+◌, ◌-◌, ◌==◌, ◌||◌, ◌&&◌, not, nat_le, nat_lt, if◌then◌else◌, Bool, false, List, [], ◌∷◌, ◌++◌, length, take, drop, Option, Some, None, codes}
-use Rattle.std.specs.Option.{is_none}
+use Rattle.std.specs.Prelude.{ℕ, ◌+◌, ◌-◌, ◌==◌, ◌||◌, ◌&&◌, not, nat_le, nat_lt, if◌then◌else◌, Bool, false, List, [], ◌∷◌, ◌++◌, length, take, drop, slice_index, Option, Some, None, codes, unwrap_or}
+use Rattle.std.specs.Option.{is_none, is_some}
 use Rattle.std.specs.List.{prefix_len, filter_map}
-use Rattle.line_shapes.specs.declared.bytes.Kind.TheVariants.{Blank}
+use Rattle.line_shapes.specs.declared.bytes.Kind.TheVariants.{Blank, Digit}
 use Rattle.tool_lines.specs.declared.details.Way.{Way}
-use Rattle.tool_lines.specs.declared.details.Way.TheVariants.{Plain, Symbol, Noted}
+use Rattle.tool_lines.specs.declared.details.Way.TheVariants.{Plain, Symbol, Noted, Unrowed}
 use Rattle.tool_lines.specs.declared.lines.Sort.{Sort}
-use Rattle.tool_lines.specs.declared.lines.Sort.TheVariants.{Kept, Heading, Below, Announced, Inline}
+use Rattle.tool_lines.specs.declared.lines.Sort.TheVariants.{Kept, Heading, Below, Announced, Inline, Spaced}
 use Rattle.line_shapes.specs.Bytes.{is_in, trimmed}
-use Rattle.tool_lines.specs.Marks.{are_marks, gutter}
+use Rattle.tool_lines.specs.Marks.{are_marks, gutter, is_fix}
 
 -- a text without the blanks at its beginning
 abbrev pub unled : List ℕ → List ℕ
@@ -23,7 +23,7 @@ abbrev pub is_bare : List ℕ → Bool
 is_bare line = is_bare_behind line (gutter line)
 
 abbrev pub plain_text : List ℕ → Option (List ℕ)
-plain_text line = if length (trimmed (unled line)) == 0 || is_bare line then None else Some (trimmed (unled line))
+plain_text line = if length (trimmed (unled line)) == 0 || is_bare line || is_fix line then None else Some (trimmed (unled line))
 
 abbrev pub is_small : ℕ → Bool
 is_small byte = nat_le 0x61 byte && nat_le byte 0x7A
@@ -38,15 +38,6 @@ symbol_by line (a ∷ (b ∷ (c ∷ rest))) = if a == 0x20 then (if b == 0x20 th
 abbrev pub symbol_text : List ℕ → Option (List ℕ)
 symbol_text line = symbol_by line line
 
-abbrev pub behind_equals : List ℕ → List ℕ → List ℕ
-behind_equals line [] = line
-behind_equals line (a ∷ []) = line
-behind_equals line (a ∷ (b ∷ rest)) = if a == 0x3D then (if b == 0x20 then rest else line) else line
-
--- a line without blanks and `= ` at its beginning
-abbrev pub unequalled : List ℕ → List ℕ
-unequalled line = behind_equals line (unled line)
-
 abbrev pub after_front : List ℕ → List ℕ → Option (List ℕ)
 after_front [] text = Some text
 after_front (p ∷ ps) [] = None
@@ -56,6 +47,16 @@ abbrev pub first_front : Option (List ℕ) → Option (List ℕ) → Option (Lis
 first_front None other = other
 first_front (Some rest) other = Some rest
 
+-- the text after what rustc has before the notes of a finding: `= `, `├ ` or `╰ `
+abbrev pub behind_leader : List ℕ → Option (List ℕ)
+behind_leader text =
+    first_front (after_front (codes "= ") text)
+    (first_front (after_front (0xE2 ∷ 0x94 ∷ 0x9C ∷ 0x20 ∷ []) text) (after_front (0xE2 ∷ 0x95 ∷ 0xB0 ∷ 0x20 ∷ []) text))
+
+-- a line without blanks and one of these at its beginning
+abbrev pub unequalled : List ℕ → List ℕ
+unequalled line = unwrap_or (behind_leader (unled line)) line
+
 -- what stands behind `note: ` or `help: `
 abbrev pub note_of : List ℕ → Option (List ℕ)
 note_of text = first_front (after_front (codes "note: ") text) (after_front (codes "help: ") text)
@@ -63,11 +64,19 @@ note_of text = first_front (after_front (codes "note: ") text) (after_front (cod
 abbrev pub note_text : List ℕ → Option (List ℕ)
 note_text line = note_of (unequalled line)
 
+-- a line is drawn: it has a gutter, begins with a number, or is markers
+abbrev pub is_drawn : List ℕ → Bool
+is_drawn line = are_marks line || is_some (gutter line) || is_in Digit (slice_index (unled line) 0)
+
+abbrev pub unrowed_text : List ℕ → Option (List ℕ)
+unrowed_text line = if is_drawn line then None else plain_text line
+
 -- what a line adds
 unfoldable pub detail : Way → List ℕ → Option (List ℕ)
 detail Plain line = plain_text line
 detail Symbol line = symbol_text line
 detail Noted line = note_text line
+detail Unrowed line = unrowed_text line
 
 -- the lines behind the last marks, or these
 abbrev pub behind_from : List (List ℕ) → List (List ℕ) → List (List ℕ)
@@ -91,6 +100,7 @@ inline_details lines = inline_by lines (marks_from 0 lines)
 abbrev pub details_of : Sort → List (List ℕ) → List (List ℕ)
 details_of Inline lines = inline_details lines
 details_of Announced lines = filter_map (detail Noted) (drop 1 lines)
+details_of Spaced lines = filter_map (detail Unrowed) lines
 details_of Kept lines = []
 details_of Heading lines = []
 details_of Below lines = []
@@ -123,6 +133,7 @@ first_caret (line ∷ lines) = if are_marks line then None else caret_from (line
 abbrev pub caret_at : Sort → List (List ℕ) → Option ℕ
 caret_at Inline lines = first_caret lines
 caret_at Announced lines = None
+caret_at Spaced lines = None
 caret_at Kept lines = None
 caret_at Heading lines = None
 caret_at Below lines = None

@@ -1,21 +1,22 @@
 -- The pieces of a text: runs of its lines.
 use Rattle.std.specs.Prelude.{◌≡◌, ℕ, ◌+◌, ◌-◌, ◌≤◌, ◌==◌, ◌&&◌, ◌||◌, not, if◌then◌else◌, Bool, true, false, List, [], ◌∷◌, ◌++◌, length, take, drop, map, Option, Some, None, option_map, option_and_then, unwrap_or, slice_get, slice_index}
 use Rattle.std.specs.List.{slice_split, suffix_len}
-use Rattle.std.specs.Option.{option_or, is_some}
+use Rattle.std.specs.Option.{option_or, is_none, is_some}
 use Rattle.line_shapes.specs.declared.bytes.Kind.TheVariants.{InBrackets}
 use Rattle.line_shapes.specs.declared.part.Part.{Part}
 use Rattle.line_shapes.specs.declared.tables.Manner.{Manner}
 use Rattle.line_shapes.specs.declared.tables.Manner.TheVariants.{Plain, Ruled, Boxed, Colon, Stars, Alone}
+use Rattle.line_shapes.specs.declared.name.NameKind.{NameKind}
 use Rattle.line_shapes.specs.declared.name.NameKind.TheVariants.{Any}
-use Rattle.line_shapes.specs.declared.tables.TheConstants.{ANNOUNCED, ARROW, ARROW_PLACE, BARE, UNDER}
+use Rattle.line_shapes.specs.declared.tables.TheConstants.{ANNOUNCED, ARROW, ARROWS, ARROW_PLACE, BARE, PLACES, UNDER}
 use Rattle.tool_lines.specs.declared.lines.Finding.{Finding}
 use Rattle.tool_lines.specs.declared.lines.Sort.{Sort}
-use Rattle.tool_lines.specs.declared.lines.Sort.TheVariants.{Kept, Heading, Below, Announced, Inline}
+use Rattle.tool_lines.specs.declared.lines.Sort.TheVariants.{Kept, Heading, Below, Announced, Inline, Spaced}
 use Rattle.tool_lines.specs.declared.lines.Begun.{Begun}
 use Rattle.tool_lines.specs.declared.lines.Piece.{Piece}
 use Rattle.line_shapes.specs.Bytes.{is_in, before_last}
 use Rattle.tool_lines.specs.Columns.{with_column}
-use Rattle.tool_lines.specs.Marks.{are_marks, begins_blank, is_numbered, is_text}
+use Rattle.tool_lines.specs.Marks.{are_marks, begins_blank, is_fix, is_include, is_numbered, is_text, stands_apart, wraps}
 use Rattle.tool_lines.specs.Speaks.{speaks}
 use Rattle.line_shapes.specs.Part.{Seen, before, may_begin}
 use Rattle.line_shapes.specs.Place.{Place, placed, first_some, has_figure, place}
@@ -58,11 +59,26 @@ head (line ∷ lines) = Some line
 abbrev pub uncoloned : List ℕ → List ℕ
 uncoloned line = unwrap_or (before_last 0x3A line) line
 
--- a line says something, and the next says where, behind an arrow
+unfoldable pub arrows : List (List Part × List Part)
+arrows = map (λ row. (row.1.now, row.2.now)) ARROWS
+
+-- the location of the first of these arrows that a line is
+abbrev pub first_arrow : List (List Part × List Part) → List ℕ → Option Place
+first_arrow rows line = first_some (λ row. own Any row.0 row.1 line) rows
+
+-- the location in a line that is an arrow other than `-->`; a line that has a location before its message is none
+abbrev pub other_arrow : List ℕ → Option Place
+other_arrow line = option_and_then (λ (p : Place). if is_some (place line) then None else Some p) (first_arrow arrows line)
+
+-- the location in a line that is an arrow
+abbrev pub arrow : List ℕ → Option Place
+arrow line = option_or (own Any ARROW ARROW_PLACE (uncoloned line)) (other_arrow line)
+
+-- a line has a message, and the next one, an arrow, has its location
 unfoldable pub announced_by : List ℕ → List ℕ → Option FindingParts
 announced_by line next =
     option_and_then (λ place. option_map (λ found. record { place = place; says = meant Plain found }) (whole_among (map (λ shape. shape.1.now) ANNOUNCED) (before line)))
-    (own Any ARROW ARROW_PLACE (uncoloned next))
+    (arrow next)
 
 abbrev pub announced : List ℕ → Option (List ℕ) → Option FindingParts
 announced line None = None
@@ -132,28 +148,44 @@ abbrev pub told : Bool → List ℕ → Place → Option FindingParts
 told false line place = spoken line place
 told true line place = option_or (bare place) (option_or (coded_below place) (spoken line place))
 
+unfoldable pub places : List (List Part × NameKind × List Part)
+places = map (λ row. (row.1.now, row.2, row.3.now)) PLACES
+
+-- the location of the first of these rows that a line is
+abbrev pub first_place : List (List Part × NameKind × List Part) → List ℕ → Option Place
+first_place rows line = first_some (λ row. own row.1 row.0 row.2 line) rows
+
+-- the finding of a line with nothing but a location
+abbrev pub parted : List ℕ → Option FindingParts
+parted line = option_map (λ (place : Place). record { place = place; says = meant Plain place.found }) (first_place places line)
+
 abbrev pub inline_or : Option Place → List ℕ → Bool → Option FindingParts
 inline_or (Some place) line more = Some (record { place = place; says = meant Plain place.found })
-inline_or None line more = option_and_then (told more line) (place line)
+inline_or None line more = option_or (option_and_then (told more line) (place line)) (parted line)
 
 -- the finding whose place stands in a line before what it says
 abbrev pub inline : List ShapeParts → List ℕ → Option (List ℕ) → Option FindingParts
 inline shapes line next = inline_or (first_own shapes line) line (text_below next)
 
+-- the kind of a finding with its location before its message; an empty line may part its line from what follows
+abbrev pub inline_sort : Bool → Sort
+inline_sort true = Spaced
+inline_sort false = Inline
+
 abbrev pub begun_of : Option FindingParts → Bool → Option FindingParts → BegunParts
 begun_of (Some finding) heading inline = record { sort = Announced; finding = Some finding }
 begun_of None true inline = record { sort = Heading; finding = None }
-begun_of None false (Some finding) = record { sort = Inline; finding = Some finding }
+begun_of None false (Some finding) = record { sort = inline_sort finding.place.found.apart; finding = Some finding }
 begun_of None false None = record { sort = Kept; finding = None }
 
 -- what begins at a line that has this one behind it
 unfoldable pub begun : List ShapeParts → List ℕ → Option (List ℕ) → BegunParts
 begun shapes line next = begun_of (announced line next) (is_heading line next) (inline shapes line next)
 
--- a line may have the place of what stands before it, by what it begins with
+-- a line may have the location of the line before it, judged by how it begins, or is another arrow
 abbrev pub is_placing : Option (List ℕ) → Bool
 is_placing None = false
-is_placing (Some next) = may_begin ARROW (uncoloned next) || may_begin UNDER next
+is_placing (Some next) = may_begin ARROW (uncoloned next) || may_begin UNDER next || is_some (other_arrow next)
 
 -- a line that has this one behind it has no figure, and the place of nothing is behind it: nothing begins there but what shapes of one's own find
 abbrev pub is_plain : List ℕ → Option (List ℕ) → Bool
@@ -165,22 +197,36 @@ is_kept Heading = false
 is_kept Below = false
 is_kept Announced = false
 is_kept Inline = false
+is_kept Spaced = false
 
 abbrev pub next_is_marks : Option (List ℕ) → Bool
 next_is_marks None = false
 next_is_marks (Some next) = are_marks next
 
--- a line looks as one that belongs to the finding before it
+-- a line looks like one that belongs to the finding before it
 abbrev pub may_trail : List ℕ → Option (List ℕ) → Bool
-may_trail line next = begins_blank line || is_numbered line || are_marks line || (not (length line == 0) && next_is_marks next)
+may_trail line next = begins_blank line || is_numbered line || are_marks line || is_fix line || wraps line next || (not (length line == 0) && next_is_marks next)
 
--- a line belongs to the finding before it
-abbrev pub in_trail : List ShapeParts → List ℕ → Option (List ℕ) → Bool
-in_trail shapes line next = may_trail line next && is_kept (begun shapes line next).sort
+abbrev pub is_note : Option FindingParts → Bool
+is_note None = false
+is_note (Some finding) = finding.says.aside && is_none finding.says.code
 
-abbrev pub trail_len : List ShapeParts → List (List ℕ) → ℕ
-trail_len shapes [] = 0
-trail_len shapes (line ∷ lines) = if in_trail shapes line (head lines) then 1 + trail_len shapes lines else 0
+-- a note begins at a line, whatever follows
+abbrev pub begins_note : List ShapeParts → Option (List ℕ) → Bool
+begins_note shapes None = false
+begins_note shapes (Some line) = is_note (begun shapes line None).finding
+
+-- a line says how gcc and clang came to the file of the note on the next line
+abbrev pub leads_to_note : List ShapeParts → List ℕ → Option (List ℕ) → Bool
+leads_to_note shapes line next = is_include line && begins_note shapes next
+
+-- a line belongs to the finding before it; `apart`: an empty line may part the finding's line from it
+abbrev pub in_trail : List ShapeParts → Bool → List ℕ → Option (List ℕ) → Bool
+in_trail shapes apart line next = (may_trail line next || leads_to_note shapes line next || (apart && stands_apart line next)) && is_kept (begun shapes line next).sort
+
+abbrev pub trail_len : List ShapeParts → Bool → List (List ℕ) → ℕ
+trail_len shapes apart [] = 0
+trail_len shapes apart (line ∷ lines) = if in_trail shapes apart line (head lines) then 1 + trail_len shapes apart lines else 0
 
 -- how many lines there are before an empty one, or one whose place stands below
 abbrev pub announced_len : List (List ℕ) → ℕ
@@ -197,7 +243,8 @@ behind shapes Kept lines = 0
 behind shapes Heading lines = 0
 behind shapes Below lines = 0
 behind shapes Announced lines = behind_arrow lines
-behind shapes Inline lines = trail_len shapes lines
+behind shapes Inline lines = trail_len shapes false lines
+behind shapes Spaced lines = trail_len shapes true lines
 
 abbrev pub piece_of : Option FindingParts → BegunParts → ℕ → PieceParts
 piece_of (Some finding) begun count = record { lines = 1; begun = record { sort = Below; finding = Some finding } }
@@ -223,6 +270,7 @@ name_behind Below name lines = name
 name_behind Kept name lines = None
 name_behind Announced name lines = None
 name_behind Inline name lines = None
+name_behind Spaced name lines = None
 
 -- a piece begins with the first of these lines
 pub record IsPiece (shapes : List ShapeParts) (name : Option (List ℕ)) (lines : List (List ℕ)) (p : PieceParts) : Type 0 where

@@ -1,8 +1,11 @@
 -- Lines that belong to others: marks, gutters, and what is indented.
-use Rattle.std.specs.Prelude.{ℕ, ◌+◌, ◌==◌, ◌&&◌, ◌||◌, not, nat_le, nat_lt, if◌then◌else◌, Bool, false, List, [], ◌∷◌, length, drop, slice_index, Option, Some, None}
-use Rattle.std.specs.List.{prefix_len, list_all, list_any}
+use Rattle.std.specs.Prelude.{ℕ, ◌+◌, ◌-◌, ◌==◌, ◌&&◌, ◌||◌, not, nat_eq, nat_le, nat_lt, if◌then◌else◌, Bool, false, List, [], ◌∷◌, length, take, drop, slice_index, Option, Some, None, codes}
+use Rattle.std.specs.List.{prefix_len, list_all, list_any, starts_with}
 use Rattle.line_shapes.specs.declared.bytes.Kind.TheVariants.{Blank, Digit, Space}
 use Rattle.line_shapes.specs.Bytes.{is_in}
+use Rattle.line_shapes.specs.Part.{before}
+use Rattle.line_shapes.specs.Said.{code_behind, said}
+use Rattle.std.specs.Option.{is_some, option_and_then}
 
 abbrev pub begins_blank : List ℕ → Bool
 begins_blank [] = false
@@ -48,3 +51,50 @@ are_marks line = marks_behind line (gutter line)
 -- a line is indented text, and no marks
 abbrev pub is_text : List ℕ → Bool
 is_text line = begins_blank line && nat_lt (prefix_len (is_in Blank) line) (length line) && not (are_marks line)
+
+-- an edit, as gcc and clang print it below a finding: `fix-it:"a.c":{5:8-5:14}:"color"`
+abbrev pub is_fix : List ℕ → Bool
+is_fix line = starts_with nat_eq line (codes "fix-it:\"")
+
+-- how gcc and clang came to a file: `In file included from a.c:1:`
+abbrev pub is_include : List ℕ → Bool
+is_include line = starts_with nat_eq line (codes "In file included from ")
+
+-- a code has two blanks between it and the text before it
+abbrev pub is_apart : List ℕ → Option (List ℕ × List ℕ) → Bool
+is_apart line None = false
+is_apart line (Some parts) = nat_le (length parts.1 + 4) (length line - length parts.0)
+
+-- a line of more than brackets that begins with one and ends with one
+abbrev pub is_boxed : List ℕ → Bool
+is_boxed [] = false
+is_boxed (x ∷ []) = false
+is_boxed (x ∷ (y ∷ rest)) = x == 0x5B && (slice_index (y ∷ rest) (length (y ∷ rest) - 1) == 0x5D)
+
+-- a line is the end of a message: it has a code at its end, two blanks before it or nothing
+abbrev pub ends_message : List ℕ → Bool
+ends_message line = is_boxed line || is_apart line (code_behind false line)
+
+abbrev pub is_deep : Option (List ℕ) → Bool
+is_deep None = false
+is_deep (Some next) = starts_with nat_eq next (codes "    ")
+
+-- a line goes on with the message of the line before it, and a row follows, as `mypy --pretty` prints it
+abbrev pub wraps : List ℕ → Option (List ℕ) → Bool
+wraps line next = ends_message line && is_deep next
+
+-- a line begins with a blank, or with a number and a blank, as rows of a source do
+abbrev pub is_row : List ℕ → Bool
+is_row line = let digits = prefix_len (is_in Digit) line in begins_blank line || (nat_le 1 digits && is_in Blank (slice_index line digits))
+
+abbrev pub row_follows : Option (List ℕ) → Bool
+row_follows None = false
+row_follows (Some next) = is_row next
+
+-- a line has a message with a level word before it
+abbrev pub says_level : List ℕ → Bool
+says_level line = is_some (option_and_then (λ it. it.0.severity) (said (before line)))
+
+-- a line belongs to a finding from which an empty line parts it: an empty line above a row, a row, or a message with its level
+abbrev pub stands_apart : List ℕ → Option (List ℕ) → Bool
+stands_apart line next = if length line == 0 then row_follows next else is_row line || says_level line

@@ -9,6 +9,7 @@ ghost use Rattle.tool_lines.specs.Columns.{column as first_column, is_gap as is_
 ghost use Rattle.tool_lines.specs.Columns.{opens_gap as gap_opens};
 ghost use Rattle.tool_lines.specs.Columns.{is_parting as is_parting_there};
 ghost use Rattle.tool_lines.specs.Columns.{parting as first_parting};
+ghost use Rattle.tool_lines.specs.Columns.{unparenthesized as without_parentheses};
 ghost use Rattle.tool_lines.specs.Columns.{with_column as with_last_column};
 
 use line_shapes::bytes::{Kind, is_in, run};
@@ -23,7 +24,7 @@ pub fn with_column<'a>(says: Statement<'a>) -> Statement<'a>
         Some(_) => says,
         None => match gap(says.message) {
             Some(at) => Statement {
-                code: Some(column(behind_gap(says.message, at))),
+                code: Some(unparenthesized(column(behind_gap(says.message, at)))),
                 message: &says.message[..at],
                 ..says
             },
@@ -39,6 +40,16 @@ fn column(text: &[u8]) -> &[u8]
     match parting(text) {
         Some(at) => &text[..at],
         None => text,
+    }
+}
+
+/// A code without the parentheses around it.
+fn unparenthesized(text: &[u8]) -> &[u8]
+    ensures { result.now ≡ without_parentheses text.now }
+{
+    match text {
+        [b'(', inner @ .., b')'] if !inner.is_empty() => inner,
+        _ => text,
     }
 }
 

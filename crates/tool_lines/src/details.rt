@@ -12,12 +12,13 @@ ghost use Rattle.tool_lines.specs.Details.{inline_by, inline_details as inline_d
 ghost use Rattle.tool_lines.specs.Details.{is_bare as is_bare_line, marks_from, note_of as note_in};
 ghost use Rattle.tool_lines.specs.Details.{is_small as small_letter, note_text as text_of_note};
 ghost use Rattle.tool_lines.specs.Details.{plain_text as text_of_plain};
-ghost use Rattle.tool_lines.specs.Details.{symbol_text as text_of_symbol};
+ghost use Rattle.tool_lines.specs.Details.{is_drawn as drawn, symbol_text as text_of_symbol};
+ghost use Rattle.tool_lines.specs.Details.{unrowed_text as text_of_unrowed};
 ghost use Rattle.tool_lines.specs.Details.{unequalled as without_equals, unled as without_lead};
 
 use crate::lines::Sort;
-use crate::marks::{are_marks, gutter};
-use line_shapes::bytes::{Kind, run, trimmed};
+use crate::marks::{are_marks, gutter, is_fix};
+use line_shapes::bytes::{Kind, byte_at, is_in, run, trimmed};
 use std::alloc::{AllocError, Global};
 
 /// Which lines add something, and what.
@@ -29,6 +30,8 @@ pub enum Way {
     Symbol,
     /// Each line that is a note or a help: its text.
     Noted,
+    /// Each line that isn't drawn: its text.
+    Unrowed,
 }
 
 /// What the lines after the first one of a block add to its finding.
@@ -47,6 +50,7 @@ pub fn details<'a>(
 {
     match sort {
         Sort::Inline => inline_details(alloc, lines),
+        Sort::Spaced => collect(Vec::new(alloc), Way::Unrowed, lines),
         Sort::Announced => match lines {
             [_, rest @ ..] => collect(Vec::new(alloc), Way::Noted, rest),
             [] => Ok(Vec::new(alloc)),
@@ -169,14 +173,32 @@ fn detail(way: Way, line: &[u8]) -> Option<&[u8]>
         Way::Plain => plain_text(line),
         Way::Symbol => symbol_text(line),
         Way::Noted => note_text(line),
+        Way::Unrowed => unrowed_text(line),
     }
+}
+
+fn unrowed_text(line: &[u8]) -> Option<&[u8]>
+    ensures { option_copied result ≡ text_of_unrowed line.now }
+{
+    if is_drawn(line) {
+        None
+    } else {
+        plain_text(line)
+    }
+}
+
+/// Whether a line has a gutter, begins with a number, or is markers.
+fn is_drawn(line: &[u8]) -> bool
+    ensures { result ≡ drawn line.now }
+{
+    are_marks(line) || gutter(line).is_some() || is_in(Kind::Digit, byte_at(unled(line), 0))
 }
 
 fn plain_text(line: &[u8]) -> Option<&[u8]>
     ensures { option_copied result ≡ text_of_plain line.now }
 {
     let text = trimmed(unled(line));
-    if text.is_empty() || is_bare(line) {
+    if text.is_empty() || is_bare(line) || is_fix(line) {
         None
     } else {
         Some(text)
@@ -214,12 +236,14 @@ fn note_text(line: &[u8]) -> Option<&[u8]>
     note_of(unequalled(line))
 }
 
-/// A line without blanks and `= ` at its beginning.
+/// A line without blanks and `= `, `├ ` or `╰ ` at its beginning.
 fn unequalled(line: &[u8]) -> &[u8]
     ensures { result.now ≡ without_equals line.now }
 {
     match unled(line) {
         [b'=', b' ', rest @ ..] => rest,
+        [0xE2, 0x94, 0x9C, b' ', rest @ ..] => rest,
+        [0xE2, 0x95, 0xB0, b' ', rest @ ..] => rest,
         _ => line,
     }
 }
@@ -249,7 +273,7 @@ pub fn caret(sort: Sort, lines: &[&[u8]]) -> Option<usize>
 {
     match sort {
         Sort::Inline => caret_below(lines),
-        Sort::Kept | Sort::Heading | Sort::Below | Sort::Announced => None,
+        Sort::Kept | Sort::Heading | Sort::Below | Sort::Announced | Sort::Spaced => None,
     }
 }
 

@@ -1,14 +1,20 @@
 //! What begins at a line, and the blocks of a text: runs of its lines.
-ghost use Rattle.std.specs.Prelude.{◌≡◌, ◌≤◌, ◌+◌, ◌∷◌, ◌++◌, [], drop, Some, None, IfOk};
+ghost use Rattle.std.specs.Prelude.{◌≡◌, ◌≤◌, ◌+◌, ◌∷◌, ◌++◌, ◌||◌, ◌&&◌, [], drop, Some, None, IfOk};
 ghost use Rattle.std.specs.Prelude.{option_map, option_and_then, map, length};
 ghost use Rattle.std.specs.Option.{option_copied, is_some};
 ghost use Rattle.line_shapes.specs.Part.{seen};
-ghost use Rattle.line_shapes.specs.Place.{placed as placed_parts};
+ghost use Rattle.line_shapes.specs.Place.{place as place_there, placed as placed_parts};
 ghost use Rattle.line_shapes.specs.Shape.{shape_parts};
 ghost use Rattle.tool_lines.specs.Lines.{ArePieces, lines_behind, lines_left, lines_of as lines_in};
 ghost use Rattle.tool_lines.specs.Lines.{announced as announced_there};
 ghost use Rattle.tool_lines.specs.Lines.{announced_by as announced_pair};
 ghost use Rattle.tool_lines.specs.Lines.{announced_len as announced_length, bare as bare_there};
+ghost use Rattle.tool_lines.specs.Lines.{arrow as arrow_in, first_arrow as arrow_among};
+ghost use Rattle.tool_lines.specs.Lines.{begins_note as note_begins, is_note as stands_as_note};
+ghost use Rattle.tool_lines.specs.Lines.{leads_to_note, other_arrow as other_arrow_in};
+ghost use Rattle.tool_lines.specs.Lines.{first_place as place_among, parted as parted_there};
+ghost use Rattle.tool_lines.specs.Lines.{inline_sort as sort_of_inline};
+ghost use Rattle.tool_lines.specs.Marks.{stands_apart as comes_apart};
 ghost use Rattle.tool_lines.specs.Lines.{behind as behind_there, below as below_there};
 ghost use Rattle.tool_lines.specs.Lines.{below_at as below_name, begun as begun_there, begun_parts};
 ghost use Rattle.tool_lines.specs.Lines.{coded_below as coded_there, finding_from, finding_parts};
@@ -24,7 +30,9 @@ ghost use Rattle.tool_lines.specs.Lines.{trail_len as trail_length, uncoloned as
 ghost use Rattle.tool_lines.specs.Lines.{whole_among as whole_in, without_cr as without_last_cr};
 
 use crate::columns::with_column;
-use crate::marks::{are_marks, begins_blank, is_numbered, is_text};
+use crate::marks::{
+    are_marks, begins_blank, is_fix, is_include, is_numbered, is_text, stands_apart, wraps,
+};
 use crate::speaks::speaks;
 use line_shapes::bytes::{Kind, before_last, end_run};
 use line_shapes::name::NameKind;
@@ -32,7 +40,7 @@ use line_shapes::part::{Found, Part, begins};
 use line_shapes::place::{Placed, has_figure, place};
 use line_shapes::said::{Statement, meant, said, whole};
 use line_shapes::shape::{Shape, first_own, named};
-use line_shapes::tables::{ANNOUNCED, ARROW, ARROW_PLACE, BARE, Manner, UNDER};
+use line_shapes::tables::{ANNOUNCED, ARROW, ARROW_PLACE, ARROWS, BARE, Manner, PLACES, UNDER};
 use memchr::memchr;
 use std::alloc::{AllocError, Global};
 
@@ -58,6 +66,8 @@ pub enum Sort {
     Announced,
     /// A finding whose location is before its message.
     Inline,
+    /// The same; an empty line may part it from its drawing, or from its message below.
+    Spaced,
 }
 
 /// What begins at a line, with its finding.
@@ -187,7 +197,7 @@ fn next_name<'a>(name: Option<&'a [u8]>, sort: Sort, lines: &[&'a [u8]]) -> Opti
             [] => None,
         },
         Sort::Below => name,
-        Sort::Kept | Sort::Announced | Sort::Inline => None,
+        Sort::Kept | Sort::Announced | Sort::Inline | Sort::Spaced => None,
     }
 }
 
@@ -243,19 +253,20 @@ fn behind(shapes: &[Shape<'_>], sort: Sort, lines: &[&[u8]]) -> usize
             [_, rest @ ..] => 1 + announced_len(rest),
             [] => 0,
         },
-        Sort::Inline => trail_len(shapes, lines),
+        Sort::Inline => trail_len(shapes, false, lines),
+        Sort::Spaced => trail_len(shapes, true, lines),
     }
 }
 
 /// How many of these lines trail a finding.
-fn trail_len(shapes: &[Shape<'_>], mut lines: &[&[u8]]) -> usize
+fn trail_len(shapes: &[Shape<'_>], apart: bool, mut lines: &[&[u8]]) -> usize
     ensures value { result
-        ≡ trail_length (map shape_parts shapes.now) (map (λ line. line.now) lines.entry.now) }
+        ≡ trail_length (map shape_parts shapes.now) apart (map (λ line. line.now) lines.entry.now) }
     ensures within { result ≤ length lines.entry.now }
 {
     let mut count = 0;
     while let [first, rest @ ..] = lines {
-        if !in_trail(shapes, first, first_of(rest)) {
+        if !in_trail(shapes, apart, first, first_of(rest)) {
             return count;
         }
         count += 1;
@@ -280,20 +291,55 @@ fn announced_len(mut lines: &[&[u8]]) -> usize
     count
 }
 
-/// Whether a line, before this next one, is in the trail of the lines above.
-pub fn in_trail(shapes: &[Shape<'_>], line: &[u8], next: Option<&[u8]>) -> bool
-    ensures { result ≡ trails (map shape_parts shapes.now) line.now (option_copied next.entry) }
+/// Whether a line, before this next one, is in the trail of the lines above. With `apart`, an empty
+/// line may part them.
+pub fn in_trail(shapes: &[Shape<'_>], apart: bool, line: &[u8], next: Option<&[u8]>) -> bool
+    ensures { result
+        ≡ trails (map shape_parts shapes.now) apart line.now (option_copied next.entry) }
 {
-    may_trail(line, next) && matches!(what_begins(shapes, line, next).sort, Sort::Kept)
+    looks_trailing(shapes, apart, line, next)
+        && matches!(what_begins(shapes, line, next).sort, Sort::Kept)
 }
 
 /// Whether it looks like that.
+fn looks_trailing(shapes: &[Shape<'_>], apart: bool, line: &[u8], next: Option<&[u8]>) -> bool
+    ensures { result ≡ (may_trail_there line.now (option_copied next.entry)
+        || leads_to_note (map shape_parts shapes.now) line.now (option_copied next.entry)
+        || (apart && comes_apart line.now (option_copied next.entry))) }
+{
+    may_trail(line, next)
+        || is_include(line) && begins_note(shapes, next)
+        || apart && stands_apart(line, next)
+}
+
+/// Whether a note begins at a line, whatever follows.
+fn begins_note(shapes: &[Shape<'_>], line: Option<&[u8]>) -> bool
+    ensures { result ≡ note_begins (map shape_parts shapes.now) (option_copied line.entry) }
+{
+    match line {
+        Some(line) => is_note(what_begins(shapes, line, None).finding),
+        None => false,
+    }
+}
+
+fn is_note(finding: Option<Finding<'_>>) -> bool
+    ensures { result ≡ stands_as_note (option_map finding_parts finding.entry) }
+{
+    match finding {
+        Some(finding) => finding.says.aside && finding.says.code.is_none(),
+        None => false,
+    }
+}
+
+/// The same without the lines that lead to a note.
 fn may_trail(line: &[u8], next: Option<&[u8]>) -> bool
     ensures { result ≡ may_trail_there line.now (option_copied next.entry) }
 {
     begins_blank(line)
         || is_numbered(line)
         || are_marks(line)
+        || is_fix(line)
+        || wraps(line, next)
         || !line.is_empty() && is_before_marks(next)
 }
 
@@ -329,12 +375,15 @@ fn is_plain(line: &[u8], next: Option<&[u8]>) -> bool
     !has_figure(line) && !is_placing(next)
 }
 
-/// Whether a line may have the location of the line above, judged by how it begins.
+/// Whether a line may have the location of the line above, judged by how it begins, or is another
+/// arrow.
 fn is_placing(next: Option<&[u8]>) -> bool
     ensures { result ≡ places (option_copied next.entry) }
 {
     match next {
-        Some(next) => begins(&ARROW, uncoloned(next)) || begins(&UNDER, next),
+        Some(next) => {
+            begins(&ARROW, uncoloned(next)) || begins(&UNDER, next) || other_arrow(next).is_some()
+        }
         None => false,
     }
 }
@@ -360,7 +409,7 @@ fn begun_at<'a>(shapes: &[Shape<'_>], line: &'a [u8], next: Option<&'a [u8]>) ->
     }
     match inline(shapes, line, next) {
         Some(finding) => Begun {
-            sort: Sort::Inline,
+            sort: inline_sort(finding.place.found.apart),
             finding: Some(finding),
         },
         None => Begun {
@@ -386,12 +435,50 @@ pub fn announced<'a>(line: &'a [u8], next: Option<&'a [u8]>) -> Option<Finding<'
 fn announced_by<'a>(line: &'a [u8], next: &'a [u8]) -> Option<Finding<'a>>
     ensures { option_map finding_parts result ≡ announced_pair line.entry.now next.entry.now }
 {
-    let place = named(&ARROW, NameKind::Any, &ARROW_PLACE, uncoloned(next))?;
+    let place = arrow(next)?;
     let found = whole_among(&ANNOUNCED, Found::before(line))?;
     Some(Finding {
         place,
         says: meant(found, Manner::Plain),
     })
+}
+
+/// The location in a line that is an arrow.
+fn arrow(line: &[u8]) -> Option<Placed<'_>>
+    ensures { option_map placed_parts result ≡ arrow_in line.now }
+{
+    match named(&ARROW, NameKind::Any, &ARROW_PLACE, uncoloned(line)) {
+        Some(place) => Some(place),
+        None => other_arrow(line),
+    }
+}
+
+/// The location in a line that is an arrow other than `-->`. A line that has a location before its
+/// message is none.
+#[tactic(auto, unfolding(crate::specs::Lines::arrows))]
+fn other_arrow(line: &[u8]) -> Option<Placed<'_>>
+    ensures { option_map placed_parts result ≡ other_arrow_in line.now }
+{
+    let there = first_arrow(&ARROWS, line)?;
+    if place(line).is_some() {
+        None
+    } else {
+        Some(there)
+    }
+}
+
+/// The location of the first of these arrows that a line is.
+fn first_arrow<'a>(mut rows: &[(&str, &[Part], &[Part])], line: &'a [u8]) -> Option<Placed<'a>>
+    ensures { option_map placed_parts result
+        ≡ arrow_among (map (λ row. (row.1.now, row.2.now)) rows.entry.now) line.now }
+{
+    while let [row, rest @ ..] = rows {
+        if let Some(place) = named(row.1, NameKind::Any, row.2, line) {
+            return Some(place);
+        }
+        rows = rest;
+    }
+    None
 }
 
 /// A line without a colon at its end.
@@ -459,8 +546,55 @@ fn inline<'a>(shapes: &[Shape<'_>], line: &'a [u8], next: Option<&[u8]>) -> Opti
             place,
             says: meant(place.found, Manner::Plain),
         }),
-        None => told(place(line)?, line, is_above_text(next)),
+        None => match told_in(line, is_above_text(next)) {
+            Some(finding) => Some(finding),
+            None => parted(line),
+        },
     }
+}
+
+/// The kind of a finding with its location before its message.
+fn inline_sort(apart: bool) -> Sort
+    ensures { result ≡ sort_of_inline apart }
+{
+    if apart { Sort::Spaced } else { Sort::Inline }
+}
+
+/// The finding of a line with a location and more.
+fn told_in<'a>(line: &'a [u8], below: bool) -> Option<Finding<'a>>
+    ensures { option_map finding_parts result
+        ≡ option_and_then (told_by below line.entry.now) (place_there line.entry.now) }
+{
+    told(place(line)?, line, below)
+}
+
+/// The finding of a line with nothing but a location.
+#[tactic(auto, unfolding(crate::specs::Lines::places))]
+fn parted<'a>(line: &'a [u8]) -> Option<Finding<'a>>
+    ensures { option_map finding_parts result ≡ parted_there line.entry.now }
+{
+    let place = first_place(&PLACES, line)?;
+    Some(Finding {
+        place,
+        says: meant(place.found, Manner::Plain),
+    })
+}
+
+/// The location of the first of these rows that a line is.
+fn first_place<'a>(
+    mut rows: &[(&str, &[Part], NameKind, &[Part])],
+    line: &'a [u8],
+) -> Option<Placed<'a>>
+    ensures { option_map placed_parts result
+        ≡ place_among (map (λ row. (row.1.now, row.2, row.3.now)) rows.entry.now) line.now }
+{
+    while let [row, rest @ ..] = rows {
+        if let Some(place) = named(row.1, row.2, row.3, line) {
+            return Some(place);
+        }
+        rows = rest;
+    }
+    None
 }
 
 fn is_above_text(next: Option<&[u8]>) -> bool

@@ -1,14 +1,22 @@
 //! Lines that belong to others: markers, gutters, and indented lines.
 ghost use Rattle.std.specs.Prelude.{◌≡◌, ◌≤◌, IfSome, length};
+ghost use Rattle.std.specs.Option.{option_copied};
 ghost use Rattle.std.specs.List.{list_all, list_any};
 ghost use Rattle.tool_lines.specs.Marks.{are_marks as are_marks_there, body as body_of};
 ghost use Rattle.tool_lines.specs.Marks.{begins_blank as begins_with_blank, gutter as gutter_there};
 ghost use Rattle.tool_lines.specs.Marks.{is_caret as is_caret_byte, is_text as is_text_there};
 ghost use Rattle.tool_lines.specs.Marks.{is_mark_byte as is_mark_line_byte};
-ghost use Rattle.tool_lines.specs.Marks.{is_numbered as begins_numbered};
+ghost use Rattle.tool_lines.specs.Marks.{ends_message as message_ends, is_fix as is_fix_there};
+ghost use Rattle.tool_lines.specs.Marks.{is_boxed as stands_boxed, is_deep as deep};
+ghost use Rattle.tool_lines.specs.Marks.{is_include as includes, wraps as wraps_there};
+ghost use Rattle.tool_lines.specs.Marks.{is_numbered as begins_numbered, is_row as is_row_there};
+ghost use Rattle.tool_lines.specs.Marks.{row_follows as row_comes, says_level as level_said};
+ghost use Rattle.tool_lines.specs.Marks.{stands_apart as apart_there};
 ghost use Rattle.tool_lines.specs.Marks.{starts_marks as starts_as_marks};
 
-use line_shapes::bytes::{Kind, is_in, run};
+use line_shapes::bytes::{Kind, byte_at, is_in, run};
+use line_shapes::part::Found;
+use line_shapes::said::{code_behind, said};
 
 /// Whether a line begins with a blank.
 pub fn begins_blank(line: &[u8]) -> bool
@@ -101,4 +109,98 @@ pub fn is_text(line: &[u8]) -> bool
     ensures { result ≡ is_text_there line.now }
 {
     begins_blank(line) && run(Kind::Blank, line) < line.len() && !are_marks(line)
+}
+
+/// Whether a line is an edit, as gcc and clang print it below a finding:
+/// `fix-it:"a.c":{5:8-5:14}:"color"`.
+pub fn is_fix(line: &[u8]) -> bool
+    ensures { result ≡ is_fix_there line.now }
+{
+    line.starts_with(b"fix-it:\"")
+}
+
+/// Whether a line says how gcc and clang came to a file: `In file included from a.c:1:`.
+pub fn is_include(line: &[u8]) -> bool
+    ensures { result ≡ includes line.now }
+{
+    line.starts_with(b"In file included from ")
+}
+
+/// Whether a line goes on with the message of the line before it, and a row follows, as
+/// `mypy --pretty` prints it.
+pub fn wraps(line: &[u8], next: Option<&[u8]>) -> bool
+    ensures { result ≡ wraps_there line.now (option_copied next.entry) }
+{
+    ends_message(line) && is_deep(next)
+}
+
+fn is_deep(next: Option<&[u8]>) -> bool
+    ensures { result ≡ deep (option_copied next.entry) }
+{
+    match next {
+        Some(next) => next.starts_with(b"    "),
+        None => false,
+    }
+}
+
+/// Whether a line has a code at its end, two blanks before it or nothing.
+fn ends_message(line: &[u8]) -> bool
+    ensures { result ≡ message_ends line.now }
+{
+    if is_boxed(line) {
+        return true;
+    }
+    match code_behind(line, false) {
+        Some((front, code)) => code.len() + 4 <= line.len().saturating_sub(front.len()),
+        None => false,
+    }
+}
+
+/// Whether a line begins with an opening bracket and ends with a closing one.
+fn is_boxed(line: &[u8]) -> bool
+    ensures { result ≡ stands_boxed line.now }
+{
+    match line {
+        [first, .., last] => *first == b'[' && *last == b']',
+        _ => false,
+    }
+}
+
+/// Whether a line belongs to a finding from which an empty line parts it: an empty line above a
+/// row, a row, or a message with its level.
+pub fn stands_apart(line: &[u8], next: Option<&[u8]>) -> bool
+    ensures { result ≡ apart_there line.now (option_copied next.entry) }
+{
+    if line.is_empty() {
+        row_follows(next)
+    } else {
+        is_row(line) || says_level(line)
+    }
+}
+
+fn row_follows(next: Option<&[u8]>) -> bool
+    ensures { result ≡ row_comes (option_copied next.entry) }
+{
+    match next {
+        Some(next) => is_row(next),
+        None => false,
+    }
+}
+
+/// Whether a line begins with a blank, or with a number and a blank, as rows of a source do.
+fn is_row(line: &[u8]) -> bool
+    ensures { result ≡ is_row_there line.now }
+{
+    let digits = run(Kind::Digit, line);
+    begins_blank(line) || 1 <= digits && is_in(Kind::Blank, byte_at(line, digits))
+}
+
+/// Whether a line has a message with a level word before it.
+fn says_level(line: &[u8]) -> bool
+    ensures { result ≡ level_said line.now }
+{
+    match said(Found::before(line)) {
+        Some((found, _)) => found.severity.is_some(),
+        None => false,
+    }
 }

@@ -4,7 +4,7 @@ use Rattle.tool_lines.specs.Lines.{trail_len as trail_length}
 use Rattle.fed_lines.proofs.ends.trail_len.Given as goal
 
 abbrev pub invariant-loop-lines : goal.invariant-loop-lines
-invariant-loop-lines l = (l.count + length l.lines ≤ length l.initial.lines) × (l.count + trail_length (map shape_parts l.shapes) (map (λ line. line.items) l.lines) ≡ trail_length (map shape_parts l.shapes) (map (λ line. line.items) l.initial.lines))
+invariant-loop-lines l = (l.count + length l.lines ≤ length l.initial.lines) × (l.count + trail_length (map shape_parts l.shapes) l.apart (map (λ line. line.items) l.lines) ≡ trail_length (map shape_parts l.shapes) l.apart (map (λ line. line.items) l.initial.lines))
 
 abbrev pub decreases-loop-lines : goal.decreases-loop-lines
 decreases-loop-lines l = length l.lines
