@@ -13,7 +13,7 @@ use crate::form::annotates;
 use crate::kept::aside_text;
 use crate::reading::columns_of;
 use crate::walk::{Share, drawings, still};
-use ci_texts::{CiFormat, ci_text};
+use ci_texts::{CiFormat, ci_text_on};
 use girzohal_asked::Asked;
 use line_reports::{names_of, reports_of};
 use shown_reports::ShownSources;
@@ -88,7 +88,13 @@ fn written(
 {
     if annotates(asked.to) {
         let found = reports_of(alloc, lines, pieces, sources.indexed(), columns_of(asked))?;
-        let text = ci_text(alloc, CiFormat::Github, asked.raw, &found)?;
+        let text = ci_text_on(
+            alloc,
+            CiFormat::Github,
+            asked.raw,
+            &found,
+            sources.indexed(),
+        )?;
         let count = counted(asked, &found);
         Ok(Share { text, count })
     } else {
