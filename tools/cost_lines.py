@@ -3,13 +3,18 @@
 
 usage: cost_lines.py PROGRAM [MIB]       (crates/girzohal/out/girzohal after `rt run` there; 4 MiB by default)
        cost_lines.py --log MIB           (only writes such a build's output, the same bytes each time)
+       cost_lines.py --sources PROGRAM   (only what findings in sources cost, below)
 
 PROGRAM is run under callgrind on the output of a build without a finding, and on some with findings in 400 files, twice as many
 each time: the whole process, with reading the input and writing what is found as lines of problems. The first is also drawn, all of
-its lines being kept, without colors and with."""
+its lines being kept, without colors and with.
+
+Then findings in sources that are there are drawn, and written as annotations: 1,000 in one file of 1.4 MB, and 10,000 in 1,000 files.
+Each is counted as findings alone, with an ordinary line between each two, and with such lines that come one at a time."""
 import os
 import random
 import re
+import socket
 import subprocess
 import sys
 import tempfile
@@ -63,6 +68,16 @@ class Build:
         return "\n".join(lines) + "\n"
 
 
+    def sourced(self, count, paths, rows, between):
+        """Findings in these files, which have so many rows; perhaps with an ordinary line behind each."""
+        lines = []
+        for number in range(count):
+            lines.append(f"{paths[number % len(paths)]}:{self.random.randint(1, rows)}:5: warning: unused variable 'x' [-Wunused-variable]\n")
+            if between:
+                lines.append(self.line(number) + "\n")
+        return lines
+
+
 FOUND = ("--to", "problems", "--only-findings")
 
 
@@ -75,9 +90,48 @@ def counted(program, text, room, written=FOUND):
     return int(re.search(rb"Collected : ([0-9]+)", run.stderr)[1])
 
 
+def counted_as_it_comes(program, pieces, room, written):
+    """The same of an input that comes in these pieces: each of them is what one read gives."""
+    words = [program, "--from", "lines", *written, "--fail-on", "never", "--root", room]
+    writer, reader = socket.socketpair(socket.AF_UNIX, socket.SOCK_SEQPACKET)
+    with open(os.path.join(room, "count"), "w+b") as said:
+        run = subprocess.Popen(["valgrind", "--tool=callgrind", "--callgrind-out-file=/dev/null", *words], stdin=reader, stdout=subprocess.DEVNULL, stderr=said)
+        reader.close()
+        for piece in pieces:
+            writer.sendall(piece.encode())
+        writer.close()
+        if run.wait() != 0:
+            raise subprocess.CalledProcessError(run.returncode, words)
+        said.seek(0)
+        return int(re.search(rb"Collected : ([0-9]+)", said.read())[1])
+
+
+def chunks(text, size=60_000):
+    return [text[at:at + size] for at in range(0, len(text), size)]
+
+
+def print_sources(program):
+    for count, files, rows in ((1000, 1, 35_000), (10_000, 1000, 50)):
+        with tempfile.TemporaryDirectory() as room:
+            paths = [f"src_{number}.c" for number in range(files)]
+            for path in paths:
+                with open(os.path.join(room, path), "w", encoding="utf-8") as it:
+                    it.write("    int x = compute_it(1, 2, 3, 4, 5);\n" * rows)
+            for name, written in (("drawn", ("--theme", "unicode_nocolor")), ("--to github", ("--to", "github"))):
+                bare = counted_as_it_comes(program, chunks("".join(Build().sourced(count, paths, rows, False))), room, written)
+                lines = Build().sourced(count, paths, rows, True)
+                between = counted_as_it_comes(program, chunks("".join(lines)), room, written)
+                slow = counted_as_it_comes(program, lines, room, written)
+                print(f"{count:,} findings in {files:,} files, {name}: {bare / 1e6:,.1f} million instructions; with lines between {between / 1e6:,.1f}"
+                      f" ({between / bare:.2f}); one line at a time {slow / 1e6:,.1f} ({slow / between:.2f})")
+
+
 def main():
     if len(sys.argv) < 2:
         sys.exit(__doc__)
+    if sys.argv[1] == "--sources":
+        print_sources(sys.argv[2])
+        return
     if sys.argv[1] == "--log":
         sys.stdout.write(Build().clean(int(sys.argv[2]) << 20))
         return
@@ -93,6 +147,7 @@ def main():
             text = Build().findings(findings)
             count = counted(sys.argv[1], text, room)
             print(f"{findings:,} findings: {len(text):,} bytes, {count / 1e6:,.1f} million instructions, {count / findings:,.0f} a finding")
+    print_sources(sys.argv[1])
 
 
 if __name__ == "__main__":

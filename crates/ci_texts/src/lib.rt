@@ -1,11 +1,13 @@
 //! The findings of reports in one of the formats of `ci_formats`. Texts are sanitized, so that
 //! they can't drive a terminal, unless the caller asks for them raw.
 //!
-//! - [`ci_text`]: the text in any format.
+//! - [`ci_text`]: the text in any format; [`ci_text_on`]: the same, by indexes that were made
+//!   before.
 //! - [`gitlab_text`]: GitLab's, which names the tool if a finding has no code.
 #![tactic(auto)]
 
+mod indexed;
 mod shown;
 
 pub use ci_formats::CiFormat;
-pub use shown::{ci_text, gitlab_text};
+pub use shown::{ci_text, ci_text_on, gitlab_text};

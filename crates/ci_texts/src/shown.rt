@@ -2,14 +2,18 @@
 ghost use Rattle.std.specs.Prelude.{◌≡◌, IfOk, map, string_bytes};
 ghost use Rattle.std.specs.Option.{option_copied};
 ghost use Rattle.ci_findings.specs.Finding.{finding_parts};
+ghost use Rattle.found_reports.specs.Listed.{held_in};
+ghost use Rattle.indexed_sources.specs.Indexed.{AreTold};
 ghost use Rattle.ci_texts.specs.Texts.{ci_text as ci_text_of, findings_in};
 ghost use Rattle.ci_texts.specs.Texts.{gitlab_text as gitlab_text_of};
 ghost use Rattle.ci_texts.specs.Texts.{shown_finding as finding_shown};
 
+use crate::indexed::findings_on;
 use ci_findings::{Finding, findings_of};
 use ci_formats::{CiFormat, text_in};
 use found_reports::FoundReports;
 use harmless::Kind;
+use indexed_sources::IndexedSources;
 use shown_reports::{shown_if, shown_text};
 use std::alloc::{AllocError, Global};
 
@@ -28,6 +32,28 @@ pub fn ci_text(
     ensures { IfOk result (λ text. string_bytes text ≡ ci_text_of format raw found.now.found) }
 {
     let shown = findings(alloc, raw, found)?;
+    text_in(alloc, format, &shown)
+}
+
+/// The same, by the indexes of the sources whose texts the reports' files have: no source is read
+/// again.
+///
+/// # Errors
+///
+/// Out of memory.
+#[tactic(auto, unfolding(crate::specs::Texts::ci_text))]
+pub fn ci_text_on(
+    alloc: Global,
+    format: CiFormat,
+    raw: bool,
+    found: &FoundReports<'_>,
+    sources: &IndexedSources,
+) -> Result<String, AllocError>
+    requires { AreTold (held_in sources.now.entries.items) found.now.files }
+    ensures { IfOk result (λ text. string_bytes text ≡ ci_text_of format raw found.now.found) }
+{
+    let findings = findings_on(alloc, found, sources)?;
+    let shown = shown_findings(alloc, raw, &findings)?;
     text_in(alloc, format, &shown)
 }
 

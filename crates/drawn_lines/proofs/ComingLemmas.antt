@@ -1,12 +1,9 @@
 -- What was drawn of the bytes so far, whatever comes behind them.
 use Rattle.std.proofs.Common.{◌≡◌, ℕ, ◌+◌, ◌≤◌, Bool, true, false, cond, List, [], ◌∷◌, ◌++◌, length, map, take, drop, Option, None, Result, Ok, Err, Vec, Global, All, refl, sym, ap, ap₂, ◌∙◌, subst, append_assoc, append-nil, arith}
 use Rattle.std.specs.Prelude.{IfOk, string_bytes}
-use Rattle.std.specs.List.{count_by, drop-map}
+use Rattle.std.specs.List.{drop-map}
 use Rattle.std.specs.Str.Lossy.{utf8_lossy}
-use Rattle.oxc_protocol.specs.declared.protocol.Severity.TheVariants.{Advice, Warning, Error}
 use Rattle.std.proofs.lemmas.List.{length-append, length-map, map-append, take-append-drop}
-use Rattle.std.proofs.lemmas.List.Sums.{sum_by-append}
-use Rattle.std.proofs.lemmas.List.Folds.{list_any-append}
 use Rattle.std.proofs.lemmas.List.Elements.{All-nil, All-cons, All-head, All-tail, All-append, All-same}
 use Rattle.found_reports.specs.Held.{Held}
 use Rattle.found_reports.specs.Found.{Found}
@@ -19,36 +16,24 @@ use Rattle.line_shapes.specs.Shape.{ShapeParts}
 use Rattle.tool_lines.specs.Lines.{ArePieces, PieceParts}
 use Rattle.line_reports.specs.Names.{names_in}
 use Rattle.line_reports.specs.Reports.{reports_in}
-use Rattle.report_counts.specs.Counted.{counts_of, is_of, reaches, severity_of}
 use Rattle.report_texts.specs.Texts.{ending_text}
 use Rattle.girzohal_options.specs.declared.Asked.{Asked}
 use Rattle.drawn_lines.specs.Text.{AreRead, came_of, came_to_come, lines_of, read_line, rest_to_come, to_come}
 use Rattle.drawn_lines.specs.Lines.{aside_text, columns_of, ending, shapes_of, still, written}
-use Rattle.drawn_lines.specs.Coming.{Agrees, Draws, GoesOn, IsComing, IsDrawn, Looks, Told, count_of, count_with, counts_with, ending_by, most_of, sources_of}
-use Rattle.drawn_lines.specs.Seam.{IsPart, IsSeam, all_open, span}
+use Rattle.drawn_lines.specs.Coming.{Agrees, Draws, GoesOn, IsComing, IsDrawn, Looks, Told, most_of, sources_of}
+use Rattle.drawn_lines.specs.Counts.{count_of, count_with, ending_by, no_count}
+use Rattle.drawn_lines.specs.Seam.{BarePieces, IsPart, IsSeam, all_open, span}
 use Rattle.drawn_lines.specs.declared.coming.Come.{Come}
 use Rattle.drawn_lines.specs.declared.held.HeldLines.{HeldLines}
 use Rattle.drawn_lines.specs.declared.seam.Part.{Part}
-use Rattle.drawn_lines.specs.declared.tally.Count.{Count}
+use Rattle.drawn_lines.specs.declared.count.Count.{Count}
 use Rattle.drawn_lines.specs.declared.tally.Tally.{Tally}
 use Rattle.drawn_lines.proofs.PlainLemmas.{lines_are}
 use Rattle.drawn_lines.proofs.LineLemmas.{aside_parted}
 use Rattle.drawn_lines.proofs.NameLemmas.{agreed_reports, agreed_text, named_append, named_names, names_named}
 use Rattle.drawn_lines.proofs.PartLemmas.{reports_parted, still_none, still_parts, text_parted}
-use Rattle.drawn_lines.proofs.SeamLemmas.{BarePieces, all_bare}
-
--- ---- counts
-
-count_append : {X : Type 0} (p : X → Bool) (xs ys : List X) → count_by p (xs ++ ys) ≡ count_by p xs + count_by p ys
-count_append p xs ys = sum_by-append (λ x. cond (p x) 1 0) xs ys
-
-counts_append : (fore bs : List Found) → counts_of (fore ++ bs) ≡ counts_with (counts_of fore) (counts_of bs)
-unfolding counts_of
-counts_append fore bs = rw (count_append (λ it. is_of Error (severity_of it)) fore bs, count_append (λ it. is_of Warning (severity_of it)) fore bs, count_append (λ it. is_of Advice (severity_of it)) fore bs) refl
-
-counted_append : (asked : Asked) (fore bs : List Found) → count_of asked (fore ++ bs) ≡ count_with (count_of asked fore) (count_of asked bs)
-counted_append asked fore bs =
-    rw (length-append fore bs, counts_append fore bs, list_any-append (λ it. reaches asked.fail_on (severity_of it)) fore bs) refl
+use Rattle.drawn_lines.proofs.CountLemmas.{counted_append, none_counted}
+use Rattle.drawn_lines.proofs.SeamLemmas.{all_bare}
 
 -- ---- names and what is held of them
 
@@ -81,10 +66,6 @@ given_more told given front ps a b =
 
 -- ---- nothing came
 
-none_counted : (asked : Asked) → count_of asked [] ≡ record { total = 0; counts = record { errors = 0; warnings = 0; notes = 0 }; reached = false }
-unfolding counts_of
-none_counted asked = refl
-
 whole_goes : (told : Told) (asked : Asked) (given : List ℕ → Held) (lines came left still_came : List (List ℕ)) (most : Option ℕ) (ps : List PieceParts)
     → left ≡ lines → still_came ≡ came → most ≡ asked.most → ArePieces (shapes_of asked) None left ps → GoesOn told asked given lines came [] [] [] most left still_came ps
 whole_goes told asked given lines came left still_came most ps lines_are came_are most_is are =
@@ -98,7 +79,7 @@ whole_goes told asked given lines came left still_came most ps lines_are came_ar
     }
 
 pub nothing_came : (told : Told) (asked : Asked) (held : HeldLines) (tally : Tally) → ((more : List ℕ) → came_to_come held more ≡ came_of more) → AreRead held
-    → tally.count ≡ record { total = 0; counts = record { errors = 0; warnings = 0; notes = 0 }; reached = false } → sources_of tally ≡ [] → IsComing told asked [] [] [] held tally
+    → tally.count ≡ no_count → sources_of tally ≡ [] → IsComing told asked [] [] [] held tally
 nothing_came told asked held tally comes read count none =
     record {
       found = [];

@@ -4,6 +4,7 @@ pub mod AsideLemmas
 pub mod SeamLemmas
 pub mod SoughtLemmas
 pub mod LineLemmas
+pub mod CountLemmas
 pub mod WalkLemmas
 pub mod PartLemmas
 pub mod NameLemmas

@@ -22,9 +22,9 @@ use Rattle.ci_formats.specs.declared.format.CiFormat.TheVariants as ci
 use Rattle.ci_texts.specs.Texts.{ci_text}
 use Rattle.girzohal_options.specs.declared.Asked.{Asked}
 use Rattle.drawn_lines.specs.Lines.{annotates, columns_of, has_colors, in_place, kept_if, shown_of, still, written}
-use Rattle.drawn_lines.specs.Seam.{all_open, opens, says_aside, span}
+use Rattle.drawn_lines.specs.Seam.{BarePieces, all_open, opens, says_aside, span}
 use Rattle.drawn_lines.proofs.LineLemmas.{take_within}
-use Rattle.drawn_lines.proofs.SeamLemmas.{BarePieces}
+use Rattle.drawn_lines.specs.Walk.{reports_placed}
 use Rattle.drawn_lines.proofs.SoughtLemmas.{span_push}
 
 -- ---- pieces with their lines, and what is shown of these
@@ -346,6 +346,50 @@ drawn_parted asked given most lines shown more rest front ps within room bare is
     ∙ ap₂ (λ a b. a ++ b) (sym (placed_from asked given most [] lines lines shown shown front refl refl))
     (ap (λ fs. text_from asked given (still most (length fs)) [] (parcels left later ps)) (sym (reports_are asked given lines shown front))
     ∙ sym (placed_from asked given (still most (length (reports_in (columns_of asked) given lines front))) [] left left later later ps refl refl))))
+
+-- ---- the reports of pieces, as they are drawn
+
+abbrev reports_from : Asked → (List ℕ → Held) → List Parcel → List Parcel → List Found
+reports_from asked given before [] = reports asked given before
+reports_from asked given before (q ∷ qs) =
+    if is_kept q.piece.begun.sort then reports asked given before ++ reports_from asked given [] qs else reports_from asked given (before ++ q ∷ []) qs
+
+gathered : (asked : Asked) (given : List ℕ → Held) (b qs : List Parcel) → Bares qs → reports_from asked given b qs ≡ reports asked given (b ++ qs)
+gathered asked given b [] bare = ap (reports asked given) (sym (append-nil b))
+gathered asked given b (q ∷ qs) bare =
+    elim (is_kept q.piece.begun.sort) as (λ v. is_kept q.piece.begun.sort ≡ v →
+    (if v then reports asked given b ++ reports_from asked given [] qs else reports_from asked given (b ++ q ∷ []) qs) ≡ reports asked given (b ++ q ∷ qs)) [
+      | true ↦ (λ e.
+          let none : q.piece.begun.finding ≡ None = bare.0 e in
+          ap (λ fs. reports asked given b ++ fs) (gathered asked given [] qs bare.1 ∙ sym (bare_reports asked given q qs none))
+          ∙ sym (reports_append asked given b (q ∷ qs) (open_starts q qs (bare_opens q.piece none))))
+      | false ↦ (λ e. gathered asked given (b ++ q ∷ []) qs bare.1 ∙ ap (reports asked given) (append_assoc b (q ∷ []) qs))
+    ] refl
+
+placed_parcels : (asked : Asked) (given : List ℕ → Held) (before : List PieceParts) (from lines : List (List ℕ)) (ps : List PieceParts) → lines ≡ drop (span before) from
+    → reports_placed asked given before from lines ps ≡ reports_from asked given (parcels from from before) (parcels lines lines ps)
+unfolding reports_placed
+placed_parcels asked given before from lines [] is = reports_are asked given from from before
+placed_parcels asked given before from lines (p ∷ ps) is =
+    let behind : List (List ℕ) = drop p.lines lines in
+    elim (is_kept p.begun.sort) as (λ v.
+    (if v then reports_in (columns_of asked) given from before ++ reports_placed asked given [] behind behind ps
+    else reports_placed asked given (before ++ p ∷ []) from behind ps)
+    ≡ (if v then reports asked given (parcels from from before) ++ reports_from asked given [] (parcels behind behind ps)
+    else reports_from asked given (parcels from from before ++ parcel p (take p.lines lines) (take p.lines lines) ∷ []) (parcels behind behind ps))) [
+      | true ↦ ap₂ (λ fore bs. fore ++ bs) (reports_are asked given from from before) (placed_parcels asked given [] behind behind ps refl)
+      | false ↦ placed_parcels asked given (before ++ p ∷ []) from behind ps (one_behind before p from lines is)
+          ∙ ap (λ qs. reports_from asked given qs (parcels behind behind ps))
+          (parcels_append from from before (p ∷ [])
+          ∙ ap₂ (λ ls ss. parcels from from before ++ parcel p (take p.lines ls) (take p.lines ss) ∷ []) (sym is) (sym is))
+    ]
+
+-- they are the reports of all
+pub all_placed : (asked : Asked) (given : List ℕ → Held) (lines : List (List ℕ)) (ps : List PieceParts) → BarePieces ps
+    → reports_placed asked given [] lines lines ps ≡ reports_in (columns_of asked) given lines ps
+all_placed asked given lines ps bare =
+    placed_parcels asked given [] lines lines ps refl
+    ∙ (gathered asked given [] (parcels lines lines ps) (bare_parcels lines lines ps bare) ∙ sym (reports_are asked given lines lines ps))
 
 -- ---- what is written of them
 

@@ -9,7 +9,7 @@ use Rattle.tool_lines.specs.declared.lines.Sort.TheVariants.{Kept, Heading, Belo
 use Rattle.tool_lines.specs.Lines.{ArePieces, BegunParts, FindingParts, PieceParts, announced, begun, begun_of, behind, below_at, head, inline, inline_sort, is_heading, is_kept, name_behind, piece, piece_of}
 use Rattle.fed_lines.specs.Feed.{ends_at, known_piece}
 use Rattle.fed_lines.proofs.FeedLemmas.{held_few, known_by_end, known_first, known_name, piece_some}
-use Rattle.drawn_lines.specs.Seam.{EndsKnown, IsEnd, IsGap, IsPart, OpensAlways, all_open, closes, ends_closed, opens, span}
+use Rattle.drawn_lines.specs.Seam.{BarePieces, EndsKnown, IsEnd, IsGap, IsPart, OpensAlways, all_open, closes, ends_closed, opens, span}
 use Rattle.drawn_lines.specs.declared.seam.Part.{Part}
 use Rattle.drawn_lines.proofs.SoughtLemmas.{closed_push}
 
@@ -99,11 +99,6 @@ behind_are shapes name lines [] back are = are
 behind_are shapes name lines (p ∷ front) back are =
     subst (λ ls. ArePieces shapes (name_after name lines (p ∷ front)) ls back) (drop-drop (span front) p.lines lines)
     (behind_are shapes (name_behind p.begun.sort name lines) (drop p.lines lines) front back are.1)
-
--- what is kept has no finding
-abbrev pub BarePieces : List PieceParts → Type 0
-BarePieces [] = ⊤
-BarePieces (p ∷ ps) = (is_kept p.begun.sort ≡ true → p.begun.finding ≡ None) × BarePieces ps
 
 never_kept : (apart : Bool) → is_kept (inline_sort apart) ≡ false
 never_kept true = refl

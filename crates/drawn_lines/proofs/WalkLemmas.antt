@@ -1,14 +1,20 @@
 -- One step of a walk over pieces.
-use Rattle.std.proofs.Common.{◌≡◌, ℕ, true, false, List, [], ◌∷◌, ◌++◌, length, map, take, drop, take_all, min, Option, Some, None, Bor, arith, refl, sym, ap, ap₂, ◌∙◌, append_assoc}
+use Rattle.std.proofs.Common.{◌≡◌, ℕ, ◌-◌, ◌≤◌, get_or, true, false, List, [], ◌∷◌, ◌++◌, length, map, take, drop, take_all, min, Option, Some, None, Bor, arith, refl, sym, ap, ap₂, ◌∙◌, append_assoc}
 use Rattle.std.specs.List.{drop-map}
-use Rattle.std.proofs.lemmas.List.{map-append, take-map}
+use Rattle.std.proofs.lemmas.List.{map-append, take-map, take_rest}
 use Rattle.found_reports.specs.Held.{Held}
 use Rattle.found_reports.specs.Found.{Found}
 use Rattle.tool_lines.specs.declared.lines.Piece.{Piece}
 use Rattle.tool_lines.specs.Lines.{PieceParts, piece_parts, is_kept}
 use Rattle.line_reports.specs.Reports.{reports_in}
-use Rattle.report_texts.specs.Texts.{drawings, first_drawings, handler_of}
+use Rattle.found_reports.specs.declared.sources.Source.{Source}
+use Rattle.report_texts.specs.Runs.{DrawnOn, drawn_on}
+use Rattle.report_texts.specs.Texts.{drawings, drawn_count, first_drawings, handler_of}
 use Rattle.girzohal_options.specs.declared.Asked.{Asked}
+use Rattle.drawn_lines.specs.Counts.{count_of, count_with}
+use Rattle.drawn_lines.specs.Walk.{reports_placed}
+use Rattle.drawn_lines.specs.declared.count.Count.{Count}
+use Rattle.drawn_lines.proofs.CountLemmas.{counted_next}
 use Rattle.drawn_lines.specs.Lines.{columns_of, has_colors, in_place, kept_if, reports_before, still}
 
 in_place_kept : (asked : Asked) (given : List ℕ → Held) (most : Option ℕ) (before : List PieceParts) (from lines shown : List (List ℕ)) (piece : PieceParts) (pieces : List PieceParts)
@@ -109,3 +115,70 @@ pub finish_is : (asked : Asked) (given : List ℕ → Held) (most : Option ℕ) 
 finish_is asked given most text drawn before from left shown found found_is drawn_is =
     drawn_is ∙ ap (λ fs. text ++ first_drawings asked most fs) found_is
     ∙ ap (λ t. text ++ t) (sym (placed_last asked given most (map piece_parts before) (texts_of from) (texts_of left) (texts_of shown)))
+
+-- ---- how many reports there are
+
+placed_kept : (asked : Asked) (given : List ℕ → Held) (before : List PieceParts) (from lines : List (List ℕ)) (piece : PieceParts) (pieces : List PieceParts)
+    → is_kept piece.begun.sort ≡ true
+    → reports_placed asked given before from lines (piece ∷ pieces)
+    ≡ reports_before asked given from before ++ reports_placed asked given [] (drop piece.lines lines) (drop piece.lines lines) pieces
+unfolding reports_placed
+placed_kept asked given before from lines piece pieces is = rw is refl
+
+placed_passed : (asked : Asked) (given : List ℕ → Held) (before : List PieceParts) (from lines : List (List ℕ)) (piece : PieceParts) (pieces : List PieceParts)
+    → is_kept piece.begun.sort ≡ false
+    → reports_placed asked given before from lines (piece ∷ pieces) ≡ reports_placed asked given (before ++ piece ∷ []) from (drop piece.lines lines) pieces
+unfolding reports_placed
+placed_passed asked given before from lines piece pieces is = rw is refl
+
+pub placed_end : (asked : Asked) (given : List ℕ → Held) (before : List PieceParts) (from lines : List (List ℕ))
+    → reports_placed asked given before from lines [] ≡ reports_before asked given from before
+unfolding reports_placed
+placed_end asked given before from lines = refl
+
+pub pass_counts : (asked : Asked) (given : List ℕ → Held) (count : Count) (before now : List Piece) (piece : Piece) (from left behind : List (Bor (List ℕ))) (pieces : List PieceParts)
+    → is_kept piece.begun.sort ≡ false → now ≡ before ++ piece ∷ [] → behind ≡ drop piece.lines left
+    → count_with count (count_of asked (reports_placed asked given (map piece_parts now) (map (λ line. line.now) from) (map (λ line. line.now) behind) pieces))
+    ≡ count_with count (count_of asked (reports_placed asked given (map piece_parts before) (map (λ line. line.now) from) (map (λ line. line.now) left) (piece_parts piece ∷ pieces)))
+pass_counts asked given count before now piece from left behind pieces is now_is left_is =
+    let parts : map piece_parts now ≡ map piece_parts before ++ piece_parts piece ∷ [] = ap (map piece_parts) now_is ∙ map-append piece_parts before (piece ∷ []) in
+    ap (λ fs. count_with count (count_of asked fs))
+    (ap₂ (λ b l. reports_placed asked given b (texts_of from) l pieces) parts (behind_is left behind piece.lines left_is)
+    ∙ sym (placed_passed asked given (map piece_parts before) (texts_of from) (texts_of left) (piece_parts piece) pieces is))
+
+pub keep_counts : (asked : Asked) (given : List ℕ → Held) (count here next : Count) (before : List Piece) (piece : Piece) (from left behind : List (Bor (List ℕ))) (pieces : List PieceParts)
+    → is_kept piece.begun.sort ≡ true → here ≡ count_of asked (reports_before asked given (map (λ line. line.now) from) (map piece_parts before))
+    → next ≡ count_with count here → behind ≡ drop piece.lines left
+    → count_with next (count_of asked (reports_placed asked given [] (map (λ line. line.now) behind) (map (λ line. line.now) behind) pieces))
+    ≡ count_with count (count_of asked (reports_placed asked given (map piece_parts before) (map (λ line. line.now) from) (map (λ line. line.now) left) (piece_parts piece ∷ pieces)))
+keep_counts asked given count here next before piece from left behind pieces is here_is next_is left_is =
+    let fore : List Found = reports_before asked given (texts_of from) (map piece_parts before) in
+    let rest : List Found = reports_placed asked given [] (drop piece.lines (texts_of left)) (drop piece.lines (texts_of left)) pieces in
+    ap₂ (λ n l. count_with n (count_of asked (reports_placed asked given [] l l pieces))) (next_is ∙ ap (count_with count) here_is) (behind_is left behind piece.lines left_is)
+    ∙ counted_next asked count fore rest
+    ∙ ap (λ fs. count_with count (count_of asked fs)) (sym (placed_kept asked given (map piece_parts before) (texts_of from) (texts_of left) (piece_parts piece) pieces is))
+
+pub finish_counts : (asked : Asked) (given : List ℕ → Held) (count here next : Count) (before : List Piece) (from left : List (Bor (List ℕ)))
+    → here ≡ count_of asked (reports_before asked given (map (λ line. line.now) from) (map piece_parts before)) → next ≡ count_with count here
+    → next ≡ count_with count (count_of asked (reports_placed asked given (map piece_parts before) (map (λ line. line.now) from) (map (λ line. line.now) left) []))
+finish_counts asked given count here next before from left here_is next_is =
+    next_is ∙ ap (count_with count) here_is
+    ∙ ap (λ fs. count_with count (count_of asked fs)) (sym (placed_end asked given (map piece_parts before) (texts_of from) (texts_of left)))
+
+-- ---- one step of a loop
+
+pub step_on : {A : Type 0} (f g : List PieceParts → A) (pieces : List Piece) (other : Piece) (all : A) → 1 ≤ length pieces
+    → ((rest : List PieceParts) → f rest ≡ g (piece_parts (get_or pieces 0 other) ∷ rest)) → g (map piece_parts pieces) ≡ all
+    → f (map piece_parts (take (length pieces - 1) (drop 1 pieces))) ≡ all
+step_on f g [] other all some step before = absurd (omega (arith, some))
+step_on f g (x ∷ rest) other all some step before = ap (λ ps. f (map piece_parts ps)) (take_rest (x ∷ rest) 1) ∙ step (map piece_parts rest) ∙ before
+
+pub nil_mapped : {A B : Type 0} (f : A → B) (xs : List A) → length xs ≡ 0 → map f xs ≡ []
+nil_mapped f [] none = refl
+nil_mapped f (x ∷ xs) none = absurd (omega (arith, none))
+
+-- what is drawn as it was asked for
+pub first_is : (asked : Asked) (on : DrawnOn) (entries : List Source) (most : Option ℕ) (found wanted : List Found) → on ≡ drawn_on asked entries → found ≡ wanted
+    → drawings on.handler on.raw (take (drawn_count most (length found)) found) ≡ first_drawings asked most wanted
+unfolding first_drawings
+first_is asked on entries most found wanted is same = rw (is, same) refl

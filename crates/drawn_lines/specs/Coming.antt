@@ -9,15 +9,13 @@ use Rattle.source_store.specs.declared.named.Spelling.TheVariants.{Path}
 use Rattle.tool_lines.specs.Lines.{ArePieces, PieceParts}
 use Rattle.line_reports.specs.Names.{names_in}
 use Rattle.line_reports.specs.Reports.{reports_in}
-use Rattle.report_counts.specs.Counted.{counts_of, more_line, one_reaches, summary_line}
-use Rattle.report_texts.specs.Texts.{drawn_count}
-use Rattle.report_counts.specs.declared.counted.Counts.{Counts}
+use Rattle.report_counts.specs.Counted.{one_reaches}
+use Rattle.drawn_lines.specs.Counts.{count_of, count_with}
 use Rattle.girzohal_options.specs.declared.Asked.{Asked}
 use Rattle.drawn_lines.specs.Text.{AreRead, came_of, came_to_come, lines_of, to_come}
 use Rattle.drawn_lines.specs.Seam.{IsSeam, span}
 use Rattle.drawn_lines.specs.Lines.{annotates, aside_text, columns_of, ending, shapes_of, still, written}
 use Rattle.drawn_lines.specs.declared.held.HeldLines.{HeldLines}
-use Rattle.drawn_lines.specs.declared.tally.Count.{Count}
 use Rattle.drawn_lines.specs.declared.tally.Tally.{Tally}
 use Rattle.drawn_lines.specs.declared.coming.Look.{Look}
 use Rattle.drawn_lines.specs.declared.coming.Look.TheVariants.{Nothing, Known}
@@ -34,25 +32,6 @@ sources_of tally = tally.sources.entries.items
 -- so many are still drawn
 abbrev pub most_of : Asked → Tally → Option ℕ
 most_of asked tally = still asked.most tally.count.total
-
-abbrev pub counts_with : Counts → Counts → Counts
-counts_with a b = record { errors = a.errors + b.errors; warnings = a.warnings + b.warnings; notes = a.notes + b.notes }
-
--- how many reports there are, and whether one is at or above the level
-abbrev pub count_of : Asked → List Found → Count
-count_of asked found = record { total = length found; counts = counts_of found; reached = one_reaches asked.fail_on found }
-
-abbrev pub count_with : Count → Count → Count
-count_with a b = record { total = a.total + b.total; counts = counts_with a.counts b.counts; reached = a.reached || b.reached }
-
--- that there are more reports than were drawn, and how many there are
-abbrev pub count_text : Asked → Count → List ℕ
-count_text asked count =
-    more_line (count.total - drawn_count asked.most count.total) ++ (if asked.quiet then [] else summary_line count.counts)
-
--- what stands behind all drawings
-abbrev pub ending_by : Asked → Count → List ℕ
-ending_by asked count = if annotates asked.to then [] else count_text asked count
 
 -- these pieces of lines, which came so, were written with what a store gave, and counted
 pub record Draws (told : Told) (asked : Asked) (before now : Tally) (lines came : List (List ℕ)) (pieces : List PieceParts) (text aside : List ℕ) : Type 0 where

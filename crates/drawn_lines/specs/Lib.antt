@@ -1,5 +1,6 @@
 pub mod Text
 pub mod Lines
+pub mod Counts
 pub mod Walk
 pub mod Seam
 pub mod Coming

@@ -1,10 +1,10 @@
 -- Where pieces may be parted, whatever lines come behind them.
-use Rattle.std.specs.Prelude.{◌≡◌, ℕ, ◌+◌, ◌-◌, ◌≤◌, IfSome, not, ◌&&◌, List, [], ◌∷◌, ◌++◌, length, take, drop, Option, Some, None, Bool, true, false}
+use Rattle.std.specs.Prelude.{◌≡◌, ⊤, ℕ, ◌+◌, ◌-◌, ◌≤◌, IfSome, not, ◌&&◌, List, [], ◌∷◌, ◌++◌, length, take, drop, Option, Some, None, Bool, true, false}
 use Rattle.std.specs.Option.{is_none}
 use Rattle.tool_lines.specs.declared.lines.Sort.{Sort}
 use Rattle.tool_lines.specs.declared.lines.Sort.TheVariants.{Kept, Heading, Below, Announced, Inline, Spaced}
 use Rattle.line_shapes.specs.Shape.{ShapeParts}
-use Rattle.tool_lines.specs.Lines.{ArePieces, FindingParts, PieceParts, begun}
+use Rattle.tool_lines.specs.Lines.{ArePieces, FindingParts, PieceParts, begun, is_kept}
 use Rattle.fed_lines.specs.Feed.{ends_at}
 use Rattle.drawn_lines.specs.declared.seam.Part.{Part}
 use Rattle.drawn_lines.specs.declared.seam.Sought.{Sought}
@@ -35,6 +35,11 @@ closes Spaced = true
 abbrev pub ends_closed : Bool → List PieceParts → Bool
 ends_closed closed [] = closed
 ends_closed closed (piece ∷ pieces) = ends_closed (closes piece.begun.sort) pieces
+
+-- what is kept has no finding
+abbrev pub BarePieces : List PieceParts → Type 0
+BarePieces [] = ⊤
+BarePieces (p ∷ ps) = (is_kept p.begun.sort ≡ true → p.begun.finding ≡ None) × BarePieces ps
 
 -- how many lines pieces have
 abbrev pub span : List PieceParts → ℕ

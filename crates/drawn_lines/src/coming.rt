@@ -6,13 +6,13 @@ ghost use Rattle.drawn_lines.specs.Lines.{shapes_of as shapes_meant};
 ghost use Rattle.girzohal_options.specs.declared.Asked.{Asked as AskedFor};
 ghost use Rattle.drawn_lines.specs.Coming.{IsComing, IsDrawn, IsLook, Told};
 
+use crate::count::{ending, none};
 use crate::held::{HeldLines, drop_first, lent};
 use crate::seam::part_of;
-use crate::tally::{Count, Drawn, Tally, draw, ending};
-use found_reports::ListedSources;
+use crate::tally::{Drawn, Tally, draw};
 use girzohal_options::Asked;
 use line_shapes::shape::Shape;
-use report_counts::Counts;
+use shown_reports::ShownSources;
 use source_store::Store;
 use std::alloc::{AllocError, Global};
 use tool_lines::lines::pieces_of;
@@ -57,21 +57,11 @@ impl Coming {
         ensures { (told : Told) (asked : AskedFor) → IsComing told asked [] [] [] result.held
             result.tally }
     {
-        let counts = Counts {
-            errors: 0,
-            warnings: 0,
-            notes: 0,
-        };
-        let count = Count {
-            total: 0,
-            counts,
-            reached: false,
-        };
         Coming {
             held: HeldLines::new(alloc),
             tally: Tally {
-                count,
-                sources: ListedSources::empty(alloc),
+                count: none(),
+                sources: ShownSources::empty(alloc),
             },
             wait: 0,
         }

@@ -8,6 +8,7 @@
 #![tactic(auto)]
 
 mod coming;
+mod count;
 mod form;
 mod held;
 mod kept;

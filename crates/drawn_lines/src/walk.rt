@@ -1,33 +1,44 @@
 // Lines as they are drawn: their reports, and between them the lines that are kept.
 ghost use Rattle.std.specs.Prelude.{◌≡◌, ◌∷◌, ◌++◌, [], ℕ, List, IfOk, OnOk, true, false};
-ghost use Rattle.std.specs.Prelude.{length, map};
+ghost use Rattle.std.specs.Prelude.{map};
 ghost use Rattle.std.specs.Prelude.{string_bytes};
 ghost use Rattle.found_reports.specs.Held.{Held};
 ghost use Rattle.found_reports.specs.Listed.{held_in};
 ghost use Rattle.tool_lines.specs.Lines.{PieceParts, piece_parts, is_kept as is_kept_sort};
-ghost use Rattle.report_texts.specs.Texts.{first_drawings as drawings_of_first};
-ghost use Rattle.girzohal_options.specs.declared.Asked.{Asked};
+ghost use Rattle.report_texts.specs.Runs.{drawn_on};
+ghost use Rattle.girzohal_options.specs.declared.Asked.{Asked as AskedFor};
 ghost use Rattle.drawn_lines.specs.Lines.{drawings_before, in_place as placed, reports_before};
 ghost use Rattle.drawn_lines.specs.Lines.{shown_of, still as still_of};
-ghost use Rattle.drawn_lines.specs.Walk.{walked};
+ghost use Rattle.drawn_lines.specs.Counts.{count_of as count_meant};
+ghost use Rattle.drawn_lines.specs.Seam.{BarePieces};
+ghost use Rattle.drawn_lines.specs.Walk.{counted_to, walked};
 
+use crate::count::{Count, added, counted, none};
 use crate::form::has_colors;
 use crate::held::lent;
 use crate::kept::{behind, front, is_kept, push_kept};
 use crate::reading::columns_of;
-use found_reports::{FoundReports, ListedSources};
 use girzohal_options::Asked;
 use line_reports::reports_of;
-use report_texts::first_drawings;
-use shown_reports::ShowError;
+use report_texts::Drawings;
+use shown_reports::ShownSources;
 use std::alloc::{AllocError, Global};
 use tool_lines::lines::Piece;
+
+/// What blocks add to what was written, and to the reports.
+#[derive(Drop)]
+pub(crate) struct Share {
+    pub(crate) text: String,
+    pub(crate) count: Count,
+}
 
 /// The state of a walk over lines that are drawn.
 #[derive(Drop)]
 pub(crate) struct Walk<'l, 'a, 'p> {
     /// What is drawn so far.
     text: String,
+    /// How many reports that is.
+    count: Count,
     /// How many reports are still drawn at most.
     most: Option<usize>,
     /// The blocks after the last line that was kept.
@@ -49,13 +60,17 @@ pub(crate) fn drawings(
     lines: &[&[u8]],
     came: &[Vec<u8>],
     pieces: &[Piece<'_>],
-    sources: &ListedSources,
-) -> Result<String, AllocError>
-    ensures { IfOk result (λ text. string_bytes text
+    sources: &ShownSources,
+) -> Result<Share, AllocError>
+    requires { BarePieces (map piece_parts pieces.now) }
+    ensures text { IfOk result (λ it. string_bytes it.text
         ≡ placed asked.now (held_in sources.now.entries.items) most []
         (map (λ line. line.now) lines.now) (map (λ line. line.now) lines.now)
         (shown_of asked.now (map (λ line. line.now) lines.now) (map (λ line. line.items) came.now))
         (map piece_parts pieces.now)) }
+    ensures count { IfOk result (λ it. it.count ≡ count_meant asked.now
+        (reports_before asked.now (held_in sources.now.entries.items)
+        (map (λ line. line.now) lines.now) (map piece_parts pieces.now))) }
 {
     if has_colors(asked.theme) {
         let came = lent(alloc, came)?;
@@ -73,44 +88,57 @@ fn in_place<'l, 'a>(
     lines: &'l [&'a [u8]],
     shown: &'l [&'a [u8]],
     pieces: &[Piece<'_>],
-    sources: &ListedSources,
-) -> Result<String, AllocError>
-    ensures { IfOk result (λ text. string_bytes text
+    sources: &ShownSources,
+) -> Result<Share, AllocError>
+    requires { BarePieces (map piece_parts pieces.now) }
+    ensures text { IfOk result (λ it. string_bytes it.text
         ≡ placed asked.now (held_in sources.now.entries.items) most []
         (map (λ line. line.now) lines.now) (map (λ line. line.now) lines.now)
         (map (λ line. line.now) shown.now) (map piece_parts pieces.now)) }
+    ensures count { IfOk result (λ it. it.count ≡ count_meant asked.now
+        (reports_before asked.now (held_in sources.now.entries.items)
+        (map (λ line. line.now) lines.now) (map piece_parts pieces.now))) }
 {
     let mut walk = Walk {
         text: String::new(alloc),
+        count: none(),
         most,
         before: Vec::new(alloc),
         from: lines,
         left: lines,
         shown,
     };
+    let mut drawings = Drawings::new(alloc, asked, sources);
     let mut rest = pieces;
     while let [piece, more @ ..] = rest {
-        walk = step(alloc, asked, sources, walk, piece)?;
+        walk = step(alloc, asked, sources, &mut drawings, walk, piece)?;
         rest = more;
     }
-    finish(alloc, asked, sources, walk)
+    finish(alloc, asked, sources, &mut drawings, walk)
 }
 
 /// Goes on to the next block.
 fn step<'l, 'a, 'p>(
     alloc: Global,
     asked: &Asked,
-    sources: &ListedSources,
+    sources: &ShownSources,
+    drawings: &mut Drawings<'_>,
     walk: Walk<'l, 'a, 'p>,
     piece: &Piece<'p>,
 ) -> Result<Walk<'l, 'a, 'p>, AllocError>
-    ensures { IfOk result (λ next. (rest : List PieceParts)
+    requires { drawings.old ≡ drawn_on asked.now sources.now.entries.items }
+    ensures walked { IfOk result (λ next. (rest : List PieceParts)
         → walked asked.now (held_in sources.now.entries.items) next rest
         ≡ walked asked.now (held_in sources.now.entries.items) walk.entry
         (piece_parts piece.now ∷ rest)) }
+    ensures counted { IfOk result (λ next. (rest : List PieceParts)
+        → counted_to asked.now (held_in sources.now.entries.items) next rest
+        ≡ counted_to asked.now (held_in sources.now.entries.items) walk.entry
+        (piece_parts piece.now ∷ rest)) }
+    ensures unchanged { drawings.new ≡ drawings.old }
 {
     if is_kept(piece.begun.sort) {
-        keep(alloc, asked, sources, walk, piece)
+        keep(alloc, asked, sources, drawings, walk, piece)
     } else {
         pass(walk, piece)
     }
@@ -120,44 +148,48 @@ fn step<'l, 'a, 'p>(
 fn keep<'l, 'a, 'p>(
     alloc: Global,
     asked: &Asked,
-    sources: &ListedSources,
+    sources: &ShownSources,
+    drawings: &mut Drawings<'_>,
     walk: Walk<'l, 'a, 'p>,
     piece: &Piece<'p>,
 ) -> Result<Walk<'l, 'a, 'p>, AllocError>
-    requires { is_kept_sort piece.now.begun.sort ≡ true }
-    ensures { IfOk result (λ next. (rest : List PieceParts)
+    requires kept { is_kept_sort piece.now.begun.sort ≡ true }
+    requires drawn { drawings.old ≡ drawn_on asked.now sources.now.entries.items }
+    ensures walked { IfOk result (λ next. (rest : List PieceParts)
         → walked asked.now (held_in sources.now.entries.items) next rest
         ≡ walked asked.now (held_in sources.now.entries.items) walk.entry
         (piece_parts piece.now ∷ rest)) }
+    ensures counted { IfOk result (λ next. (rest : List PieceParts)
+        → counted_to asked.now (held_in sources.now.entries.items) next rest
+        ≡ counted_to asked.now (held_in sources.now.entries.items) walk.entry
+        (piece_parts piece.now ∷ rest)) }
+    ensures unchanged { drawings.new ≡ drawings.old }
 {
     let Walk {
         mut text,
+        count,
         most,
         before,
         from,
         left,
         shown,
     } = walk;
-    let count = push_reports(alloc, &mut text, asked, most, sources, from, &before)?;
+    let here = push_reports(
+        alloc, &mut text, asked, most, sources, drawings, from, &before,
+    )?;
     let run = front(shown, piece.lines);
     push_kept(alloc, &mut text, asked, has_colors(asked.theme), piece, run)?;
     let left = behind(left, piece.lines);
     let shown = behind(shown, piece.lines);
     Ok(Walk {
         text,
-        most: still(most, count),
+        count: added(count, here)?,
+        most: still(most, here.total),
         before: Vec::new(alloc),
         from: left,
         left,
         shown,
     })
-}
-
-/// How many reports there are.
-pub(crate) fn count_of(found: &FoundReports<'_>) -> usize
-    ensures { result ≡ length found.now.found }
-{
-    found.reports().len()
 }
 
 /// How many more reports are drawn after `count`.
@@ -176,12 +208,16 @@ fn pass<'l, 'a, 'p>(
     piece: &Piece<'p>,
 ) -> Result<Walk<'l, 'a, 'p>, AllocError>
     requires { is_kept_sort piece.now.begun.sort ≡ false }
-    ensures { IfOk result (λ next. (asked : Asked) (given : List ℕ → Held)
+    ensures walked { IfOk result (λ next. (asked : AskedFor) (given : List ℕ → Held)
         (rest : List PieceParts) → walked asked given next rest
         ≡ walked asked given walk.entry (piece_parts piece.now ∷ rest)) }
+    ensures counted { IfOk result (λ next. (asked : AskedFor) (given : List ℕ → Held)
+        (rest : List PieceParts) → counted_to asked given next rest
+        ≡ counted_to asked given walk.entry (piece_parts piece.now ∷ rest)) }
 {
     let Walk {
         text,
+        count,
         most,
         mut before,
         from,
@@ -193,6 +229,7 @@ fn pass<'l, 'a, 'p>(
     let shown = behind(shown, piece.lines);
     Ok(Walk {
         text,
+        count,
         most,
         before,
         from,
@@ -205,62 +242,56 @@ fn pass<'l, 'a, 'p>(
 fn finish(
     alloc: Global,
     asked: &Asked,
-    sources: &ListedSources,
+    sources: &ShownSources,
+    drawings: &mut Drawings<'_>,
     walk: Walk<'_, '_, '_>,
-) -> Result<String, AllocError>
-    ensures { IfOk result (λ text. string_bytes text
+) -> Result<Share, AllocError>
+    requires { drawings.old ≡ drawn_on asked.now sources.now.entries.items }
+    ensures text { IfOk result (λ it. string_bytes it.text
         ≡ walked asked.now (held_in sources.now.entries.items) walk.entry []) }
+    ensures count { IfOk result (λ it. it.count
+        ≡ counted_to asked.now (held_in sources.now.entries.items) walk.entry []) }
 {
     let Walk {
         mut text,
+        count,
         most,
         before,
         from,
         left: _,
         shown: _,
     } = walk;
-    push_reports(alloc, &mut text, asked, most, sources, from, &before)?;
-    Ok(text)
+    let here = push_reports(
+        alloc, &mut text, asked, most, sources, drawings, from, &before,
+    )?;
+    let count = added(count, here)?;
+    Ok(Share { text, count })
 }
 
-/// Appends the drawings of the reports of blocks, and gives how many reports there are.
+/// Appends the drawings of the reports of blocks, and counts the reports.
 fn push_reports(
     alloc: Global,
     text: &mut String,
     asked: &Asked,
     most: Option<usize>,
-    sources: &ListedSources,
+    sources: &ShownSources,
+    drawings: &mut Drawings<'_>,
     from: &[&[u8]],
     before: &[Piece<'_>],
-) -> Result<usize, AllocError>
+) -> Result<Count, AllocError>
+    requires { drawings.old ≡ drawn_on asked.now sources.now.entries.items }
     ensures text { OnOk result (string_bytes text.new ≡ string_bytes text.old
         ++ drawings_before asked.now (held_in sources.now.entries.items) most
         (map (λ line. line.now) from.now) (map piece_parts before.now)) }
-    ensures count { IfOk result (λ count. count ≡ length
+    ensures count { IfOk result (λ count. count ≡ count_meant asked.now
         (reports_before asked.now (held_in sources.now.entries.items)
         (map (λ line. line.now) from.now) (map piece_parts before.now))) }
+    ensures unchanged { drawings.new ≡ drawings.old }
 {
     if before.is_empty() {
-        return Ok(0);
+        return Ok(none());
     }
-    let found = reports_of(alloc, from, before, sources, columns_of(asked))?;
-    text.push_str(first_drawn(alloc, asked, most, &found)?.as_str())?;
-    Ok(count_of(&found))
-}
-
-/// The drawings of the first reports; `most` limits their number.
-fn first_drawn(
-    alloc: Global,
-    asked: &Asked,
-    most: Option<usize>,
-    found: &FoundReports<'_>,
-) -> Result<String, AllocError>
-    ensures { IfOk result (λ text. string_bytes text
-        ≡ drawings_of_first asked.now most found.now.found) }
-{
-    match first_drawings(alloc, asked, most, found) {
-        Ok(text) => Ok(text),
-        // More files than have numbers would take more memory than there is.
-        Err(ShowError::TooManyFiles | ShowError::OutOfMemory) => Err(AllocError),
-    }
+    let found = reports_of(alloc, from, before, sources.indexed(), columns_of(asked))?;
+    drawings.push(text, most, &found)?;
+    Ok(counted(asked, &found))
 }

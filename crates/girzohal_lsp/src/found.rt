@@ -19,7 +19,7 @@ use line_shapes::tables::Unit;
 use line_shapes::tools::{Columns, columns_of_tool, tool_shapes};
 use oxc_protocol::{Diagnostic, OxcDiagnostic};
 use sarif::{ColumnKind, Log};
-use source_store::{Fetched, Spelling, Store, gather, is_named, means_file, path_in};
+use source_store::{Fetched, Spelling, Store, gather, gather_indexed, is_named, means_file, path_in};
 use std::alloc::{AllocError, Global};
 use tool_lines::lines::{lines_of, pieces_of};
 use tool_lines::paint::without_paint;
@@ -87,7 +87,7 @@ fn found_in_lines(
     let shapes = tool_shapes(alloc, tool_name(asked))?;
     let pieces = pieces_of(alloc, &lines, &shapes)?;
     let names = line_reports::names_of(alloc, &pieces)?;
-    let sources = gather(alloc, &file, Spelling::Path, &names)?;
+    let sources = gather_indexed(alloc, &file, Spelling::Path, &names)?;
     let found = line_reports::reports_of(alloc, &lines, &pieces, &sources, columns_of(asked))?;
     let shown = shown_of(alloc, Spelling::Path, &found, path, text)?;
     Ok(shown)

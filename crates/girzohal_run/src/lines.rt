@@ -12,13 +12,13 @@ use crate::fault::Fault;
 use crate::making::{Made, Written};
 use crate::texts::text_of;
 use drawn_lines::{Come, Coming, Ended, annotates, columns_of, kept_text, shapes_of};
-use found_reports::ListedSources;
 use girzohal_options::{Asked, OutputForm};
+use indexed_sources::IndexedSources;
 use input_forms::without_mark;
 use line_reports::{names_of, reports_of};
 use line_shapes::bytes::before_last;
 use report_counts::one_reaches;
-use source_store::{Spelling, Store, gather};
+use source_store::{Spelling, Store, gather_indexed};
 use std::alloc::{AllocError, Global};
 use tool_lines::lines::{Piece, lines_of, pieces_of};
 use tool_lines::paint::without_paint;
@@ -110,7 +110,7 @@ fn list_lines<S: Store>(
     let shapes = shapes_of(alloc, asked)?;
     let pieces = pieces_of(alloc, &lines, &shapes)?;
     let names = names_of(alloc, &pieces)?;
-    let sources = gather(alloc, store, Spelling::Path, &names)?;
+    let sources = gather_indexed(alloc, store, Spelling::Path, &names)?;
     write_pieces(alloc, asked, &lines, &pieces, &sources)
 }
 
@@ -142,7 +142,7 @@ fn write_pieces(
     asked: &Asked,
     lines: &[&[u8]],
     pieces: &[Piece<'_>],
-    sources: &ListedSources,
+    sources: &IndexedSources,
 ) -> Result<Made, Fault>
     ensures made { IfOk result (λ it. WritesPieces asked.now (held_in sources.now.entries.items)
         (map (λ line. line.now) lines.now) (map piece_parts pieces.now)

@@ -1,8 +1,9 @@
 //! Sanitizes texts for a terminal.
 #![tactic(auto)]
 
-ghost use Rattle.std.specs.Prelude.{◌≡◌, IfOk, string_bytes};
+ghost use Rattle.std.specs.Prelude.{◌≡◌, IfOk, option_map, string_bytes};
 ghost use Rattle.harmless.specs.Harmless.{HasNoHarm, IsTameSource, KeepsPlaces};
+ghost use Rattle.harmless.specs.Harmless.{changed_source as changed_text};
 ghost use Rattle.harmless.specs.Harmless.{harmless as harmless_text};
 ghost use Rattle.harmless.specs.Harmless.{harmless_char as harmless_of};
 ghost use Rattle.harmless.specs.Harmless.{harmless_source as source_text, is_between};
@@ -130,6 +131,25 @@ pub fn harmless_source(alloc: Global, text: &str) -> Result<String, AllocError>
     ensures tame { IfOk result (λ out. IsTameSource (string_bytes out)) }
 {
     settled(alloc, text)
+}
+
+/// The sanitized source, if it isn't the source itself: so that one text may stand for both.
+///
+/// # Errors
+///
+/// Out of memory.
+pub fn changed_source(alloc: Global, text: &str) -> Result<Option<String>, AllocError>
+    ensures { IfOk result (λ out. option_map string_bytes out ≡ changed_text text.now) }
+{
+    if is_plain(Kind::Prose, text) {
+        return Ok(None);
+    }
+    let source = settled_chars(alloc, text)?;
+    if source.as_str() == text {
+        Ok(None)
+    } else {
+        Ok(Some(source))
+    }
 }
 
 /// The same, of the text alone; plain ASCII is copied.

@@ -11,7 +11,7 @@ use Rattle.found_reports.specs.Files.{files_of, with_file}
 use Rattle.found_reports.specs.Found.{NamedHeld, file_at}
 use Rattle.found_reports.specs.Held.{Held, holds, lacks}
 use Rattle.found_reports.specs.Kept.{FoundParts}
-use Rattle.line_reports.specs.declared.rows.RowText.{RowText}
+use Rattle.indexed_sources.specs.declared.row_text.RowText.{RowText}
 use Rattle.line_reports.specs.declared.labels.Mark.{Mark}
 use Rattle.line_reports.specs.Told.{told_parts}
 use Rattle.line_reports.specs.Reports.{MarkParts}
@@ -26,10 +26,6 @@ row_text text = option_map (λ it. it.text.now) text
 -- these are the texts of these files
 abbrev pub AreTexts : List (Option RowText) → List NamedHeld → Type 0
 AreTexts texts files = map row_text texts ≡ map (λ file. text_in file.held) files
-
--- of each file's name its text is told, or why it has none
-abbrev pub AreTold : (List ℕ → Held) → List NamedHeld → Type 0
-AreTold told files = All (λ file. file.held ≡ told file.name) files
 
 -- a span stands in a text that is held
 pub record StandsInText (text : List ℕ) (range : Range ℕ) : Type 0 where

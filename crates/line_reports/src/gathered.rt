@@ -5,9 +5,11 @@ ghost use Rattle.std.specs.Str.Lossy.{utf8_lossy};
 ghost use Rattle.found_reports.specs.Files.{files_of, with_file};
 ghost use Rattle.found_reports.specs.Found.{file_at};
 ghost use Rattle.found_reports.specs.Held.{held_of};
+ghost use Rattle.indexed_sources.specs.Indexed.{AreTold, text_held};
+ghost use Rattle.found_reports.specs.Listed.{held_in};
 ghost use Rattle.oxc_protocol.specs.Source.{Fits};
 ghost use Rattle.tool_lines.specs.Lines.{piece_parts};
-ghost use Rattle.line_reports.specs.Gathered.{AreNumbers, AreTexts, AreTold, FitsLabel, IsNumber};
+ghost use Rattle.line_reports.specs.Gathered.{AreNumbers, AreTexts, FitsLabel, IsNumber};
 ghost use Rattle.line_reports.specs.Gathered.{IsListed, IsListedWith, MarksStand, StandsHeld};
 ghost use Rattle.line_reports.specs.Gathered.{is_named, mark_parts, row_text as text_of, text_in};
 ghost use Rattle.line_reports.specs.Joined.{group_parts};
@@ -19,9 +21,10 @@ ghost use Rattle.line_reports.specs.Told.{told_parts};
 
 use crate::groups::{Group, joined};
 use crate::labels::{Mark, diagnostic, labels, lines};
-use crate::rows::RowText;
+use crate::rows::span_at;
 use crate::told::Told;
-use found_reports::{FoundReports, GivenPlace, Lack, Sources};
+use found_reports::{FoundReports, GivenPlace, Lack};
+use indexed_sources::{IndexedSources, RowText};
 use line_shapes::tools::Columns;
 use oxc_protocol::LabeledSpan;
 use std::alloc::{AllocError, Global};
@@ -39,16 +42,17 @@ use tool_lines::lines::Piece;
 ///
 /// Out of memory, and nothing else.
 #[tactic(auto, unfolding(crate::specs::Reports::reports_in))]
-pub fn reports_of<'s, S: Sources>(
+pub fn reports_of<'s>(
     alloc: Global,
     lines: &[&[u8]],
     pieces: &[Piece<'_>],
-    sources: &'s S,
+    sources: &'s IndexedSources,
     columns: Columns,
 ) -> Result<FoundReports<'s>, AllocError>
-    ensures found { IfOk result (λ it. it.found ≡ reports_in columns (S.told sources.now)
+    ensures found { IfOk result (λ it. it.found ≡ reports_in columns (held_in sources.now.entries.items)
         (map (λ line. line.now) lines.now) (map piece_parts pieces.now)) }
     ensures files { IfOk result (λ it. it.files ≡ files_of it.found) }
+    ensures told { IfOk result (λ it. AreTold (held_in sources.now.entries.items) it.files) }
 {
     let groups = joined(alloc, lines, pieces)?;
     let mut gathered = Gathered::new(alloc);
@@ -81,20 +85,22 @@ impl<'s> Gathered<'s> {
     }
 
     /// Adds the reports of findings and their notes.
-    fn push_groups<S: Sources>(
+    fn push_groups(
         &mut self,
         alloc: Global,
-        sources: &'s S,
+        sources: &'s IndexedSources,
         columns: Columns,
         mut groups: &[Group<'_>],
     ) -> Result<(), AllocError>
         requires texts { AreTexts self.old.texts.items self.old.found.files }
-        requires told { AreTold (S.told sources.now) self.old.found.files }
+        requires told { AreTold (held_in sources.now.entries.items) self.old.found.files }
         requires listed { IsListed self.old.numbers self.old.found }
+        ensures told { OnOk result (AreTold (held_in sources.now.entries.items)
+            self.new.found.files) }
         ensures listed { OnOk result (IsListed self.new.numbers self.new.found) }
         ensures found { OnOk result (self.new.found.found
             ≡ self.old.found.found
-            ++ all_reports columns (S.told sources.now) (map group_parts groups.entry.now)) }
+            ++ all_reports columns (held_in sources.now.entries.items) (map group_parts groups.entry.now)) }
     {
         while let [group, rest @ ..] = groups {
             self.push_group(alloc, sources, columns, group)?;
@@ -105,22 +111,22 @@ impl<'s> Gathered<'s> {
 
     /// Adds the reports of a finding and its notes.
     #[tactic(auto, unfolding(crate::specs::Reports::group_reports))]
-    fn push_group<S: Sources>(
+    fn push_group(
         &mut self,
         alloc: Global,
-        sources: &'s S,
+        sources: &'s IndexedSources,
         columns: Columns,
         group: &Group<'_>,
     ) -> Result<(), AllocError>
         requires texts { AreTexts self.old.texts.items self.old.found.files }
-        requires told { AreTold (S.told sources.now) self.old.found.files }
+        requires told { AreTold (held_in sources.now.entries.items) self.old.found.files }
         requires listed { IsListed self.old.numbers self.old.found }
         ensures texts { OnOk result (AreTexts self.new.texts.items self.new.found.files) }
-        ensures told { OnOk result (AreTold (S.told sources.now) self.new.found.files) }
+        ensures told { OnOk result (AreTold (held_in sources.now.entries.items) self.new.found.files) }
         ensures listed { OnOk result (IsListed self.new.numbers self.new.found) }
         ensures found { OnOk result (self.new.found.found
             ≡ self.old.found.found
-            ++ group_reports columns (S.told sources.now) (group_parts group.now)) }
+            ++ group_reports columns (held_in sources.now.entries.items) (group_parts group.now)) }
     {
         let file = self.file(alloc, sources, group.head.finding.place.name)?;
         match self.span(columns, file, &group.head) {
@@ -134,26 +140,26 @@ impl<'s> Gathered<'s> {
 
     /// The same for a finding that has this span in this file.
     #[tactic(auto, using(crate::proofs::NumberLemmas::marked_rules))]
-    fn push_marked<S: Sources>(
+    fn push_marked(
         &mut self,
         alloc: Global,
-        sources: &'s S,
+        sources: &'s IndexedSources,
         columns: Columns,
         file: usize,
         group: &Group<'_>,
         range: &Range<usize>,
     ) -> Result<(), AllocError>
         requires texts { AreTexts self.old.texts.items self.old.found.files }
-        requires told { AreTold (S.told sources.now) self.old.found.files }
+        requires told { AreTold (held_in sources.now.entries.items) self.old.found.files }
         requires file { file < length self.old.found.files }
         requires range { StandsHeld (file_at self.old.found.files file).held range.now }
         requires listed { IsListedWith self.old.numbers self.old.found file }
         ensures texts { OnOk result (AreTexts self.new.texts.items self.new.found.files) }
-        ensures told { OnOk result (AreTold (S.told sources.now) self.new.found.files) }
+        ensures told { OnOk result (AreTold (held_in sources.now.entries.items) self.new.found.files) }
         ensures listed { OnOk result (IsListed self.new.numbers self.new.found) }
         ensures found { OnOk result (self.new.found.found
             ≡ self.old.found.found
-            ++ group_by columns (S.told sources.now) (file_at self.old.found.files file)
+            ++ group_by columns (held_in sources.now.entries.items) (file_at self.old.found.files file)
             (group_parts group.now) (Some range.now)) }
     {
         let marks = self.marks(alloc, columns, file, group.notes.as_slice())?;
@@ -165,22 +171,22 @@ impl<'s> Gathered<'s> {
     }
 
     /// Adds the reports of the notes that are no labels.
-    fn push_others<S: Sources>(
+    fn push_others(
         &mut self,
         alloc: Global,
-        sources: &'s S,
+        sources: &'s IndexedSources,
         columns: Columns,
         mut marks: &[Mark<'_, '_>],
     ) -> Result<(), AllocError>
         requires texts { AreTexts self.old.texts.items self.old.found.files }
-        requires told { AreTold (S.told sources.now) self.old.found.files }
+        requires told { AreTold (held_in sources.now.entries.items) self.old.found.files }
         requires listed { IsListed self.old.numbers self.old.found }
         ensures texts { OnOk result (AreTexts self.new.texts.items self.new.found.files) }
-        ensures told { OnOk result (AreTold (S.told sources.now) self.new.found.files) }
+        ensures told { OnOk result (AreTold (held_in sources.now.entries.items) self.new.found.files) }
         ensures listed { OnOk result (IsListed self.new.numbers self.new.found) }
         ensures found { OnOk result (self.new.found.found
             ≡ self.old.found.found
-            ++ map (report_alone columns (S.told sources.now))
+            ++ map (report_alone columns (held_in sources.now.entries.items))
             (other_notes (map mark_parts marks.entry.now))) }
     {
         while let [mark, rest @ ..] = marks {
@@ -193,22 +199,22 @@ impl<'s> Gathered<'s> {
     }
 
     /// Adds the reports of findings, each alone.
-    fn push_each<S: Sources>(
+    fn push_each(
         &mut self,
         alloc: Global,
-        sources: &'s S,
+        sources: &'s IndexedSources,
         columns: Columns,
         mut findings: &[Told<'_>],
     ) -> Result<(), AllocError>
         requires texts { AreTexts self.old.texts.items self.old.found.files }
-        requires told { AreTold (S.told sources.now) self.old.found.files }
+        requires told { AreTold (held_in sources.now.entries.items) self.old.found.files }
         requires listed { IsListed self.old.numbers self.old.found }
         ensures texts { OnOk result (AreTexts self.new.texts.items self.new.found.files) }
-        ensures told { OnOk result (AreTold (S.told sources.now) self.new.found.files) }
+        ensures told { OnOk result (AreTold (held_in sources.now.entries.items) self.new.found.files) }
         ensures listed { OnOk result (IsListed self.new.numbers self.new.found) }
         ensures found { OnOk result (self.new.found.found
             ≡ self.old.found.found
-            ++ map (report_alone columns (S.told sources.now))
+            ++ map (report_alone columns (held_in sources.now.entries.items))
             (map told_parts findings.entry.now)) }
     {
         while let [told, rest @ ..] = findings {
@@ -219,22 +225,22 @@ impl<'s> Gathered<'s> {
     }
 
     /// Adds the report of a finding alone.
-    fn push_alone<S: Sources>(
+    fn push_alone(
         &mut self,
         alloc: Global,
-        sources: &'s S,
+        sources: &'s IndexedSources,
         columns: Columns,
         told: &Told<'_>,
     ) -> Result<(), AllocError>
         requires texts { AreTexts self.old.texts.items self.old.found.files }
-        requires told { AreTold (S.told sources.now) self.old.found.files }
+        requires told { AreTold (held_in sources.now.entries.items) self.old.found.files }
         requires listed { IsListed self.old.numbers self.old.found }
         ensures texts { OnOk result (AreTexts self.new.texts.items self.new.found.files) }
-        ensures told { OnOk result (AreTold (S.told sources.now) self.new.found.files) }
+        ensures told { OnOk result (AreTold (held_in sources.now.entries.items) self.new.found.files) }
         ensures listed { OnOk result (IsListed self.new.numbers self.new.found) }
         ensures found { OnOk result (self.new.found.found
             ≡ self.old.found.found
-            ++ report_alone columns (S.told sources.now) (told_parts told.now) ∷ []) }
+            ++ report_alone columns (held_in sources.now.entries.items) (told_parts told.now) ∷ []) }
     {
         let file = self.file(alloc, sources, told.finding.place.name)?;
         self.push_in(alloc, columns, file, told)
@@ -325,7 +331,7 @@ impl<'s> Gathered<'s> {
         ensures stands { IfSome result (StandsHeld (file_at self.now.found.files file).held) }
     {
         match self.text(file) {
-            Some(text) => text.span(columns, told.spot()),
+            Some(text) => span_at(text, columns, told.spot()),
             None => None,
         }
     }
@@ -345,21 +351,21 @@ impl<'s> Gathered<'s> {
 
     /// The number of the file of a name, which is added if it isn't there.
     #[tactic(auto, using(crate::proofs::NumberLemmas::listed_there))]
-    fn file<S: Sources>(
+    fn file(
         &mut self,
         alloc: Global,
-        sources: &'s S,
+        sources: &'s IndexedSources,
         name: &[u8],
     ) -> Result<usize, AllocError>
         requires texts { AreTexts self.old.texts.items self.old.found.files }
-        requires told { AreTold (S.told sources.now) self.old.found.files }
+        requires told { AreTold (held_in sources.now.entries.items) self.old.found.files }
         requires listed { IsListed self.old.numbers self.old.found }
         ensures texts { OnOk result (AreTexts self.new.texts.items self.new.found.files) }
-        ensures told { OnOk result (AreTold (S.told sources.now) self.new.found.files) }
+        ensures told { OnOk result (AreTold (held_in sources.now.entries.items) self.new.found.files) }
         ensures listed { IfOk result (IsListedWith self.new.numbers self.new.found) }
         ensures file { IfOk result (λ file. file < length self.new.found.files) }
         ensures named { IfOk result (λ file. file_at self.new.found.files file
-            ≡ named_file (S.told sources.now) (utf8_lossy name.now)) }
+            ≡ named_file (held_in sources.now.entries.items) (utf8_lossy name.now)) }
         ensures found { self.new.found.found ≡ self.old.found.found }
     {
         let name = String::from_utf8_lossy(alloc, name)?;
@@ -394,29 +400,28 @@ impl<'s> Gathered<'s> {
     }
 
     /// Adds the file of a name that isn't there.
-    fn add<S: Sources>(
+    fn add(
         &mut self,
         alloc: Global,
-        sources: &'s S,
+        sources: &'s IndexedSources,
         name: String,
     ) -> Result<usize, AllocError>
         requires texts { AreTexts self.old.texts.items self.old.found.files }
-        requires told { AreTold (S.told sources.now) self.old.found.files }
+        requires told { AreTold (held_in sources.now.entries.items) self.old.found.files }
         requires listed { IsListed self.old.numbers self.old.found }
         requires new { IsNumber self.old.found.files (string_bytes name) None }
         ensures texts { OnOk result (AreTexts self.new.texts.items self.new.found.files) }
-        ensures told { OnOk result (AreTold (S.told sources.now) self.new.found.files) }
+        ensures told { OnOk result (AreTold (held_in sources.now.entries.items) self.new.found.files) }
         ensures listed { IfOk result (IsListedWith self.new.numbers self.new.found) }
         ensures file { IfOk result (λ file. file < length self.new.found.files) }
         ensures named { IfOk result (λ file. file_at self.new.found.files file
-            ≡ named_file (S.told sources.now) (string_bytes name)) }
+            ≡ named_file (held_in sources.now.entries.items) (string_bytes name)) }
         ensures found { self.new.found.found ≡ self.old.found.found }
     {
-        let source = sources.source(name.as_str());
+        let source = sources.rows(name.as_str());
         let key = String::from_str(alloc, name.as_str())?;
-        let text = row_text(alloc, &source)?;
-        let file = self.found.add_file(name, source)?;
-        self.texts.push(text)?;
+        let file = self.found.add_file(name, held(&source))?;
+        self.texts.push(row_text(source))?;
         self.numbers.insert(key, file)?;
         Ok(file)
     }
@@ -432,17 +437,24 @@ fn lent<'t, 's>(text: &'t Option<RowText<'s>>) -> Option<&'t RowText<'s>>
     }
 }
 
-/// The rows of a text, if there is one.
-fn row_text<'s>(
-    alloc: Global,
-    source: &Result<&'s str, Lack>,
-) -> Result<Option<RowText<'s>>, AllocError>
-    requires { IfOk source.now (λ text. Fits text.now) }
-    ensures { IfOk result (λ text. text_of text ≡ text_in (held_of source.now)) }
+/// The text of a source, or why there is none.
+fn held<'s>(source: &Result<RowText<'s>, Lack>) -> Result<&'s str, Lack>
+    ensures told { held_of result ≡ text_held source.now }
+    ensures short { IfOk result (λ text. Fits text.now) }
 {
     match source {
-        Ok(text) => Ok(Some(RowText::new(alloc, text)?)),
-        Err(_) => Ok(None),
+        Ok(text) => Ok(text.text),
+        Err(why) => Err(*why),
+    }
+}
+
+/// The text of a source with its rows, if there is one.
+fn row_text<'s>(source: Result<RowText<'s>, Lack>) -> Option<RowText<'s>>
+    ensures { text_of result ≡ text_in (text_held source.entry) }
+{
+    match source {
+        Ok(text) => Some(text),
+        Err(_) => None,
     }
 }
 

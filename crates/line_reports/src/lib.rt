@@ -2,7 +2,7 @@
 //!
 //! - [`reports_of`]: the reports of blocks, with their spans in the files' texts.
 //! - [`names_of`]: the names whose texts it looks up, to be read before.
-//! - [`RowText`]: a text with its rows, for the spans of [`Spot`]s.
+//! - [`span_at`]: the span of a [`Spot`] in a text with the index of its rows.
 #![tactic(auto)]
 
 mod gathered;
@@ -17,6 +17,6 @@ mod told;
 pub use gathered::reports_of;
 pub use groups::{Group, joined};
 pub use names::names_of;
-pub use rows::RowText;
+pub use rows::span_at;
 pub use spans::Spot;
 pub use told::Told;

@@ -1,82 +1,121 @@
-//! A text with its rows.
-ghost use Rattle.std.specs.Prelude.{◌≡◌, All, IfOk, IfSome};
+//! The spans of spots in a text, by the index of its rows.
+ghost use Rattle.std.specs.Prelude.{◌≡◌, ◌<◌, ◌≤◌, IfSome, length, slice_get};
 ghost use Rattle.oxc_protocol.specs.Source.{Fits};
 ghost use Rattle.sarif_spans.specs.Rows.{IsRowOf, rows_in};
 ghost use Rattle.sarif_spans.specs.Span.{IsSpanOf};
+ghost use Rattle.source_location.specs.Index.{index_of};
+ghost use Rattle.source_location.specs.Locations.{begins_with_mark as begins_so, counted_from};
 ghost use Rattle.std.specs.Str.{IsCharBoundary};
+ghost use Rattle.line_reports.specs.Rows.{break_start as start_of_break, row_end as end_of_row};
 ghost use Rattle.line_reports.specs.Span.{breaks, end_of, row_numbered, span_of};
 
 use crate::spans::{Spot, aimed, end_in, from, place_in, whole_row};
 use found_reports::GivenPlace;
+use indexed_sources::RowText;
 use line_shapes::tools::Columns;
-use sarif_spans::{Row, rows_of};
-use std::alloc::{AllocError, Global};
+use sarif_spans::Row;
+use source_location::LineIndex;
 use std::ops::Range;
 
-/// A text with its rows, which are found once. A row ends with LF, CR or both.
-#[derive(Drop)]
-pub struct RowText<'s> {
-    text: &'s str,
-    rows: Vec<Row>,
-    ghost short: { Fits text.now },
-    ghost are_rows: { rows.items ≡ rows_in breaks text.now },
-    ghost cut: { All (IsRowOf text.now) rows.items },
+/// The span of a spot in a text, in bytes; none if its row isn't there. A row ends with LF, CR or
+/// both.
+#[tactic(auto, unfolding(crate::specs::Span::span_in))]
+pub fn span_at(source: &RowText<'_>, columns: Columns, spot: Spot) -> Option<Range<usize>>
+    ensures value { result ≡ span_of columns source.now.text.now spot }
+    ensures cut { IfSome result (IsSpanOf source.now.text.now) }
+    ensures short { Fits source.now.text.now }
+{
+    let (text, index) = (source.text, source.index);
+    let row = row(text, index, spot.place.line)?;
+    Some(match aimed(columns, spot) {
+        Some((unit, column)) => {
+            let start = place_in(unit, column, text, row);
+            from(text, row, start, end(text, index, columns, spot.place))
+        }
+        None => whole_row(text, row),
+    })
 }
 
-impl<'s> RowText<'s> {
-    /// The rows of a text of fewer than `u32::MAX` bytes.
-    ///
-    /// # Errors
-    ///
-    /// Out of memory.
-    pub fn new(alloc: Global, text: &'s str) -> Result<Self, AllocError>
-        requires { Fits text.now }
-        ensures { IfOk result (λ it. it.text.now ≡ text.entry.now) }
-    {
-        let rows = rows_of(alloc, text, &["\r\n", "\n", "\r"])?;
-        Ok(RowText { text, rows })
-    }
+/// The end that the tool reported.
+#[tactic(auto, unfolding(crate::specs::Span::end_of))]
+fn end(text: &str, index: &LineIndex, columns: Columns, place: GivenPlace) -> Option<usize>
+    requires { index.now ≡ index_of text.now }
+    ensures value { result ≡ end_of columns text.now (rows_in breaks text.now) place }
+    ensures boundary { IfSome result (IsCharBoundary text.now) }
+{
+    let column = place.end_column?;
+    let row = row(text, index, place.end_line.or(place.line))?;
+    Some(end_in(columns, text, column, row))
+}
 
-    /// The span of a spot, in bytes; none if its row isn't there.
-    #[tactic(auto, unfolding(crate::specs::Span::span_in))]
-    pub fn span(&self, columns: Columns, spot: Spot) -> Option<Range<usize>>
-        ensures value { result ≡ span_of columns self.now.text.now spot }
-        ensures cut { IfSome result (IsSpanOf self.now.text.now) }
-        ensures short { Fits self.now.text.now }
-    {
-        let row = self.row(spot.place.line)?;
-        Some(match aimed(columns, spot) {
-            Some((unit, column)) => {
-                let start = place_in(unit, column, self.text, row);
-                from(self.text, row, start, self.end(columns, spot.place))
-            }
-            None => whole_row(self.text, row),
-        })
+/// The row with a number, from 1.
+fn row(text: &str, index: &LineIndex, number: Option<u32>) -> Option<Row>
+    requires { index.now ≡ index_of text.now }
+    ensures value { result ≡ row_numbered (rows_in breaks text.now) number }
+    ensures stands { IfSome result (IsRowOf text.now) }
+{
+    match number {
+        Some(0) | None => None,
+        Some(number) => row_at(text, index, number as usize - 1),
     }
+}
 
-    /// The row with a number, from 1.
-    fn row(&self, number: Option<u32>) -> Option<Row>
-        ensures value { result ≡ row_numbered (rows_in breaks self.now.text.now) number }
-        ensures stands { IfSome result (IsRowOf self.now.text.now) }
-    {
-        match number {
-            Some(0) | None => None,
-            Some(number) => match self.rows.get(number as usize - 1) {
-                Some(row) => Some(*row),
-                None => None,
-            },
-        }
+/// The row with a number, from 0, without a byte order mark.
+fn row_at(text: &str, index: &LineIndex, number: usize) -> Option<Row>
+    requires { index.now ≡ index_of text.now }
+    ensures value { result ≡ slice_get (rows_in breaks text.now) number }
+    ensures stands { IfSome result (IsRowOf text.now) }
+{
+    if number >= index.line_starts().len() {
+        return None;
     }
+    let end = row_end(text, index, number);
+    let start = row_begin(text, index, number).min(end);
+    Some(Row { start, end })
+}
 
-    /// The end that the tool reported.
-    #[tactic(auto, unfolding(crate::specs::Span::end_of))]
-    fn end(&self, columns: Columns, place: GivenPlace) -> Option<usize>
-        ensures value { result
-            ≡ end_of columns self.now.text.now (rows_in breaks self.now.text.now) place }
-        ensures boundary { IfSome result (IsCharBoundary self.now.text.now) }
-    {
-        let column = place.end_column?;
-        let row = self.row(place.end_line.or(place.line))?;
-        Some(end_in(columns, self.text, column, row))
+/// Where a row begins, behind a byte order mark.
+#[tactic(auto, unfolding(source_location::specs::Locations::counted_from, oxc_windows::specs::Rows::row_start))]
+fn row_begin(text: &str, index: &LineIndex, number: usize) -> usize
+    requires indexed { index.now ≡ index_of text.now }
+    requires there { number < length index.now.line_starts }
+    ensures { result ≡ counted_from text.now number }
+{
+    if number == 0 && begins_with_mark(text) {
+        3
+    } else {
+        index.line_starts()[number].to_usize()
+    }
+}
+
+/// Whether a text begins with a byte order mark.
+fn begins_with_mark(text: &str) -> bool
+    ensures { result ≡ begins_so text.now }
+{
+    matches!(text.as_bytes(), [0xEF, 0xBB, 0xBF, ..])
+}
+
+/// Where a row ends: before its break, or where the text ends.
+fn row_end(text: &str, index: &LineIndex, number: usize) -> usize
+    requires indexed { index.now ≡ index_of text.now }
+    requires there { number < length index.now.line_starts }
+    ensures { result ≡ end_of_row text.now number }
+{
+    match index.line_starts().get(number + 1) {
+        Some(next) => break_start(text.as_bytes(), next.to_usize()),
+        None => text.len(),
+    }
+}
+
+/// Where the break starts that ends before this offset.
+fn break_start(bytes: &[u8], end: usize) -> usize
+    requires some { 1 ≤ end }
+    requires within { end ≤ length bytes.now }
+    ensures { result ≡ start_of_break bytes.now end }
+{
+    if end >= 2 && bytes[end - 2] == b'\r' && bytes[end - 1] == b'\n' {
+        end - 2
+    } else {
+        end - 1
     }
 }

@@ -84,7 +84,7 @@ fn found_count(found: &FoundReports<'_>) -> usize
 }
 
 /// How many of this number of reports are drawn.
-fn drawn_count(most: Option<usize>, count: usize) -> usize
+pub(crate) fn drawn_count(most: Option<usize>, count: usize) -> usize
     ensures count { result ≡ drawn_of most count }
     ensures within { result ≤ count }
 {
@@ -117,7 +117,7 @@ fn drawings(
 }
 
 /// The handler that draws the reports.
-fn handler(asked: &Asked) -> GraphicalReportHandler
+pub(crate) fn handler(asked: &Asked) -> GraphicalReportHandler
     ensures { result ≡ handler_of asked.now }
 {
     GraphicalReportHandler::new_themed(theme(asked.theme))

@@ -10,7 +10,8 @@ ghost use Rattle.found_reports.specs.Held.{held_of};
 ghost use Rattle.found_reports.specs.Kept.{IsShort, Stands, file_view};
 ghost use Rattle.shown_reports.specs.Shown.{IsShown, breaks_held, breaks_shown};
 ghost use Rattle.shown_reports.specs.Shown.{label_by_bytes as by_bytes, shown_file};
-ghost use Rattle.shown_reports.specs.Shown.{shown_code, shown_note, shown_parts};
+ghost use Rattle.shown_reports.specs.Shown.{shown_code, shown_diagnostic as diagnostic_shown};
+ghost use Rattle.shown_reports.specs.Shown.{shown_label as label_shown, shown_note, shown_parts};
 ghost use Rattle.shown_reports.specs.Standing.{KeepsFile, KeepsHeld, shown_as};
 
 use crate::texts::{shown_if, shown_source, shown_text};
@@ -151,6 +152,57 @@ fn file_report(
         }),
         None => unreachable!(),
     }
+}
+
+/// What is shown of a report on a file: its texts sanitized, or as they are if `raw`, and its
+/// labels where they are. The note of a report without labels gives its reported location.
+///
+/// # Errors
+///
+/// Out of memory.
+#[tactic(auto, unfolding(crate::specs::Shown::shown_diagnostic))]
+pub fn shown_diagnostic(
+    alloc: Global,
+    file: &FoundFile<'_>,
+    report: &FoundReport,
+    raw: bool,
+) -> Result<OxcDiagnostic, AllocError>
+    ensures { IfOk result (λ it. it ≡ diagnostic_shown raw
+        (found_on (file_view file.now) report.now.diagnostic report.now.place)) }
+{
+    let parts = parts_of(alloc, file, report, raw)?;
+    let labels = shown_labels(alloc, report.diagnostic.labels(), raw)?;
+    with_parts(OxcDiagnostic::error(alloc, "")?, parts).with_labels(alloc, labels)
+}
+
+/// Labels with their texts as they are shown.
+fn shown_labels(
+    alloc: Global,
+    labels: &[LabeledSpan],
+    raw: bool,
+) -> Result<Vec<LabeledSpan>, AllocError>
+    ensures { IfOk result (λ it. it.items ≡ map (label_shown raw) labels.now) }
+{
+    let mut shown = Vec::with_capacity(alloc, labels.len())?;
+    for label in labels {
+        shown.push(shown_label(alloc, label, raw)?)?;
+    }
+    Ok(shown)
+}
+
+/// A label with its text as it is shown.
+#[tactic(auto, unfolding(crate::specs::Shown::shown_label))]
+fn shown_label(alloc: Global, label: &LabeledSpan, raw: bool) -> Result<LabeledSpan, AllocError>
+    ensures { IfOk result (λ it. it ≡ label_shown raw label.now) }
+{
+    let text = shown_if(alloc, raw, Kind::Prose, label.label())?;
+    let span = label.span();
+    let len = span.end - span.start;
+    Ok(if label.primary() {
+        LabeledSpan::primary_at(text, span.start, len)
+    } else {
+        LabeledSpan::new(text, span.start, len)
+    })
 }
 
 /// A diagnostic of these parts.

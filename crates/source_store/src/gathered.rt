@@ -7,6 +7,7 @@ ghost use Rattle.source_store.specs.Place.{text_bytes};
 use crate::fetched::{Fetched, Store};
 use crate::named::{Spelling, path_in};
 use found_reports::{Lack, ListedSources, Source};
+use indexed_sources::{IndexedSources, SourceList};
 use std::alloc::{AllocError, Global};
 
 /// The sources of these names: for each the store's text of the path that the name means. A name
@@ -30,21 +31,41 @@ pub fn gather<S: Store>(
     Ok(sources)
 }
 
+/// The same, with the indexes of their rows.
+///
+/// # Errors
+///
+/// Out of memory.
+#[tactic(auto, using(crate::proofs::GivenLemmas::given_all))]
+pub fn gather_indexed<S: Store>(
+    alloc: Global,
+    store: &S,
+    spelling: Spelling,
+    names: &[String],
+) -> Result<IndexedSources, AllocError>
+    ensures { IfOk result (λ sources. IsGiven (S.told store.now) spelling
+        (map string_bytes names.now) (held_in sources.entries.items)) }
+{
+    let mut sources = IndexedSources::empty(alloc);
+    gather_more(alloc, store, spelling, &mut sources, names)?;
+    Ok(sources)
+}
+
 /// Adds the sources of these names, as [`gather`] does. A name that has a source isn't looked up
 /// again.
 ///
 /// # Errors
 ///
 /// Out of memory.
-pub fn gather_more<S: Store>(
+pub fn gather_more<S: Store, L: SourceList>(
     alloc: Global,
     store: &S,
     spelling: Spelling,
-    sources: &mut ListedSources,
+    sources: &mut L,
     names: &[String],
 ) -> Result<(), AllocError>
-    ensures { OnOk result (AddsAll (S.told store.now) spelling sources.old.entries.items
-        sources.new.entries.items (map string_bytes names.now)) }
+    ensures { OnOk result (AddsAll (S.told store.now) spelling (L.entries sources.old)
+        (L.entries sources.new) (map string_bytes names.now)) }
 {
     for name in names {
         add(alloc, store, spelling, sources, name.as_str())?;
@@ -54,15 +75,15 @@ pub fn gather_more<S: Store>(
 
 /// Adds the source of a name, unless there is one.
 #[tactic(auto, using(crate::proofs::GivenLemmas::adds_none, crate::proofs::GivenLemmas::adds_one))]
-fn add<S: Store>(
+fn add<S: Store, L: SourceList>(
     alloc: Global,
     store: &S,
     spelling: Spelling,
-    sources: &mut ListedSources,
+    sources: &mut L,
     name: &str,
 ) -> Result<(), AllocError>
-    ensures { OnOk result (Adds (S.told store.now) spelling sources.old.entries.items
-        sources.new.entries.items name.now) }
+    ensures { OnOk result (Adds (S.told store.now) spelling (L.entries sources.old)
+        (L.entries sources.new) name.now) }
 {
     if !sources.is_listed(name) {
         sources.push(alloc, source_of(alloc, store, spelling, name)?)?;

@@ -5,7 +5,8 @@
 //! - [`path_in`]: the path that a name in a tool's output means, whether or not it is a URI.
 //! - [`means_file`]: whether that path is a file's path or an end of it; [`is_named`]: the same
 //!   for the path itself.
-//! - [`gather`]: the sources of many names; [`gather_more`]: of more names.
+//! - [`gather`]: the sources of many names; [`gather_indexed`]: with the indexes of their rows;
+//!   [`gather_more`]: of more names.
 //! - [`locate`]: the absolute path of a path from a folder, resolved in the text.
 #![tactic(auto)]
 
@@ -19,7 +20,7 @@ mod place;
 
 pub use disk::DiskStore;
 pub use fetched::{Fetched, Store};
-pub use gathered::{gather, gather_more};
+pub use gathered::{gather, gather_indexed, gather_more};
 pub use map::MapStore;
 pub use matching::{is_named, means_file};
 pub use named::{Spelling, path_in};

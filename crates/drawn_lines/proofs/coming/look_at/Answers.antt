@@ -1,10 +1,25 @@
 -- The pieces that are known were drawn.
-use Rattle.std.proofs.Common.{Bor, Vec, Global, ℕ, List, map, take, string_bytes, ap, sym, ◌∙◌}
-use Rattle.std.proofs.lemmas.List.{take-map}
+use Rattle.std.proofs.Common.{◌≡◌, Bor, Vec, Global, ℕ, List, None, map, take, drop, string_bytes, ap, sym, subst, ◌∙◌}
+use Rattle.std.proofs.lemmas.List.{take-append-drop, take-map}
 use Rattle.line_shapes.specs.Shape.{shape_parts}
-use Rattle.tool_lines.specs.Lines.{piece_parts}
+use Rattle.tool_lines.specs.Lines.{ArePieces, piece_parts}
+use Rattle.drawn_lines.specs.Seam.{BarePieces}
+use Rattle.drawn_lines.proofs.SeamLemmas.{all_bare}
 use Rattle.drawn_lines.proofs.ComingLemmas.{looks_from}
 use Rattle.drawn_lines.proofs.coming.look_at.Goals as goal
+
+pub draw-requires : goal.draw-requires
+draw-requires g c =
+    let shapes = map shape_parts c.args.shapes.now in
+    let lines = map (λ (line : Bor (List ℕ)). line.now) c.in_ok-lines.lines.items in
+    let pieces = c.in_ok-pieces.pieces.items in
+    let count = c.in-Some.part.pieces in
+    let are = rw c.deref.ensures.value at c.in_ok-pieces.ensures in
+    let front : map piece_parts c.split_at.result.0.now ≡ take count (map piece_parts pieces) =
+    ap (map piece_parts) (c.split_at.ensures.front ∙ ap (take count) c.deref-in-Some.ensures.value) ∙ sym (take-map piece_parts count pieces) in
+    subst BarePieces (sym front)
+    (all_bare shapes None lines (take count (map piece_parts pieces)) (drop count (map piece_parts pieces))
+    (subst (ArePieces shapes None lines) (sym (take-append-drop count (map piece_parts pieces))) are))
 
 pub returns-in-Some : goal.returns-in-Some
 returns-in-Some g c =

@@ -1,11 +1,14 @@
 -- Nothing is appended for no pieces; else the drawings of their reports are.
-use Rattle.std.proofs.Common.{◌++◌, length, map, string_bytes, ap, sym, append-nil, ◌∙◌}
+use Rattle.std.proofs.Common.{◌≡◌, ◌++◌, length, map, string_bytes, ap, ap₂, sym, append-nil, ◌∙◌}
+use Rattle.line_reports.specs.Reports.{reports_in}
 use Rattle.std.proofs.lemmas.Bool.Decides.{Decides-eqb}
 use Rattle.std.proofs.lemmas.List.{length-map}
 use Rattle.found_reports.specs.Listed.{held_in}
 use Rattle.tool_lines.specs.Lines.{piece_parts}
 use Rattle.drawn_lines.specs.Lines.{reports_before}
-use Rattle.drawn_lines.proofs.WalkLemmas.{none_before, nothing_drawn}
+use Rattle.drawn_lines.specs.Counts.{count_of}
+use Rattle.drawn_lines.proofs.CountLemmas.{none_counted}
+use Rattle.drawn_lines.proofs.WalkLemmas.{first_is, none_before, nothing_drawn}
 use Rattle.drawn_lines.proofs.walk.push_reports.Goals as goal
 
 pub returns-then-is_empty-clause-text : goal.returns-then-is_empty-clause-text
@@ -21,4 +24,16 @@ pub returns-then-is_empty-clause-count : goal.returns-then-is_empty-clause-count
 returns-then-is_empty-clause-count c =
     let given = held_in c.args.sources.now.entries.items in
     let from = map (λ line. line.now) c.args.from.now in
-    sym (ap length (none_before c.args.asked.now given from (map piece_parts c.args.before.now) (length-map c.args.before.now piece_parts ∙ (Decides-eqb (length c.args.before.now) 0).0 (sym c.is_empty.ensures ∙ c.if-is_empty.true))))
+    let none = none_before c.args.asked.now given from (map piece_parts c.args.before.now) (length-map c.args.before.now piece_parts ∙ (Decides-eqb (length c.args.before.now) 0).0 (sym c.is_empty.ensures ∙ c.if-is_empty.true)) in
+    c.none.ensures ∙ sym (ap (count_of c.args.asked.now) none ∙ none_counted c.args.asked.now)
+
+pub returns-clause-text : goal.returns-clause-text
+returns-clause-text c =
+    let given = held_in c.args.sources.now.entries.items in
+    let from = map (λ line. line.now) c.args.from.now in
+    let before = map piece_parts c.args.before.now in
+    let found : c.in_ok-found.found.found ≡ reports_before c.args.asked.now given from before =
+    c.in_ok-found.ensures.found ∙ ap₂ (λ columns its. reports_in columns (held_in its.entries.items) from before) c.columns_of.ensures c.indexed.ensures in
+    c.in_ok-push.ensures.text
+    ∙ ap (λ t. string_bytes c.args.text.now ++ t)
+    (first_is c.args.asked.now c.args.drawings.now c.args.sources.now.entries.items c.args.most c.in_ok-found.found.found (reports_before c.args.asked.now given from before) c.requires found)

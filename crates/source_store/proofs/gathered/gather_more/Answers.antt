@@ -6,14 +6,14 @@ use Rattle.source_store.proofs.GivenLemmas.{adds_next, adds_nothing}
 use Rattle.source_store.proofs.gathered.gather_more.Goals as goal
 
 pub loop-name-init : goal.loop-name-init
-loop-name-init g c = adds_nothing (g.S.Store.told c.args.store.now) c.args.spelling c.args.sources.now.entries.items
+loop-name-init g c = adds_nothing (g.S.Store.told c.args.store.now) c.args.spelling (g.L.SourceList.entries c.args.sources.now)
 
 pub loop-name-preserved : goal.loop-name-preserved
 loop-name-preserved g c =
     let name = c.name-item.result in
-    let old = c.args.sources.now.entries.items in
-    let before = c.loop-name.sources.entries.items in
-    let now = c.add.new.sources.entries.items in
+    let old = (g.L.SourceList.entries c.args.sources.now) in
+    let before = (g.L.SourceList.entries c.loop-name.sources) in
+    let now = (g.L.SourceList.entries c.add.new.sources) in
     let first = take c.loop-name.name-index c.args.names.now in
     let next : take (c.loop-name.name-index + 1) c.args.names.now ≡ first ++ name ∷ [] =
     take_more c.args.names.now c.loop-name.name-index name c.loop-name-test.true ∙ ap (λ x. first ++ x ∷ []) (sym c.name-item.is) in
@@ -24,5 +24,5 @@ loop-name-preserved g c =
 
 pub returns : goal.returns
 returns g c =
-    subst (λ names. AddsAll (g.S.Store.told c.args.store.now) c.args.spelling c.args.sources.now.entries.items c.loop-name.sources.entries.items (map string_bytes names))
+    subst (λ names. AddsAll (g.S.Store.told c.args.store.now) c.args.spelling (g.L.SourceList.entries c.args.sources.now) (g.L.SourceList.entries c.loop-name.sources) (map string_bytes names))
     (take_all c.loop-name.name-index c.args.names.now c.loop-name-test.false) c.loop-name.invariant

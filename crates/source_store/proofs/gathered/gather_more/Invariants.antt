@@ -5,4 +5,4 @@ use Rattle.source_store.proofs.gathered.gather_more.Given as goal
 
 abbrev pub invariant-loop-name : goal.invariant-loop-name
 invariant-loop-name g l =
-    AddsAll (g.S.Store.told l.store) l.spelling l.initial.sources.entries.items l.sources.entries.items (map string_bytes (take l.name-index l.names))
+    AddsAll (g.S.Store.told l.store) l.spelling (g.L.SourceList.entries l.initial.sources) (g.L.SourceList.entries l.sources) (map string_bytes (take l.name-index l.names))

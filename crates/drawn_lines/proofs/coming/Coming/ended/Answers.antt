@@ -1,9 +1,21 @@
 -- What is left was written, and behind it stands how many there were.
-use Rattle.std.proofs.Common.{◌++◌, Bor, Vec, Global, ℕ, List, None, map, string_bytes, subst, refl, sym, ap, ◌∙◌}
+use Rattle.std.proofs.Common.{◌++◌, [], append-nil, Bor, Vec, Global, ℕ, List, None, map, string_bytes, subst, refl, sym, ap, ◌∙◌}
+use Rattle.line_shapes.specs.Shape.{shape_parts}
 use Rattle.tool_lines.specs.Lines.{ArePieces, piece_parts}
-use Rattle.drawn_lines.specs.Coming.{IsDrawn, ending_by}
+use Rattle.drawn_lines.specs.Coming.{IsDrawn}
+use Rattle.drawn_lines.specs.Counts.{ending_by}
+use Rattle.drawn_lines.specs.Seam.{BarePieces}
+use Rattle.drawn_lines.proofs.SeamLemmas.{all_bare}
 use Rattle.drawn_lines.proofs.ComingLemmas.{all_drawn}
 use Rattle.drawn_lines.proofs.coming.Coming.ended.Goals as goal
+
+pub draw-requires : goal.draw-requires
+draw-requires g c =
+    let shapes = map shape_parts c.args.shapes.now in
+    let lines = map (λ (line : Bor (List ℕ)). line.now) c.in_ok-lines.lines.items in
+    let pieces = map piece_parts c.in_ok-pieces.pieces.items in
+    let cut = rw c.deref-2.ensures.value at c.in_ok-pieces.ensures in
+    rw c.deref-5.ensures.value (all_bare shapes None lines pieces [] (subst (ArePieces shapes None lines) (sym (append-nil pieces)) cut))
 
 pub returns : goal.returns
 returns g c = λ taken text aside coming.

@@ -1,12 +1,14 @@
 use Rattle.std.proofs.Common.{◌≡◌, ◌++◌, map, length}
-use Rattle.line_reports.specs.Gathered.{AreTexts, AreTold, IsListed}
+use Rattle.indexed_sources.specs.Indexed.{AreTold}
+use Rattle.found_reports.specs.Listed.{held_in}
+use Rattle.line_reports.specs.Gathered.{AreTexts, IsListed}
 use Rattle.line_reports.specs.Reports.{report_alone}
 use Rattle.line_reports.specs.Told.{told_parts}
 use Rattle.line_reports.proofs.gathered.Gathered.push_each.Given as goal
 
 abbrev pub invariant-loop-findings : goal.invariant-loop-findings
-invariant-loop-findings g l =
-    let told = g.S.Sources.told l.sources in
+invariant-loop-findings l =
+    let told = held_in l.sources.entries.items in
     record {
       texts : AreTexts l.self.texts.items l.self.found.files;
       held : AreTold told l.self.found.files;
@@ -15,4 +17,4 @@ invariant-loop-findings g l =
     }
 
 abbrev pub decreases-loop-findings : goal.decreases-loop-findings
-decreases-loop-findings g l = length l.findings
+decreases-loop-findings l = length l.findings

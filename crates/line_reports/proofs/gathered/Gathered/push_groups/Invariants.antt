@@ -1,12 +1,14 @@
 use Rattle.std.proofs.Common.{◌≡◌, ◌++◌, map, length}
-use Rattle.line_reports.specs.Gathered.{AreTexts, AreTold, IsListed}
+use Rattle.indexed_sources.specs.Indexed.{AreTold}
+use Rattle.found_reports.specs.Listed.{held_in}
+use Rattle.line_reports.specs.Gathered.{AreTexts, IsListed}
 use Rattle.line_reports.specs.Joined.{group_parts}
 use Rattle.line_reports.specs.Reports.{all_reports}
 use Rattle.line_reports.proofs.gathered.Gathered.push_groups.Given as goal
 
 abbrev pub invariant-loop-groups : goal.invariant-loop-groups
-invariant-loop-groups g l =
-    let told = g.S.Sources.told l.sources in
+invariant-loop-groups l =
+    let told = held_in l.sources.entries.items in
     record {
       texts : AreTexts l.self.texts.items l.self.found.files;
       held : AreTold told l.self.found.files;
@@ -15,4 +17,4 @@ invariant-loop-groups g l =
     }
 
 abbrev pub decreases-loop-groups : goal.decreases-loop-groups
-decreases-loop-groups g l = length l.groups
+decreases-loop-groups l = length l.groups

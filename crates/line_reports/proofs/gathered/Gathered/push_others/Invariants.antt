@@ -1,12 +1,14 @@
 use Rattle.std.proofs.Common.{◌≡◌, ◌++◌, map, length}
-use Rattle.line_reports.specs.Gathered.{AreTexts, AreTold, IsListed}
+use Rattle.indexed_sources.specs.Indexed.{AreTold}
+use Rattle.found_reports.specs.Listed.{held_in}
+use Rattle.line_reports.specs.Gathered.{AreTexts, IsListed}
 use Rattle.line_reports.specs.Gathered.{mark_parts}
 use Rattle.line_reports.specs.Reports.{other_notes, report_alone}
 use Rattle.line_reports.proofs.gathered.Gathered.push_others.Given as goal
 
 abbrev pub invariant-loop-marks : goal.invariant-loop-marks
-invariant-loop-marks g l =
-    let told = g.S.Sources.told l.sources in
+invariant-loop-marks l =
+    let told = held_in l.sources.entries.items in
     record {
       texts : AreTexts l.self.texts.items l.self.found.files;
       held : AreTold told l.self.found.files;
@@ -15,4 +17,4 @@ invariant-loop-marks g l =
     }
 
 abbrev pub decreases-loop-marks : goal.decreases-loop-marks
-decreases-loop-marks g l = length l.marks
+decreases-loop-marks l = length l.marks

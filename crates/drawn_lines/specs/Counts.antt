@@ -1,0 +1,31 @@
+-- How many reports there were.
+use Rattle.std.specs.Prelude.{ℕ, ◌+◌, ◌-◌, ◌||◌, false, List, [], ◌++◌, length, if◌then◌else◌}
+use Rattle.found_reports.specs.Found.{Found}
+use Rattle.report_counts.specs.Counted.{counts_of, more_line, one_reaches, summary_line}
+use Rattle.report_counts.specs.declared.counted.Counts.{Counts}
+use Rattle.report_texts.specs.Texts.{drawn_count}
+use Rattle.girzohal_options.specs.declared.Asked.{Asked}
+use Rattle.drawn_lines.specs.Lines.{annotates}
+use Rattle.drawn_lines.specs.declared.count.Count.{Count}
+
+abbrev pub no_count : Count
+no_count = record { total = 0; counts = record { errors = 0; warnings = 0; notes = 0 }; reached = false }
+
+abbrev pub counts_with : Counts → Counts → Counts
+counts_with a b = record { errors = a.errors + b.errors; warnings = a.warnings + b.warnings; notes = a.notes + b.notes }
+
+-- how many reports there are, and whether one is at or above the level
+abbrev pub count_of : Asked → List Found → Count
+count_of asked found = record { total = length found; counts = counts_of found; reached = one_reaches asked.fail_on found }
+
+abbrev pub count_with : Count → Count → Count
+count_with a b = record { total = a.total + b.total; counts = counts_with a.counts b.counts; reached = a.reached || b.reached }
+
+-- that there are more reports than were drawn, and how many there are
+abbrev pub count_text : Asked → Count → List ℕ
+count_text asked count =
+    more_line (count.total - drawn_count asked.most count.total) ++ (if asked.quiet then [] else summary_line count.counts)
+
+-- what stands behind all drawings
+abbrev pub ending_by : Asked → Count → List ℕ
+ending_by asked count = if annotates asked.to then [] else count_text asked count

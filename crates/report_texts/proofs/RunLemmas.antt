@@ -1,0 +1,176 @@
+-- Reports drawn on the sources of a run.
+use Rattle.std.proofs.Common.{◌≡◌, ℕ, zero, suc, ◌+◌, get_or, append_assoc, ◌<◌, ◌≤◌, Bool, true, false, List, [], ◌∷◌, ◌++◌, All, length, map, take, Option, Some, None, option_map, refl, sym, ap, ap₂, ◌∙◌, subst, arith}
+use Rattle.std.specs.Prelude.{IfSome, slice_get}
+use Rattle.std.specs.Str.{IsUtf8}
+use Rattle.std.proofs.lemmas.List.Elements.{All-nil, All-cons, All-head, All-tail}
+use Rattle.std.proofs.lemmas.Option.{slice_get-map}
+use Rattle.codespan.specs.Texts.{text_of}
+use Rattle.oxc_span.specs.Label.{Label, label_end}
+use Rattle.oxc_protocol.specs.Parts.{OxcParts, Parts, parts_with}
+use Rattle.oxc_handlers.specs.Handler.{Handler}
+use Rattle.oxc_handlers.specs.Report.{drawn, name_in, plan_of, severity_in, snippets_in, title_of}
+use Rattle.found_reports.specs.Found.{Found, LabelsStand, NamedHeld, StandsIn}
+use Rattle.found_reports.specs.Held.{Held, holds, lacks, held_text}
+use Rattle.found_reports.specs.Listed.{held_by, held_in}
+use Rattle.indexed_sources.specs.Indexed.{CountsAt}
+use Rattle.found_reports.specs.declared.sources.Source.{Source}
+use Rattle.shown_reports.specs.Shown.{shown_diagnostic, shown_label, shown_source, shown_text, shown_view}
+use Rattle.shown_reports.specs.Sources.{shown_by}
+use Rattle.shown_reports.specs.Standing.{KeepsHeld}
+use Rattle.harmless.specs.declared.Kind.TheVariants.{Name}
+use Rattle.harmless.specs.Harmless.{harmless_source}
+use Rattle.harmless.proofs.SourceLemmas.{source_keeps_places}
+use Rattle.std.proofs.lemmas.Str.{IsUtf8-nil}
+use Rattle.found_reports.specs.declared.sources.Lack.TheVariants.{Missing}
+use Rattle.oxc_windows.specs.Scan.{Scan, new_scan}
+use Rattle.render_files.specs.Readers.{Reads}
+use Rattle.report_texts.specs.Runs.{text_by}
+use Rattle.report_texts.specs.Texts.{drawing_of, drawings}
+use Rattle.std.proofs.lemmas.Grind.{flat_map-append}
+use Rattle.std.proofs.lemmas.List.{append-nil, map-append, take_all, take-map, take_more}
+use Rattle.found_reports.specs.Kept.{report_view}
+use Rattle.found_reports.specs.declared.reports.FoundReport.{FoundReport}
+
+pub text_there : (raw : Bool) (entries : List Source) (place : ℕ) (text : List ℕ) → Some text ≡ slice_get (map (shown_by raw) entries) place
+    → text ≡ text_of (map (text_by raw) entries) place
+text_there raw [] place text is = cc
+text_there raw (entry ∷ rest) zero text is = cc
+text_there raw (entry ∷ rest) (suc n) text is = text_there raw rest n text is
+
+some_is : {A : Type 0} {a b : A} → Some a ≡ Some b → a ≡ b
+some_is e = cc
+
+shown_mapped : (raw : Bool) (entries : List Source) → map (shown_by raw) entries ≡ map (λ held. shown_source raw (held_text held)) (map held_by entries)
+shown_mapped raw [] = refl
+shown_mapped raw (entry ∷ rest) = ap (λ xs. shown_by raw entry ∷ xs) (shown_mapped raw rest)
+
+-- what is shown of the source of a name
+pub counts_shown : (raw : Bool) (entries : List Source) (name : List ℕ) (place : ℕ) (text : List ℕ) → CountsAt entries name place
+    → Some text ≡ slice_get (map (shown_by raw) entries) place → text ≡ shown_source raw (held_text (held_in entries name))
+counts_shown raw entries name place text counts is =
+    some_is (is ∙ ap (λ xs. slice_get xs place) (shown_mapped raw entries)
+    ∙ slice_get-map (λ held. shown_source raw (held_text held)) (map held_by entries) place
+    ∙ ap (λ o. option_map (λ held. shown_source raw (held_text held)) o) counts.held)
+
+-- ---- what a view shows
+
+plan_without_url : (tab : ℕ) (parts : Parts) → plan_of tab (record parts { url = None }) ≡ plan_of tab parts
+unfolding plan_of title_of severity_in name_in snippets_in
+plan_without_url tab parts = refl
+
+view_is : (raw : Bool) (it : Found) (shown : OxcParts) (name text : List ℕ) → shown ≡ shown_diagnostic raw it → name ≡ shown_text raw Name it.name
+    → text ≡ shown_source raw (held_text it.held) → parts_with shown (Some (record { bytes = text; name = Some name })) ≡ shown_view raw it
+unfolding shown_diagnostic shown_view
+view_is raw it shown name text is named texted = rw (is, named, texted) refl
+
+pub drawn_is : (handler : Handler) (raw : Bool) (it : Found) (shown : OxcParts) (name text : List ℕ) (parts : Parts)
+    → parts ≡ record (parts_with shown (Some (record { bytes = text; name = Some name }))) { url = None }
+    → shown ≡ shown_diagnostic raw it → name ≡ shown_text raw Name it.name → text ≡ shown_source raw (held_text it.held)
+    → drawn handler.theme handler.width (plan_of handler.tab parts) ≡ drawing_of handler raw it
+unfolding drawing_of
+drawn_is handler raw it shown name text parts is shown_is named texted =
+    ap (λ p. drawn handler.theme handler.width (plan_of handler.tab p)) is
+    ∙ ap (drawn handler.theme handler.width) (plan_without_url handler.tab (parts_with shown (Some (record { bytes = text; name = Some name }))))
+    ∙ ap (λ p. drawn handler.theme handler.width (plan_of handler.tab p)) (view_is raw it shown name text shown_is named texted)
+
+-- ---- labels end within the text that is shown
+
+labels_within : (raw : Bool) (text : List ℕ) (labels : List Label) → All (StandsIn text) labels → length (shown_source raw text) ≡ length text
+    → All (λ label. label_end label ≤ length (shown_source raw text)) (map (shown_label raw) labels)
+unfolding shown_label
+labels_within raw text [] stand long = All-nil (λ (label : Label). label_end label ≤ length (shown_source raw text))
+labels_within raw text (label ∷ rest) stand long =
+    let first = All-head (StandsIn text) label rest stand in
+    All-cons (λ (it : Label). label_end it ≤ length (shown_source raw text)) (shown_label raw label) (map (shown_label raw) rest) (omega (arith, first.within, long))
+    (labels_within raw text rest (All-tail (StandsIn text) label rest stand) long)
+
+pub within_shown : (raw : Bool) (held : Held) (labels : List Label) → LabelsStand held labels → KeepsHeld raw held
+    → All (λ label. label_end label ≤ length (shown_source raw (held_text held))) (map (shown_label raw) labels)
+within_shown raw (holds text) labels stand keeps = labels_within raw text labels stand keeps.places.length_kept
+within_shown raw (lacks why) labels none keeps = rw none (All-nil (λ (label : Label). label_end label ≤ length (shown_source raw [])))
+
+shown_labels : (raw : Bool) (it : Found) (shown : OxcParts) → shown ≡ shown_diagnostic raw it → shown.labels ≡ map (shown_label raw) it.diagnostic.labels
+unfolding shown_diagnostic
+shown_labels raw it shown is = rw is refl
+
+-- ---- a view of a report on the source of its file's name
+
+abbrev pub viewed : OxcParts → List ℕ → List ℕ → Parts
+viewed shown name text = record (parts_with shown (Some (record { bytes = text; name = Some name }))) { url = None }
+
+pub source_there : (raw : Bool) (entries : List Source) (place : ℕ) (shown : OxcParts) (name text : List ℕ) (parts : Parts) → parts ≡ viewed shown name text
+    → Some text ≡ slice_get (map (shown_by raw) entries) place → IfSome parts.source (λ source. source.bytes ≡ text_of (map (text_by raw) entries) place)
+source_there raw entries place shown name text parts is there = rw is (text_there raw entries place text there)
+
+pub labels_there : (raw : Bool) (entries : List Source) (place : ℕ) (it : Found) (shown : OxcParts) (name text : List ℕ) (parts : Parts) → parts ≡ viewed shown name text
+    → Some text ≡ slice_get (map (shown_by raw) entries) place → shown ≡ shown_diagnostic raw it → LabelsStand it.held it.diagnostic.labels → CountsAt entries it.name place
+    → KeepsHeld raw (held_in entries it.name) → it.held ≡ held_in entries it.name
+    → All (λ label. label_end label ≤ length (text_of (map (text_by raw) entries) place)) parts.labels
+labels_there raw entries place it shown name text parts is there shown_is stand counts keeps told =
+    let same : text_of (map (text_by raw) entries) place ≡ shown_source raw (held_text it.held) =
+    sym (text_there raw entries place text there) ∙ counts_shown raw entries it.name place text counts there ∙ ap (λ h. shown_source raw (held_text h)) (sym told) in
+    subst (λ (t : List ℕ). All (λ label. label_end label ≤ length t) parts.labels) (sym same)
+    (subst (λ (p : Parts). All (λ label. label_end label ≤ length (shown_source raw (held_text it.held))) p.labels) (sym is)
+    (subst (λ ls. All (λ label. label_end label ≤ length (shown_source raw (held_text it.held))) ls) (sym (shown_labels raw it shown shown_is))
+    (within_shown raw it.held it.diagnostic.labels stand (subst (KeepsHeld raw) (sym told) keeps))))
+
+-- and what is drawn of it
+pub there_drawn : (handler : Handler) (raw : Bool) (entries : List Source) (place : ℕ) (it : Found) (shown : OxcParts) (name text : List ℕ) (parts : Parts) → parts ≡ viewed shown name text
+    → Some text ≡ slice_get (map (shown_by raw) entries) place → shown ≡ shown_diagnostic raw it → name ≡ shown_text raw Name it.name → CountsAt entries it.name place
+    → it.held ≡ held_in entries it.name → drawn handler.theme handler.width (plan_of handler.tab parts) ≡ drawing_of handler raw it
+there_drawn handler raw entries place it shown name text parts is there shown_is named counts told =
+    drawn_is handler raw it shown name text parts is shown_is named
+    (counts_shown raw entries it.name place text counts there ∙ ap (λ h. shown_source raw (held_text h)) (sym told))
+
+-- ---- a view of a report whose file's name has no source
+
+nothing_left : (xs : List ℕ) → length xs ≡ 0 → xs ≡ []
+nothing_left [] none = refl
+nothing_left (x ∷ xs) none = absurd (omega (arith, none))
+
+bare_shown : (raw : Bool) → shown_source raw [] ≡ []
+bare_shown true = refl
+bare_shown false = nothing_left (harmless_source []) (source_keeps_places [] IsUtf8-nil).length_kept
+
+pub bare_labels : (raw : Bool) (it : Found) (shown : OxcParts) (name : List ℕ) (parts : Parts) → parts ≡ viewed shown name [] → shown ≡ shown_diagnostic raw it
+    → LabelsStand it.held it.diagnostic.labels → it.held ≡ lacks Missing → parts.labels ≡ []
+bare_labels raw it shown name parts is shown_is stand told =
+    let none : it.diagnostic.labels ≡ [] = subst (λ h. LabelsStand h it.diagnostic.labels) told stand in
+    ap (λ (p : Parts). p.labels) is ∙ shown_labels raw it shown shown_is ∙ ap (map (shown_label raw)) none
+
+pub bare_drawn : (handler : Handler) (raw : Bool) (it : Found) (shown : OxcParts) (name : List ℕ) (parts : Parts) → parts ≡ viewed shown name [] → shown ≡ shown_diagnostic raw it
+    → name ≡ shown_text raw Name it.name → it.held ≡ lacks Missing → drawn handler.theme handler.width (plan_of handler.tab parts) ≡ drawing_of handler raw it
+bare_drawn handler raw it shown name parts is shown_is named told =
+    drawn_is handler raw it shown name [] parts is shown_is named (sym (ap (λ h. shown_source raw (held_text h)) told ∙ bare_shown raw))
+
+-- ---- a scanner of nothing
+
+pub bare_reads : (scan : Scan) → scan ≡ new_scan [] 1 1 → Reads [] 1 scan
+bare_reads scan is = rw is (record { input = refl; text = IsUtf8-nil; before = refl; after = refl })
+
+pub none_within : (labels : List Label) → labels ≡ [] → All (λ label. label_end label ≤ length {A = ℕ} []) labels
+none_within labels none = rw none (All-nil (λ (label : Label). label_end label ≤ length {A = ℕ} []))
+
+-- ---- the first reports
+
+drawn_more : (handler : Handler) (raw : Bool) (found : List Found) (it : Found) → drawings handler raw (found ++ it ∷ []) ≡ drawings handler raw found ++ drawing_of handler raw it
+drawn_more handler raw found it = flat_map-append (drawing_of handler raw) found (it ∷ []) ∙ ap (λ t. drawings handler raw found ++ t) (append-nil (drawing_of handler raw it))
+
+pub one_drawn : (handler : Handler) (raw : Bool) (files : List NamedHeld) (reports : List FoundReport) (at : ℕ) (report : FoundReport) (first text now : List ℕ) → at < length reports
+    → report ≡ get_or reports at report → text ≡ first ++ drawings handler raw (map (report_view files) (take at reports)) → now ≡ text ++ drawing_of handler raw (report_view files report)
+    → now ≡ first ++ drawings handler raw (map (report_view files) (take (at + 1) reports))
+one_drawn handler raw files reports at report first text now low is so pushed =
+    let next : take (at + 1) reports ≡ take at reports ++ report ∷ [] = take_more reports at report low ∙ ap (λ x. take at reports ++ x ∷ []) (sym is) in
+    let before = drawings handler raw (map (report_view files) (take at reports)) in
+    pushed ∙ ap (λ t. t ++ drawing_of handler raw (report_view files report)) so ∙ append_assoc first before (drawing_of handler raw (report_view files report))
+    ∙ ap (λ t. first ++ t)
+    (sym (ap (λ rs. drawings handler raw (map (report_view files) rs)) next
+    ∙ ap (drawings handler raw) (map-append (report_view files) (take at reports) (report ∷ []))
+    ∙ drawn_more handler raw (map (report_view files) (take at reports)) (report_view files report)))
+
+pub all_first : (files fs : List NamedHeld) (reports : List FoundReport) (found : List Found) (count n at : ℕ) → files ≡ fs → map (report_view fs) reports ≡ found → count ≡ n
+    → length (take count reports) ≤ at → map (report_view files) (take at (take count reports)) ≡ take n found
+all_first files fs reports found count n at same are counted past =
+    ap (map (report_view files)) (take_all at (take count reports) past)
+    ∙ ap₂ (λ xs k. map (report_view xs) (take k reports)) same counted
+    ∙ sym (take-map (report_view fs) n reports) ∙ ap (take n) are

@@ -1,0 +1,276 @@
+// Reports drawn on the sources of a run, one after another.
+ghost use Rattle.std.specs.Prelude.{◌≡◌, ◌<◌, ◌≤◌, ◌++◌, [], All, IfOk, IfSome, OnOk, length};
+ghost use Rattle.std.specs.Prelude.{Some, None, map, string_bytes, take};
+ghost use Rattle.std.specs.Option.{option_copied};
+ghost use Rattle.oxc_span.specs.Label.{label_end};
+ghost use Rattle.oxc_handlers.specs.Report.{drawn, plan_of, view_parts};
+ghost use Rattle.oxc_protocol.specs.Code.{shown_of};
+ghost use Rattle.oxc_protocol.specs.Parts.{parts_with};
+ghost use Rattle.oxc_protocol.specs.Source.{Fits};
+ghost use Rattle.harmless.specs.declared.Kind.TheVariants.{Name};
+ghost use Rattle.shown_reports.specs.Shown.{shown_diagnostic, shown_text};
+ghost use Rattle.found_reports.specs.Found.{LabelsStand, found_on};
+ghost use Rattle.found_reports.specs.Kept.{Stands, file_view, report_view};
+ghost use Rattle.indexed_sources.specs.Indexed.{AreTold};
+ghost use Rattle.found_reports.specs.Listed.{held_in};
+ghost use Rattle.render_files.specs.Readers.{Reads};
+ghost use Rattle.report_texts.specs.Runs.{drawn_on, text_at};
+ghost use Rattle.report_texts.specs.Texts.{drawing_of, drawings, drawn_count as drawn_of};
+
+use crate::drawing::{drawn_count, handler};
+use found_reports::{FoundFile, FoundReport, FoundReports};
+use girzohal_options::Asked;
+use harmless::Kind;
+use oxc_handlers::{DiagnosticView, GraphicalReportHandler};
+use oxc_protocol::{Diagnostic, LabeledSpan, OxcDiagnostic, SourceRef};
+use oxc_span::Span;
+use oxc_windows::SpanScanner;
+use shown_reports::{ShownSources, shown_diagnostic, shown_text};
+use std::alloc::{AllocError, Global};
+use std::collections::BTreeMap;
+use std::marker::Model;
+
+/// Draws reports on sources, one list of reports after another. Each source is read by one scanner
+/// for all of them. Contracts see the handler, whether texts are raw, and the sources.
+#[derive(Drop)]
+pub struct Drawings<'s> {
+    alloc: Global,
+    handler: GraphicalReportHandler,
+    raw: bool,
+    sources: &'s ShownSources,
+    /// The scanners of the sources that reports were drawn on, by their indexes.
+    scanners: BTreeMap<usize, SpanScanner<'s>>,
+}
+
+impl<'s> Model for Drawings<'s> {
+    ghost use Rattle.report_texts.specs.Runs.{AreScanners, DrawnOn};
+
+    ghost Value = { DrawnOn };
+
+    ghost view = { λ d. record {
+      handler = d.handler;
+      raw = d.raw;
+      entries = d.sources.now.entries.items;
+    } };
+
+    ghost invariant = { λ d. AreScanners d.raw d.sources.now.entries.items d.scanners };
+}
+
+impl<'s> Drawings<'s> {
+    /// No reports yet; they are drawn as `asked` says.
+    pub fn new(alloc: Global, asked: &Asked, sources: &'s ShownSources) -> Self
+        ensures { result ≡ drawn_on asked.now sources.now.entries.items }
+    {
+        Drawings {
+            alloc,
+            handler: handler(asked),
+            raw: asked.raw,
+            sources,
+            scanners: BTreeMap::new(alloc),
+        }
+    }
+
+    /// Appends the drawings of the first reports; `most` limits their number. The files of the
+    /// reports have the texts of these sources.
+    ///
+    /// # Errors
+    ///
+    /// Out of memory; then a part is appended.
+    pub fn push(
+        &mut self,
+        text: &mut String,
+        most: Option<usize>,
+        found: &FoundReports<'_>,
+    ) -> Result<(), AllocError>
+        requires { AreTold (held_in self.old.entries) found.now.files }
+        ensures text { OnOk result (string_bytes text.new ≡ string_bytes text.old
+            ++ drawings self.old.handler self.old.raw
+            (take (drawn_of most (length found.now.found)) found.now.found)) }
+        ensures unchanged { self.new ≡ self.old }
+    {
+        let files = found.files();
+        let reports = found.reports();
+        let first = &reports[..drawn_count(most, reports.len())];
+        for report in first {
+            self.push_report(text, files, report)?;
+        }
+        Ok(())
+    }
+
+    /// Appends the drawing of a report on one of these files.
+    fn push_report(
+        &mut self,
+        text: &mut String,
+        files: &[FoundFile<'_>],
+        report: &FoundReport,
+    ) -> Result<(), AllocError>
+        requires told { AreTold (held_in self.old.entries) (map file_view files.now) }
+        requires stands { Stands (map file_view files.now) report.now }
+        ensures text { OnOk result (string_bytes text.new ≡ string_bytes text.old
+            ++ drawing_of self.old.handler self.old.raw
+            (report_view (map file_view files.now) report.now)) }
+        ensures unchanged { self.new ≡ self.old }
+    {
+        let (alloc, raw) = (self.alloc, self.raw);
+        let file = &files[report.file];
+        let shown = shown_diagnostic(alloc, file, report, raw)?;
+        let name = shown_text(alloc, raw, Kind::Name, file.name.as_str())?;
+        let code = shown.code(alloc)?;
+        self.push_shown(text, file, report, &shown, code.as_deref(), name.as_str())
+    }
+
+    /// Appends the drawing of a report that is shown as this diagnostic, with its code and its
+    /// file's name.
+    fn push_shown(
+        &mut self,
+        text: &mut String,
+        file: &FoundFile<'_>,
+        report: &FoundReport,
+        shown: &OxcDiagnostic,
+        code: Option<&str>,
+        name: &str,
+    ) -> Result<(), AllocError>
+        requires told { (file_view file.now).held
+            ≡ held_in self.old.entries (file_view file.now).name }
+        requires stand { LabelsStand (file_view file.now).held report.now.diagnostic.labels }
+        requires shown { shown.now ≡ shown_diagnostic self.old.raw
+            (found_on (file_view file.now) report.now.diagnostic report.now.place) }
+        requires code { option_copied code ≡ shown_of shown.now.code }
+        requires name { name.now ≡ shown_text self.old.raw Name (file_view file.now).name }
+        ensures text { OnOk result (string_bytes text.new ≡ string_bytes text.old
+            ++ drawing_of self.old.handler self.old.raw
+            (found_on (file_view file.now) report.now.diagnostic report.now.place)) }
+        ensures unchanged { self.new ≡ self.old }
+    {
+        let sources = self.sources;
+        match sources.indexed().place(file.name.as_str()) {
+            Some(place) => {
+                let source = sources.shown(place, self.raw);
+                let view = view_of(shown, code, name, source);
+                self.draw(text, place, &view)
+            }
+            None => {
+                let view = view_of(shown, code, name, "");
+                draw_bare(self.alloc, &self.handler, text, &view)
+            }
+        }
+    }
+
+    /// Appends the drawing of a report on the source at an index. A scanner is used in its place in
+    /// the map.
+    fn draw(
+        &mut self,
+        text: &mut String,
+        place: usize,
+        view: &DiagnosticView<'_>,
+    ) -> Result<(), AllocError>
+        requires held { place < length self.old.entries }
+        requires source { IfSome (view_parts view.now).source
+            (λ source. source.bytes ≡ text_at self.old place) }
+        requires within { All (λ label. label_end label ≤ length (text_at self.old place))
+            (view_parts view.now).labels }
+        ensures text { OnOk result (string_bytes text.new ≡ string_bytes text.old
+            ++ drawn self.old.handler.theme self.old.handler.width
+            (plan_of self.old.handler.tab (view_parts view.now))) }
+        ensures unchanged { self.new ≡ self.old }
+    {
+        let alloc = self.alloc;
+        let from = self.ready(place, least_start(view.labels));
+        if let Some(scanner) = self.scanners.get_mut(&place) {
+            return self
+                .handler
+                .push_view_with_scanner(alloc, text, view, scanner);
+        }
+        let mut scanner = self.new_scanner(place, from)?;
+        self.handler
+            .push_view_with_scanner(alloc, text, view, &mut scanner)?;
+        self.scanners.insert(place, scanner)?;
+        Ok(())
+    }
+
+    /// Where a new scanner of a source begins to keep rows: at this start, which is the first one.
+    /// A scanner whose rows begin after it is dropped, and the next one keeps all rows.
+    fn ready(&mut self, place: usize, start: u32) -> u32
+        ensures { self.new ≡ self.old }
+    {
+        match self.scanners.get(&place) {
+            Some(scanner) if !keeps(scanner.kept(), start) => {
+                let _scanner = self.scanners.remove(&place);
+                0
+            }
+            _ => start,
+        }
+    }
+
+    /// A scanner of the source at an index, which keeps rows from this start on.
+    fn new_scanner(&self, place: usize, from: u32) -> Result<SpanScanner<'s>, AllocError>
+        requires { place < length self.now.entries }
+        ensures { IfOk result (Reads (text_at self.now place) 1) }
+    {
+        scanner_of(self.alloc, self.sources.shown(place, self.raw), from)
+    }
+}
+
+/// A scanner of a text, which keeps rows from this start on.
+fn scanner_of<'s>(alloc: Global, source: &'s str, from: u32) -> Result<SpanScanner<'s>, AllocError>
+    requires { Fits source.now }
+    ensures { IfOk result (Reads source.entry.now 1) }
+{
+    let mut scanner = SpanScanner::of_text(alloc, source, 1, 1);
+    scanner.read_span(Span::new(from, from))?;
+    Ok(scanner)
+}
+
+/// Appends the drawing of a report on an empty source, which has no labels.
+fn draw_bare(
+    alloc: Global,
+    handler: &GraphicalReportHandler,
+    text: &mut String,
+    view: &DiagnosticView<'_>,
+) -> Result<(), AllocError>
+    requires source { IfSome (view_parts view.now).source (λ source. source.bytes ≡ []) }
+    requires labels { (view_parts view.now).labels ≡ [] }
+    ensures { OnOk result (string_bytes text.new ≡ string_bytes text.old
+        ++ drawn handler.now.theme handler.now.width
+        (plan_of handler.now.tab (view_parts view.now))) }
+{
+    let mut scanner = SpanScanner::of_text(alloc, "", 1, 1);
+    handler.push_view_with_scanner(alloc, text, view, &mut scanner)
+}
+
+/// The least start of the labels, or 0.
+fn least_start(labels: &[LabeledSpan]) -> u32 {
+    labels.iter().map(|label| label.offset()).min().unwrap_or(0)
+}
+
+/// Whether rows that start there, of which the first is for context, are those of an offset too.
+fn keeps(rows: &[u32], start: u32) -> bool {
+    match rows {
+        [0, ..] => true,
+        [_, second, ..] => *second <= start,
+        _ => false,
+    }
+}
+
+/// What a diagnostic shows, with its code, on a source of this name.
+fn view_of<'b>(
+    shown: &'b OxcDiagnostic,
+    code: Option<&'b str>,
+    name: &'b str,
+    source: &'b str,
+) -> DiagnosticView<'b>
+    requires code { option_copied code ≡ shown_of shown.now.code }
+    requires short { Fits source.now }
+    ensures { view_parts result ≡ record (parts_with shown.now
+        (Some (record { bytes = source.now; name = Some name.now }))) { url = None } }
+{
+    DiagnosticView {
+        message: shown.message(),
+        code,
+        severity: shown.severity(),
+        help: shown.help(),
+        note: shown.note(),
+        source: Some(SourceRef::new(source.as_bytes(), Some(name))),
+        labels: shown.labels(),
+    }
+}
