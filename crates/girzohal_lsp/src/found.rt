@@ -19,7 +19,9 @@ use line_shapes::tables::Unit;
 use line_shapes::tools::{Columns, columns_of_tool, tool_shapes};
 use oxc_protocol::{Diagnostic, OxcDiagnostic};
 use sarif::{ColumnKind, Log};
-use source_store::{Fetched, Spelling, Store, gather, gather_indexed, is_named, means_file, path_in};
+use source_store::{
+    Fetched, Spelling, Store, gather, gather_indexed, is_named, means_file, path_in,
+};
 use std::alloc::{AllocError, Global};
 use tool_lines::lines::{lines_of, pieces_of};
 use tool_lines::paint::without_paint;
