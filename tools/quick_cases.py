@@ -257,7 +257,7 @@ def report_cases():
     for path in sorted(glob.glob(os.path.join(TOP, "examples", "*.txt"))):
         name = os.path.basename(path)[:-4]
         yield Case("report", "example-" + name, (), read("examples", name + ".json"), 0, read("examples", name + ".txt"))
-    shown = re.search(r"```text\n(\n  × eslint\(no-undef\).*?\n)```", read("README.md").decode(), re.S)[1]
+    shown = re.search(r"```text\n(\n  × eslint\(no-undef\).*?\n)```", read("bindings", "README.md").decode(), re.S)[1]
     given = ('{"files": [{"name": "cart.js", "source": "let total = 1;\\nprint(totl);\\n"}], "reports": [{"file": 0, '
              '"message": "`totl` isn\'t defined.", "scope": "eslint", "number": "no-undef", "help": "Did you mean `total`?", '
              '"labels": [{"start": [2, 7], "end": [2, 11], "text": "not found"}]}]}')
