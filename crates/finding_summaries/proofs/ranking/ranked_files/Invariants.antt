@@ -1,0 +1,7 @@
+use Rattle.std.proofs.Common.{◌≡◌, map, take}
+use Rattle.ci_findings.specs.Finding.{finding_parts}
+use Rattle.finding_summaries.specs.Names.{file_of}
+use Rattle.finding_summaries.proofs.ranking.ranked_files.Given as goal
+
+abbrev pub invariant-loop-finding : goal.invariant-loop-finding
+invariant-loop-finding l = map (λ it. it.now) l.names.items ≡ map file_of (map finding_parts (take l.finding-index l.findings))

@@ -1,0 +1,7 @@
+pub mod Names
+pub mod Ranking
+pub mod Totals
+pub mod Summary
+pub mod Cells
+pub mod CellAscii
+pub mod Markdown

@@ -1,0 +1,18 @@
+//! What a CI job shows to people about its findings.
+//!
+//! - [`summary_text`]: the totals, then the files and the rules with the most findings, for a
+//!   terminal or a log.
+//! - [`markdown_text`]: the same as tables of GitHub's Markdown, and [`markdown_cell`], a text as
+//!   it is written in a cell.
+#![tactic(auto)]
+
+mod cells;
+mod markdown;
+mod ranking;
+mod summary;
+mod totals;
+
+pub use cells::markdown_cell;
+pub use markdown::markdown_text;
+pub use ranking::rankings_are_determined;
+pub use summary::summary_text;
