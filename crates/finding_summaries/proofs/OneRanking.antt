@@ -1,5 +1,5 @@
--- Names have one ranking.
-use Rattle.std.proofs.Common.{◌≡◌, ℕ, suc, ◌+◌, Bool, true, false, true≢false, cond, List, [], ◌∷◌, All, get_or, refl, sym, ap, ◌∙◌, arith}
+-- Names have one ranking, and findings one text.
+use Rattle.std.proofs.Common.{◌≡◌, ℕ, suc, ◌+◌, Bool, true, false, true≢false, cond, List, [], ◌∷◌, All, get_or, map, refl, sym, ap, ◌∙◌, arith}
 use Rattle.std.specs.Cmp.{IsStrictWeakOrder, IsTotalOrder, back_total, nat_cmp_total, on_total, then_total}
 use Rattle.std.specs.Cmp.Lexicographic.{nat_list_cmp_total, nat_list_eq_equiv, slice_cmp}
 use Rattle.std.specs.List.{count_by}
@@ -13,7 +13,11 @@ use Rattle.std.proofs.lemmas.List.Sorted.{ranks_by}
 use Rattle.std.proofs.lemmas.List.Sums.{sum_by-cons}
 use Rattle.std.proofs.lemmas.Map.Text.{is_eq-slice_cmp}
 use Rattle.std.proofs.lemmas.Slice.Eq.{bytes_eq-Decides}
-use Rattle.finding_summaries.specs.Ranking.{AreDetermined, Ranked, is_named, rank_order, times}
+use Rattle.finding_summaries.specs.Determined.{HaveOneMarkdown, HaveOneRanking, HaveOneSummary}
+use Rattle.finding_summaries.specs.Markdown.{markdown_of}
+use Rattle.finding_summaries.specs.Names.{file_of, rule_of}
+use Rattle.finding_summaries.specs.Summary.{summary_of}
+use Rattle.finding_summaries.specs.Ranking.{Ranked, is_named, rank_order, times}
 
 abbrev before : Ranked → Ranked → Bool
 before a b = is_lt (rank_order a b)
@@ -109,6 +113,18 @@ module _ (names : List (List ℕ)) where
       (λ name. omega (arith, alike name, cons_times name x xs, cons_times name y ys, same_part x y first name)) in
       λ i. first i ∷ rest i
 
-pub one_ranking : AreDetermined
+pub one_ranking : HaveOneRanking
 one_ranking names a b left right =
     one_list names a b left.tallied.counted right.tallied.counted left.sorted right.sorted (λ name. left.tallied.once name ∙ sym (right.tallied.once name))
+
+pub one_summary : HaveOneSummary
+one_summary findings a b left right =
+    left.written
+    ∙ (λ i. summary_of findings (one_ranking (map file_of findings) left.files right.files left.files_ranked right.files_ranked i) (one_ranking (map rule_of findings) left.rules right.rules left.rules_ranked right.rules_ranked i))
+    ∙ sym right.written
+
+pub one_markdown : HaveOneMarkdown
+one_markdown findings a b left right =
+    left.written
+    ∙ (λ i. markdown_of findings (one_ranking (map file_of findings) left.files right.files left.files_ranked right.files_ranked i) (one_ranking (map rule_of findings) left.rules right.rules left.rules_ranked right.rules_ranked i))
+    ∙ sym right.written

@@ -5,3 +5,4 @@ pub mod Summary
 pub mod Cells
 pub mod CellAscii
 pub mod Markdown
+pub mod Determined

@@ -43,10 +43,6 @@ pub record IsRanking (names : List (List ℕ)) (rows : List Ranked) : Type 0 whe
   pub tallied : AreTallied names rows
   pub sorted : IsSorted rank_order rows
 
--- names have one ranking
-abbrev pub AreDetermined : Type 0
-AreDetermined = (names : List (List ℕ)) (a b : List Ranked) → IsRanking names a → IsRanking names b → a ≡ b
-
 -- ---- counts in a map
 
 -- the number under a name, 0 if there is none

@@ -4,15 +4,17 @@
 //!   terminal or a log.
 //! - [`markdown_text`]: the same as tables of GitHub's Markdown, and [`markdown_cell`], a text as
 //!   it is written in a cell.
+//! - [`texts_are_determined`]: findings have one text of each kind.
 #![tactic(auto)]
 
 mod cells;
+mod determined;
 mod markdown;
 mod ranking;
 mod summary;
 mod totals;
 
 pub use cells::markdown_cell;
+pub use determined::texts_are_determined;
 pub use markdown::markdown_text;
-pub use ranking::rankings_are_determined;
 pub use summary::summary_text;

@@ -6,7 +6,7 @@ ghost use Rattle.std.specs.BTreeMap.{get};
 ghost use Rattle.std.specs.Ordering.{is_eq};
 ghost use Rattle.found_reports.specs.Names.{name_order};
 ghost use Rattle.ci_findings.specs.Finding.{finding_parts};
-ghost use Rattle.finding_summaries.specs.Ranking.{AreDetermined, AreTallied, IsRanking, count_in};
+ghost use Rattle.finding_summaries.specs.Ranking.{AreTallied, IsRanking, count_in};
 ghost use Rattle.finding_summaries.specs.Ranking.{row_in, row_parts};
 ghost use Rattle.finding_summaries.specs.Names.{file_of as file_named, rule_of as rule_named};
 
@@ -128,8 +128,3 @@ fn rows_of<'a>(
     }
     Ok(rows)
 }
-
-/// No two rankings of the same names are different.
-pub fn rankings_are_determined()
-    ensures { AreDetermined }
-{}
