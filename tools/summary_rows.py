@@ -2,8 +2,6 @@
 
 A finding is a severity, a rule and a file; without a rule or a file it has an empty one. `row_log` gives a row's findings as a SARIF log, as
 `girzohal` reads it with `--to summary` and `--to markdown`."""
-from urllib.parse import quote
-
 from finding_rows import log
 
 EMPTY = ("nothing", [], "no findings\n", "no findings\n")
@@ -109,7 +107,7 @@ ROWS = (EMPTY, FOUR, ONE, ALIGNED, HOSTILE, many(50), many(51), many(80))
 
 def row_log(findings):
     """The findings of a row as a SARIF log."""
-    return log(("", [(level, rule, "m", quote(file), ()) for level, rule, file in findings]))
+    return log(("", [(level, rule, "m", file, ()) for level, rule, file in findings]))
 
 
 def wrong_rows(run):
