@@ -7,7 +7,7 @@ _girzohal() {
     [[ $word == = ]] && word=
     case $before in
     --from) values="auto document sarif lines" ;;
-    --to) values="drawing json document sarif problems github gitlab checkstyle junit stylish" ;;
+    --to) values="drawing json document sarif problems github gitlab checkstyle junit stylish summary markdown" ;;
     --tool)
         values="clang gcc rustc cargo flake8 shellcheck pylint mypy eslint tsc dotenv-linter fasterer grep hadolint
             haml-lint kotlin markdownlint phpstan problem-lines psalm slim-lint sarif"

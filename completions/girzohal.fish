@@ -6,7 +6,7 @@ complete -c girzohal -l columns -x -a 'bytes characters utf16 cells' -d 'What a 
 complete -c girzohal -l first-column -x -a '0 1' -d 'The number of the first column (as the tool says, otherwise 1)'
 complete -c girzohal -l root -x -a '(__fish_complete_directories)' -d 'The folder with the source code (.)'
 complete -c girzohal -l allow-outside-root -d 'Read files outside of that folder too'
-complete -c girzohal -l to -x -a 'drawing json document sarif problems github gitlab checkstyle junit stylish' -d 'The form of the output (drawing)'
+complete -c girzohal -l to -x -a 'drawing json document sarif problems github gitlab checkstyle junit stylish summary markdown' -d 'The form of the output (drawing)'
 complete -c girzohal -l color -x -a 'auto always never' -d 'Colors (auto)'
 complete -c girzohal -l ascii -d 'Draw with ASCII characters, without colors'
 complete -c girzohal -l width -x -a 'auto 80 100 120' -d 'How many columns texts are filled to (auto)'

@@ -98,4 +98,6 @@ def count(form, text):
         return len([json.loads(line) for line in text.splitlines()])
     if form == "document":
         return len(json.loads(text)["reports"])
+    if form in ("summary", "markdown"):
+        return 0 if text == "no findings\n" else int(text.split(" ", 1)[0])
     return len(places(form, text))

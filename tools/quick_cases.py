@@ -28,7 +28,7 @@ import run_rows  # noqa: E402
 
 TOP = os.path.dirname(os.path.dirname(os.path.abspath(__file__)))
 PLAIN = ("--ascii",)
-FORMS = ("drawing", "json", "document", "sarif", "problems", "github", "gitlab", "checkstyle", "junit", "stylish")
+FORMS = ("drawing", "json", "document", "sarif", "problems", "github", "gitlab", "checkstyle", "junit", "stylish", "summary", "markdown")
 LINE = "a.c:2:5: error: no such name [x]\n"
 SHOWN = "   ,-[a.c:2:5]\n 1 | int x;\n 2 | int totl;\n   :     ^^^^\n   `----\n"
 DRAWN = "\n  x x: no such name\n" + SHOWN
@@ -178,7 +178,7 @@ WRONG_WORDS = [
     ("a-column", ("--first-column", "2"), "--first-column: expected 0 or 1, not '2'"),
     ("a-form-that-is-read", ("--from", "xml"), "--from: expected auto, document, sarif or lines, not 'xml'"),
     ("a-form-that-is-written", ("--to", "html"),
-     "--to: expected drawing, json, document, sarif, problems, github, gitlab, checkstyle, junit or stylish, not 'html'"),
+     "--to: expected drawing, json, document, sarif, problems, github, gitlab, checkstyle, junit, stylish, summary or markdown, not 'html'"),
     ("two-forms", ("--to", "json", "--to", "github"), "--to: 'github' is a second form; only one is written"),
     ("a-tool", ("--tool", "nobody"), "--tool: expected a tool that --help lists, such as gcc or sarif, not 'nobody'"),
     ("a-level", ("--fail-on", "never!"), "--fail-on: expected error, warning, advice or never, not 'never!'"),

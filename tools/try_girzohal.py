@@ -16,6 +16,7 @@ import threading
 sys.dont_write_bytecode = True
 import format_places
 import run_rows
+import summary_rows
 from finding_rows import FindingRows
 from tries_around import Around
 
@@ -44,7 +45,7 @@ LOG = {
 }
 DOCUMENT = {"files": [{"name": "a.c", "source": SOURCE.decode()}],
             "reports": [{"file": 0, "message": "look here", "labels": [{"start": [2, 5], "end": [2, 9]}]}]}
-FORMS = ("drawing", "json", "document", "sarif", "problems", "github", "gitlab", "checkstyle", "junit", "stylish")
+FORMS = ("drawing", "json", "document", "sarif", "problems", "github", "gitlab", "checkstyle", "junit", "stylish", "summary", "markdown")
 # What would drive a terminal, or turn the direction of writing.
 HOSTILE = "\x1b]0;title\x07\x1b[2J\x9b31m\r\u202e\u2066"
 # Of a row `é𝕏`, a tab and `totl`, the number of `totl`'s column by each unit.
@@ -335,7 +336,8 @@ class Tries(Around, FindingRows):
         """What is around a log goes to the error output, whole and in order; an error's row is one of the input."""
         for before, behind in ((b"", b"2 warnings generated.\n"), (b"make all\n", b"\nmake: done\n"), (b"one\ntwo\n", b"")):
             for form in FORMS:
-                said = self.ends("a log among lines", 0, "--from", "sarif", "--to", form, given=before + log + behind, out=b"look here")
+                said = self.ends("a log among lines", 0, "--from", "sarif", "--to", form, given=before + log + behind,
+                                 out=b"1 finding: " if form in ("summary", "markdown") else b"look here")
                 self.check(f"what stands round it: {said.stderr}", said.stderr == before + behind, said)
         cut = log.replace(b'"runs":', b'"runs"')
         said = self.ends("a log that is no JSON", 3, given=cut, err=b"input is no JSON")
@@ -393,6 +395,7 @@ class Tries(Around, FindingRows):
             if "escaped" not in what:
                 self.ends(f"{what}, raw", 0, "--raw", "--width", "300", given=log, out=HOSTILE.encode())
         self.try_hostile_lines()
+        self.try_summaries()
         with open(f"{self.room}/a.c", "wb") as file:
             file.write(("int x;\n" + "int " + HOSTILE + ";\n").encode())
         for words in ((), ("--color", "never"), *(("--to", form) for form in FORMS if form not in ("document", "sarif"))):
@@ -400,6 +403,14 @@ class Tries(Around, FindingRows):
             self.check(f"a source drives no terminal: {' '.join(words)}", said.stdout and not drives(said.stdout.decode()), said)
         with open(f"{self.room}/a.c", "wb") as file:
             file.write(SOURCE)
+
+    def try_summaries(self):
+        """Summaries, and the same as Markdown, of rows of findings."""
+        def text_of(form, findings):
+            return self.run("--to", form, given=summary_rows.row_log(findings)).stdout.decode()
+        for name, form, got in summary_rows.wrong_rows(text_of):
+            self.check(f"{name}, as {form}", False, got)
+        self.check("the rows of summaries", True)
 
     def try_hostile_lines(self):
         """The same of lines: of findings, and of lines that are none, wherever these go."""

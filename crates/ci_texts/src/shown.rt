@@ -7,6 +7,8 @@ ghost use Rattle.indexed_sources.specs.Indexed.{AreTold};
 ghost use Rattle.ci_texts.specs.Texts.{ci_text as ci_text_of, findings_in};
 ghost use Rattle.ci_texts.specs.Texts.{gitlab_text as gitlab_text_of};
 ghost use Rattle.ci_texts.specs.Texts.{shown_finding as finding_shown};
+ghost use Rattle.finding_summaries.specs.Markdown.{IsMarkdown};
+ghost use Rattle.finding_summaries.specs.Summary.{IsSummary};
 
 use crate::indexed::findings_on;
 use ci_findings::{Finding, findings_of};
@@ -76,6 +78,40 @@ pub fn gitlab_text(
     let name = shown_if(alloc, raw, Kind::Name, tool)?;
     let shown = findings(alloc, raw, found)?;
     ci_formats::gitlab_text(alloc, name.as_deref(), &shown)
+}
+
+/// A summary of the findings of reports.
+///
+/// # Errors
+///
+/// Out of memory.
+pub fn summary_text(
+    alloc: Global,
+    raw: bool,
+    found: &FoundReports<'_>,
+) -> Result<String, AllocError>
+    ensures { IfOk result (λ text.
+        IsSummary (findings_in raw found.now.found) (string_bytes text)) }
+{
+    let shown = findings(alloc, raw, found)?;
+    finding_summaries::summary_text(alloc, &shown)
+}
+
+/// The same in Markdown.
+///
+/// # Errors
+///
+/// Out of memory.
+pub fn markdown_text(
+    alloc: Global,
+    raw: bool,
+    found: &FoundReports<'_>,
+) -> Result<String, AllocError>
+    ensures { IfOk result (λ text.
+        IsMarkdown (findings_in raw found.now.found) (string_bytes text)) }
+{
+    let shown = findings(alloc, raw, found)?;
+    finding_summaries::markdown_text(alloc, &shown)
 }
 
 /// The findings of reports, with their texts sanitized unless `raw`.

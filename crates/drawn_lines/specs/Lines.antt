@@ -21,7 +21,7 @@ use Rattle.line_reports.specs.Reports.{reports_in}
 use Rattle.report_texts.specs.Texts.{ending_text, first_drawings}
 use Rattle.girzohal_options.specs.declared.Asked.{Asked}
 use Rattle.girzohal_options.specs.declared.OutputForm.{OutputForm}
-use Rattle.girzohal_options.specs.declared.OutputForm.TheVariants.{Drawing, Json, Document, Sarif, Problems, Github, Gitlab, Checkstyle, Junit, Stylish}
+use Rattle.girzohal_options.specs.declared.OutputForm.TheVariants.{Drawing, Json, Document, Sarif, Problems, Github, Gitlab, Checkstyle, Junit, Stylish, Summary, Markdown}
 use Rattle.girzohal_options.specs.declared.ThemeChoice.{ThemeChoice}
 use Rattle.girzohal_options.specs.declared.ThemeChoice.TheVariants.{Auto, Plain, Unicode, UnicodeNocolor}
 use Rattle.drawn_lines.specs.Text.{read_line}
@@ -67,6 +67,8 @@ annotates Gitlab = false
 annotates Checkstyle = false
 annotates Junit = false
 annotates Stylish = false
+annotates Summary = false
+annotates Markdown = false
 
 abbrev pub has_colors : ThemeChoice → Bool
 has_colors Auto = false

@@ -18,7 +18,9 @@ pub fn annotates(form: OutputForm) -> bool
         | OutputForm::Gitlab
         | OutputForm::Checkstyle
         | OutputForm::Junit
-        | OutputForm::Stylish => false,
+        | OutputForm::Stylish
+        | OutputForm::Summary
+        | OutputForm::Markdown => false,
     }
 }
 

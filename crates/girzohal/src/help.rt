@@ -57,8 +57,9 @@ Source code
 
 Output
   --to FORM            The form of the output: drawing, json, document, sarif,
-                       problems, github, gitlab, checkstyle, junit or stylish.
-                       Default: drawing. Example: --to github
+                       problems, github, gitlab, checkstyle, junit, stylish,
+                       summary (totals, files and rules by count) or markdown
+                       (the same). Default: drawing. Example: --to github
   --color WHEN         Colors: auto, always or never. For auto the environment
                        decides, see below. Default: auto. Example: --color never
   --ascii              Draw with ASCII characters. Such drawings have no colors,

@@ -39,6 +39,8 @@ output_named value =
     else if bytes_eq value (codes "checkstyle") then Some to.Checkstyle
     else if bytes_eq value (codes "junit") then Some to.Junit
     else if bytes_eq value (codes "stylish") then Some to.Stylish
+    else if bytes_eq value (codes "summary") then Some to.Summary
+    else if bytes_eq value (codes "markdown") then Some to.Markdown
     else None
 
 -- the theme of a choice of colors

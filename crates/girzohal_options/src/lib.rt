@@ -63,6 +63,10 @@ pub enum OutputForm {
     Junit,
     /// A table for each file, as ESLint prints it.
     Stylish,
+    /// The numbers of findings, and the files and rules that have most of them.
+    Summary,
+    /// The same in Markdown.
+    Markdown,
 }
 
 /// The characters and colors of a drawing.

@@ -54,8 +54,8 @@ impl Setting {
             Setting::FirstColumn => ("--first-column", "0 or 1"),
             Setting::To => (
                 "--to",
-                "drawing, json, document, sarif, problems, github, gitlab, checkstyle, junit or \
-                stylish",
+                "drawing, json, document, sarif, problems, github, gitlab, checkstyle, junit, \
+                stylish, summary or markdown",
             ),
             Setting::Shape => ("--shape", "a pattern such as '{name}:{line}: {message}'"),
             Setting::Root => ("--root", "a folder"),

@@ -47,6 +47,8 @@ pub(crate) fn output_named(value: &str) -> Option<OutputForm>
         "checkstyle" => Some(OutputForm::Checkstyle),
         "junit" => Some(OutputForm::Junit),
         "stylish" => Some(OutputForm::Stylish),
+        "summary" => Some(OutputForm::Summary),
+        "markdown" => Some(OutputForm::Markdown),
         _ => None,
     }
 }

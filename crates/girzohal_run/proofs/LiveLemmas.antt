@@ -29,7 +29,7 @@ use Rattle.girzohal_options.specs.declared.Asked.{Asked}
 use Rattle.girzohal_options.specs.declared.InputForm.{InputForm}
 use Rattle.girzohal_options.specs.declared.InputForm.TheVariants as form
 use Rattle.girzohal_options.specs.declared.OutputForm.{OutputForm}
-use Rattle.girzohal_options.specs.declared.OutputForm.TheVariants.{Drawing, Json, Document, Sarif, Problems, Github, Gitlab, Checkstyle, Junit, Stylish}
+use Rattle.girzohal_options.specs.declared.OutputForm.TheVariants.{Drawing, Json, Document, Sarif, Problems, Github, Gitlab, Checkstyle, Junit, Stylish, Summary, Markdown}
 use Rattle.girzohal_run.specs.Told.{Told}
 use Rattle.girzohal_run.specs.Texts.{IsTextIn}
 use Rattle.girzohal_run.specs.Lines.{ListsLines, MakesLines, MakesLinesBy, is_drawing, is_live}
@@ -399,6 +399,8 @@ annotated Gitlab asked parts text is made = cc
 annotated Checkstyle asked parts text is made = cc
 annotated Junit asked parts text is made = cc
 annotated Stylish asked parts text is made = cc
+annotated Summary asked parts text is made = cc
+annotated Markdown asked parts text is made = cc
 
 lists_of : (told : Told) (asked : Asked) (bytes text aside : List ℕ) (reached : Bool) → annotates asked.to ≡ true → IsDrawn told asked bytes text aside reached
     → ListsLines told asked bytes text aside reached

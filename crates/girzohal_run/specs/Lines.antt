@@ -11,7 +11,7 @@ use Rattle.line_reports.specs.Reports.{reports_in}
 use Rattle.report_counts.specs.Counted.{one_reaches}
 use Rattle.girzohal_options.specs.declared.Asked.{Asked}
 use Rattle.girzohal_options.specs.declared.OutputForm.{OutputForm}
-use Rattle.girzohal_options.specs.declared.OutputForm.TheVariants.{Drawing, Json, Document, Sarif, Problems, Github, Gitlab, Checkstyle, Junit, Stylish}
+use Rattle.girzohal_options.specs.declared.OutputForm.TheVariants.{Drawing, Json, Document, Sarif, Problems, Github, Gitlab, Checkstyle, Junit, Stylish, Summary, Markdown}
 use Rattle.drawn_lines.specs.Text.{lines_of}
 use Rattle.drawn_lines.specs.Lines.{annotates, columns_of, kept_text, shapes_of}
 use Rattle.drawn_lines.specs.Coming.{IsDrawn}
@@ -29,6 +29,8 @@ is_drawing Gitlab = false
 is_drawing Checkstyle = false
 is_drawing Junit = false
 is_drawing Stylish = false
+is_drawing Summary = false
+is_drawing Markdown = false
 
 -- drawings and annotations of lines are written as the lines come
 abbrev pub is_live : OutputForm → Bool

@@ -55,7 +55,9 @@ fn is_drawing(form: OutputForm) -> bool
         | OutputForm::Gitlab
         | OutputForm::Checkstyle
         | OutputForm::Junit
-        | OutputForm::Stylish => false,
+        | OutputForm::Stylish
+        | OutputForm::Summary
+        | OutputForm::Markdown => false,
     }
 }
 

@@ -4,7 +4,7 @@ ghost use Rattle.girzohal_run.specs.Made.{IsFree};
 ghost use Rattle.girzohal_run.specs.Texts.{IsText};
 
 use crate::fault::Fault;
-use ci_texts::{CiFormat, ci_text, gitlab_text};
+use ci_texts::{CiFormat, ci_text, gitlab_text, markdown_text, summary_text};
 use found_reports::FoundReports;
 use girzohal_options::{Asked, OutputForm};
 use report_texts::{document_text, drawing_text, json_text, named_tool, sarif_text};
@@ -30,5 +30,7 @@ pub(crate) fn text_of(
         OutputForm::Checkstyle => Ok(ci_text(alloc, CiFormat::Checkstyle, asked.raw, found)?),
         OutputForm::Junit => Ok(ci_text(alloc, CiFormat::Junit, asked.raw, found)?),
         OutputForm::Stylish => Ok(ci_text(alloc, CiFormat::Stylish, asked.raw, found)?),
+        OutputForm::Summary => Ok(summary_text(alloc, asked.raw, found)?),
+        OutputForm::Markdown => Ok(markdown_text(alloc, asked.raw, found)?),
     }
 }
