@@ -409,7 +409,7 @@ class Tries(Around, FindingRows):
         def text_of(form, findings):
             return self.run("--to", form, given=summary_rows.row_log(findings)).stdout.decode()
         for name, form, got in summary_rows.wrong_rows(text_of):
-            self.check(f"{name}, as {form}", False, got)
+            self.check(f"{name}, as {form}: {got!r}", False)
         self.check("the rows of summaries", True)
 
     def try_hostile_lines(self):
