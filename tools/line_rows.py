@@ -106,11 +106,11 @@ BY_SHAPES = [
 
 # Texts that are no shape, and why.
 FAULTS = [
-    ("{name", "wanted a brace that closes"),
-    ("{name}:{row}", "wanted parts that are known, as {line} or {message}, in braces"),
-    ("{name}{word}", "wanted one {name} or {word}, not two,"),
-    (":{line}", "wanted {name} or {word}"),
-    ("{name} {message} ", "wanted nothing behind {message}"),
+    ("{name", "a brace isn't closed"),
+    ("{name}:{row}", "a name in braces is unknown"),
+    ("{name}{word}", "there are two of {name} and {word}"),
+    (":{line}", "{name} or {word} is missing"),
+    ("{name} {message} ", "something follows {message}"),
 ]
 
 # Lines of plain problems: what is read of each is the problem, so the same line is written.

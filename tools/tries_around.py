@@ -156,7 +156,7 @@ class Around:
             return
         self.check("bash reads its completion", subprocess.run(["bash", "-n", BASH], capture_output=True).returncode == 0)
         tried = [("--to = g", ["github", "gitlab"]), ("--to g", ["github", "gitlab"]), ("--color =", ["auto", "always", "never"]), ("--asc", ["--ascii"]),
-                 ("--tool = problem", ["problem-lines"]), ("--q", ["--no-summary"]), ("--shape = x", []), ("--root = su", ["sub"]), ("in.", ["in.txt"])]
+                 ("--tool = problem", ["problem-lines"]), ("--q", ["--quiet"]), ("--shape = x", []), ("--root = su", ["sub"]), ("in.", ["in.txt"])]
         for words, wanted in tried:
             self.check(f"bash completes {words} by {wanted}", self.completed(words.split()) == wanted)
 

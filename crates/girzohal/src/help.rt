@@ -39,6 +39,7 @@ Input
                          {cop}         a code such as Layout/Tab
                          {program}     a program such as ld; it is left out
                          {~}           blanks, or none
+                         {apart}       nothing; an empty line may come next
                          {message}     the rest of the line
                        Example: --shape '{name}:{line}: {message}'
   --columns UNIT       What a column counts: bytes, characters, utf16, or cells
