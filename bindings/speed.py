@@ -4,7 +4,7 @@
 usage: speed.py [DOCUMENT..]     (many multi wide unicode deep big; all if none is named)
 
 It needs the archive of `sh bindings/test.sh` (out/llvm/libgirzohal.a), the program `report` that the gate built
-(crates/report/out/report), cc, cargo and valgrind. The documents are those of tools/cost.py, with labels by bytes. For each: what
+(crates/report/out/report), cc, cargo and valgrind. The documents are those of tools/cost/cost.py, with labels by bytes. For each: what
 `files_text` takes in the program, what `girzohal_draw` takes, and what `draw` of the Rust crate takes, with the ratios of both to the
 first; `again` is a second draw from the same sources. All have to draw the same.
 

@@ -1,12 +1,12 @@
 #!/bin/sh
-# What the documents say of the sources, checked by the scripts beside this one, and the man pages by mandoc.
+# What the documents say of the sources, checked by the scripts of tools/, and the man pages by mandoc.
 # usage: sh tools/checks.sh
 # The last line is `N passed, M failed`; the status is 0 where M is 0. What isn't there to check with is said, and passes nothing.
 cd "$(dirname "$0")/.." || exit 1
 passed=0
 failed=0
 if command -v python3 >/dev/null 2>&1; then
-    for script in check_docs.py "edits.py --check" check_documents.py; do
+    for script in pages/check_docs.py "edits.py --check" pages/check_documents.py; do
         # an entry is split into the script and its arguments
         # shellcheck disable=SC2086
         if python3 tools/$script; then

@@ -7,4 +7,4 @@ cd "$(dirname "$0")/.." || exit 1
 for it in rt python3; do
     command -v "$it" >/dev/null 2>&1 || { echo "quick.sh: there is no $it" >&2; exit 2; }
 done
-exec python3 tools/quick_cases.py
+exec python3 tools/tries/quick_cases.py

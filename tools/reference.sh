@@ -5,4 +5,4 @@
 # The status is 1 where a word has no definition.
 cd "$(dirname "$0")/.." || exit 1
 to=${1:-docs/reference}
-mkdir -p "$to" && python3 tools/calls.py "$to" && python3 tools/clause_words.py "$to" && echo "made $to/CALLS.md and $to/CLAUSE_WORDS.md"
+mkdir -p "$to" && python3 tools/pages/calls.py "$to" && python3 tools/pages/clause_words.py "$to" && echo "made $to/CALLS.md and $to/CLAUSE_WORDS.md"

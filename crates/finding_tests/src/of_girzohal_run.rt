@@ -1,5 +1,5 @@
 // Whole runs over devices that fail. (Those over devices that don't are rows of
-// `tools/run_rows.py`.)
+// `tools/tries/run_rows.py`.)
 ghost use Rattle.std.specs.Prelude.{◌<◌};
 
 use documents::MemorySource;

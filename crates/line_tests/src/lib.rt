@@ -1,6 +1,6 @@
 //! Tests of lines that tools print: small tables, and callers that are proved from contracts
 //! alone, of `line_shapes`, `tool_lines`, `fed_lines`, `line_reports`, `problem_lines` and
-//! `problem_roundtrip`. What the program writes of lines is tried by `tools/try_lines.py`.
+//! `problem_roundtrip`. What the program writes of lines is tried by `tools/tries/try_lines.py`.
 #![tactic(auto)]
 
 #[cfg(test)]

@@ -103,7 +103,7 @@ fn reads_at_last(scanner: &mut SpanScanner<'_>, read: &Read) -> bool {
     }
 }
 
-// `tools/refuse-allocations.sh` runs this with each of its allocations refused in turn.
+// `tools/tries/refuse-allocations.sh` runs this with each of its allocations refused in turn.
 #[test]
 fn a_scanner_reads_on_after_want_of_memory(rt: HostRuntime) {
     let mut scanner = SpanScanner::new(rt.alloc(), FOUR_ROWS, 1, 1);

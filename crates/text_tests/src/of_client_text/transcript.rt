@@ -1,5 +1,5 @@
 // What a client with UTF-16 sends, one notification after another, and the text after each. It was
-// printed by tools/client_transcript.py, whose replay is plain.
+// printed by tools/tries/client_transcript.py, whose replay is plain.
 use crate::of_client_text::Notification;
 use client_text::Fault;
 

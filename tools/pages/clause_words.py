@@ -2,7 +2,7 @@
 """The words of the clauses of all public calls, with their definitions. usage: clause_words.py FOLDER
 
 It writes FOLDER/CLAUSE_WORDS.md. `tools/reference.sh` calls it. The status is 1 where a word has no definition. The kit's words
-are in tools/kit_words.tsv."""
+are in tools/pages/kit_words.tsv."""
 import collections
 import functools
 import os
@@ -13,7 +13,7 @@ sys.dont_write_bytecode = True  # nothing is left beside the sources
 import calls
 
 TOP = calls.TOP
-KIT_WORDS = os.path.join(TOP, "tools", "kit_words.tsv")
+KIT_WORDS = os.path.join(TOP, "tools", "pages", "kit_words.tsv")
 GHOST_USE = re.compile(r"^( *)ghost use ([\w.]+)(?:\.\{([^}]*)\}| as (\w+));", re.M)
 TOKEN = re.compile(r"(?<![\w.])([^\W\d]\w*)((?:\.\w+)*)")
 CLAUSE_NAME = re.compile(r"\b(?:ensures|requires)\*?(?: \w+)? \{")

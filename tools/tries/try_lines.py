@@ -19,7 +19,7 @@ sys.dont_write_bytecode = True
 import line_reader
 import line_rows
 
-TOP = os.path.dirname(os.path.dirname(os.path.abspath(__file__)))
+TOP = os.path.dirname(os.path.dirname(os.path.dirname(os.path.abspath(__file__))))
 NAMES = ["a.c", "src/b.rs", "/p/C.java", "C:\\d\\e.cs", "my file.py", "é.ts", "<stdin>", "Makefile", "x.f90", "x", "10", "file:///p/a.c", "<a b>", "a:b.c", "host1", "2024-01-02T10"]
 SAMPLES = {
     "line": ["1", "3", "12", "0", "03", "4294967295", "4294967296", "", "x"],
@@ -234,7 +234,7 @@ UNESCAPED = {"\\\\": "\\", "\\n": "\n", "\\r": "\r", "\\t": "\t", "\\e": "\x1b"}
 
 def table():
     """The rows of lines.tsv: a tool, its name as a word or `-`, its line or lines, and what they are read as."""
-    with open(os.path.join(TOP, "tools", "lines.tsv"), encoding="utf-8") as it:
+    with open(os.path.join(TOP, "tools", "tries", "lines.tsv"), encoding="utf-8") as it:
         for row in filter(None, it.read().split("\n")):
             yield [re.sub(r"\\[\\nrte]", lambda found: UNESCAPED[found[0]], cell) for cell in row.split("\t")]
 
@@ -274,7 +274,7 @@ def main():
         try_table(tries, empty)
         try_names(tries, empty)
         line_rows.try_rows(tries, empty, read_reports)
-        for path in [os.path.join(TOP, "tools", "lines.txt"), *sorted(glob.glob(os.path.join(TOP, "examples", "outputs", "*.txt")))]:
+        for path in [os.path.join(TOP, "tools", "tries", "lines.txt"), *sorted(glob.glob(os.path.join(TOP, "examples", "outputs", "*.txt")))]:
             with open(path, encoding="utf-8", newline="") as it:
                 tries.text(os.path.basename(path), it.read(), empty)
         rows = [f"let value_{row} = call({row}); \té𝕏 b{row}" for row in range(1, 30)] + ["", "  end  "]

@@ -6,7 +6,7 @@ usage: quick_cases.py                      (builds both at a time by `rt try --c
        quick_cases.py --write FOLDER       (only writes the cases for `rt try --cases`: FOLDER/girzohal, FOLDER/report)
 
 A case is standard input, the arguments, the exit status, and what is written, byte for byte. Expected are the drawings of examples/, the
-files of tools/quick/ (of real tools and of logs those that tools/gallery.py writes), README's drawing, the rows of report_rows.py and
+files of tools/quick/ (of real tools and of logs those that tools/pages/gallery.py writes), README's drawing, the rows of report_rows.py and
 run_rows.py, and the texts of the tables below.
 `rt try` itself compares no exit status: it prints it, and this script compares it. Under `rt try` the error output is compared for errors
 only, and for the other cases only with programs that are built. The last line is `N passed, M failed`, and says whether the build was
@@ -22,11 +22,12 @@ import tempfile
 from typing import NamedTuple, Optional
 
 sys.dont_write_bytecode = True  # nothing is left beside the sources
+sys.path.append(os.path.join(os.path.dirname(os.path.dirname(os.path.abspath(__file__))), "pages"))
 import gallery  # noqa: E402
 import report_rows  # noqa: E402
 import run_rows  # noqa: E402
 
-TOP = os.path.dirname(os.path.dirname(os.path.abspath(__file__)))
+TOP = os.path.dirname(os.path.dirname(os.path.dirname(os.path.abspath(__file__))))
 PLAIN = ("--ascii",)
 FORMS = ("drawing", "json", "document", "sarif", "problems", "github", "gitlab", "checkstyle", "junit", "stylish", "summary", "markdown")
 LINE = "a.c:2:5: error: no such name [x]\n"

@@ -7,7 +7,7 @@ import os
 import re
 import sys
 
-TOP = os.path.dirname(os.path.dirname(os.path.abspath(__file__)))
+TOP = os.path.dirname(os.path.dirname(os.path.dirname(os.path.abspath(__file__))))
 TAKES = re.compile(
     r"AllocError|AllocFailed|AddError|ReportError|RenderError|EditError|ProblemError|LogError|ReportFault"
     r"|ShapeError|ShowError|SendError|Refusal\b|Fetched\b|Taken\b|OutOfMemory|Reading\b|Status\b|io::Result"

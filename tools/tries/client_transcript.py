@@ -75,7 +75,7 @@ def notifications():
 
 def main():
     print("// What a client with UTF-16 sends, one notification after another, and the text after each. It was\n"
-          "// printed by tools/client_transcript.py, whose replay is plain.\nuse crate::of_client_text::Notification;\nuse client_text::Fault;\n")
+          "// printed by tools/tries/client_transcript.py, whose replay is plain.\nuse crate::of_client_text::Notification;\nuse client_text::Fault;\n")
     print(f"/// The text that is opened.\npub(super) const START: &str =\n    {literal(START)};\n")
     print("/// The notifications.\npub(super) const TRANSCRIPT: [Notification<'static>; 40] = [")
     for number, (sent, text) in enumerate(notifications()):

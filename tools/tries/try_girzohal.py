@@ -20,7 +20,7 @@ import summary_rows
 from finding_rows import FindingRows
 from tries_around import Around
 
-TOP = os.path.dirname(os.path.dirname(os.path.abspath(__file__)))
+TOP = os.path.dirname(os.path.dirname(os.path.dirname(os.path.abspath(__file__))))
 EXAMPLES = os.path.join(TOP, "examples")
 PLAIN = {"PATH": os.environ.get("PATH", ""), "LANG": "C.UTF-8"}
 LINE = b"a.c:2:5: error: no such name [x]\n"

@@ -14,7 +14,7 @@ import os
 import re
 import sys
 
-TOP = os.path.dirname(os.path.dirname(os.path.abspath(__file__)))
+TOP = os.path.dirname(os.path.dirname(os.path.dirname(os.path.abspath(__file__))))
 LINK = re.compile(r"\[[^\]]*\]\(([^)\s]+)\)")
 FUNCTION = re.compile(r"^\s*(?:pub(?:\(crate\))? )?(?:const )?(?:final )?(?:extern \"C\" )?fn (\w+)", re.M)
 

@@ -6,7 +6,7 @@
 # since a list that can't grow twofold asks for less. The test must pass whichever allocation is refused.
 # It is no part of the gate. It wants the kit's rt and a C compiler: program and test are built by `rt run` and `rt test`, and a
 # small library that counts and refuses is laid before the C library's `malloc` and `realloc`.
-cd "$(dirname "$0")/.." || exit 1
+cd "$(dirname "$0")/../.." || exit 1
 work=$(mktemp -d) || exit 1
 trap 'rm -rf "$work"' EXIT
 cat > "$work/refuse.c" <<'END'

@@ -131,7 +131,7 @@ def places(room, program):
 
 def small(room, archive):
     """The example of bindings/c, drawn again and again."""
-    with open(os.path.join(HERE, "..", "bindings", "c", "arrays.c"), encoding="utf-8") as file:
+    with open(os.path.join(HERE, "..", "..", "bindings", "c", "arrays.c"), encoding="utf-8") as file:
         source = file.read()
     draws = "uint32_t status = girzohal_draw("
     again = source.replace(draws, "uint32_t status = 0;\n    for (int turn = 0; turn < 1000; turn++) status = girzohal_draw(")
@@ -140,7 +140,7 @@ def small(room, archive):
     with open(os.path.join(room, "small.c"), "w", encoding="utf-8") as file:
         file.write(again)
     program = os.path.join(room, "small")
-    subprocess.run(["cc", "-O2", "-I" + os.path.join(HERE, "..", "bindings", "c"), "-o", program, program + ".c", archive], check=True)
+    subprocess.run(["cc", "-O2", "-I" + os.path.join(HERE, "..", "..", "bindings", "c"), "-o", program, program + ".c", archive], check=True)
     found = calls(room, [program])
     count, cost = next((it for (_, name), it in found.items() if name == "girzohal_draw"), (0, 0))
     print(f"one report with a label on two rows, from C: {count:,} calls of girzohal_draw, {cost / max(count, 1):,.0f} instructions each")

@@ -1,4 +1,4 @@
--- Tries girzohal_lsp with Neovim's own client. Run by tools/try_lsp.py, which sets the environment:
+-- Tries girzohal_lsp with Neovim's own client. Run by tools/tries/try_lsp.py, which sets the environment:
 -- LSP_PROGRAM, LSP_WORDS (one a line), LSP_FILE, LSP_UNITS (what places count in; empty: what the client takes by
 -- itself). Prints a line for each look: a name, a bar, and JSON of what is shown.
 local words = { os.getenv("LSP_PROGRAM") }

@@ -1,5 +1,5 @@
 #!/usr/bin/env python3
-"""Makes docs/GALLERY.md, and the drawings that tools/quick_cases.py expects. usage: gallery.py PROGRAM
+"""Makes docs/GALLERY.md, and the drawings that tools/tries/quick_cases.py expects. usage: gallery.py PROGRAM
 
 PROGRAM is crates/girzohal/out/girzohal after `rt run` there. Each output of examples/outputs is drawn with the sources beside it and
 the tool that its name begins with, and each log of examples/logs; read the changes in tools/quick before you commit them. The page
@@ -9,14 +9,14 @@ import re
 import subprocess
 import sys
 
-TOP = os.path.dirname(os.path.dirname(os.path.abspath(__file__)))
+TOP = os.path.dirname(os.path.dirname(os.path.dirname(os.path.abspath(__file__))))
 OUTPUTS, LOGS = os.path.join(TOP, "examples", "outputs"), os.path.join(TOP, "examples", "logs")
 TOOLS = ("clang", "gcc", "rustc", "flake8", "shellcheck", "pylint", "mypy")
 SHOWN = ("clang", "gcc", "rustc", "shellcheck")
 PRINTED, MOST = 12, 4
 HEAD = """# Gallery
 
-What real tools printed for the sources in `examples/outputs/src`, and what `girzohal` draws of it. `tools/gallery.py` makes this page.
+What real tools printed for the sources in `examples/outputs/src`, and what `girzohal` draws of it. `tools/pages/gallery.py` makes this page.
 """
 
 

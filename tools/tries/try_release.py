@@ -19,7 +19,7 @@ import threading
 import time
 
 sys.dont_write_bytecode = True
-TOP = os.path.dirname(os.path.dirname(os.path.abspath(__file__)))
+TOP = os.path.dirname(os.path.dirname(os.path.dirname(os.path.abspath(__file__))))
 SOURCES = f"{TOP}/examples/outputs/src"
 LINES = f"{TOP}/examples/outputs/clang.txt"
 passed, failed, skipped = 0, 0, []

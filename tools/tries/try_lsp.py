@@ -6,7 +6,7 @@ what a server answers, what clients receive about a log, which arguments are wro
 client goes in as a whole and in random parts, and the answers are compared; each error of a frame ends the program. A document that
 is changed by many ranges is compared with a plain replay, by where each of its rows begins and ends: a server never shows a text
 (those of crates/text_tests/src/of_client_text/transcript.rt are compared unchanged). Where Neovim is installed, its own client opens a
-file and types above, in and below what a log found (tools/try_lsp.lua), and what it shows is checked: over a log of this
+file and types above, in and below what a log found (tools/tries/try_lsp.lua), and what it shows is checked: over a log of this
 script, and over what tools printed of the sources in examples/outputs.
 
 The last line is `N passed, M failed`; the status is 0 where M is 0."""
@@ -319,7 +319,7 @@ def try_replay(folder, seed, encoding):
     return not same and ends and len(said) == 1 and len(told) == 41
 
 
-# the steps of tools/try_lsp.lua: before the mark is typed over, while it covers what was typed, and after
+# the steps of tools/tries/try_lsp.lua: before the mark is typed over, while it covers what was typed, and after
 BEFORE = ["a line above", "past ASCII in front", "typed above", "joined and parted", "line above deleted"]
 TYPED = ["in the mark", "below", "undone", "mark redone"]
 STEPS = ["opened"] + BEFORE + TYPED[:3] + ["mark undone", "mark redone", "emptied", "all emptied", "all undone", "saved"]
@@ -440,7 +440,7 @@ with tempfile.TemporaryDirectory() as place:
     try_logs(place)
     check("30 replays", all(try_replay(place, seed, ["utf-8", "utf-16", "utf-32"][seed % 3]) for seed in range(30)))
     if shutil.which("nvim"):
-        try_neovim(place, os.path.join(os.path.dirname(HERE), "examples"))
+        try_neovim(place, os.path.join(os.path.dirname(os.path.dirname(HERE)), "examples"))
     else:
         print("skipped: Neovim's client: there is no nvim")
 print(f"{check.passed} passed, {check.failed} failed")

@@ -12,7 +12,7 @@ import os
 import re
 import sys
 
-DOCS = os.path.join(os.path.dirname(os.path.abspath(__file__)), "..", "docs")
+DOCS = os.path.join(os.path.dirname(os.path.abspath(__file__)), "..", "..", "docs")
 SILENT = {"$schema", "title", "description", "default", "$defs", "then", "else"}
 NAMES = {"object": "an object", "array": "an array", "string": "a text", "boolean": "true or false", "integer": "a whole number"}
 KINDS = {"object": dict, "array": list, "string": str, "boolean": bool, "integer": int}
