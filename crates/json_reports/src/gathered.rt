@@ -1,0 +1,284 @@
+//! The reports of findings, with their files.
+ghost use Rattle.std.specs.Prelude.{◌≡◌, ◌++◌, ◌∷◌, [], ◌<◌, IfOk, IfSome, OnOk, None, map};
+ghost use Rattle.std.specs.Prelude.{length, option_map, string_bytes};
+ghost use Rattle.found_reports.specs.Files.{files_of};
+ghost use Rattle.found_reports.specs.Found.{file_at};
+ghost use Rattle.found_reports.specs.Held.{held_of};
+ghost use Rattle.found_reports.specs.Listed.{held_in};
+ghost use Rattle.indexed_sources.specs.Indexed.{AreTold, text_held};
+ghost use Rattle.json_forms.specs.Finding.{finding_view};
+ghost use Rattle.json_forms.specs.Place.{place_view};
+ghost use Rattle.line_reports.specs.Gathered.{AreNumbers, AreTexts, IsListed, IsListedWith};
+ghost use Rattle.line_reports.specs.Gathered.{IsNumber, StandsHeld, row_text as text_of, text_in};
+ghost use Rattle.line_reports.specs.Reports.{named_file};
+ghost use Rattle.oxc_protocol.specs.Source.{Fits};
+ghost use Rattle.json_reports.specs.Reports.{kept_place as place_kept, report_in, report_of};
+ghost use Rattle.json_reports.specs.Spans.{held_span};
+
+use crate::diagnostics::{diagnostic, labels_of};
+use crate::marks::{file_of, mark_of, name_of};
+use crate::spans::{given_of, span_of};
+use found_reports::{FoundReports, GivenPlace, Lack};
+use indexed_sources::{IndexedSources, RowText};
+use json_forms::{Finding, Place};
+use std::alloc::{AllocError, Global};
+use std::collections::BTreeMap;
+use std::ops::Range;
+
+/// One report for each finding, in their order.
+///
+/// A finding whose place is in its file's text has its span as the primary label. A finding
+/// without a span has no label, and keeps its place.
+///
+/// # Errors
+///
+/// Out of memory, and nothing else.
+pub fn reports_of<'s>(
+    alloc: Global,
+    findings: &[Finding<'_>],
+    sources: &'s IndexedSources,
+) -> Result<FoundReports<'s>, AllocError>
+    ensures found { IfOk result (λ it. it.found
+        ≡ map (report_of (held_in sources.now.entries.items)) (map finding_view findings.now)) }
+    ensures files { IfOk result (λ it. it.files ≡ files_of it.found) }
+    ensures told { IfOk result (λ it. AreTold (held_in sources.now.entries.items) it.files) }
+{
+    let mut gathered = Gathered::new(alloc);
+    gathered.push_all(alloc, sources, findings)?;
+    Ok(gathered.found)
+}
+
+/// The reports so far, with the rows of their files' texts.
+#[derive(Drop)]
+struct Gathered<'s> {
+    found: FoundReports<'s>,
+    /// For each file its text with its rows, if it has one.
+    texts: Vec<Option<RowText<'s>>>,
+    /// The numbers of files by their names.
+    numbers: BTreeMap<String, usize>,
+}
+
+impl<'s> Gathered<'s> {
+    #[tactic(auto, using(line_reports::proofs::NumberLemmas::none_rules))]
+    fn new(alloc: Global) -> Gathered<'s>
+        ensures found { result.found ≡ record { files = []; found = [] } }
+        ensures texts { result.texts.items ≡ [] }
+        ensures listed { IsListed result.numbers result.found }
+    {
+        Gathered {
+            found: FoundReports::new(alloc),
+            texts: Vec::new(alloc),
+            numbers: BTreeMap::new(alloc),
+        }
+    }
+
+    /// Adds the reports of findings.
+    fn push_all(
+        &mut self,
+        alloc: Global,
+        sources: &'s IndexedSources,
+        mut findings: &[Finding<'_>],
+    ) -> Result<(), AllocError>
+        requires texts { AreTexts self.old.texts.items self.old.found.files }
+        requires told { AreTold (held_in sources.now.entries.items) self.old.found.files }
+        requires listed { IsListed self.old.numbers self.old.found }
+        ensures told { OnOk result (AreTold (held_in sources.now.entries.items)
+            self.new.found.files) }
+        ensures listed { OnOk result (IsListed self.new.numbers self.new.found) }
+        ensures found { OnOk result (self.new.found.found
+            ≡ self.old.found.found ++ map (report_of (held_in sources.now.entries.items))
+            (map finding_view findings.entry.now)) }
+    {
+        while let [finding, rest @ ..] = findings {
+            self.push_one(alloc, sources, finding)?;
+            findings = rest;
+        }
+        Ok(())
+    }
+
+    /// Adds the report of a finding.
+    fn push_one(
+        &mut self,
+        alloc: Global,
+        sources: &'s IndexedSources,
+        finding: &Finding<'_>,
+    ) -> Result<(), AllocError>
+        requires texts { AreTexts self.old.texts.items self.old.found.files }
+        requires told { AreTold (held_in sources.now.entries.items) self.old.found.files }
+        requires listed { IsListed self.old.numbers self.old.found }
+        ensures texts { OnOk result (AreTexts self.new.texts.items self.new.found.files) }
+        ensures told { OnOk result (AreTold (held_in sources.now.entries.items)
+            self.new.found.files) }
+        ensures listed { OnOk result (IsListed self.new.numbers self.new.found) }
+        ensures found { OnOk result (self.new.found.found ≡ self.old.found.found
+            ++ report_of (held_in sources.now.entries.items) (finding_view finding.now) ∷ []) }
+    {
+        let file = self.file(alloc, sources, name_of(finding))?;
+        self.push_in(alloc, file, finding)
+    }
+
+    /// Adds the report of a finding that is in this file.
+    #[tactic(auto, using(line_reports::proofs::NumberLemmas::alone_rules))]
+    fn push_in(
+        &mut self,
+        alloc: Global,
+        file: usize,
+        finding: &Finding<'_>,
+    ) -> Result<(), AllocError>
+        requires texts { AreTexts self.old.texts.items self.old.found.files }
+        requires file { file < length self.old.found.files }
+        requires listed { IsListedWith self.old.numbers self.old.found file }
+        ensures texts { OnOk result (AreTexts self.new.texts.items self.new.found.files) }
+        ensures files { self.new.found.files ≡ self.old.found.files }
+        ensures listed { OnOk result (IsListed self.new.numbers self.new.found) }
+        ensures found { OnOk result (self.new.found.found ≡ self.old.found.found
+            ++ report_in (file_at self.old.found.files file) (finding_view finding.now) ∷ []) }
+    {
+        let mark = mark_of(finding);
+        let span = self.span(file, mark.place);
+        let labels = labels_of(alloc, mark.text, &span)?;
+        let diagnostic = diagnostic(alloc, finding, labels)?;
+        self.found
+            .push(file, diagnostic, kept_place(finding, &span))
+    }
+
+    /// The span of a place in a file.
+    #[tactic(auto, using(crate::proofs::SpanLemmas::span_rules))]
+    fn span(&self, file: usize, place: Place<'_>) -> Option<Range<usize>>
+        requires texts { AreTexts self.now.texts.items self.now.found.files }
+        requires file { file < length self.now.found.files }
+        ensures span { result
+            ≡ held_span (file_at self.now.found.files file).held (place_view place.entry) }
+        ensures stands { IfSome result (StandsHeld (file_at self.now.found.files file).held) }
+    {
+        match self.text(file) {
+            Some(text) => span_of(text, place),
+            None => None,
+        }
+    }
+
+    /// The text of a file with its rows, if it has one.
+    fn text(&self, file: usize) -> Option<&RowText<'s>>
+        requires texts { AreTexts self.now.texts.items self.now.found.files }
+        requires file { file < length self.now.found.files }
+        ensures { option_map (λ it. it.now.text.now) result
+            ≡ text_in (file_at self.now.found.files file).held }
+    {
+        match self.texts.get(file) {
+            Some(text) => lent(text),
+            None => None,
+        }
+    }
+
+    /// The number of the file of a name, which is added if it isn't there.
+    #[tactic(auto, using(line_reports::proofs::NumberLemmas::listed_there))]
+    fn file(
+        &mut self,
+        alloc: Global,
+        sources: &'s IndexedSources,
+        name: &str,
+    ) -> Result<usize, AllocError>
+        requires texts { AreTexts self.old.texts.items self.old.found.files }
+        requires told { AreTold (held_in sources.now.entries.items) self.old.found.files }
+        requires listed { IsListed self.old.numbers self.old.found }
+        ensures texts { OnOk result (AreTexts self.new.texts.items self.new.found.files) }
+        ensures told { OnOk result (AreTold (held_in sources.now.entries.items) self.new.found.files) }
+        ensures listed { IfOk result (IsListedWith self.new.numbers self.new.found) }
+        ensures file { IfOk result (λ file. file < length self.new.found.files) }
+        ensures named { IfOk result (λ file. file_at self.new.found.files file
+            ≡ named_file (held_in sources.now.entries.items) name.now) }
+        ensures found { self.new.found.found ≡ self.old.found.found }
+    {
+        match self.number(name) {
+            Some(file) => Ok(file),
+            None => self.add(alloc, sources, String::from_str(alloc, name)?),
+        }
+    }
+
+    /// The number of the file of a name, if it is there.
+    fn number(&self, name: &str) -> Option<usize>
+        requires { AreNumbers self.now.numbers self.now.found.files }
+        ensures number { IsNumber self.now.found.files name.now result }
+        ensures file { IfSome result (λ file. file < length self.now.found.files) }
+        ensures named { IfSome result (λ file.
+            (file_at self.now.found.files file).name ≡ name.now) }
+    {
+        match self.numbers.get(name) {
+            Some(file) => Some(*file),
+            None => None,
+        }
+    }
+
+    /// Adds the file of a name that isn't there.
+    fn add(
+        &mut self,
+        alloc: Global,
+        sources: &'s IndexedSources,
+        name: String,
+    ) -> Result<usize, AllocError>
+        requires texts { AreTexts self.old.texts.items self.old.found.files }
+        requires told { AreTold (held_in sources.now.entries.items) self.old.found.files }
+        requires listed { IsListed self.old.numbers self.old.found }
+        requires new { IsNumber self.old.found.files (string_bytes name) None }
+        ensures texts { OnOk result (AreTexts self.new.texts.items self.new.found.files) }
+        ensures told { OnOk result (AreTold (held_in sources.now.entries.items) self.new.found.files) }
+        ensures listed { IfOk result (IsListedWith self.new.numbers self.new.found) }
+        ensures file { IfOk result (λ file. file < length self.new.found.files) }
+        ensures named { IfOk result (λ file. file_at self.new.found.files file
+            ≡ named_file (held_in sources.now.entries.items) (string_bytes name)) }
+        ensures found { self.new.found.found ≡ self.old.found.found }
+    {
+        let source = sources.rows(name.as_str());
+        let key = String::from_str(alloc, name.as_str())?;
+        let file = self.found.add_file(name, held(&source))?;
+        self.texts.push(row_text(source))?;
+        self.numbers.insert(key, file)?;
+        Ok(file)
+    }
+}
+
+/// The text, if there is one.
+fn lent<'t, 's>(text: &'t Option<RowText<'s>>) -> Option<&'t RowText<'s>>
+    ensures { option_map (λ it. it.now.text.now) result ≡ text_of text.now }
+{
+    match text {
+        Some(text) => Some(text),
+        None => None,
+    }
+}
+
+/// The text of a source, or why there is none.
+fn held<'s>(source: &Result<RowText<'s>, Lack>) -> Result<&'s str, Lack>
+    ensures told { held_of result ≡ text_held source.now }
+    ensures short { IfOk result (λ text. Fits text.now) }
+{
+    match source {
+        Ok(text) => Ok(text.text),
+        Err(why) => Err(*why),
+    }
+}
+
+/// The text of a source with its rows, if there is one.
+fn row_text<'s>(source: Result<RowText<'s>, Lack>) -> Option<RowText<'s>>
+    ensures { text_of result ≡ text_in (text_held source.entry) }
+{
+    match source {
+        Ok(text) => Some(text),
+        Err(_) => None,
+    }
+}
+
+/// The location that a finding without a span keeps, if it has a file or a row.
+fn kept_place(finding: &Finding<'_>, span: &Option<Range<usize>>) -> Option<GivenPlace>
+    ensures { result ≡ place_kept (finding_view finding.now) span.now }
+{
+    if span.is_some() {
+        return None;
+    }
+    let place = given_of(mark_of(finding).place.span);
+    if file_of(finding).is_none() && place.line.is_none() {
+        None
+    } else {
+        Some(place)
+    }
+}

@@ -1,0 +1,13 @@
+//! The findings in a tool's JSON, as reports on files.
+//!
+//! - [`reports_of`]: one report for each finding, with its span in the text of its file.
+//! - [`names_of`]: the names whose texts it looks up, to be read before.
+#![tactic(auto)]
+
+mod diagnostics;
+mod gathered;
+mod marks;
+mod spans;
+mod words;
+
+pub use gathered::reports_of;
