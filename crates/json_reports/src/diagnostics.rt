@@ -5,8 +5,8 @@ ghost use Rattle.oxc_span.specs.Views.{text_bytes};
 ghost use Rattle.json_forms.specs.Finding.{finding_view};
 ghost use Rattle.line_reports.specs.Reports.{label_of};
 ghost use Rattle.line_reports.specs.Gathered.{FitsLabel};
-ghost use Rattle.json_reports.specs.Reports.{code_of as code_there, diagnostic_of, filled as filled_by};
-ghost use Rattle.json_reports.specs.Reports.{labels_of as labels_there};
+ghost use Rattle.json_reports.specs.Reports.{code_of as code_there, diagnostic_of};
+ghost use Rattle.json_reports.specs.Reports.{filled as filled_by, labels_of as labels_there};
 
 use crate::words::lines_of;
 use json_forms::{Finding, SideKind};
@@ -32,7 +32,8 @@ fn with_code(
     finding: &Finding<'_>,
 ) -> Result<OxcDiagnostic, AllocError>
     requires { diagnostic.code ≡ record { scope = None; number = None } }
-    ensures { IfOk result (λ it. it ≡ record diagnostic { code = code_there (finding_view finding.now) }) }
+    ensures { IfOk result (λ it. it
+        ≡ record diagnostic { code = code_there (finding_view finding.now) }) }
 {
     let Some(number) = filled(finding.code) else {
         return Ok(diagnostic);
@@ -119,7 +120,8 @@ pub(crate) fn labels_of(
     span: &Option<Range<usize>>,
 ) -> Result<Vec<LabeledSpan>, AllocError>
     requires { IfSome span.now FitsLabel }
-    ensures { IfOk result (λ labels. labels.items ≡ labels_there (option_copied text.entry) span.now) }
+    ensures { IfOk result (λ labels. labels.items
+        ≡ labels_there (option_copied text.entry) span.now) }
 {
     let mut labels = Vec::new(alloc);
     if let Some(range) = span {

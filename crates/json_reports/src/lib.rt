@@ -7,7 +7,9 @@
 mod diagnostics;
 mod gathered;
 mod marks;
+mod names;
 mod spans;
 mod words;
 
 pub use gathered::reports_of;
+pub use names::names_of;
