@@ -1,13 +1,13 @@
 -- Spans in what is held of a file, and the labels over them.
-use Rattle.std.proofs.Common.{◌≡◌, ℕ, ◌+◌, ◌-◌, List, [], Bool, true, Option, Some, None, refl, sym, ◌∙◌, ap, subst, arith}
+use Rattle.std.proofs.Common.{◌≡◌, ◌∷◌, ℕ, ◌+◌, ◌-◌, List, [], Bool, Option, Some, None, refl, sym, ap, subst, arith, ◌++◌, length, ◌<◌}
 use Rattle.std.specs.Prelude.{IfSome, unwrap_or}
 use Rattle.std.specs.Str.{IsCharBoundary}
-use Rattle.std.proofs.lemmas.List.Elements.{All-nil, All-cons}
+use Rattle.std.proofs.lemmas.List.Elements.{All-nil, All-cons, All-head, All-tail}
 use Rattle.oxc_span.specs.Label.{Label}
 use Rattle.sarif_spans.specs.Span.{IsSpanOf}
 use Rattle.json_forms.specs.Finding.{Finding}
 use Rattle.line_reports.specs.Reports.{label_of}
-use Rattle.json_reports.specs.Reports.{diagnostic_of, labels_of}
+use Rattle.json_reports.specs.Reports.{diagnostic_of}
 use Rattle.std.specs.declared.ops.Range.{Range}
 use Rattle.std.proofs.lemmas.Option.{none-some}
 use Rattle.oxc_protocol.specs.Parts.{OxcParts}
@@ -15,7 +15,7 @@ use Rattle.found_reports.specs.Found.{LabelsStand, StandsIn}
 use Rattle.found_reports.specs.Held.{Held, holds, lacks}
 use Rattle.json_forms.specs.Place.{Place}
 use Rattle.oxc_protocol.specs.Source.{Fits}
-use Rattle.line_reports.specs.Gathered.{StandsHeld, text_in}
+use Rattle.line_reports.specs.Gathered.{FitsLabel, StandsHeld, text_in}
 use Rattle.json_reports.specs.Spans.{held_span, span_in}
 
 some_is : {A : Type 0} {a b : A} → Some a ≡ Some b → a ≡ b
@@ -49,11 +49,23 @@ labels_are : (d : OxcParts) (it : Finding) (labels : List Label) → d ≡ diagn
 unfolding diagnostic_of
 labels_are d it labels is = ap (λ (parts : OxcParts). parts.labels) is
 
-own_stand : (held : Held) (text : Option (List ℕ)) (o : Option (Range ℕ)) → IfSome o (StandsHeld held) → LabelsStand held (labels_of text o)
-own_stand (holds bytes) text None stands = All-nil (StandsIn bytes)
-own_stand (lacks why) text None stands = refl
-own_stand (holds bytes) text (Some range) stands = All-cons (StandsIn bytes) (label_of text true range) [] (label_stands bytes text true range stands.span) (All-nil (StandsIn bytes))
-own_stand (lacks why) text (Some range) stands = absurd stands
+-- one label more
+pub label_more : (held : Held) (labels : List Label) (text : Option (List ℕ)) (primary : Bool) (range : Range ℕ) → LabelsStand held labels → StandsHeld held range → LabelsStand held (labels ++ label_of text primary range ∷ [])
+label_more (holds bytes) [] text primary range stand stands = All-cons (StandsIn bytes) (label_of text primary range) [] (label_stands bytes text primary range stands.span) (All-nil (StandsIn bytes))
+label_more (holds bytes) (x ∷ xs) text primary range stand stands =
+    All-cons (StandsIn bytes) x (xs ++ label_of text primary range ∷ []) (All-head (StandsIn bytes) x xs stand) (label_more (holds bytes) xs text primary range (All-tail (StandsIn bytes) x xs stand) stands)
+label_more (lacks why) labels text primary range stand stands = absurd stands
 
-pub labels_stand : (held : Held) (text : Option (List ℕ)) (o : Option (Range ℕ)) (d : OxcParts) (it : Finding) (labels : List Label) → d ≡ diagnostic_of it labels → labels ≡ labels_of text o → IfSome o (StandsHeld held) → LabelsStand held d.labels
-labels_stand held text o d it labels is own stands = subst (LabelsStand held) (sym (labels_are d it labels is ∙ own)) (own_stand held text o stands)
+pub no_labels : (held : Held) → LabelsStand held []
+no_labels (holds bytes) = All-nil (StandsIn bytes)
+no_labels (lacks why) = refl
+
+pub label_fits : (held : Held) (range : Range ℕ) → StandsHeld held range → FitsLabel range
+label_fits (holds text) range stands =
+    let high = stands.span.end.0 in let short : length text < 4294967295 = stands.short in record { ordered = stands.span.ordered; short = omega (arith, high, short) }
+label_fits (lacks why) range stands = absurd stands
+
+pub ruleset label_rules = (label_more, label_fits)
+
+pub labels_stand : (held : Held) (d : OxcParts) (it : Finding) (labels : List Label) → d ≡ diagnostic_of it labels → LabelsStand held labels → LabelsStand held d.labels
+labels_stand held d it labels is stand = subst (LabelsStand held) (sym (labels_are d it labels is)) stand

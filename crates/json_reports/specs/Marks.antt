@@ -22,6 +22,16 @@ abbrev pub place_beside : Beside → Option Mark
 place_beside (said it) = place_by it.kind it
 place_beside (wrong_at spot fault) = None
 
+abbrev pub label_kind : SideKind → Said_beside → Option Mark
+label_kind kinds.Place it = None
+label_kind kinds.Label it = Some (record { place = it.place; text = it.text })
+label_kind kinds.Edit it = None
+label_kind kinds.Note it = None
+
+abbrev pub label_beside : Beside → Option Mark
+label_beside (said it) = label_kind it.kind it
+label_beside (wrong_at spot fault) = None
+
 abbrev pub first_place : List Beside → Option Mark
 first_place [] = None
 first_place (side ∷ sides) = option_or (place_beside side) (first_place sides)

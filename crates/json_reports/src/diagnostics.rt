@@ -1,12 +1,12 @@
 //! A finding as a diagnostic with labels.
-ghost use Rattle.std.specs.Prelude.{◌≡◌, ◌<◌, IfOk, IfSome, None, length, true};
+ghost use Rattle.std.specs.Prelude.{◌≡◌, ◌<◌, IfOk, IfSome, None, length};
 ghost use Rattle.std.specs.Option.{option_copied};
 ghost use Rattle.oxc_span.specs.Views.{text_bytes};
 ghost use Rattle.json_forms.specs.Finding.{finding_view};
 ghost use Rattle.line_reports.specs.Reports.{label_of};
 ghost use Rattle.line_reports.specs.Gathered.{FitsLabel};
 ghost use Rattle.json_reports.specs.Reports.{code_of as code_there, diagnostic_of};
-ghost use Rattle.json_reports.specs.Reports.{filled as filled_by, labels_of as labels_there};
+ghost use Rattle.json_reports.specs.Reports.{filled as filled_by};
 
 use crate::words::lines_of;
 use json_forms::{Finding, SideKind};
@@ -113,21 +113,28 @@ pub(crate) fn diagnostic(
     with_url(alloc, noted, finding.url)
 }
 
-/// The label over a finding's span.
-pub(crate) fn labels_of(
+/// A label over a span.
+///
+/// # Errors
+///
+/// Out of memory.
+pub(crate) fn label(
     alloc: Global,
     text: Option<&str>,
-    span: &Option<Range<usize>>,
-) -> Result<Vec<LabeledSpan>, AllocError>
-    requires { IfSome span.now FitsLabel }
-    ensures { IfOk result (λ labels. labels.items
-        ≡ labels_there (option_copied text.entry) span.now) }
+    primary: bool,
+    range: &Range<usize>,
+) -> Result<LabeledSpan, AllocError>
+    requires { FitsLabel range.now }
+    ensures { IfOk result (λ it. it ≡ label_of (option_copied text.entry) primary range.now) }
 {
-    let mut labels = Vec::new(alloc);
-    if let Some(range) = span {
-        labels.push(label(owned(alloc, text)?, range))?;
-    }
-    Ok(labels)
+    let text = owned(alloc, text)?;
+    let start = range.start as u32;
+    let len = (range.end - range.start) as u32;
+    Ok(if primary {
+        LabeledSpan::primary_at(text, start, len)
+    } else {
+        LabeledSpan::new(text, start, len)
+    })
 }
 
 fn owned(alloc: Global, text: Option<&str>) -> Result<Option<String>, AllocError>
@@ -137,13 +144,4 @@ fn owned(alloc: Global, text: Option<&str>) -> Result<Option<String>, AllocError
         Some(text) => Ok(Some(String::from_str(alloc, text)?)),
         None => Ok(None),
     }
-}
-
-/// The primary label over a span.
-fn label(text: Option<String>, range: &Range<usize>) -> LabeledSpan
-    requires { FitsLabel range.now }
-    ensures { result ≡ label_of (text_bytes text) true range.now }
-{
-    let start = range.start as u32;
-    LabeledSpan::primary_at(text, start, (range.end - range.start) as u32)
 }

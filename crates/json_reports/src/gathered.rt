@@ -13,22 +13,33 @@ ghost use Rattle.line_reports.specs.Gathered.{IsNumber, StandsHeld, row_text as 
 ghost use Rattle.line_reports.specs.Reports.{named_file};
 ghost use Rattle.oxc_protocol.specs.Source.{Fits};
 ghost use Rattle.json_reports.specs.Reports.{kept_place as place_kept, report_in, report_of};
+ghost use Rattle.json_reports.specs.Reports.{further, is_in as is_in_file, is_same as is_same_span};
+ghost use Rattle.json_reports.specs.Reports.{label_span as span_there, labels_of as labels_there};
+ghost use Rattle.json_reports.specs.Reports.{text_at as text_in_side, text_over as text_there};
+ghost use Rattle.json_reports.specs.Marks.{label_beside as label_by_side, mark_view};
+ghost use Rattle.json_reports.specs.Marks.{name_of as name_there};
 ghost use Rattle.json_reports.specs.Spans.{held_span};
+ghost use Rattle.std.specs.List.{filter_map};
+ghost use Rattle.std.specs.Option.{option_copied, option_to_list};
+ghost use Rattle.found_reports.specs.Found.{LabelsStand};
+ghost use Rattle.json_forms.specs.Finding.{beside_view};
+ghost use Rattle.line_reports.specs.Reports.{label_of};
 
-use crate::diagnostics::{diagnostic, labels_of};
-use crate::marks::{file_of, mark_of, name_of};
+use crate::diagnostics::{diagnostic, label};
+use crate::marks::{Mark, file_of, label_beside, mark_of, name_of};
 use crate::spans::{given_of, span_of};
 use found_reports::{FoundReports, GivenPlace, Lack};
 use indexed_sources::{IndexedSources, RowText};
-use json_forms::{Finding, Place};
+use json_forms::{Beside, Finding, Place};
+use oxc_protocol::LabeledSpan;
 use std::alloc::{AllocError, Global};
 use std::collections::BTreeMap;
 use std::ops::Range;
 
 /// One report for each finding, in their order.
 ///
-/// A finding whose place is in its file's text has its span as the primary label. A finding
-/// without a span has no label, and keeps its place.
+/// A finding whose place is in its file's text has its span as the primary label, before the other
+/// labels in the same file. A finding without a span has no label, and keeps its place.
 ///
 /// # Errors
 ///
@@ -136,10 +147,176 @@ impl<'s> Gathered<'s> {
     {
         let mark = mark_of(finding);
         let span = self.span(file, mark.place);
-        let labels = labels_of(alloc, mark.text, &span)?;
+        let labels = self.labels(alloc, file, finding, mark.text, &span)?;
         let diagnostic = diagnostic(alloc, finding, labels)?;
         self.found
             .push(file, diagnostic, kept_place(finding, &span))
+    }
+
+    /// The labels of a finding that has this span in this file.
+    #[tactic(auto, using(crate::proofs::SpanLemmas::no_labels))]
+    fn labels(
+        &self,
+        alloc: Global,
+        file: usize,
+        finding: &Finding<'_>,
+        text: Option<&str>,
+        span: &Option<Range<usize>>,
+    ) -> Result<Vec<LabeledSpan>, AllocError>
+        requires texts { AreTexts self.now.texts.items self.now.found.files }
+        requires file { file < length self.now.found.files }
+        requires span { IfSome span.now (StandsHeld (file_at self.now.found.files file).held) }
+        ensures labels { IfOk result (λ it. it.items ≡ labels_there (name_there (finding_view finding.now))
+            (file_at self.now.found.files file).held (option_copied text.entry)
+            (finding_view finding.now).sides span.now) }
+        ensures stand { IfOk result (λ it.
+            LabelsStand (file_at self.now.found.files file).held it.items) }
+    {
+        let mut labels = Vec::new(alloc);
+        if let Some(head) = span {
+            let name = name_of(finding);
+            let text = match text {
+                Some(text) => Some(text),
+                None => self.text_over(file, name, head, &finding.sides),
+            };
+            self.push_label(alloc, file, text, true, head, &mut labels)?;
+            self.push_further(alloc, file, name, head, &finding.sides, &mut labels)?;
+        }
+        Ok(labels)
+    }
+
+    /// What the first label with a text over this span says.
+    fn text_over<'v>(
+        &self,
+        file: usize,
+        name: &str,
+        head: &Range<usize>,
+        sides: &[Beside<'v>],
+    ) -> Option<&'v str>
+        requires texts { AreTexts self.now.texts.items self.now.found.files }
+        requires file { file < length self.now.found.files }
+        ensures { option_map (λ text. text.now) result ≡ text_there name.now
+            (file_at self.now.found.files file).held head.now (map beside_view sides.now) }
+    {
+        for side in sides {
+            if let Some(text) = self.text_at(file, name, head, side) {
+                return Some(text);
+            }
+        }
+        None
+    }
+
+    fn text_at<'v>(
+        &self,
+        file: usize,
+        name: &str,
+        head: &Range<usize>,
+        side: &Beside<'v>,
+    ) -> Option<&'v str>
+        requires texts { AreTexts self.now.texts.items self.now.found.files }
+        requires file { file < length self.now.found.files }
+        ensures { option_map (λ text. text.now) result ≡ text_in_side name.now
+            (file_at self.now.found.files file).held head.now (label_by_side (beside_view side.now)) }
+    {
+        let mark = label_beside(side)?;
+        match self.label_span(file, name, mark) {
+            Some(range) if is_same(head, &range) => mark.text,
+            _ => None,
+        }
+    }
+
+    /// The span of a label, if it is in the file of this name.
+    fn label_span(&self, file: usize, name: &str, mark: Mark<'_>) -> Option<Range<usize>>
+        requires texts { AreTexts self.now.texts.items self.now.found.files }
+        requires file { file < length self.now.found.files }
+        ensures span { result ≡ span_there name.now (file_at self.now.found.files file).held
+            (mark_view mark.entry) }
+        ensures stands { IfSome result (StandsHeld (file_at self.now.found.files file).held) }
+    {
+        if is_in(name, mark.place.file) {
+            self.span(file, mark.place)
+        } else {
+            None
+        }
+    }
+
+    /// Adds the labels in the same file over other spans.
+    fn push_further(
+        &self,
+        alloc: Global,
+        file: usize,
+        name: &str,
+        head: &Range<usize>,
+        mut sides: &[Beside<'_>],
+        labels: &mut Vec<LabeledSpan>,
+    ) -> Result<(), AllocError>
+        requires texts { AreTexts self.now.texts.items self.now.found.files }
+        requires file { file < length self.now.found.files }
+        requires stand { LabelsStand (file_at self.now.found.files file).held labels.old.items }
+        ensures labels { OnOk result (labels.new.items ≡ labels.old.items
+            ++ filter_map (further name.now (file_at self.now.found.files file).held head.now)
+            (map beside_view sides.entry.now)) }
+        ensures stand { OnOk result
+            (LabelsStand (file_at self.now.found.files file).held labels.new.items) }
+    {
+        while let [side, rest @ ..] = sides {
+            self.push_side(alloc, file, name, head, side, labels)?;
+            sides = rest;
+        }
+        Ok(())
+    }
+
+    /// Adds the label of a side, if it is one in the same file over another span.
+    fn push_side(
+        &self,
+        alloc: Global,
+        file: usize,
+        name: &str,
+        head: &Range<usize>,
+        side: &Beside<'_>,
+        labels: &mut Vec<LabeledSpan>,
+    ) -> Result<(), AllocError>
+        requires texts { AreTexts self.now.texts.items self.now.found.files }
+        requires file { file < length self.now.found.files }
+        requires stand { LabelsStand (file_at self.now.found.files file).held labels.old.items }
+        ensures labels { OnOk result (labels.new.items ≡ labels.old.items
+            ++ option_to_list (further name.now (file_at self.now.found.files file).held head.now
+            (beside_view side.now))) }
+        ensures stand { OnOk result
+            (LabelsStand (file_at self.now.found.files file).held labels.new.items) }
+    {
+        let Some(mark) = label_beside(side) else {
+            return Ok(());
+        };
+        match self.label_span(file, name, mark) {
+            Some(range) if !is_same(head, &range) => {
+                self.push_label(alloc, file, mark.text, false, &range, labels)
+            }
+            _ => Ok(()),
+        }
+    }
+
+    /// Adds a label over a span of a file.
+    #[tactic(auto, using(crate::proofs::SpanLemmas::label_rules))]
+    fn push_label(
+        &self,
+        alloc: Global,
+        file: usize,
+        text: Option<&str>,
+        primary: bool,
+        range: &Range<usize>,
+        labels: &mut Vec<LabeledSpan>,
+    ) -> Result<(), AllocError>
+        requires file { file < length self.now.found.files }
+        requires range { StandsHeld (file_at self.now.found.files file).held range.now }
+        requires stand { LabelsStand (file_at self.now.found.files file).held labels.old.items }
+        ensures labels { OnOk result (labels.new.items ≡ labels.old.items
+            ++ label_of (option_copied text.entry) primary range.now ∷ []) }
+        ensures stand { OnOk result
+            (LabelsStand (file_at self.now.found.files file).held labels.new.items) }
+    {
+        labels.push(label(alloc, text, primary, range)?)?;
+        Ok(())
     }
 
     /// The span of a place in a file.
@@ -281,4 +458,20 @@ fn kept_place(finding: &Finding<'_>, span: &Option<Range<usize>>) -> Option<Give
     } else {
         Some(place)
     }
+}
+
+/// Whether a label that names this file, or none, is in the file of this name.
+fn is_in(name: &str, own: Option<&str>) -> bool
+    ensures { result ≡ is_in_file name.now (option_copied own.entry) }
+{
+    match own {
+        Some(own) => own == name,
+        None => true,
+    }
+}
+
+fn is_same(head: &Range<usize>, range: &Range<usize>) -> bool
+    ensures { result ≡ is_same_span head.now range.now }
+{
+    head.start == range.start && head.end == range.end
 }

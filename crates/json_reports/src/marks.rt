@@ -3,7 +3,7 @@ ghost use Rattle.std.specs.Prelude.{◌≡◌, option_map, map};
 ghost use Rattle.json_forms.specs.Finding.{beside_view, finding_view};
 ghost use Rattle.json_reports.specs.Marks.{file_of as file_there, first_place as place_first};
 ghost use Rattle.json_reports.specs.Marks.{mark_of as mark_there, mark_view, name_of as name_there};
-ghost use Rattle.json_reports.specs.Marks.{place_beside as beside_place};
+ghost use Rattle.json_reports.specs.Marks.{label_beside as beside_label, place_beside as beside_place};
 
 use json_forms::{Beside, Finding, Place, SideKind};
 
@@ -20,6 +20,24 @@ fn place_beside<'v>(side: &Beside<'v>) -> Option<Mark<'v>>
     match side {
         Beside::Said {
             kind: SideKind::Place,
+            place,
+            text,
+            ..
+        } => Some(Mark {
+            place: *place,
+            text: *text,
+        }),
+        _ => None,
+    }
+}
+
+/// The place of a side that is a label, with its text.
+pub(crate) fn label_beside<'v>(side: &Beside<'v>) -> Option<Mark<'v>>
+    ensures { option_map mark_view result ≡ beside_label (beside_view side.now) }
+{
+    match side {
+        Beside::Said {
+            kind: SideKind::Label,
             place,
             text,
             ..

@@ -5,5 +5,5 @@ use Rattle.json_reports.proofs.gathered.Gathered.push_in.Goals as goal
 
 pub push-requires-clause-stand : goal.push-requires-clause-stand
 push-requires-clause-stand c =
-    labels_stand (file_at c.args.self.now.found.files c.args.file).held _ c.span-span.result c.in_ok-diagnostic.diagnostic (finding_view c.args.finding.now) c.in_ok-labels.labels.items
-    c.in_ok-diagnostic.ensures c.in_ok-labels.ensures c.span-span.ensures.stands
+    labels_stand (file_at c.args.self.now.found.files c.args.file).held c.in_ok-diagnostic.diagnostic (finding_view c.args.finding.now) c.in_ok-labels.labels.items
+    c.in_ok-diagnostic.ensures c.in_ok-labels.ensures.stand
