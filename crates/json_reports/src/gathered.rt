@@ -166,7 +166,8 @@ impl<'s> Gathered<'s> {
         requires texts { AreTexts self.now.texts.items self.now.found.files }
         requires file { file < length self.now.found.files }
         requires span { IfSome span.now (StandsHeld (file_at self.now.found.files file).held) }
-        ensures labels { IfOk result (λ it. it.items ≡ labels_there (name_there (finding_view finding.now))
+        ensures labels { IfOk result (λ it. it.items
+            ≡ labels_there (name_there (finding_view finding.now))
             (file_at self.now.found.files file).held (option_copied text.entry)
             (finding_view finding.now).sides span.now) }
         ensures stand { IfOk result (λ it.
@@ -216,7 +217,8 @@ impl<'s> Gathered<'s> {
         requires texts { AreTexts self.now.texts.items self.now.found.files }
         requires file { file < length self.now.found.files }
         ensures { option_map (λ text. text.now) result ≡ text_in_side name.now
-            (file_at self.now.found.files file).held head.now (label_by_side (beside_view side.now)) }
+            (file_at self.now.found.files file).held head.now
+            (label_by_side (beside_view side.now)) }
     {
         let mark = label_beside(side)?;
         match self.label_span(file, name, mark) {
@@ -359,7 +361,8 @@ impl<'s> Gathered<'s> {
         requires told { AreTold (held_in sources.now.entries.items) self.old.found.files }
         requires listed { IsListed self.old.numbers self.old.found }
         ensures texts { OnOk result (AreTexts self.new.texts.items self.new.found.files) }
-        ensures told { OnOk result (AreTold (held_in sources.now.entries.items) self.new.found.files) }
+        ensures told { OnOk result (AreTold (held_in sources.now.entries.items)
+            self.new.found.files) }
         ensures listed { IfOk result (IsListedWith self.new.numbers self.new.found) }
         ensures file { IfOk result (λ file. file < length self.new.found.files) }
         ensures named { IfOk result (λ file. file_at self.new.found.files file
@@ -398,7 +401,8 @@ impl<'s> Gathered<'s> {
         requires listed { IsListed self.old.numbers self.old.found }
         requires new { IsNumber self.old.found.files (string_bytes name) None }
         ensures texts { OnOk result (AreTexts self.new.texts.items self.new.found.files) }
-        ensures told { OnOk result (AreTold (held_in sources.now.entries.items) self.new.found.files) }
+        ensures told { OnOk result (AreTold (held_in sources.now.entries.items)
+            self.new.found.files) }
         ensures listed { IfOk result (IsListedWith self.new.numbers self.new.found) }
         ensures file { IfOk result (λ file. file < length self.new.found.files) }
         ensures named { IfOk result (λ file. file_at self.new.found.files file

@@ -3,7 +3,8 @@ ghost use Rattle.std.specs.Prelude.{◌≡◌, option_map, map};
 ghost use Rattle.json_forms.specs.Finding.{beside_view, finding_view};
 ghost use Rattle.json_reports.specs.Marks.{file_of as file_there, first_place as place_first};
 ghost use Rattle.json_reports.specs.Marks.{mark_of as mark_there, mark_view, name_of as name_there};
-ghost use Rattle.json_reports.specs.Marks.{label_beside as beside_label, place_beside as beside_place};
+ghost use Rattle.json_reports.specs.Marks.{label_beside as beside_label};
+ghost use Rattle.json_reports.specs.Marks.{place_beside as beside_place};
 
 use json_forms::{Beside, Finding, Place, SideKind};
 
