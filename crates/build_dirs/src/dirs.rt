@@ -157,7 +157,7 @@ impl BuildDirs {
         }
     }
 
-    /// The directory that is tried after so many.
+    /// The directory that is tried after `k` others.
     fn dir(&self, k: usize) -> Option<&str>
         ensures { option_copied result ≡ slice_get (dirs_in_order self.now) k }
     {

@@ -106,7 +106,7 @@ fn is_before(it: &FileRow, file: usize, row: usize) -> bool
     it.file < file || it.file == file && it.row < row
 }
 
-/// Reads a unified diff as git writes it. Of each file's names, so many folders are taken away as
+/// Reads a unified diff as git writes it. Of each file's names, as many folders are removed as
 /// `strip` says; without a number, one folder where git put it there.
 ///
 /// # Errors
@@ -152,7 +152,7 @@ fn has_early_nul(diff: &[u8]) -> bool
     diff.iter().take(64).any(|byte| *byte == 0)
 }
 
-/// The lines after so many.
+/// The lines after the first `count`.
 #[tactic(auto, using(crate::proofs::ReadingLemmas::lines_left))]
 fn lines_from<'l, 'd>(lines: &'l [&'d [u8]], count: usize) -> &'l [&'d [u8]]
     requires { count ≤ length lines.now }

@@ -167,7 +167,7 @@ fn value_from(mut digits: &[u8]) -> Option<u32>
     Some(value as u32)
 }
 
-/// The name of a hunk's file: the new one, without so many folders, if it is a file. Without a
+/// The name of a hunk's file: the new one, without `strip` folders, if it is a file. Without a
 /// number, one folder is taken away if both names begin with different ones that git puts there,
 /// or the old one is no file.
 #[tactic(auto, unfolding(crate::specs::Heads::target_of))]
@@ -238,7 +238,7 @@ fn is_folder(letter: u8) -> bool
     )
 }
 
-/// A name without so many folders before it, if it has them.
+/// A name without its first `count` folders, if it has them.
 #[tactic(auto, using(crate::proofs::HeadLemmas::folder_rules))]
 fn without_folders(name: &[u8], count: usize) -> Option<&[u8]>
     ensures { option_copied result ≡ without_so_many count name.now }

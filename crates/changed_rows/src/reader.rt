@@ -281,7 +281,7 @@ fn is_row(kind: RowKind) -> bool
     !matches!(kind, RowKind::Other)
 }
 
-/// Whether a line goes into a hunk that wants so many more rows.
+/// Whether a line goes into a hunk that wants `old` and `new` more rows.
 fn fits(kind: RowKind, old: u32, new: u32) -> bool
     ensures value { result ≡ fits_in kind old new }
     ensures old { IsTrue result → taken_old kind ≤ old }
@@ -290,7 +290,7 @@ fn fits(kind: RowKind, old: u32, new: u32) -> bool
     is_row(kind) && old_of(kind) <= old && new_of(kind) <= new
 }
 
-/// How many lines a hunk takes that has so many rows of the old and of the new file.
+/// How many lines a hunk takes that has `old` and `new` rows of the two files.
 fn hunk_length(lines: &[&[u8]], old: u32, new: u32) -> Result<usize, HunkEnd>
     ensures value { result ≡ length_of 0 old new (map (λ line. line.now) lines.now) }
     ensures within { IfOk result (λ count. count ≤ length lines.now) }

@@ -166,7 +166,7 @@ fn spare(printed: &[char], text: &[char]) -> usize
     leading(Edge::Blank, printed).saturating_sub(leading(Edge::Blank, text))
 }
 
-/// Whether a printed row, without so many blanks in front, is the text but for blanks at its end.
+/// Whether a printed row, without `spare` blanks in front, is the text but for blanks at its end.
 fn is_whole(printed: &[char], text: &[char], spare: usize) -> bool
     requires value { spare ≡ spare_blanks printed.now text.now }
     requires within { spare ≤ length printed.now }

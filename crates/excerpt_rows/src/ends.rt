@@ -72,7 +72,7 @@ pub(crate) fn core_of(row: &[char]) -> Option<(usize, usize)>
     Some((first + start, first + end))
 }
 
-/// Whether so many dots at the beginning, or so many at the end, say that a row was cut.
+/// Whether the numbers of dots at the beginning and at the end say that a row was cut.
 fn are_dots(before: usize, after: usize) -> bool
     ensures { MatchBool result ((3 ≤ before) ⊎ (3 ≤ after)) ((3 ≤ before) ⊎ (3 ≤ after) → ⊥) }
 {

@@ -165,7 +165,7 @@ fn width(c: char) -> usize
     c.width().unwrap_or(0)
 }
 
-/// Adds what a character is printed as after a text of so many cells and bytes.
+/// Adds what a character is printed as after a text of `cells` cells and `bytes` bytes.
 fn push_shown(
     text: &mut Vec<char>,
     cells: usize,
@@ -192,7 +192,7 @@ fn push_shown(
     }
 }
 
-/// How many blanks a tab is after so many cells and bytes.
+/// How many blanks a tab is after `cells` cells and `bytes` bytes.
 fn tab_len(tabs: Tabs, cells: usize, bytes: usize) -> usize
     ensures value { result ≡ tab_length tabs cells bytes }
     ensures few { result ≤ 8 }

@@ -240,7 +240,7 @@ fn replaced<'a>(
     Ok(Some(edit))
 }
 
-/// Whether a row goes on after so many rows that are replaced, and so many that replace them.
+/// Whether a row goes on after `old` rows that are replaced, and `new` that replace them.
 fn goes_on(
     alloc: Global,
     row: &HunkRow,
@@ -273,7 +273,7 @@ fn goes_on(
     }
 }
 
-/// Whether a number is this one and so many.
+/// Whether a number is `first` and `more`.
 fn is_number(number: Option<u32>, first: usize, more: usize) -> bool
     ensures { IsTrue result ↔ (number ≡ Some (first + more)) }
 {

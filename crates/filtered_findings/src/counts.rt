@@ -113,7 +113,7 @@ fn does_stay(verdict: Verdict) -> bool
     }
 }
 
-/// Appends a value so many times.
+/// Appends a value `count` times.
 fn push_times(flags: &mut Vec<bool>, count: usize, value: bool) -> Result<(), AllocError>
     ensures { OnOk result (flags.new.items ≡ flags.old.items ++ replicate count value) }
 {

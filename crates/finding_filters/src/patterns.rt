@@ -13,7 +13,7 @@ use crate::tokens::{Ending, Token, is_last_true, step, taken, tokens_back};
 use std::alloc::{AllocError, Global};
 use std::marker::Model;
 
-/// A pattern of the names of files, as `--include` and `--exclude` have it. `*` stands for a run
+/// A pattern of the names of files, as `--include` and `--exclude` have it. `*` matches a run
 /// without slashes, `**` for any characters, `?` for one character, and all else for itself. It
 /// takes a folder with all below; without an inner slash it begins at any folder.
 #[derive(Drop)]
@@ -106,7 +106,7 @@ impl Glob {
     }
 }
 
-/// A pattern of rules, as `--select` and `--ignore` have it. `*` stands for any characters, `?` for
+/// A pattern of rules, as `--select` and `--ignore` have it. `*` matches any characters, `?` for
 /// one, and all else for itself.
 #[derive(Drop)]
 pub struct Rule {

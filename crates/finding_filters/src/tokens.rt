@@ -6,7 +6,7 @@ ghost use Rattle.finding_filters.specs.Tokens.{token_in, tokens_of as tokens_in,
 
 use std::alloc::{AllocError, Global};
 
-/// What a part of a pattern stands for.
+/// What a part of a pattern matches.
 #[derive(Clone, Copy)]
 pub enum Token {
     /// This character.
@@ -32,9 +32,9 @@ pub enum Ending {
     Slash,
 }
 
-/// What the characters of a pattern stand for, from the last on. `*` beside another `*` stands for
-/// any characters, and alone for a run without slashes; `?` stands for one character without
-/// slashes. In a `rule` slashes are like other characters.
+/// What the characters of a pattern match, from the last on. `*` beside another `*` matches any
+/// characters, and alone a run without slashes; `?` matches one character other than a slash. In a
+/// `rule` slashes are like other characters.
 pub fn tokens_back(alloc: Global, rule: bool, pattern: &[char]) -> Result<Vec<Token>, AllocError>
     ensures { IfOk result (λ tokens. tokens.items ≡ reverse (tokens_in rule false pattern.now)) }
 {
@@ -67,7 +67,7 @@ fn begins_with_star(pattern: &[char]) -> bool
     }
 }
 
-/// What a character of a pattern stands for, beside a star or not.
+/// What a character of a pattern matches, beside a star or not.
 fn token_of(rule: bool, beside: bool, character: char) -> Token
     ensures { result ≡ token_in rule beside character }
 {

@@ -133,7 +133,7 @@ pub fn harmless_source(alloc: Global, text: &str) -> Result<String, AllocError>
     settled(alloc, text)
 }
 
-/// The sanitized source, if it isn't the source itself: so that one text may stand for both.
+/// The sanitized source, if it isn't the source itself: so that one text may serve as both.
 ///
 /// # Errors
 ///

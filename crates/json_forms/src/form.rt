@@ -1,4 +1,4 @@
-//! Forms: how a tool's JSON is told from that of others, and where its findings are.
+//! Forms: how to recognize a tool's JSON, and where its findings are.
 use json_spots::{MarkRow, Path, Step};
 use oxc_protocol::Severity;
 
@@ -26,11 +26,11 @@ pub enum Ask {
     Given,
     /// It is missing or null.
     Missing,
-    /// It is one of the words.
+    /// It is one of these words.
     Is,
-    /// It begins with one of the words.
+    /// It begins with one of these words.
     Begins,
-    /// It ends with one of the words.
+    /// It ends with one of these words.
     Ends,
 }
 

@@ -146,7 +146,7 @@ fn take_lists<'v>(
 }
 
 /// The findings of a value, by a form: of each list in turn, one for each element that meets the
-/// list's conditions and isn't reported aside, in order; or the first refusal. Members in another
+/// list's conditions and isn't only reported, in order; or the first refusal. Members in another
 /// order change nothing, if the form has no `{}`.
 ///
 /// # Errors

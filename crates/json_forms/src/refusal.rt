@@ -94,7 +94,7 @@ fn push_steps(out: &mut String, steps: &[Step<'_>]) -> Result<(), AllocError>
     Ok(())
 }
 
-/// Appends the way to the value that is so many values out from a spot.
+/// Appends the way to the value that is `up` values out from a spot.
 fn push_spot(out: &mut String, spot: &Spot<'_>, up: usize) -> Result<(), AllocError>
     ensures { OnOk result (string_bytes out.new
         ≡ string_bytes out.old ++ spot_text (spot_view spot.now) up) }

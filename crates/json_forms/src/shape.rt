@@ -16,7 +16,7 @@ use std::alloc::{AllocError, Global};
 /// Why a text says no forms.
 #[derive(Drop)]
 pub enum FormError<'t> {
-    /// The line, from 1, and the words in it that aren't as they have to be.
+    /// The line, from 1, and its first part that isn't as it has to be.
     Wrong { line: usize, word: &'t str },
     OutOfMemory,
 }
@@ -282,7 +282,7 @@ fn keep_row<'t>(rows: &mut Vec<Row<'t>>, row: Row<'t>) -> Result<(), AllocError>
     Ok(())
 }
 
-/// The rows that the words of a line say.
+/// The rows that a line's words say.
 fn guess_rows<'t>(
     alloc: Global,
     line: usize,

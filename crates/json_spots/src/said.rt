@@ -74,7 +74,7 @@ fn crumb_at<'v>(crumbs: &[Crumb<'v>], at: usize) -> Option<Crumb<'v>>
     crumbs.get(at).copied()
 }
 
-/// The value that is so many values out from a spot.
+/// The value that is `out` values out from a spot.
 #[tactic(auto, using(crate::proofs::SaidLemmas::outward_zero, crate::proofs::SaidLemmas::outward_more))]
 fn outward<'v>(spot: &Spot<'v>, out: usize) -> Option<Crumb<'v>>
     ensures { option_map crumb_view result ≡ outward_of out (spot_view spot.now) }

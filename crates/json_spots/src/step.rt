@@ -13,7 +13,7 @@ pub enum Step<'t> {
     Member,
 }
 
-/// The way from a spot to a value: out by so many values, and then the name there, or steps in.
+/// The way from a spot to a value: out by some values, and then the name there, or steps in.
 #[derive(Drop)]
 pub struct Path<'t> {
     pub out: usize,

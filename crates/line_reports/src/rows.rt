@@ -74,7 +74,7 @@ fn row_at(text: &str, index: &LineIndex, number: usize) -> Option<Row>
     Some(Row { start, end })
 }
 
-/// Where a row begins, behind a byte order mark.
+/// Where a row begins, after a byte order mark.
 #[tactic(auto, unfolding(source_location::specs::Locations::counted_from, oxc_windows::specs::Rows::row_start))]
 fn row_begin(text: &str, index: &LineIndex, number: usize) -> usize
     requires indexed { index.now ≡ index_of text.now }
