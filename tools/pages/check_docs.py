@@ -5,10 +5,11 @@
 - docs/MAP.md has a row for each crate of crates.txt, and no crate uses one in a lower row.
 - Each row of docs/PROMISES.md names a call, clauses of it, and the file that has it.
 - Each function under "A caller" or "How it is called" on a page of a crate is in that crate's sources, except for layout,
-  and so is proved. (Examples under other headings aren't checked.) Each function of README.md is in the sources of
+  and so is proved; statements alone are in the source of some crate. (Examples under other headings aren't checked.) Each function of README.md is in the sources of
   some crate.
 - README.md's status line has the version that the file VERSION has.
 It prints what isn't so, and a last line; the status is 1 if something isn't."""
+import functools
 import glob
 import os
 import re
@@ -94,6 +95,20 @@ def strangers(text, crates):
                 yield name
 
 
+@functools.cache
+def sources():
+    paths = glob.glob(os.path.join(TOP, "crates", "*", "src", "**", "*.rt"), recursive=True)
+    return [plain(read(path)) for path in paths]
+
+
+def strange_statements(text):
+    """The first lines of the blocks of Rust without a function that are in no source."""
+    for block in re.findall(r"^```rust\n(.*?)^```", text, re.S | re.M):
+        code = re.sub(r"^\s*//.*\n", "", block, flags=re.M)
+        if not functions(block) and not any(plain(code) in source for source in sources()):
+            yield code.strip().split("\n")[0]
+
+
 def wrong_examples(page):
     crate = os.path.dirname(page)
     # (a crate's tests are in a crate of tests above it)
@@ -101,6 +116,8 @@ def wrong_examples(page):
     callers = re.findall(r"^## (?:A caller|How it is called)$(.*?)(?=^## |\Z)", read(page), re.S | re.M)
     for name in strangers("".join(callers), crates):
         yield f"the example `{name}` stands in no source of the crate as it is shown"
+    for line in strange_statements("".join(callers)):
+        yield f"the example that begins with `{line}` is in no source as it is shown"
 
 
 def wrong_front():
