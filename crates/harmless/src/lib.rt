@@ -2,13 +2,16 @@
 #![tactic(auto)]
 
 ghost use Rattle.std.specs.Prelude.{◌≡◌, IfOk, option_map, string_bytes};
+ghost use Rattle.std.specs.List.{list_all};
+ghost use Rattle.std.specs.Str.{bytes_eq, chars};
 ghost use Rattle.harmless.specs.Harmless.{HasNoHarm, IsTameSource, KeepsPlaces};
 ghost use Rattle.harmless.specs.Harmless.{changed_source as changed_text};
 ghost use Rattle.harmless.specs.Harmless.{harmless as harmless_text};
 ghost use Rattle.harmless.specs.Harmless.{harmless_char as harmless_of};
 ghost use Rattle.harmless.specs.Harmless.{harmless_source as source_text, is_between};
 ghost use Rattle.harmless.specs.Harmless.{is_high_control, is_layout as layout_of, is_low_control};
-ghost use Rattle.harmless.specs.Harmless.{source_char as source_of, turns_direction};
+ghost use Rattle.harmless.specs.Harmless.{source_char as source_of, stays, turns_direction};
+ghost use Rattle.harmless.specs.Harmless.{with_next};
 
 use std::alloc::{AllocError, Global};
 use std::iter::once;
@@ -141,15 +144,32 @@ pub fn harmless_source(alloc: Global, text: &str) -> Result<String, AllocError>
 pub fn changed_source(alloc: Global, text: &str) -> Result<Option<String>, AllocError>
     ensures { IfOk result (λ out. option_map string_bytes out ≡ changed_text text.now) }
 {
-    if is_plain(Kind::Prose, text) {
+    if is_settled(text) {
         return Ok(None);
     }
-    let source = settled_chars(alloc, text)?;
-    if source.as_str() == text {
-        Ok(None)
-    } else {
-        Ok(Some(source))
-    }
+    Ok(Some(settled_chars(alloc, text)?))
+}
+
+/// Whether a source is the sanitized one already. It allocates no memory.
+fn is_settled(text: &str) -> bool
+    ensures { result ≡ bytes_eq (source_text text.now) text.now }
+{
+    is_plain(Kind::Prose, text) || all_stay(text)
+}
+
+/// Whether each character of a source stays.
+fn all_stay(text: &str) -> bool
+    ensures { result ≡ list_all (λ p. stays p.0 p.1) (with_next (chars text.now)) }
+{
+    let next = text.chars().skip(1).chain(once('\0'));
+    text.chars().zip(next).all(|pair| stays(pair.0, pair.1))
+}
+
+/// Whether a character before another stays in a source.
+fn stays(c: char, next: char) -> bool
+    ensures { result ≡ stays c next }
+{
+    source_char(c, next) == c
 }
 
 /// The same, of the text alone; plain ASCII is copied.
