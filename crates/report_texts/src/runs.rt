@@ -3,8 +3,6 @@ ghost use Rattle.std.specs.Prelude.{◌≡◌, ◌<◌, ◌≤◌, ◌++◌, [],
 ghost use Rattle.std.specs.Prelude.{Some, None, map, string_bytes, take};
 ghost use Rattle.std.specs.Option.{option_copied};
 ghost use Rattle.oxc_span.specs.Label.{label_end};
-ghost use Rattle.oxc_windows.specs.Breaks.{breaks_of};
-ghost use Rattle.oxc_windows.specs.Rows.{row_of};
 ghost use Rattle.oxc_handlers.specs.Report.{drawn, plan_of, view_parts};
 ghost use Rattle.oxc_protocol.specs.Code.{shown_of};
 ghost use Rattle.oxc_protocol.specs.Parts.{parts_with};
@@ -25,6 +23,7 @@ use girzohal_options::Asked;
 use harmless::Kind;
 use oxc_handlers::{DiagnosticView, GraphicalReportHandler};
 use oxc_protocol::{Diagnostic, LabeledSpan, OxcDiagnostic, SourceRef};
+use oxc_span::Span;
 use oxc_windows::SpanScanner;
 use shown_reports::{ShownSources, shown_diagnostic, shown_text};
 use std::alloc::{AllocError, Global};
@@ -208,30 +207,17 @@ impl<'s> Drawings<'s> {
         requires { place < length self.now.entries }
         ensures { IfOk result (Reads (text_at self.now place) 1) }
     {
-        let source = self.sources.shown(place, self.raw);
-        let row = self.sources.row_at(place, from);
-        scanner_of(self.alloc, source, from, row)
+        scanner_of(self.alloc, self.sources.shown(place, self.raw), from)
     }
 }
 
-/// A scanner of a text, which keeps rows from this start on. The row of the start is given, so that
-/// no break before it is counted.
-fn scanner_of<'s>(
-    alloc: Global,
-    source: &'s str,
-    from: u32,
-    row: usize,
-) -> Result<SpanScanner<'s>, AllocError>
-    requires short { Fits source.now }
-    requires row { row ≡ row_of (breaks_of source.now) from }
+/// A scanner of a text, which keeps rows from this start on.
+fn scanner_of<'s>(alloc: Global, source: &'s str, from: u32) -> Result<SpanScanner<'s>, AllocError>
+    requires { Fits source.now }
     ensures { IfOk result (Reads source.entry.now 1) }
 {
     let mut scanner = SpanScanner::of_text(alloc, source, 1, 1);
-    let from = from as usize;
-    if from > source.len() {
-        return Ok(scanner);
-    }
-    scanner.begin_at(from, row)?;
+    scanner.read_span(Span::new(from, from))?;
     Ok(scanner)
 }
 
