@@ -7,7 +7,11 @@ _girzohal() {
     [[ $word == = ]] && word=
     case $before in
     --from) values="auto document sarif lines" ;;
-    --to) values="drawing json document sarif problems github gitlab checkstyle junit stylish summary markdown" ;;
+    --to) values="drawing json document sarif problems github gitlab checkstyle junit stylish summary markdown html" ;;
+    --output | -o)
+        compopt -o nospace
+        values="drawing= json= document= sarif= problems= github= gitlab= checkstyle= junit= stylish= summary= markdown= html="
+        ;;
     --tool)
         values="clang gcc rustc cargo flake8 shellcheck pylint mypy eslint tsc dotenv-linter fasterer grep hadolint
             haml-lint kotlin markdownlint phpstan problem-lines psalm slim-lint sarif"
@@ -18,15 +22,20 @@ _girzohal() {
     --width) values="auto 80 100 120" ;;
     --tabs) values="2 4 8" ;;
     --fail-on) values="error warning advice never" ;;
-    --shape | --max-findings) return ;;
+    --filter-mode) values="added diff_context file nofilter" ;;
+    --severity) values="error warning advice" ;;
+    --strip) values="0 1 2" ;;
+    --shape | --select | --ignore | --max-findings) return ;;
     --root)
         mapfile -t COMPREPLY < <(compgen -d -- "$word")
         return
         ;;
     *)
         if [[ $word == -* ]]; then
-            values="--from --tool --shape --columns --first-column --root --allow-outside-root --to --color --ascii
-                --width --tabs --max-findings --only-findings --no-summary --quiet --raw --fail-on --help --version"
+            values="--from --tool --shape --columns --first-column --root
+                --allow-outside-root --changed --filter-mode --strip --baseline --include --exclude --select --ignore
+                --severity --to --output --color --ascii --width --tabs --unique --no-unique --max-findings
+                --only-findings --no-summary --quiet --raw --fail-on --help --version"
         else
             mapfile -t COMPREPLY < <(compgen -f -- "$word")
             return

@@ -117,7 +117,7 @@ def print_sources(program):
             for path in paths:
                 with open(os.path.join(room, path), "w", encoding="utf-8") as it:
                     it.write("    int x = compute_it(1, 2, 3, 4, 5);\n" * rows)
-            for name, written in (("drawn", ("--theme", "unicode_nocolor")), ("--to github", ("--to", "github"))):
+            for name, written in (("drawn", ("--color", "never")), ("--to github", ("--to", "github"))):
                 bare = counted_as_it_comes(program, chunks("".join(Build().sourced(count, paths, rows, False))), room, written)
                 lines = Build().sourced(count, paths, rows, True)
                 between = counted_as_it_comes(program, chunks("".join(lines)), room, written)

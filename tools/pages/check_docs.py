@@ -183,6 +183,16 @@ def wrong_layers():
                 yield f"`{crate}` stands on `{other}`, which has a row below it"
 
 
+def wrong_options():
+    """Options that the help, the man page or a completion doesn't list."""
+    options = sorted(set(re.findall(r'"(--[a-z-]+)"', read(os.path.join(TOP, "crates", "girzohal_options", "src", "table.rt")))))
+    for page in ("crates/girzohal/src/help.rt", "docs/girzohal.1", *(f"completions/{name}" for name in os.listdir(os.path.join(TOP, "completions")))):
+        text = read(os.path.join(TOP, page))
+        words = set(re.findall(r"[\w-]+", re.sub(r"-l (?=\w)", "--", text.replace("Fl -", "Fl --"))))
+        words |= {f"--{word}" for line in re.findall(r"^\.(?:It|Op) Fl.*", text, re.M) for word in re.findall(r"(?<=[ ,]-)[a-z][a-z-]*", line)}
+        yield from (f"{page} doesn't list `{name}`" for name in options if name not in words)
+
+
 def main():
     wrong = []
     for page in sorted(pages()):
@@ -193,6 +203,7 @@ def main():
     wrong += [f"README.md: {said}" for said in wrong_front()]
     wrong += [f"docs/PROMISES.md: {said}" for said in wrong_promises()]
     wrong += [f"docs/MAP.md: {said}" for said in wrong_layers()]
+    wrong += wrong_options()
     for said in wrong:
         print(said)
     print("the documents say what is there" if not wrong else f"{len(wrong)} things that the documents say aren't so")

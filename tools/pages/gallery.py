@@ -3,7 +3,7 @@
 
 PROGRAM is crates/girzohal/out/girzohal after `rt run` there. Each output of examples/outputs is drawn with the sources beside it and
 the tool that its name begins with, and each log of examples/logs; read the changes in tools/quick before you commit them. The page
-shows four tools and a log, with pictures of what is drawn in colors (docs/gallery-*.svg)."""
+shows three tools and a log, with pictures of what is drawn in colors (docs/gallery-*.svg)."""
 import os
 import re
 import subprocess
@@ -12,7 +12,7 @@ import sys
 TOP = os.path.dirname(os.path.dirname(os.path.dirname(os.path.abspath(__file__))))
 OUTPUTS, LOGS = os.path.join(TOP, "examples", "outputs"), os.path.join(TOP, "examples", "logs")
 TOOLS = ("clang", "gcc", "rustc", "flake8", "shellcheck", "pylint", "mypy")
-SHOWN = ("clang", "gcc", "rustc", "shellcheck")
+SHOWN = ("clang", "gcc", "rustc")
 PRINTED, MOST = 12, 4
 HEAD = """# Gallery
 
@@ -40,7 +40,7 @@ class Gallery:
 
     def picture(self, name, what, text):
         """A picture below docs/, and a line of the page that shows it."""
-        made = subprocess.run([sys.executable, os.path.join(TOP, "tools", "picture.py")], input=text.encode(), capture_output=True, check=True)
+        made = subprocess.run([sys.executable, os.path.join(TOP, "tools", "pages", "picture.py")], input=text.encode(), capture_output=True, check=True)
         with open(os.path.join(TOP, "docs", f"{name}.svg"), "wb") as file:
             file.write(made.stdout)
         self.say(f"![{what}]({name}.svg)")

@@ -16,6 +16,8 @@ ROWS = [
     ("a warning without a source", "github", "b.c:1:5: warning: gone\n", 0, SECOND, ""),
     ("two findings among kept lines", "github",
      "make all\na.c:1:5: error: no semicolon\nb.c:1:5: warning: gone\nmake: stop\n", 1, FIRST + SECOND, "make all\nmake: stop\n"),
+    ("a finding that is printed again", "github",
+     "a.c:1:5: error: no semicolon\nmake all\na.c:1:5: error: no semicolon\n", 1, FIRST, "make all\n"),
 ]
 
 

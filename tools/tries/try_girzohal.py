@@ -19,6 +19,7 @@ import run_rows
 import summary_rows
 from finding_rows import FindingRows
 from tries_around import Around
+from tries_outputs import OutputTries
 
 TOP = os.path.dirname(os.path.dirname(os.path.dirname(os.path.abspath(__file__))))
 EXAMPLES = os.path.join(TOP, "examples")
@@ -80,7 +81,7 @@ def drives(text):
     return re.search("[\x00-\x08\x0b-\x1f\x7f\x80-\x9f\u202a-\u202e\u2066-\u2069]", text.replace("\r\n", "\n")) is not None
 
 
-class Tries(Around, FindingRows):
+class Tries(Around, FindingRows, OutputTries):
     def __init__(self, program):
         self.program, self.passed, self.failed = program, 0, 0
 
@@ -141,7 +142,8 @@ class Tries(Around, FindingRows):
             said = self.ends("no count", 1, word)
             self.check(f"{word}: there is no count", b"1 error" not in said.stdout)
         self.ends("a count", 1, out=b"1 error")
-        self.ends("at most one", 1, "--max-findings", "1", given=LINE * 3, out=b"2 more")
+        self.ends("at most one", 1, "--max-findings", "1", given=b"".join(LINE.replace(b"x]", b"x%d]" % n) for n in range(3)), out=b"2 more")
+        self.ends("what is printed again", 1, given=LINE * 3, out=b"3 errors (2 printed again)\n")
         self.ends("a level", 1, "--fail-on", "warning", given=log)
         self.ends("no level", 0, "--fail-on", "never")
         self.ends("a shape", 0, "--shape", "{name}|{line}|{message}", given=b"a.c|2|oops\n", out=b"oops")
@@ -211,7 +213,7 @@ class Tries(Around, FindingRows):
             for at, word in enumerate(("error", "warning", "advice", "never")):
                 self.ends(f"of {level}", 1 if least <= at < 3 else 0, "--fail-on", word, given=f"a.c:2:5: {level}: here\n".encode(), out=b"here")
         for words in (("--to", "json", "--to", "github"), ("--to=json", "--to=json")):
-            self.ends("two forms", 2, *words, err=f"--to: '{words[-1].split('=')[-1]}' is a second form; only one is written\n".encode())
+            self.ends("two forms", 2, *words, err=f"--to: '{words[-1].split('=')[-1]}' is a second form; --output writes others\n".encode())
         said = self.ends("the last of two tools", 1, "--tool", "mypy", "--tool", "gcc", "--to", "json")
         self.check("the last of two tools is meant", said.stdout == self.run("--tool", "gcc", "--to", "json").stdout, said)
         text = b"x:2|odd\na.c:2:5: error: here\n"
@@ -226,7 +228,7 @@ class Tries(Around, FindingRows):
 
     def try_tools(self):
         """What a named tool's columns count: on what real tools printed."""
-        marked = {"gcc": (16, 11, "s"), "mypy-columns": (9, 28, "self.items"), "pylint": (9, 9, "summe"), "clang": (16, 17, "total"),
+        marked = {"gcc": (16, 10, "%s"), "mypy-columns": (9, 28, "self.items"), "pylint": (9, 9, "summe"), "clang": (16, 17, "total(p, 4)"),
                   "rustc": (11, 20, "xs"), "flake8": (9, 9, "summe"), "shellcheck": (2, 15, "*")}
         for name, wanted in marked.items():
             with open(os.path.join(EXAMPLES, "outputs", f"{name}.txt"), "rb") as file:
@@ -259,7 +261,7 @@ class Tries(Around, FindingRows):
         with open(os.path.join(TOP, "VERSION"), encoding="utf-8") as file:
             self.ends("the version", 0, "--version", out=b"girzohal " + file.read().strip().encode())
         bad = [("--color", "pink"), ("--width", "x"), ("--tabs", "17"), ("--tabs", "0"), ("--first-column", "2"), ("--from", "xml"),
-               ("--to", "html"), ("--tool", "nobody"), ("--columns", "inches"), ("--fail-on", "never!"), ("--max-findings", "-1"), ("--shape", "{nothing}"),
+               ("--to", "pdf"), ("--tool", "nobody"), ("--columns", "inches"), ("--fail-on", "never!"), ("--max-findings", "-1"), ("--shape", "{nothing}"),
                ("--unknown",), ("--color",), ("a", "b"), ("--quiet=yes",), ("--theme", "none"), ("--most", "1"), ("--anywhere",)]
         for words in bad:
             said = self.ends("a wrong argument", 2, *words, err=b"--help")
@@ -277,7 +279,11 @@ class Tries(Around, FindingRows):
             (("--colour",), "unknown option --colour; did you mean --color?\n"),
             (("--colour=always",), "unknown option --colour; did you mean --color?\n"),
             (("-color", "never"), "unknown option -color; did you mean --color?\n"),
+            (("--max-f", "1"), "unknown option --max-f; did you mean --max-findings?\n"),
             (("--max", "1"), "unknown option --max; did you mean --max-findings?\n"),
+            (("--fail", "error"), "unknown option --fail; did you mean --fail-on?\n"),
+            (("--json-shap", "x"), "unknown option --json-shap\n"),
+            (("-oo", "x"), "unknown option -oo; did you mean --to?\n"),
             (("--first=0",), "unknown option --first; did you mean --first-column?\n"),
             (("--col",), "unknown option --col\n"),
             (("--colrs",), "unknown option --colrs; did you mean --color?\n"),
@@ -290,8 +296,23 @@ class Tries(Around, FindingRows):
             (("--tabs", "17", "--tabs", "4"), "--tabs: expected a number from 1 to 16, not '17'\n"),
             (("in.txt", "--max-findings"), "--max-findings needs a value: a number from 0\n"),
             (("--quiet=yes",), "--quiet takes no value, but has 'yes'\n"),
-            (("a", "--no-summary", "b", "--tabs", "0"), "b is a second file; only one is read\n"),
-            (("--", "--no-summary", "--raw"), "--raw is a second file; only one is read\n"),
+            (("a", "--no-summary", "b", "--tabs", "0"), "--tabs: expected a number from 1 to 16, not '0'\n"),
+            (("a", "-", "--", "b", "-"), "standard input is read once, as FILE, --changed or --baseline\n"),
+            (("--changed=-",), "standard input is read once, as FILE, --changed or --baseline\n"),
+            (("--baseline=-", "a", "--changed", "-"), "standard input is read once, as FILE, --changed or --baseline\n"),
+            (("--changed", ""), "--changed: expected a file with a diff, not ''\n"),
+            (("--filter-mode", "added"), "--filter-mode needs --changed\n"),
+            (("--strip=0", "--filter-mode=added"), "--filter-mode needs --changed\n"),
+            (("--strip=01",), "--strip: expected a number from 0, not '01'\n"),
+            (("--severity", "never"), "--severity: expected error, warning or advice, not 'never'\n"),
+            (("--ignore", ""), "--ignore: expected a pattern of rules such as 'E501', not ''\n"),
+            (("--unique=no",), "--unique takes no value, but has 'no'\n"),
+            (("-o",), "--output needs a value: a form and a file such as github=notes.txt\n"),
+            (("-o=junit",), "--output: expected a form and a file such as github=notes.txt, not 'junit'\n"),
+            (("-o", "junit="), "--output: the file is missing in 'junit='\n"),
+            (("--output=pdf=a",), "or html, not 'pdf' in 'pdf=a'\n"),
+            (("-o", "junit=a", "--output", "json=b", "-o=json=a"), "--output: two forms can't go to 'a'\n"),
+            (("-o", "junit=-", "--to=drawing"), "--output: two forms can't go to standard output\n"),
             (("--from", "sarif", "--columns", "bytes"), "--columns: a SARIF log counts characters or utf16\n"),
             (("--tool=sarif", "--columns=cells"), "--columns: a SARIF log counts characters or utf16\n"),
             (("--root", "nowhere"), "--root: nowhere isn't a folder\n"),
@@ -425,7 +446,7 @@ class Tries(Around, FindingRows):
 
     def try_pipes(self):
         with tempfile.TemporaryFile() as many:
-            many.write(LINE * 20000)
+            many.write(b"".join(LINE.replace(b"x]", b"x%d]" % n) for n in range(20000)))
             many.seek(0)
             ran = subprocess.Popen([self.program], stdin=many, stdout=subprocess.PIPE, stderr=subprocess.PIPE, cwd=self.room, env=PLAIN)
             ran.stdout.readline()
@@ -595,7 +616,7 @@ class Tries(Around, FindingRows):
             for each in (self.try_runs, self.try_words, self.try_columns, self.try_effects, self.try_tools, self.try_looks, self.try_asking, self.try_inputs,
                          self.try_sources, self.try_terminals, self.try_pipes, self.try_slowly, self.try_paint, self.try_formats, self.try_lost,
                          self.try_colors, self.try_keyboard, self.try_limits, self.try_memory, self.try_help, self.try_manual,
-                         self.try_completions, self.try_install, self.try_findings, self.try_finding_logs, self.try_finding_lines):
+                         self.try_completions, self.try_install, self.try_pages, self.try_outputs, self.try_findings, self.try_finding_logs, self.try_finding_lines):
                 try:
                     each()
                 except Exception as why:

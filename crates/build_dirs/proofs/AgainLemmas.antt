@@ -1,12 +1,21 @@
 -- Keys of findings.
-use Rattle.std.proofs.Common.{◌≡◌, ◌==◌, ◌&&◌, not, ℕ, ◌+◌, ◌<◌, Bool, true, false, List, [], ◌∷◌, ◌++◌, length, take, map, get_or, Some, refl, sym, ap, ap₂, ◌∙◌, arith, append_assoc, Bor}
+use Rattle.std.proofs.Common.{◌≡◌, ◌==◌, ◌&&◌, ◌||◌, not, ℕ, ◌+◌, ◌<◌, Bool, true, false, cond, List, [], ◌∷◌, ◌++◌, length, take, map, get_or, Some, String, string_bytes, refl, sym, ap, ap₂, ◌∙◌, arith, append_assoc, Bor}
+use Rattle.std.specs.BTreeMap.{is_at}
+use Rattle.std.specs.BTreeSet.{BTreeSet, Updates, contains_text}
+use Rattle.std.specs.Cmp.Lexicographic.{slice_cmp}
+use Rattle.std.specs.Ordering.{nat_cmp}
+use Rattle.std.specs.Str.{bytes_eq}
+use Rattle.std.specs.Str.Lossy.{utf8_lossy}
+use Rattle.std.specs.String.{string_cmp}
+use Rattle.std.specs.declared.alloc.Global.{Global}
+use Rattle.std.proofs.lemmas.Map.Text.{btree_set_updates_text}
 use Rattle.std.specs.List.{flat_map, list_all, list_any}
 use Rattle.std.proofs.lemmas.List.{append-nil, map_more}
 use Rattle.std.proofs.lemmas.Grind.{flat_map-append}
 use Rattle.escapes.specs.Cuts.{cut_at}
 use Rattle.escapes.proofs.CutLemmas.{cut_here}
 use Rattle.build_dirs.specs.declared.again.PrintedPiece.{PrintedPiece}
-use Rattle.build_dirs.specs.Again.{KeysAreExact, Piece, ended, is_clean, is_clean_line, key_lines, key_text, lines_of, piece_of, tagged}
+use Rattle.build_dirs.specs.Again.{KeysAreExact, Piece, Seen, ended, is_clean, is_clean_line, key_lines, key_text, lines_of, lossy_piece, none_seen, piece_of, tagged, with_seen}
 use Rattle.build_dirs.proofs.ChangeLemmas.{both_left, both_right, firsts, seconds}
 
 -- ---- lines with their ends
@@ -128,3 +137,43 @@ piece_more pieces k d old mid new within mid_is new_is so =
     new_is ∙ ap (λ (xs : List ℕ). xs ++ lines) mid_is ∙ append_assoc old head lines
     ∙ ap (λ (xs : List ℕ). old ++ (head ++ xs)) (ap key_lines (fused piece.lines.now)) ∙ ap (λ (xs : List ℕ). xs ++ key_lines (lines_of (piece_of piece))) so
     ∙ sym (ap key_text (map_more piece_of pieces k d within) ∙ key_push (map piece_of (take k pieces)) (piece_of piece))
+
+-- ---- one piece, of bytes
+
+lossy_fused : (lines : List (Bor (List ℕ))) → map (λ (line : Bor (List ℕ)). tagged 0x20 (utf8_lossy line.now)) lines
+    ≡ map (tagged 0x20) (map utf8_lossy (map (λ (line : Bor (List ℕ)). line.now) lines))
+lossy_fused [] = refl
+lossy_fused (line ∷ lines) = ap (λ (xs : List (List ℕ)). tagged 0x20 (utf8_lossy line.now) ∷ xs) (lossy_fused lines)
+
+key_alone : (p : Piece) → key_text (p ∷ []) ≡ key_lines (lines_of p)
+unfolding key_text
+key_alone p = ap key_lines (append-nil (lines_of p))
+
+pub piece_pushed : (path : List ℕ) (lines : List (Bor (List ℕ))) (old mid new : List ℕ) → mid ≡ old ++ (0x40 ∷ (utf8_lossy path ++ 0x0A ∷ []))
+    → new ≡ mid ++ key_lines (map (λ (line : Bor (List ℕ)). tagged 0x20 (utf8_lossy line.now)) lines)
+    → new ≡ old ++ key_text (lossy_piece path (map (λ (line : Bor (List ℕ)). line.now) lines) ∷ [])
+piece_pushed path lines old mid new mid_is new_is =
+    let head = 0x40 ∷ (utf8_lossy path ++ 0x0A ∷ []) in
+    let rest = key_lines (map (λ (line : Bor (List ℕ)). tagged 0x20 (utf8_lossy line.now)) lines) in
+    new_is ∙ ap (λ (xs : List ℕ). xs ++ rest) mid_is ∙ append_assoc old head rest ∙ ap (λ (xs : List ℕ). old ++ (head ++ xs)) (ap key_lines (lossy_fused lines))
+    ∙ ap (λ (xs : List ℕ). old ++ xs) (sym (key_alone (lossy_piece path (map (λ (line : Bor (List ℕ)). line.now) lines))))
+
+-- ---- keys that were met
+
+or_is : (here was : Bool) → cond here true was ≡ (here || was)
+or_is true was = refl
+or_is false was = refl
+
+pub key_kept : (old new : BTreeSet (String Global)) (key : String Global) → Updates string_cmp old new key true
+    → (let before : Seen = λ q. contains_text old q in let after : Seen = λ q. contains_text new q in after ≡ with_seen before (string_bytes key))
+unfolding with_seen
+key_kept old new key updates = λ i. λ q. at q i
+  where
+    at : (q : List ℕ) → contains_text new q ≡ (bytes_eq (string_bytes key) q || contains_text old q)
+    at q = btree_set_updates_text (string_bytes key) old new true updates q ∙ or_is (bytes_eq (string_bytes key) q) (contains_text old q)
+
+pub none_there : (keys : BTreeSet (String Global)) → keys.keys ≡ [] → (let there : Seen = λ q. contains_text keys q in there ≡ none_seen)
+none_there keys empty = λ i. λ q. at q i
+  where
+    at : (q : List ℕ) → contains_text keys q ≡ false
+    at q = ap (λ (ks : List (String Global)). list_any (is_at (λ k. slice_cmp nat_cmp q (string_bytes k))) ks) empty

@@ -1,6 +1,10 @@
 -- Findings that are printed again.
-use Rattle.std.specs.Prelude.{◌≡◌, ℕ, ◌==◌, ◌&&◌, not, Bool, true, List, [], ◌∷◌, ◌++◌, map}
+use Rattle.std.specs.Prelude.{◌≡◌, ℕ, ◌==◌, ◌&&◌, ◌||◌, not, Bool, true, false, List, [], ◌∷◌, ◌++◌, map}
+use Rattle.std.specs.BTreeSet.{contains_text}
 use Rattle.std.specs.List.{flat_map, list_all, list_any}
+use Rattle.std.specs.Str.{bytes_eq}
+use Rattle.std.specs.Str.Lossy.{utf8_lossy}
+use Rattle.build_dirs.specs.declared.again.SeenKeys.{SeenKeys}
 use Rattle.build_dirs.specs.declared.again.PrintedPiece.{PrintedPiece}
 
 -- the lines of a finding or a note, and its path
@@ -10,6 +14,10 @@ pub record Piece : Type 0 where
 
 abbrev pub piece_of : PrintedPiece → Piece
 piece_of piece = record { path = piece.path.now; lines = map (λ line. line.now) piece.lines.now }
+
+-- the same of bytes
+abbrev pub lossy_piece : List ℕ → List (List ℕ) → Piece
+lossy_piece path lines = record { path = utf8_lossy path; lines = map utf8_lossy lines }
 
 -- a line with a byte before it that says what it is
 abbrev pub tagged : ℕ → List ℕ → List ℕ
@@ -37,3 +45,18 @@ is_clean piece = is_clean_line piece.path && list_all is_clean_line piece.lines
 
 abbrev pub KeysAreExact : Type 0
 KeysAreExact = (pieces others : List Piece) → list_all is_clean pieces ≡ true → list_all is_clean others ≡ true → key_text pieces ≡ key_text others → pieces ≡ others
+
+-- ---- keys that were met
+
+-- which keys were met before
+abbrev pub Seen : Type 0
+Seen = List ℕ → Bool
+
+abbrev pub none_seen : Seen
+none_seen key = false
+
+unfoldable pub with_seen : Seen → List ℕ → Seen
+with_seen seen key other = bytes_eq key other || seen other
+
+unfoldable pub seen_in : SeenKeys → Seen
+seen_in seen key = contains_text seen.keys key

@@ -4,6 +4,7 @@
 //! - [`ci_text`]: the text in any format; [`ci_text_on`]: the same, by indexes that were made
 //!   before.
 //! - [`gitlab_text`]: GitLab's, which names the tool if a finding has no code.
+//! - [`found_findings`]: the findings themselves.
 //! - [`summary_text`], [`markdown_text`]: how many findings there are, and which files and rules
 //!   have most of them.
 #![tactic(auto)]
@@ -12,4 +13,4 @@ mod indexed;
 mod shown;
 
 pub use ci_formats::CiFormat;
-pub use shown::{ci_text, ci_text_on, gitlab_text, markdown_text, summary_text};
+pub use shown::{ci_text, ci_text_on, found_findings, gitlab_text, markdown_text, summary_text};

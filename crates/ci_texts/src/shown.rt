@@ -33,7 +33,7 @@ pub fn ci_text(
 ) -> Result<String, AllocError>
     ensures { IfOk result (λ text. string_bytes text ≡ ci_text_of format raw found.now.found) }
 {
-    let shown = findings(alloc, raw, found)?;
+    let shown = found_findings(alloc, raw, found)?;
     text_in(alloc, format, &shown)
 }
 
@@ -76,7 +76,7 @@ pub fn gitlab_text(
         ≡ gitlab_text_of (option_copied tool.entry) raw found.now.found) }
 {
     let name = shown_if(alloc, raw, Kind::Name, tool)?;
-    let shown = findings(alloc, raw, found)?;
+    let shown = found_findings(alloc, raw, found)?;
     ci_formats::gitlab_text(alloc, name.as_deref(), &shown)
 }
 
@@ -93,7 +93,7 @@ pub fn summary_text(
     ensures { IfOk result (λ text.
         IsSummary (findings_in raw found.now.found) (string_bytes text)) }
 {
-    let shown = findings(alloc, raw, found)?;
+    let shown = found_findings(alloc, raw, found)?;
     finding_summaries::summary_text(alloc, &shown)
 }
 
@@ -110,12 +110,20 @@ pub fn markdown_text(
     ensures { IfOk result (λ text.
         IsMarkdown (findings_in raw found.now.found) (string_bytes text)) }
 {
-    let shown = findings(alloc, raw, found)?;
+    let shown = found_findings(alloc, raw, found)?;
     finding_summaries::markdown_text(alloc, &shown)
 }
 
 /// The findings of reports, with their texts sanitized unless `raw`.
-fn findings(alloc: Global, raw: bool, found: &FoundReports<'_>) -> Result<Vec<Finding>, AllocError>
+///
+/// # Errors
+///
+/// Out of memory.
+pub fn found_findings(
+    alloc: Global,
+    raw: bool,
+    found: &FoundReports<'_>,
+) -> Result<Vec<Finding>, AllocError>
     ensures { IfOk result (λ shown. map finding_parts shown.items
         ≡ findings_in raw found.now.found) }
 {

@@ -1,9 +1,9 @@
 -- What was drawn of the bytes so far, whatever comes behind them.
-use Rattle.std.proofs.Common.{◌≡◌, ℕ, ◌+◌, ◌≤◌, Bool, true, false, cond, List, [], ◌∷◌, ◌++◌, length, map, take, drop, Option, None, Result, Ok, Err, Vec, Global, All, refl, sym, ap, ap₂, ◌∙◌, subst, append_assoc, append-nil, arith}
+use Rattle.std.proofs.Common.{◌≡◌, ℕ, ◌+◌, ◌≤◌, ◌||◌, Bool, true, false, cond, List, [], ◌∷◌, ◌++◌, length, map, take, drop, Option, None, Result, Ok, Err, Vec, Global, All, refl, sym, ap, ap₂, ◌∙◌, subst, append_assoc, append-nil, arith}
 use Rattle.std.specs.Prelude.{IfOk, string_bytes}
 use Rattle.std.specs.List.{drop-map}
 use Rattle.std.specs.Str.Lossy.{utf8_lossy}
-use Rattle.std.proofs.lemmas.List.{length-append, length-map, map-append, take-append-drop}
+use Rattle.std.proofs.lemmas.List.{drop-append-le, length-append, length-map, map-append, take-append-drop}
 use Rattle.std.proofs.lemmas.List.Elements.{All-nil, All-cons, All-head, All-tail, All-append, All-same}
 use Rattle.found_reports.specs.Held.{Held}
 use Rattle.found_reports.specs.Found.{Found}
@@ -14,14 +14,19 @@ use Rattle.source_store.specs.declared.named.Spelling.TheVariants.{Path}
 use Rattle.source_store.proofs.GivenLemmas.{listed_said, still_held, still_listed}
 use Rattle.line_shapes.specs.Shape.{ShapeParts}
 use Rattle.tool_lines.specs.Lines.{ArePieces, PieceParts}
+use Rattle.std.proofs.lemmas.List.Folds.{list_any-append}
+use Rattle.build_dirs.specs.Again.{Seen, none_seen}
+use Rattle.report_counts.specs.Counted.{one_reaches, reaches, severity_of}
 use Rattle.line_reports.specs.Names.{names_in}
+use Rattle.line_reports.specs.Pieces.{AreRead, ReadParts}
 use Rattle.line_reports.specs.Reports.{reports_in}
-use Rattle.report_texts.specs.Texts.{ending_text}
+use Rattle.line_reports.proofs.PieceLemmas.{are_read_append, are_read_more, lines_in}
 use Rattle.girzohal_options.specs.declared.Asked.{Asked}
-use Rattle.drawn_lines.specs.Text.{AreRead, came_of, came_to_come, lines_of, read_line, rest_to_come, to_come}
-use Rattle.drawn_lines.specs.Lines.{aside_text, columns_of, ending, shapes_of, still, written}
-use Rattle.drawn_lines.specs.Coming.{Agrees, Draws, GoesOn, IsComing, IsDrawn, Looks, Told, most_of, sources_of}
-use Rattle.drawn_lines.specs.Counts.{count_of, count_with, ending_by, no_count}
+use Rattle.drawn_lines.specs.Text.{AreRead as LinesAreRead, came_of, came_to_come, lines_of, read_line, rest_to_come, to_come}
+use Rattle.drawn_lines.specs.Again.{fresh, repeated, seen_behind}
+use Rattle.drawn_lines.specs.Lines.{aside_text, columns_of, shapes_of, still, written}
+use Rattle.drawn_lines.specs.Coming.{Agrees, Draws, GoesOn, IsComing, IsDrawn, Looks, Reads, Told, most_of, seen_of, sources_of}
+use Rattle.drawn_lines.specs.Counts.{count_of, count_with, ending, ending_by, no_count}
 use Rattle.drawn_lines.specs.Seam.{BarePieces, IsPart, IsSeam, all_open, span}
 use Rattle.drawn_lines.specs.declared.coming.Come.{Come}
 use Rattle.drawn_lines.specs.declared.held.HeldLines.{HeldLines}
@@ -31,7 +36,8 @@ use Rattle.drawn_lines.specs.declared.tally.Tally.{Tally}
 use Rattle.drawn_lines.proofs.PlainLemmas.{lines_are}
 use Rattle.drawn_lines.proofs.LineLemmas.{aside_parted}
 use Rattle.drawn_lines.proofs.NameLemmas.{agreed_reports, agreed_text, named_append, named_names, names_named}
-use Rattle.drawn_lines.proofs.PartLemmas.{reports_parted, still_none, still_parts, text_parted}
+use Rattle.drawn_lines.proofs.PartLemmas.{reports_parted, lines_span, still_none, still_parts, text_parted}
+use Rattle.drawn_lines.proofs.AgainLemmas.{fresh_bare, fresh_named, fresh_open, fresh_parted, fresh_span, repeated_named, repeated_open, repeated_parted, repeated_span}
 use Rattle.drawn_lines.proofs.CountLemmas.{counted_append, none_counted}
 use Rattle.drawn_lines.proofs.SeamLemmas.{all_bare}
 
@@ -66,29 +72,46 @@ given_more told given front ps a b =
 
 -- ---- nothing came
 
-whole_goes : (told : Told) (asked : Asked) (given : List ℕ → Held) (lines came left still_came : List (List ℕ)) (most : Option ℕ) (ps : List PieceParts)
-    → left ≡ lines → still_came ≡ came → most ≡ asked.most → ArePieces (shapes_of asked) None left ps → GoesOn told asked given lines came [] [] [] most left still_came ps
-whole_goes told asked given lines came left still_came most ps lines_are came_are most_is are =
+-- pieces of lines that are the same are read the same
+reads_of : (lines left : List (List ℕ)) (pieces ps : List PieceParts) (reads : List ReadParts) → left ≡ lines → pieces ≡ ps → Reads left pieces reads → Reads lines ps reads
+reads_of lines left pieces ps reads lines_are are is =
+    record { of_them = is.of_them ∙ are; read = subst (λ ls. AreRead ls reads) lines_are is.read }
+
+whole_goes : (told : Told) (asked : Asked) (given : List ℕ → Held) (lines came left still_came : List (List ℕ)) (most : Option ℕ) (seen : Seen) (ps : List PieceParts)
+    (reads others : List ReadParts) → left ≡ lines → still_came ≡ came → most ≡ asked.most → seen ≡ none_seen → ArePieces (shapes_of asked) None left ps
+    → Reads left (fresh asked seen left ps) reads → Reads left (repeated asked seen left ps) others
+    → GoesOn told asked given lines came [] [] [] [] most left still_came ps reads others
+whole_goes told asked given lines came left still_came most seen ps reads others lines_are came_are most_is seen_is are reads_are others_are =
     record {
       all = ps;
       are = subst (λ ls. ArePieces (shapes_of asked) None ls ps) lines_are are;
-      drawn = ap₂ (λ ls n. written asked given n ls came ps) (sym lines_are) (sym most_is) ∙ ap (λ ls. written asked given most left ls ps) (sym came_are);
+      all_reads = reads;
+      reads_are = reads_of lines left (fresh asked seen left ps) (fresh asked none_seen lines ps) reads lines_are (ap₂ (λ (s : Seen) ls. fresh asked s ls ps) seen_is lines_are) reads_are;
+      all_others = others;
+      others_are = reads_of lines left (repeated asked seen left ps) (repeated asked none_seen lines ps) others lines_are (ap₂ (λ (s : Seen) ls. repeated asked s ls ps) seen_is lines_are) others_are;
+      drawn =
+          ap₂ (λ ls n. written asked given n ls came reads) (sym lines_are) (sym most_is)
+          ∙ ap (λ ls. written asked given most left ls reads) (sym came_are);
       stands = ap (λ ls. aside_text asked ls ps) (sym lines_are);
-      reports = ap (λ ls. reports_in (columns_of asked) given ls ps) (sym lines_are);
+      reports = ap (λ ls. reports_in (columns_of asked) given ls reads) (sym lines_are);
+      repeats = ap (λ ls. reports_in (columns_of asked) given ls others) (sym lines_are);
       said = λ is. is;
     }
 
-pub nothing_came : (told : Told) (asked : Asked) (held : HeldLines) (tally : Tally) → ((more : List ℕ) → came_to_come held more ≡ came_of more) → AreRead held
-    → tally.count ≡ no_count → sources_of tally ≡ [] → IsComing told asked [] [] [] held tally
-nothing_came told asked held tally comes read count none =
+pub nothing_came : (told : Told) (asked : Asked) (held : HeldLines) (tally : Tally) → ((more : List ℕ) → came_to_come held more ≡ came_of more) → LinesAreRead held
+    → tally.count ≡ no_count → tally.again ≡ no_count → seen_of tally ≡ none_seen → sources_of tally ≡ [] → IsComing told asked [] [] [] held tally
+nothing_came told asked held tally comes read count again seen none =
     record {
       found = [];
+      again = [];
+      counted_again = again ∙ sym (none_counted asked);
       told_so = All-same (MeetsTold told Path) _ _ none (All-nil (MeetsTold told Path));
       counted = count ∙ sym (none_counted asked);
       read = read;
-      goes_on = λ given agrees more ps are.
-          whole_goes told asked given (lines_of more) (came_of more) (to_come held more) (came_to_come held more) (most_of asked tally) ps
-          (ap (map read_line) (comes more) ∙ lines_are more) (comes more) (ap (λ (c : Count). still asked.most c.total) count ∙ still_none asked.most) are;
+      bare = λ is. refl;
+      goes_on = λ given agrees more ps are reads others reads_are others_are.
+          whole_goes told asked given (lines_of more) (came_of more) (to_come held more) (came_to_come held more) (most_of asked tally) (seen_of tally) ps reads others
+          (ap (map read_line) (comes more) ∙ lines_are more) (comes more) (ap (λ (c : Count). still asked.most c.total) count ∙ still_none asked.most) seen are reads_are others_are;
     }
 
 pub nothing_drawn : (told : Told) (asked : Asked) (taken text aside none no_line : List ℕ) (held : HeldLines) (tally : Tally) → none ≡ [] → no_line ≡ []
@@ -100,24 +123,29 @@ nothing_drawn told asked taken text aside none no_line held tally is aside_is co
 -- ---- bytes came
 
 pub bytes_came : (told : Told) (asked : Asked) (taken bytes text aside : List ℕ) (held next : HeldLines) (tally : Tally)
-    → ((more : List ℕ) → came_to_come next more ≡ came_to_come held (bytes ++ more)) → (AreRead held → AreRead next)
+    → ((more : List ℕ) → came_to_come next more ≡ came_to_come held (bytes ++ more)) → (LinesAreRead held → LinesAreRead next)
     → IsComing told asked taken text aside held tally → IsComing told asked (taken ++ bytes) text aside next tally
 bytes_came told asked taken bytes text aside held next tally comes read coming =
     record {
       found = coming.found;
+      again = coming.again;
       told_so = coming.told_so;
       counted = coming.counted;
+      counted_again = coming.counted_again;
       read = read coming.read;
-      goes_on = λ given agrees more ps are.
-          subst (λ whole. GoesOn told asked given (lines_of whole) (came_of whole) text aside coming.found (most_of asked tally) (to_come next more) (came_to_come next more) ps)
+      bare = coming.bare;
+      goes_on = λ given agrees more ps are reads others reads_are others_are.
+          subst (λ whole. GoesOn told asked given (lines_of whole) (came_of whole) text aside coming.found coming.again (most_of asked tally) (to_come next more) (came_to_come next more) ps reads others)
           (sym (append_assoc taken bytes more))
-          (subst (λ ls. GoesOn told asked given (lines_of (taken ++ (bytes ++ more))) (came_of (taken ++ (bytes ++ more))) text aside coming.found (most_of asked tally) (map read_line ls) ls ps)
+          (subst (λ ls. GoesOn told asked given (lines_of (taken ++ (bytes ++ more))) (came_of (taken ++ (bytes ++ more))) text aside coming.found coming.again (most_of asked tally) (map read_line ls) ls ps reads others)
           (sym (comes more))
-          (coming.goes_on given agrees (bytes ++ more) ps (subst (λ ls. ArePieces (shapes_of asked) None (map read_line ls) ps) (comes more) are)));
+          (coming.goes_on given agrees (bytes ++ more) ps (subst (λ ls. ArePieces (shapes_of asked) None (map read_line ls) ps) (comes more) are) reads others
+          (subst (λ ls. Reads (map read_line ls) (fresh asked (seen_of tally) (map read_line ls) ps) reads) (comes more) reads_are)
+          (subst (λ ls. Reads (map read_line ls) (repeated asked (seen_of tally) (map read_line ls) ps) others) (comes more) others_are)));
     }
 
 pub come_of : {E : Type 0} (result : Result Come E) (told : Told) (asked : Asked) (bytes : List ℕ) (held next : HeldLines) (tally : Tally)
-    → ((more : List ℕ) → came_to_come next more ≡ came_to_come held (bytes ++ more)) → (AreRead held → AreRead next)
+    → ((more : List ℕ) → came_to_come next more ≡ came_to_come held (bytes ++ more)) → (LinesAreRead held → LinesAreRead next)
     → IfOk result (λ come. (taken text aside : List ℕ) → IsComing told asked taken text aside next tally
     → IsComing told asked taken (text ++ string_bytes come.text) (aside ++ string_bytes come.aside) come.coming.held come.coming.tally)
     → IfOk result (λ come. (taken text aside : List ℕ) → IsComing told asked taken text aside held tally
@@ -128,44 +156,110 @@ come_of (Err why) told asked bytes held next tally comes read is = tt
 
 -- ---- the first pieces are drawn
 
-front_goes : (told : Told) (asked : Asked) (given : List ℕ → Held) (whole whole_came : List (List ℕ)) (text aside drawn stands : List ℕ) (found here : List Found) (most next : Option ℕ)
-    (lines came more rest : List (List ℕ)) (front ps : List PieceParts)
-    → span front ≤ length lines → span front ≤ length came → BarePieces front → all_open ps ≡ true
-    → drawn ≡ written asked given most lines came front → stands ≡ aside_text asked lines front → here ≡ reports_in (columns_of asked) given lines front
+-- what was read of the first pieces, and then of the others
+reads_on : (lines more : List (List ℕ)) (front rest all : List PieceParts) (here there : List ReadParts) → span front ≤ length lines → all ≡ front ++ rest
+    → Reads lines front here → Reads (drop (span front) lines ++ more) rest there → Reads (lines ++ more) all (here ++ there)
+reads_on lines more front rest all here there within all_are is later =
+    let same : lines_in here ≡ span front = lines_span here ∙ ap span is.of_them in
+    record {
+      of_them = map-append (λ (it : ReadParts). it.piece) here there ∙ ap₂ (λ a b. a ++ b) is.of_them later.of_them ∙ sym all_are;
+      read =
+          are_read_append (lines ++ more) here there (are_read_more lines more here (omega (arith, within, same)) is.read)
+          (subst (λ ls. AreRead ls there) (sym (ap (λ n. drop n (lines ++ more)) same ∙ drop-append-le (span front) lines more within)) later.read);
+    }
+
+-- what is written of the first and the others is parted there
+reads_text : (asked : Asked) (given : List ℕ → Held) (most : Option ℕ) (lines came more rest : List (List ℕ)) (front ps : List PieceParts) (here there : List ReadParts)
+    → span front ≤ length lines → span front ≤ length came → BarePieces front → all_open ps ≡ true → map (λ (it : ReadParts). it.piece) here ≡ front → map (λ (it : ReadParts). it.piece) there ≡ ps
+    → written asked given most (lines ++ more) (came ++ rest) (here ++ there)
+    ≡ written asked given most lines came here
+    ++ written asked given (still most (length (reports_in (columns_of asked) given lines here))) (drop (span front) lines ++ more) (drop (span front) came ++ rest) there
+reads_text asked given most lines came more rest front ps here there within room bare is here_is there_is =
+    let same : lines_in here ≡ span front = lines_span here ∙ ap span here_is in
+    text_parted asked given most lines came more rest here there (omega (arith, within, same)) (omega (arith, room, same)) (subst BarePieces (sym here_is) bare)
+    (ap all_open there_is ∙ is)
+    ∙ ap (λ n. written asked given most lines came here ++ written asked given (still most (length (reports_in (columns_of asked) given lines here))) (drop n lines ++ more) (drop n came ++ rest) there) same
+
+reads_reports : (asked : Asked) (given : List ℕ → Held) (lines more : List (List ℕ)) (front ps : List PieceParts) (here there : List ReadParts)
+    → span front ≤ length lines → all_open ps ≡ true → map (λ (it : ReadParts). it.piece) here ≡ front → map (λ (it : ReadParts). it.piece) there ≡ ps
+    → reports_in (columns_of asked) given (lines ++ more) (here ++ there)
+    ≡ reports_in (columns_of asked) given lines here ++ reports_in (columns_of asked) given (drop (span front) lines ++ more) there
+reads_reports asked given lines more front ps here there within is here_is there_is =
+    let same : lines_in here ≡ span front = lines_span here ∙ ap span here_is in
+    reports_parted asked given lines more here there (omega (arith, within, same)) (ap all_open there_is ∙ is)
+    ∙ ap (λ n. reports_in (columns_of asked) given lines here ++ reports_in (columns_of asked) given (drop n lines ++ more) there) same
+
+front_goes : (told : Told) (asked : Asked) (given : List ℕ → Held) (whole whole_came : List (List ℕ)) (text aside drawn stands : List ℕ) (found again here there : List Found) (most next : Option ℕ)
+    (fresh_front fresh_ps rep_front rep_ps : List PieceParts) (now_reads now_others reads others : List ReadParts) (lines came more rest : List (List ℕ)) (front ps : List PieceParts)
+    → span front ≤ length lines → span front ≤ length came → BarePieces fresh_front → all_open fresh_ps ≡ true → all_open rep_ps ≡ true → span fresh_front ≡ span front → span rep_front ≡ span front
+    → Reads lines fresh_front now_reads → Reads lines rep_front now_others
+    → Reads (drop (span front) lines ++ more) fresh_ps reads → Reads (drop (span front) lines ++ more) rep_ps others
+    → drawn ≡ written asked given most lines came now_reads → stands ≡ aside_text asked lines front
+    → here ≡ reports_in (columns_of asked) given lines now_reads → there ≡ reports_in (columns_of asked) given lines now_others
     → next ≡ still most (length here) → IsGiven told Path (names_in front) given
-    → GoesOn told asked given whole whole_came text aside found most (lines ++ more) (came ++ rest) (front ++ ps)
-    → GoesOn told asked given whole whole_came (text ++ drawn) (aside ++ stands) (found ++ here) next (drop (span front) lines ++ more) (drop (span front) came ++ rest) ps
-front_goes told asked given whole whole_came text aside drawn stands found here most next lines came more rest front ps within room bare open_there drawn_is stands_is here_is next_is said on =
+    → GoesOn told asked given whole whole_came text aside found again most (lines ++ more) (came ++ rest) (front ++ ps) (now_reads ++ reads) (now_others ++ others)
+    → GoesOn told asked given whole whole_came (text ++ drawn) (aside ++ stands) (found ++ here) (again ++ there) next (drop (span front) lines ++ more) (drop (span front) came ++ rest) ps reads others
+front_goes told asked given whole whole_came text aside drawn stands found again here there most next fresh_front fresh_ps rep_front rep_ps now_reads now_others reads others lines came more rest front ps within room bare open_fresh open_rep fresh_span_is rep_span_is now_are others_now reads_are others_are drawn_is stands_is here_is there_is next_is said on =
     let left : List (List ℕ) = drop (span front) lines ++ more in
     let later : List (List ℕ) = drop (span front) came ++ rest in
-    let parted : written asked given most (lines ++ more) (came ++ rest) (front ++ ps) ≡ drawn ++ written asked given next left later ps =
-    text_parted asked given most lines came more rest front ps within room bare open_there
-    ∙ ap₂ (λ d n. d ++ written asked given n left later ps) (sym drawn_is) (ap (λ fs. still most (length fs)) (sym here_is) ∙ sym next_is) in
+    let text_left : List ℕ = written asked given next left later reads in
+    let found_left : List Found = reports_in (columns_of asked) given left reads in
+    let again_left : List Found = reports_in (columns_of asked) given left others in
+    let parted : written asked given most (lines ++ more) (came ++ rest) (now_reads ++ reads) ≡ drawn ++ text_left =
+    reads_text asked given most lines came more rest fresh_front fresh_ps now_reads reads (omega (arith, within, fresh_span_is)) (omega (arith, room, fresh_span_is)) bare open_fresh now_are.of_them reads_are.of_them
+    ∙ ap (λ n. written asked given most lines came now_reads ++ written asked given (still most (length (reports_in (columns_of asked) given lines now_reads))) (drop n lines ++ more) (drop n came ++ rest) reads) fresh_span_is
+    ∙ ap₂ (λ d n. d ++ written asked given n left later reads) (sym drawn_is) (ap (λ fs. still most (length fs)) (sym here_is) ∙ sym next_is) in
     let aside_there : aside_text asked (lines ++ more) (front ++ ps) ≡ stands ++ aside_text asked left ps =
     aside_parted asked lines more front ps within ∙ ap (λ t. t ++ aside_text asked left ps) (sym stands_is) in
-    let reported : reports_in (columns_of asked) given (lines ++ more) (front ++ ps) ≡ here ++ reports_in (columns_of asked) given left ps =
-    reports_parted asked given lines more front ps within open_there ∙ ap (λ fs. fs ++ reports_in (columns_of asked) given left ps) (sym here_is) in
+    let reported : reports_in (columns_of asked) given (lines ++ more) (now_reads ++ reads) ≡ here ++ found_left =
+    reads_reports asked given lines more fresh_front fresh_ps now_reads reads (omega (arith, within, fresh_span_is)) open_fresh now_are.of_them reads_are.of_them
+    ∙ ap₂ (λ fs n. fs ++ reports_in (columns_of asked) given (drop n lines ++ more) reads) (sym here_is) fresh_span_is in
+    let repeats_are : reports_in (columns_of asked) given (lines ++ more) (now_others ++ others) ≡ there ++ again_left =
+    reads_reports asked given lines more rep_front rep_ps now_others others (omega (arith, within, rep_span_is)) open_rep others_now.of_them others_are.of_them
+    ∙ ap₂ (λ fs n. fs ++ reports_in (columns_of asked) given (drop n lines ++ more) others) (sym there_is) rep_span_is in
     record {
       all = on.all;
       are = on.are;
-      drawn = on.drawn ∙ (ap (λ t. text ++ t) parted ∙ sym (append_assoc text drawn (written asked given next left later ps)));
+      all_reads = on.all_reads;
+      reads_are = on.reads_are;
+      all_others = on.all_others;
+      others_are = on.others_are;
+      drawn = on.drawn ∙ (ap (λ t. text ++ t) parted ∙ sym (append_assoc text drawn text_left));
       stands = on.stands ∙ (ap (λ t. aside ++ t) aside_there ∙ sym (append_assoc aside stands (aside_text asked left ps)));
-      reports = on.reports ∙ (ap (λ fs. found ++ fs) reported ∙ sym (append_assoc found here (reports_in (columns_of asked) given left ps)));
+      reports = on.reports ∙ (ap (λ fs. found ++ fs) reported ∙ sym (append_assoc found here found_left));
+      repeats = on.repeats ∙ (ap (λ fs. again ++ fs) repeats_are ∙ sym (append_assoc again there again_left));
       said = λ rest. on.said (given_more told given front ps said rest);
     }
 
+-- what is the same for names of pieces is so for those that are new, and for the others
+fresh_same : (given other : List ℕ → Held) (asked : Asked) (seen : Seen) (lines : List (List ℕ)) (ps : List PieceParts) (reads : List ReadParts)
+    → All (λ name. given name ≡ other name) (names_in ps) → map (λ (it : ReadParts). it.piece) reads ≡ fresh asked seen lines ps
+    → All (λ name. given name ≡ other name) (names_in (map (λ (it : ReadParts). it.piece) reads))
+fresh_same given other asked seen lines ps reads same are =
+    let Q : List ℕ → Type 0 = λ name. given name ≡ other name in
+    subst (λ its. All Q (names_in its)) (sym are)
+    (names_named Q (fresh asked seen lines ps) (fresh_named (λ name. Q (utf8_lossy name)) asked seen lines ps (named_names Q ps same)))
+
+repeated_same : (given other : List ℕ → Held) (asked : Asked) (seen : Seen) (lines : List (List ℕ)) (ps : List PieceParts) (reads : List ReadParts)
+    → All (λ name. given name ≡ other name) (names_in ps) → map (λ (it : ReadParts). it.piece) reads ≡ repeated asked seen lines ps
+    → All (λ name. given name ≡ other name) (names_in (map (λ (it : ReadParts). it.piece) reads))
+repeated_same given other asked seen lines ps reads same are =
+    let Q : List ℕ → Type 0 = λ name. given name ≡ other name in
+    subst (λ its. All Q (names_in its)) (sym are)
+    (names_named Q (repeated asked seen lines ps) (repeated_named (λ name. Q (utf8_lossy name)) asked seen lines ps (named_names Q ps same)))
+
 -- the first lines that came are let go with those that are read
 dropped_read : (held next : HeldLines) (count : ℕ) → map (λ line. line.items) next.lines.items ≡ drop count (map (λ line. line.items) held.lines.items)
-    → map (λ line. line.items) next.came.items ≡ drop count (map (λ line. line.items) held.came.items) → AreRead held → AreRead next
+    → map (λ line. line.items) next.came.items ≡ drop count (map (λ line. line.items) held.came.items) → LinesAreRead held → LinesAreRead next
 dropped_read held next count lines came read =
     lines ∙ (ap (drop count) read ∙ (drop-map read_line count (map (λ line. line.items) held.came.items) ∙ ap (map read_line) (sym came)))
 
 -- what is held and then comes, read
-read_behind : (held : HeldLines) (rest : List (List ℕ)) → AreRead held
+read_behind : (held : HeldLines) (rest : List (List ℕ)) → LinesAreRead held
     → map read_line (map (λ line. line.items) held.came.items ++ rest) ≡ map (λ line. line.items) held.lines.items ++ map read_line rest
 read_behind held rest read = map-append read_line (map (λ line. line.items) held.came.items) rest ∙ ap (λ ls. ls ++ map read_line rest) (sym read)
 
-as_many : (held : HeldLines) → AreRead held → length (map (λ line. line.items) held.lines.items) ≡ length (map (λ line. line.items) held.came.items)
+as_many : (held : HeldLines) → LinesAreRead held → length (map (λ line. line.items) held.lines.items) ≡ length (map (λ line. line.items) held.came.items)
 as_many held read = ap length read ∙ length-map (map (λ line. line.items) held.came.items) read_line
 
 front_drawn : (told : Told) (asked : Asked) (taken text aside drawn stands : List ℕ) (held next : HeldLines) (before now : Tally) (pieces : List PieceParts) (at : ℕ)
@@ -183,35 +277,67 @@ front_drawn told asked taken text aside drawn stands held next before now pieces
     all_bare (shapes_of asked) None lines front (drop at pieces) (subst (ArePieces (shapes_of asked) None lines) (sym (take-append-drop at pieces)) are) in
     let told_all : All (MeetsTold told Path) (sources_of now) =
     All-same (MeetsTold told Path) _ _ draws.sources (All-append (MeetsTold told Path) (sources_of before) draws.more coming.told_so draws.told_so) in
-    let next_read : AreRead next = dropped_read held next (span front) lines_are came_are coming.read in
+    let next_read : LinesAreRead next = dropped_read held next (span front) lines_are came_are coming.read in
     record {
       found = coming.found ++ draws.found;
+      again = coming.again ++ draws.again;
+      counted_again = draws.counted_again ∙ (ap (λ c. count_with c (count_of asked draws.again)) coming.counted_again ∙ sym (counted_append asked coming.again draws.again));
       told_so = told_all;
       counted = draws.counted ∙ (ap (λ c. count_with c (count_of asked draws.found)) coming.counted ∙ sym (counted_append asked coming.found draws.found));
       read = next_read;
-      goes_on = λ given agrees more ps comes.
+      bare = λ is. ap (λ t. t ++ stands) (coming.bare is) ∙ (rw is at draws.aside_is);
+      goes_on = λ given agrees more ps comes reads others reads_are others_are.
           let rest : List (List ℕ) = rest_to_come held.begun held.tail.items more in
           let rest_is : rest_to_come next.begun next.tail.items more ≡ rest = ap₂ (λ b t. rest_to_come b t more) begun_is tail_is in
-          let reads : List (List ℕ) = map read_line rest in
+          let these : List (List ℕ) = map read_line rest in
           let whole : List (List ℕ) = lines_of (taken ++ more) in
           let whole_came : List (List ℕ) = came_of (taken ++ more) in
           let next_came : came_to_come next more ≡ later ++ rest = ap₂ (λ ls r. ls ++ r) came_are rest_is in
-          let next_is : to_come next more ≡ left ++ reads =
+          let next_is : to_come next more ≡ left ++ these =
           read_behind next (rest_to_come next.begun next.tail.items more) next_read ∙ ap₂ (λ ls r. ls ++ map read_line r) lines_are rest_is in
-          let here : ArePieces (shapes_of asked) None (left ++ reads) ps = subst (λ ls. ArePieces (shapes_of asked) None ls ps) next_is comes in
+          let here : ArePieces (shapes_of asked) None (left ++ these) ps = subst (λ ls. ArePieces (shapes_of asked) None ls ps) next_is comes in
+          let opens_here : all_open ps ≡ true = seam.open_behind these ps here in
           let same : All (λ name. held_in (sources_of now) name ≡ given name) (names_in front) = same_here (sources_of now) given (names_in front) agrees draws.there in
-          let split : to_come held more ≡ lines ++ reads = read_behind held rest coming.read in
-          let on : GoesOn told asked given whole whole_came text aside coming.found (most_of asked before) (lines ++ reads) (came ++ rest) (front ++ ps) =
-          subst (λ ls. GoesOn told asked given whole whole_came text aside coming.found (most_of asked before) ls (came ++ rest) (front ++ ps)) split
+          let split : to_come held more ≡ lines ++ these = read_behind held rest coming.read in
+          let seen : Seen = seen_of before in
+          let later_seen : Seen = seen_behind asked seen lines front in
+          let fresh_ps : List PieceParts = fresh asked later_seen (left ++ these) ps in
+          let rep_ps : List PieceParts = repeated asked later_seen (left ++ these) ps in
+          let reads_left : Reads (left ++ these) fresh_ps reads =
+          subst (λ (s : Seen). Reads (left ++ these) (fresh asked s (left ++ these) ps) reads) draws.seen (subst (λ ls. Reads ls (fresh asked (seen_of now) ls ps) reads) next_is reads_are) in
+          let others_left : Reads (left ++ these) rep_ps others =
+          subst (λ (s : Seen). Reads (left ++ these) (repeated asked s (left ++ these) ps) others) draws.seen (subst (λ ls. Reads ls (repeated asked (seen_of now) ls ps) others) next_is others_are) in
+          let fresh_front : List PieceParts = fresh asked seen lines front in
+          let rep_front : List PieceParts = repeated asked seen lines front in
+          let fresh_same_span : span fresh_front ≡ span front = fresh_span asked seen lines front in
+          let rep_same_span : span rep_front ≡ span front = repeated_span asked seen lines front in
+          let all_reads : Reads (lines ++ these) (fresh asked seen (lines ++ these) (front ++ ps)) (draws.reads ++ reads) =
+          reads_on lines these fresh_front fresh_ps (fresh asked seen (lines ++ these) (front ++ ps)) draws.reads reads (omega (arith, seam.within, fresh_same_span))
+          (fresh_parted asked seen lines these front ps seam.within opens_here) draws.reads_are
+          (subst (λ n. Reads (drop n lines ++ these) fresh_ps reads) (sym fresh_same_span) reads_left) in
+          let all_others : Reads (lines ++ these) (repeated asked seen (lines ++ these) (front ++ ps)) (draws.others ++ others) =
+          reads_on lines these rep_front rep_ps (repeated asked seen (lines ++ these) (front ++ ps)) draws.others others (omega (arith, seam.within, rep_same_span))
+          (repeated_parted asked seen lines these front ps seam.within opens_here) draws.others_are
+          (subst (λ n. Reads (drop n lines ++ these) rep_ps others) (sym rep_same_span) others_left) in
+          let on : GoesOn told asked given whole whole_came text aside coming.found coming.again (most_of asked before) (lines ++ these) (came ++ rest) (front ++ ps) (draws.reads ++ reads) (draws.others ++ others) =
+          subst (λ ls. GoesOn told asked given whole whole_came text aside coming.found coming.again (most_of asked before) ls (came ++ rest) (front ++ ps) (draws.reads ++ reads) (draws.others ++ others)) split
           (coming.goes_on given (agrees_before (sources_of before) draws.more (sources_of now) given draws.sources agrees) more (front ++ ps)
-          (subst (λ ls. ArePieces (shapes_of asked) None ls (front ++ ps)) (sym split) (seam.stays reads ps here))) in
-          subst (λ ls. GoesOn told asked given whole whole_came (text ++ drawn) (aside ++ stands) (coming.found ++ draws.found) (most_of asked now) ls (came_to_come next more) ps) (sym next_is)
-          (subst (λ ls. GoesOn told asked given whole whole_came (text ++ drawn) (aside ++ stands) (coming.found ++ draws.found) (most_of asked now) (left ++ reads) ls ps) (sym next_came)
-          (front_goes told asked given whole whole_came text aside drawn stands coming.found draws.found (most_of asked before) (most_of asked now) lines came reads rest front ps
-          seam.within (omega (arith, seam.within, as_many held coming.read)) bare (seam.open_behind reads ps here)
-          (draws.text_is ∙ agreed_text asked (held_in (sources_of now)) given (most_of asked before) lines came front same)
+          (subst (λ ls. ArePieces (shapes_of asked) None ls (front ++ ps)) (sym split) (seam.stays these ps here)) (draws.reads ++ reads) (draws.others ++ others)
+          (subst (λ ls. Reads ls (fresh asked seen ls (front ++ ps)) (draws.reads ++ reads)) (sym split) all_reads)
+          (subst (λ ls. Reads ls (repeated asked seen ls (front ++ ps)) (draws.others ++ others)) (sym split) all_others)) in
+          subst (λ ls. GoesOn told asked given whole whole_came (text ++ drawn) (aside ++ stands) (coming.found ++ draws.found) (coming.again ++ draws.again) (most_of asked now) ls (came_to_come next more) ps reads others) (sym next_is)
+          (subst (λ ls. GoesOn told asked given whole whole_came (text ++ drawn) (aside ++ stands) (coming.found ++ draws.found) (coming.again ++ draws.again) (most_of asked now) (left ++ these) ls ps reads others) (sym next_came)
+          (front_goes told asked given whole whole_came text aside drawn stands coming.found coming.again draws.found draws.again (most_of asked before) (most_of asked now)
+          fresh_front fresh_ps rep_front rep_ps draws.reads draws.others reads others lines came these rest front ps
+          seam.within (omega (arith, seam.within, as_many held coming.read)) (fresh_bare asked seen lines front bare) (fresh_open asked later_seen (left ++ these) ps opens_here)
+          (repeated_open asked later_seen (left ++ these) ps opens_here) fresh_same_span rep_same_span draws.reads_are draws.others_are reads_left others_left
+          (draws.text_is ∙ agreed_text asked (held_in (sources_of now)) given (most_of asked before) lines came draws.reads
+          (fresh_same (held_in (sources_of now)) given asked seen lines front draws.reads same draws.reads_are.of_them))
           draws.aside_is
-          (draws.found_is ∙ agreed_reports asked (held_in (sources_of now)) given lines front same)
+          (draws.found_is ∙ agreed_reports asked (held_in (sources_of now)) given lines draws.reads
+          (fresh_same (held_in (sources_of now)) given asked seen lines front draws.reads same draws.reads_are.of_them))
+          (draws.again_is ∙ agreed_reports asked (held_in (sources_of now)) given lines draws.others
+          (repeated_same (held_in (sources_of now)) given asked seen lines front draws.others same draws.others_are.of_them))
           (ap (λ (c : Count). still asked.most c.total) draws.counted ∙ sym (still_parts asked.most before.count.total (length draws.found)))
           (said_here told (sources_of now) given (names_in front) told_all agrees draws.there) on));
     }
@@ -251,14 +377,15 @@ look_drawn told asked taken text aside drawn stands held next before now count l
 
 -- ---- the end
 
-ending_is : (asked : Asked) (found : List Found) (count : Count) → count ≡ count_of asked found → ending_by asked count ≡ ending asked found
-unfolding ending ending_text
-ending_is asked found count is = ap (ending_by asked) is
+ending_is : (asked : Asked) (found again : List Found) (count others : Count) → count ≡ count_of asked found → others ≡ count_of asked again
+    → ending_by asked count others ≡ ending asked found again
+unfolding ending
+ending_is asked found again count others is are = ap₂ (ending_by asked) is are
 
 pub all_drawn : (told : Told) (asked : Asked) (taken text aside drawn stands end : List ℕ) (held all : HeldLines) (before now : Tally) (lines : List (List ℕ)) (pieces : List PieceParts)
-    → lines ≡ map (λ line. line.items) all.lines.items → map (λ line. line.items) all.came.items ≡ came_to_come held [] → (AreRead held → AreRead all)
-    → ArePieces (shapes_of asked) None lines pieces → Draws told asked before now lines (map (λ line. line.items) all.came.items) pieces drawn stands → end ≡ ending_by asked now.count
-    → IsComing told asked taken text aside held before → IsDrawn told asked taken (text ++ (drawn ++ end)) (aside ++ stands) now.count.reached
+    → lines ≡ map (λ line. line.items) all.lines.items → map (λ line. line.items) all.came.items ≡ came_to_come held [] → (LinesAreRead held → LinesAreRead all)
+    → ArePieces (shapes_of asked) None lines pieces → Draws told asked before now lines (map (λ line. line.items) all.came.items) pieces drawn stands → end ≡ ending_by asked now.count now.again
+    → IsComing told asked taken text aside held before → IsDrawn told asked taken (text ++ (drawn ++ end)) (aside ++ stands) (now.count.reached || now.again.reached)
 all_drawn told asked taken text aside drawn stands end held all before now lines pieces lines_are came_are read are draws end_is coming =
     let given : List ℕ → Held = held_in (sources_of now) in
     let agrees : Agrees (sources_of now) given = λ name here. refl in
@@ -266,16 +393,27 @@ all_drawn told asked taken text aside drawn stands end held all before now lines
     All-same (MeetsTold told Path) _ _ draws.sources (All-append (MeetsTold told Path) (sources_of before) draws.more coming.told_so draws.told_so) in
     let came : List (List ℕ) = map (λ line. line.items) all.came.items in
     let left : lines ≡ to_come held [] = lines_are ∙ (read coming.read ∙ ap (map read_line) came_are) in
-    let on : GoesOn told asked given (lines_of taken) (came_of taken) text aside coming.found (most_of asked before) lines came pieces =
-    subst (λ bytes. GoesOn told asked given (lines_of bytes) (came_of bytes) text aside coming.found (most_of asked before) lines came pieces) (append-nil taken)
-    (subst (λ ls. GoesOn told asked given (lines_of (taken ++ [])) (came_of (taken ++ [])) text aside coming.found (most_of asked before) lines ls pieces) (sym came_are)
-    (subst (λ ls. GoesOn told asked given (lines_of (taken ++ [])) (came_of (taken ++ [])) text aside coming.found (most_of asked before) ls (came_to_come held []) pieces) (sym left)
+    let on : GoesOn told asked given (lines_of taken) (came_of taken) text aside coming.found coming.again (most_of asked before) lines came pieces draws.reads draws.others =
+    subst (λ bytes. GoesOn told asked given (lines_of bytes) (came_of bytes) text aside coming.found coming.again (most_of asked before) lines came pieces draws.reads draws.others) (append-nil taken)
+    (subst (λ ls. GoesOn told asked given (lines_of (taken ++ [])) (came_of (taken ++ [])) text aside coming.found coming.again (most_of asked before) lines ls pieces draws.reads draws.others) (sym came_are)
+    (subst (λ ls. GoesOn told asked given (lines_of (taken ++ [])) (came_of (taken ++ [])) text aside coming.found coming.again (most_of asked before) ls (came_to_come held []) pieces draws.reads draws.others) (sym left)
     (coming.goes_on given (agrees_before (sources_of before) draws.more (sources_of now) given draws.sources agrees) [] pieces
-    (subst (λ ls. ArePieces (shapes_of asked) None ls pieces) left are)))) in
+    (subst (λ ls. ArePieces (shapes_of asked) None ls pieces) left are) draws.reads draws.others
+    (subst (λ ls. Reads ls (fresh asked (seen_of before) ls pieces) draws.reads) left draws.reads_are)
+    (subst (λ ls. Reads ls (repeated asked (seen_of before) ls pieces) draws.others) left draws.others_are)))) in
     let found : List Found = coming.found ++ draws.found in
+    let again : List Found = coming.again ++ draws.again in
     let counted : now.count ≡ count_of asked found =
     draws.counted ∙ (ap (λ c. count_with c (count_of asked draws.found)) coming.counted ∙ sym (counted_append asked coming.found draws.found)) in
+    let counted_again : now.again ≡ count_of asked again =
+    draws.counted_again ∙ (ap (λ c. count_with c (count_of asked draws.again)) coming.counted_again ∙ sym (counted_append asked coming.again draws.again)) in
     record {
+      again = again;
+      repeats = sym (on.repeats ∙ ap (λ fs. coming.again ++ fs) (sym draws.again_is));
+      reads = on.all_reads;
+      reads_are = on.reads_are;
+      others = on.all_others;
+      others_are = on.others_are;
       pieces = on.all;
       are = on.are;
       given = given;
@@ -283,8 +421,8 @@ all_drawn told asked taken text aside drawn stands end held all before now lines
       found = found;
       reports = sym (on.reports ∙ ap (λ fs. coming.found ++ fs) (sym draws.found_is));
       drawn =
-          ap₂ (λ d e. text ++ (d ++ e)) draws.text_is (end_is ∙ ending_is asked found now.count counted)
-          ∙ (sym (append_assoc text (written asked given (most_of asked before) lines came pieces) (ending asked found)) ∙ ap (λ t. t ++ ending asked found) (sym on.drawn));
+          ap₂ (λ d e. text ++ (d ++ e)) draws.text_is (end_is ∙ ending_is asked found again now.count now.again counted counted_again)
+          ∙ (sym (append_assoc text (written asked given (most_of asked before) lines came draws.reads) (ending asked found again)) ∙ ap (λ t. t ++ ending asked found again) (sym on.drawn));
       aside_is = ap (λ t. aside ++ t) draws.aside_is ∙ sym on.stands;
-      level = ap (λ (c : Count). c.reached) counted;
+      level = ap₂ (λ (a b : Count). a.reached || b.reached) counted counted_again ∙ sym (list_any-append (λ it. reaches asked.fail_on (severity_of it)) found again);
     }

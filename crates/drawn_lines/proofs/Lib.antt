@@ -9,3 +9,4 @@ pub mod WalkLemmas
 pub mod PartLemmas
 pub mod NameLemmas
 pub mod ComingLemmas
+pub mod AgainLemmas

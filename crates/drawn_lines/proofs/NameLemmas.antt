@@ -8,6 +8,7 @@ use Rattle.found_reports.specs.Held.{Held}
 use Rattle.found_reports.specs.Found.{Found}
 use Rattle.tool_lines.specs.Lines.{PieceParts, is_kept}
 use Rattle.line_reports.specs.Names.{changes, is_same, name_in, names_in}
+use Rattle.line_reports.specs.Pieces.{ReadParts}
 use Rattle.line_reports.specs.Reports.{reports_in}
 use Rattle.line_reports.proofs.NamesLemmas.{changes_more, names_decide, of_lossy}
 use Rattle.report_texts.specs.Texts.{first_drawings}
@@ -74,42 +75,50 @@ names_named Q ps named =
 abbrev Same : (List ℕ → Held) → (List ℕ → Held) → List ℕ → Type 0
 Same told other name = told name ≡ other name
 
-reports_same : (asked : Asked) (told other : List ℕ → Held) (lines : List (List ℕ)) (ps : List PieceParts) → Named (λ name. Same told other (utf8_lossy name)) ps
-    → reports_in (columns_of asked) told lines ps ≡ reports_in (columns_of asked) other lines ps
-reports_same asked told other lines ps named = names_decide (columns_of asked) told other lines ps (names_named (Same told other) ps named)
+-- the pieces of what was read
+abbrev pieces_read : List ReadParts → List PieceParts
+pieces_read reads = map (λ (it : ReadParts). it.piece) reads
 
-drawn_same : (asked : Asked) (told other : List ℕ → Held) (most : Option ℕ) (before : List PieceParts) (from lines shown : List (List ℕ)) (ps : List PieceParts)
-    → Named (λ name. Same told other (utf8_lossy name)) before → Named (λ name. Same told other (utf8_lossy name)) ps
-    → in_place asked told most before from lines shown ps ≡ in_place asked other most before from lines shown ps
+reports_same : (asked : Asked) (told other : List ℕ → Held) (lines : List (List ℕ)) (rs : List ReadParts) → Named (λ name. Same told other (utf8_lossy name)) (pieces_read rs)
+    → reports_in (columns_of asked) told lines rs ≡ reports_in (columns_of asked) other lines rs
+reports_same asked told other lines rs named = names_decide (columns_of asked) told other lines rs (names_named (Same told other) (pieces_read rs) named)
+
+named_push : (P : List ℕ → Type 0) (before : List ReadParts) (r : ReadParts) → Named P (pieces_read before) → IfSome (name_in r.piece) P → Named P (pieces_read (before ++ r ∷ []))
+named_push P [] r named here = (here, tt)
+named_push P (b ∷ before) r named here = (named.0, named_push P before r named.1 here)
+
+drawn_same : (asked : Asked) (told other : List ℕ → Held) (most : Option ℕ) (before : List ReadParts) (from lines shown : List (List ℕ)) (rs : List ReadParts)
+    → Named (λ name. Same told other (utf8_lossy name)) (pieces_read before) → Named (λ name. Same told other (utf8_lossy name)) (pieces_read rs)
+    → in_place asked told most before from lines shown rs ≡ in_place asked other most before from lines shown rs
 unfolding in_place
 drawn_same asked told other most before from lines shown [] b named = ap (first_drawings asked most) (reports_same asked told other from before b)
 drawn_same asked told other most before from lines shown (p ∷ ps) b named =
     let A : List Found = reports_in (columns_of asked) told from before in
     let B : List Found = reports_in (columns_of asked) other from before in
-    let kept : List ℕ = kept_if asked (has_colors asked.theme) p (take p.lines shown) in
-    let behind : List (List ℕ) = drop p.lines lines in
-    let later : List (List ℕ) = drop p.lines shown in
-    elim (is_kept p.begun.sort) as (λ v.
+    let kept : List ℕ = kept_if asked (has_colors asked.theme) p.piece (take p.piece.lines shown) in
+    let behind : List (List ℕ) = drop p.piece.lines lines in
+    let later : List (List ℕ) = drop p.piece.lines shown in
+    elim (is_kept p.piece.begun.sort) as (λ v.
     (if v then first_drawings asked most A ++ kept ++ in_place asked told (still most (length A)) [] behind behind later ps else in_place asked told most (before ++ p ∷ []) from behind later ps)
     ≡ (if v then first_drawings asked most B ++ kept ++ in_place asked other (still most (length B)) [] behind behind later ps else in_place asked other most (before ++ p ∷ []) from behind later ps)) [
       | true ↦ ap (λ fs. first_drawings asked most fs ++ kept ++ in_place asked told (still most (length fs)) [] behind behind later ps) (reports_same asked told other from before b)
           ∙ ap (λ t. first_drawings asked most B ++ kept ++ t) (drawn_same asked told other (still most (length B)) [] behind behind later ps tt named.1)
       | false ↦ drawn_same asked told other most (before ++ p ∷ []) from behind later ps
-          (named_append (λ name. Same told other (utf8_lossy name)) before (p ∷ []) b (named.0, tt)) named.1
+          (named_push (λ name. Same told other (utf8_lossy name)) before p b named.0) named.1
     ]
 
-pub agreed_reports : (asked : Asked) (told other : List ℕ → Held) (lines : List (List ℕ)) (ps : List PieceParts) → All (λ name. told name ≡ other name) (names_in ps)
-    → reports_in (columns_of asked) told lines ps ≡ reports_in (columns_of asked) other lines ps
-agreed_reports asked told other lines ps all = names_decide (columns_of asked) told other lines ps all
+pub agreed_reports : (asked : Asked) (told other : List ℕ → Held) (lines : List (List ℕ)) (rs : List ReadParts) → All (λ name. told name ≡ other name) (names_in (pieces_read rs))
+    → reports_in (columns_of asked) told lines rs ≡ reports_in (columns_of asked) other lines rs
+agreed_reports asked told other lines rs all = names_decide (columns_of asked) told other lines rs all
 
-pub agreed_text : (asked : Asked) (told other : List ℕ → Held) (most : Option ℕ) (lines came : List (List ℕ)) (ps : List PieceParts) → All (λ name. told name ≡ other name) (names_in ps)
-    → written asked told most lines came ps ≡ written asked other most lines came ps
+pub agreed_text : (asked : Asked) (told other : List ℕ → Held) (most : Option ℕ) (lines came : List (List ℕ)) (rs : List ReadParts) → All (λ name. told name ≡ other name) (names_in (pieces_read rs))
+    → written asked told most lines came rs ≡ written asked other most lines came rs
 unfolding written
-agreed_text asked told other most lines came ps all =
+agreed_text asked told other most lines came rs all =
     let shown : List (List ℕ) = shown_of asked lines came in
     elim (annotates asked.to) as (λ v.
-    (if v then ci_text ci.Github asked.raw (reports_in (columns_of asked) told lines ps) else in_place asked told most [] lines lines shown ps)
-    ≡ (if v then ci_text ci.Github asked.raw (reports_in (columns_of asked) other lines ps) else in_place asked other most [] lines lines shown ps)) [
-      | true ↦ ap (ci_text ci.Github asked.raw) (agreed_reports asked told other lines ps all)
-      | false ↦ drawn_same asked told other most [] lines lines shown ps tt (named_names (Same told other) ps all)
+    (if v then ci_text ci.Github asked.raw (reports_in (columns_of asked) told lines rs) else in_place asked told most [] lines lines shown rs)
+    ≡ (if v then ci_text ci.Github asked.raw (reports_in (columns_of asked) other lines rs) else in_place asked other most [] lines lines shown rs)) [
+      | true ↦ ap (ci_text ci.Github asked.raw) (agreed_reports asked told other lines rs all)
+      | false ↦ drawn_same asked told other most [] lines lines shown rs tt (named_names (Same told other) (pieces_read rs) all)
     ]

@@ -9,9 +9,10 @@ use Rattle.found_reports.specs.Held.{Held}
 use Rattle.found_reports.specs.Found.{Found}
 use Rattle.line_shapes.specs.declared.tools.Columns.{Columns}
 use Rattle.tool_lines.specs.declared.lines.Sort.{Sort}
-use Rattle.tool_lines.specs.Details.{caret_at, details_of}
 use Rattle.tool_lines.specs.Lines.{FindingParts, PieceParts, is_kept}
-use Rattle.line_reports.specs.Told.{ToldParts, retold, tellings, told_of}
+use Rattle.line_reports.specs.Pieces.{ExcerptParts, ReadParts}
+use Rattle.line_reports.specs.Told.{ToldParts, fresh as told_as, retold, tellings, told_of}
+use Rattle.line_reports.proofs.PieceLemmas.{lines_in}
 use Rattle.line_reports.specs.Joined.{GroupParts, after, alone, belongs, ended, group_list, joined, with_note}
 use Rattle.line_reports.specs.Reports.{all_reports, group_reports, reports_in}
 use Rattle.line_reports.proofs.FileLemmas.{no_true}
@@ -25,24 +26,35 @@ use Rattle.drawn_lines.specs.Lines.{annotates, columns_of, has_colors, in_place,
 use Rattle.drawn_lines.specs.Seam.{BarePieces, all_open, opens, says_aside, span}
 use Rattle.drawn_lines.proofs.LineLemmas.{take_within}
 use Rattle.drawn_lines.specs.Walk.{reports_placed}
-use Rattle.drawn_lines.proofs.SoughtLemmas.{span_push}
 
 -- ---- pieces with their lines, and what is shown of these
 
 pub record Parcel : Type 0 where
-  pub piece : PieceParts
+  pub read : ReadParts
   pub run : List (List ℕ)
   pub shown : List (List ℕ)
 
-abbrev parcel : PieceParts → List (List ℕ) → List (List ℕ) → Parcel
-parcel piece run shown = record { piece = piece; run = run; shown = shown }
+abbrev parcel : ReadParts → List (List ℕ) → List (List ℕ) → Parcel
+parcel read run shown = record { read = read; run = run; shown = shown }
 
-abbrev pub parcels : List (List ℕ) → List (List ℕ) → List PieceParts → List Parcel
+-- the pieces of what was read
+abbrev pub pieces_of : List ReadParts → List PieceParts
+pieces_of reads = map (λ (it : ReadParts). it.piece) reads
+
+pub lines_span : (reads : List ReadParts) → lines_in reads ≡ span (pieces_of reads)
+lines_span [] = refl
+lines_span (read ∷ reads) = ap (λ n. read.piece.lines + n) (lines_span reads)
+
+lines_push : (reads : List ReadParts) (read : ReadParts) → lines_in (reads ++ read ∷ []) ≡ lines_in reads + read.piece.lines
+lines_push [] read = omega arith
+lines_push (a ∷ reads) read = omega (arith, lines_push reads read)
+
+abbrev pub parcels : List (List ℕ) → List (List ℕ) → List ReadParts → List Parcel
 parcels lines shown [] = []
-parcels lines shown (p ∷ ps) = parcel p (take p.lines lines) (take p.lines shown) ∷ parcels (drop p.lines lines) (drop p.lines shown) ps
+parcels lines shown (p ∷ ps) = parcel p (take p.piece.lines lines) (take p.piece.lines shown) ∷ parcels (drop p.piece.lines lines) (drop p.piece.lines shown) ps
 
 abbrev told_by : Parcel → Option ToldParts
-told_by q = told_of q.run q.piece
+told_by q = told_of q.run q.read
 
 abbrev tellings_by : List Parcel → List (Option ToldParts)
 tellings_by qs = map told_by qs
@@ -50,36 +62,36 @@ tellings_by qs = map told_by qs
 abbrev pub reports : Asked → (List ℕ → Held) → List Parcel → List Found
 reports asked given qs = all_reports (columns_of asked) given (joined None (tellings_by qs))
 
-tellings_are : (lines shown : List (List ℕ)) (ps : List PieceParts) → tellings lines ps ≡ tellings_by (parcels lines shown ps)
+tellings_are : (lines shown : List (List ℕ)) (ps : List ReadParts) → tellings lines ps ≡ tellings_by (parcels lines shown ps)
 tellings_are lines shown [] = refl
-tellings_are lines shown (p ∷ ps) = ap (λ (ts : List (Option ToldParts)). told_of (take p.lines lines) p ∷ ts) (tellings_are (drop p.lines lines) (drop p.lines shown) ps)
+tellings_are lines shown (p ∷ ps) = ap (λ (ts : List (Option ToldParts)). told_of (take p.piece.lines lines) p ∷ ts) (tellings_are (drop p.piece.lines lines) (drop p.piece.lines shown) ps)
 
-pub reports_are : (asked : Asked) (given : List ℕ → Held) (lines shown : List (List ℕ)) (ps : List PieceParts)
+pub reports_are : (asked : Asked) (given : List ℕ → Held) (lines shown : List (List ℕ)) (ps : List ReadParts)
     → reports_in (columns_of asked) given lines ps ≡ reports asked given (parcels lines shown ps)
 unfolding reports_in
 reports_are asked given lines shown ps = ap (λ ts. all_reports (columns_of asked) given (joined None ts)) (tellings_are lines shown ps)
 
-pub parcels_append : (lines shown : List (List ℕ)) (fore bs : List PieceParts)
-    → parcels lines shown (fore ++ bs) ≡ parcels lines shown fore ++ parcels (drop (span fore) lines) (drop (span fore) shown) bs
+pub parcels_append : (lines shown : List (List ℕ)) (fore bs : List ReadParts)
+    → parcels lines shown (fore ++ bs) ≡ parcels lines shown fore ++ parcels (drop (lines_in fore) lines) (drop (lines_in fore) shown) bs
 parcels_append lines shown [] bs = refl
 parcels_append lines shown (a ∷ fore) bs =
-    let left : List (List ℕ) = drop a.lines lines in
-    let later : List (List ℕ) = drop a.lines shown in
-    ap (λ (qs : List Parcel). parcel a (take a.lines lines) (take a.lines shown) ∷ qs)
+    let left : List (List ℕ) = drop a.piece.lines lines in
+    let later : List (List ℕ) = drop a.piece.lines shown in
+    ap (λ (qs : List Parcel). parcel a (take a.piece.lines lines) (take a.piece.lines shown) ∷ qs)
     (parcels_append left later fore bs
-    ∙ ap₂ (λ ls ss. parcels left later fore ++ parcels ls ss bs) (drop-drop (span fore) a.lines lines) (drop-drop (span fore) a.lines shown))
+    ∙ ap₂ (λ ls ss. parcels left later fore ++ parcels ls ss bs) (drop-drop (lines_in fore) a.piece.lines lines) (drop-drop (lines_in fore) a.piece.lines shown))
 
-pub parcels_more : (lines shown more rest : List (List ℕ)) (fore : List PieceParts) → span fore ≤ length lines → span fore ≤ length shown
+pub parcels_more : (lines shown more rest : List (List ℕ)) (fore : List ReadParts) → lines_in fore ≤ length lines → lines_in fore ≤ length shown
     → parcels (lines ++ more) (shown ++ rest) fore ≡ parcels lines shown fore
 parcels_more lines shown more rest [] within room = refl
 parcels_more lines shown more rest (a ∷ fore) within room =
-    let left : List (List ℕ) = drop a.lines lines in
-    let later : List (List ℕ) = drop a.lines shown in
-    ap₂ (λ run here. parcel a run here ∷ parcels (drop a.lines (lines ++ more)) (drop a.lines (shown ++ rest)) fore)
-    (take-append-le a.lines lines more (omega (arith, within))) (take-append-le a.lines shown rest (omega (arith, room)))
-    ∙ ap (λ (qs : List Parcel). parcel a (take a.lines lines) (take a.lines shown) ∷ qs)
-    (ap₂ (λ ls ss. parcels ls ss fore) (drop-append-le a.lines lines more (omega (arith, within))) (drop-append-le a.lines shown rest (omega (arith, room)))
-    ∙ parcels_more left later more rest fore (omega (arith, within, length-drop a.lines lines)) (omega (arith, room, length-drop a.lines shown)))
+    let left : List (List ℕ) = drop a.piece.lines lines in
+    let later : List (List ℕ) = drop a.piece.lines shown in
+    ap₂ (λ run here. parcel a run here ∷ parcels (drop a.piece.lines (lines ++ more)) (drop a.piece.lines (shown ++ rest)) fore)
+    (take-append-le a.piece.lines lines more (omega (arith, within))) (take-append-le a.piece.lines shown rest (omega (arith, room)))
+    ∙ ap (λ (qs : List Parcel). parcel a (take a.piece.lines lines) (take a.piece.lines shown) ∷ qs)
+    (ap₂ (λ ls ss. parcels ls ss fore) (drop-append-le a.piece.lines lines more (omega (arith, within))) (drop-append-le a.piece.lines shown rest (omega (arith, room)))
+    ∙ parcels_more left later more rest fore (omega (arith, within, length-drop a.piece.lines lines)) (omega (arith, room, length-drop a.piece.lines shown)))
 
 -- ---- findings with their notes
 
@@ -119,30 +131,28 @@ reports_append asked given fore bs is =
     ∙ (ap (all_reports (columns_of asked) given) (joined_parts None (tellings_by fore) (tellings_by bs) is)
     ∙ all_append (columns_of asked) given (joined None (tellings_by fore)) (joined None (tellings_by bs)))
 
-open_by : (run : List (List ℕ)) (sort : Sort) (found : Option FindingParts) (ts : List (Option ToldParts)) → not (says_aside found) ≡ true
-    → starts (option_map (λ finding. let t : ToldParts = record { finding = finding; behind = details_of sort (drop 1 run); caret = caret_at sort (drop 1 run) } in retold t) found ∷ ts) ≡ true
-open_by run sort None ts is = refl
-open_by run sort (Some finding) ts is =
-    let t : ToldParts = record { finding = finding; behind = details_of sort (drop 1 run); caret = caret_at sort (drop 1 run) } in
-    ap not (never_aside t (not-true (says_aside (Some finding)) is))
+open_by : (run : List (List ℕ)) (sort : Sort) (excerpt : Option ExcerptParts) (found : Option FindingParts) (ts : List (Option ToldParts)) → not (says_aside found) ≡ true
+    → starts (option_map (λ finding. retold (told_as finding sort (drop 1 run) excerpt)) found ∷ ts) ≡ true
+open_by run sort excerpt None ts is = refl
+open_by run sort excerpt (Some finding) ts is = ap not (never_aside (told_as finding sort (drop 1 run) excerpt) (not-true (says_aside (Some finding)) is))
 
-open_starts : (q : Parcel) (qs : List Parcel) → opens q.piece ≡ true → starts (tellings_by (q ∷ qs)) ≡ true
+open_starts : (q : Parcel) (qs : List Parcel) → opens q.read.piece ≡ true → starts (tellings_by (q ∷ qs)) ≡ true
 unfolding told_of
-open_starts q qs is = open_by q.run q.piece.begun.sort q.piece.begun.finding (tellings_by qs) is
+open_starts q qs is = open_by q.run q.read.piece.begun.sort q.read.excerpt q.read.piece.begun.finding (tellings_by qs) is
 
 -- a piece without a finding
-bare_by : (run : List (List ℕ)) (sort : Sort) (found : Option FindingParts) → found ≡ None
-    → option_map (λ finding. let t : ToldParts = record { finding = finding; behind = details_of sort (drop 1 run); caret = caret_at sort (drop 1 run) } in retold t) found ≡ None
-bare_by run sort found is = rw is refl
+bare_by : (run : List (List ℕ)) (sort : Sort) (excerpt : Option ExcerptParts) (found : Option FindingParts) → found ≡ None
+    → option_map (λ finding. retold (told_as finding sort (drop 1 run) excerpt)) found ≡ None
+bare_by run sort excerpt found is = rw is refl
 
-bare_told : (q : Parcel) → q.piece.begun.finding ≡ None → told_by q ≡ None
+bare_told : (q : Parcel) → q.read.piece.begun.finding ≡ None → told_by q ≡ None
 unfolding told_of
-bare_told q is = bare_by q.run q.piece.begun.sort q.piece.begun.finding is
+bare_told q is = bare_by q.run q.read.piece.begun.sort q.read.excerpt q.read.piece.begun.finding is
 
 bare_opens : (p : PieceParts) → p.begun.finding ≡ None → opens p ≡ true
 bare_opens p is = rw is refl
 
-bare_reports : (asked : Asked) (given : List ℕ → Held) (q : Parcel) (qs : List Parcel) → q.piece.begun.finding ≡ None → reports asked given (q ∷ qs) ≡ reports asked given qs
+bare_reports : (asked : Asked) (given : List ℕ → Held) (q : Parcel) (qs : List Parcel) → q.read.piece.begun.finding ≡ None → reports asked given (q ∷ qs) ≡ reports asked given qs
 bare_reports asked given q qs is = ap (λ (t : Option ToldParts). all_reports (columns_of asked) given (joined None (t ∷ tellings_by qs))) (bare_told q is)
 
 -- ---- drawings
@@ -191,41 +201,41 @@ still_none (Some m) = ap Some (omega arith)
 abbrev text_from : Asked → (List ℕ → Held) → Option ℕ → List Parcel → List Parcel → List ℕ
 text_from asked given most before [] = first_drawings asked most (reports asked given before)
 text_from asked given most before (q ∷ qs) =
-    if is_kept q.piece.begun.sort
-    then first_drawings asked most (reports asked given before) ++ kept_if asked (has_colors asked.theme) q.piece q.shown ++ text_from asked given (still most (length (reports asked given before))) [] qs
+    if is_kept q.read.piece.begun.sort
+    then first_drawings asked most (reports asked given before) ++ kept_if asked (has_colors asked.theme) q.read.piece q.shown ++ text_from asked given (still most (length (reports asked given before))) [] qs
     else text_from asked given most (before ++ q ∷ []) qs
 
 abbrev with_kept : Asked → (List ℕ → Held) → Option ℕ → List ℕ → List Parcel → List Found → List ℕ
 with_kept asked given most kept qs found = first_drawings asked most found ++ kept ++ text_from asked given (still most (length found)) [] qs
 
-one_behind : (before : List PieceParts) (p : PieceParts) (from lines : List (List ℕ)) → lines ≡ drop (span before) from → drop p.lines lines ≡ drop (span (before ++ p ∷ [])) from
-one_behind before p from lines is = ap (drop p.lines) is ∙ (drop-drop p.lines (span before) from ∙ ap (λ n. drop n from) (sym (span_push before p)))
+one_behind : (before : List ReadParts) (p : ReadParts) (from lines : List (List ℕ)) → lines ≡ drop (lines_in before) from → drop p.piece.lines lines ≡ drop (lines_in (before ++ p ∷ [])) from
+one_behind before p from lines is = ap (drop p.piece.lines) is ∙ (drop-drop p.piece.lines (lines_in before) from ∙ ap (λ n. drop n from) (sym (lines_push before p)))
 
-placed_from : (asked : Asked) (given : List ℕ → Held) (most : Option ℕ) (before : List PieceParts) (from lines first shown : List (List ℕ)) (ps : List PieceParts)
-    → lines ≡ drop (span before) from → shown ≡ drop (span before) first
+placed_from : (asked : Asked) (given : List ℕ → Held) (most : Option ℕ) (before : List ReadParts) (from lines first shown : List (List ℕ)) (ps : List ReadParts)
+    → lines ≡ drop (lines_in before) from → shown ≡ drop (lines_in before) first
     → in_place asked given most before from lines shown ps ≡ text_from asked given most (parcels from first before) (parcels lines shown ps)
 unfolding in_place
 placed_from asked given most before from lines first shown [] is shown_is = ap (first_drawings asked most) (reports_are asked given from first before)
 placed_from asked given most before from lines first shown (p ∷ ps) is shown_is =
     let R : List Found = reports_in (columns_of asked) given from before in
-    let kept : List ℕ = kept_if asked (has_colors asked.theme) p (take p.lines shown) in
-    let behind : List (List ℕ) = drop p.lines lines in
-    let later : List (List ℕ) = drop p.lines shown in
-    elim (is_kept p.begun.sort) as (λ v.
+    let kept : List ℕ = kept_if asked (has_colors asked.theme) p.piece (take p.piece.lines shown) in
+    let behind : List (List ℕ) = drop p.piece.lines lines in
+    let later : List (List ℕ) = drop p.piece.lines shown in
+    elim (is_kept p.piece.begun.sort) as (λ v.
     (if v then first_drawings asked most R ++ kept ++ in_place asked given (still most (length R)) [] behind behind later ps
     else in_place asked given most (before ++ p ∷ []) from behind later ps)
     ≡ (if v then with_kept asked given most kept (parcels behind later ps) (reports asked given (parcels from first before))
-    else text_from asked given most (parcels from first before ++ parcel p (take p.lines lines) (take p.lines shown) ∷ []) (parcels behind later ps))) [
+    else text_from asked given most (parcels from first before ++ parcel p (take p.piece.lines lines) (take p.piece.lines shown) ∷ []) (parcels behind later ps))) [
       | true ↦ ap (λ t. first_drawings asked most R ++ kept ++ t) (placed_from asked given (still most (length R)) [] behind behind later later ps refl refl)
           ∙ ap (with_kept asked given most kept (parcels behind later ps)) (reports_are asked given from first before)
       | false ↦ placed_from asked given most (before ++ p ∷ []) from behind first later ps (one_behind before p from lines is) (one_behind before p first shown shown_is)
           ∙ ap (λ qs. text_from asked given most qs (parcels behind later ps))
           (parcels_append from first before (p ∷ [])
-          ∙ ap₂ (λ ls ss. parcels from first before ++ parcel p (take p.lines ls) (take p.lines ss) ∷ []) (sym is) (sym shown_is))
+          ∙ ap₂ (λ ls ss. parcels from first before ++ parcel p (take p.piece.lines ls) (take p.piece.lines ss) ∷ []) (sym is) (sym shown_is))
     ]
 
 -- what opens parts what is drawn
-behind_seam : (asked : Asked) (given : List ℕ → Held) (most : Option ℕ) (b : List Parcel) (g : Parcel) (gs qs : List Parcel) → opens g.piece ≡ true
+behind_seam : (asked : Asked) (given : List ℕ → Held) (most : Option ℕ) (b : List Parcel) (g : Parcel) (gs qs : List Parcel) → opens g.read.piece ≡ true
     → text_from asked given most (b ++ g ∷ gs) qs
     ≡ first_drawings asked most (reports asked given b) ++ text_from asked given (still most (length (reports asked given b))) (g ∷ gs) qs
 behind_seam asked given most b g gs [] is =
@@ -233,9 +243,9 @@ behind_seam asked given most b g gs [] is =
 behind_seam asked given most b g gs (q ∷ qs) is =
     let R : List Found = reports asked given b in
     let G : List Found = reports asked given (g ∷ gs) in
-    let kept : List ℕ = kept_if asked (has_colors asked.theme) q.piece q.shown in
+    let kept : List ℕ = kept_if asked (has_colors asked.theme) q.read.piece q.shown in
     let m : Option ℕ = still most (length R) in
-    elim (is_kept q.piece.begun.sort) as (λ v.
+    elim (is_kept q.read.piece.begun.sort) as (λ v.
     (if v then with_kept asked given most kept qs (reports asked given (b ++ g ∷ gs)) else text_from asked given most ((b ++ g ∷ gs) ++ q ∷ []) qs)
     ≡ first_drawings asked most R ++ (if v then with_kept asked given m kept qs G else text_from asked given m ((g ∷ gs) ++ q ∷ []) qs)) [
       | true ↦ ap (with_kept asked given most kept qs) (reports_append asked given b (g ∷ gs) (open_starts g gs is))
@@ -247,7 +257,7 @@ behind_seam asked given most b g gs (q ∷ qs) is =
 
 abbrev pub open_parcels : List Parcel → Bool
 open_parcels [] = true
-open_parcels (q ∷ qs) = opens q.piece
+open_parcels (q ∷ qs) = opens q.read.piece
 
 open_all : (qs : List Parcel) → open_parcels qs ≡ true → starts (tellings_by qs) ≡ true
 open_all [] is = refl
@@ -260,9 +270,9 @@ at_seam asked given most b [] is =
     ∙ ap (λ t. first_drawings asked most (reports asked given b) ++ t) (sym (first_none asked (still most (length (reports asked given b)))))
 at_seam asked given most b (q ∷ qs) is =
     let R : List Found = reports asked given b in
-    let kept : List ℕ = kept_if asked (has_colors asked.theme) q.piece q.shown in
+    let kept : List ℕ = kept_if asked (has_colors asked.theme) q.read.piece q.shown in
     let m : Option ℕ = still most (length R) in
-    elim (is_kept q.piece.begun.sort) as (λ v.
+    elim (is_kept q.read.piece.begun.sort) as (λ v.
     (if v then with_kept asked given most kept qs R else text_from asked given most (b ++ q ∷ []) qs)
     ≡ first_drawings asked most R ++ (if v then with_kept asked given m kept qs [] else text_from asked given m (q ∷ []) qs)) [
       | true ↦ append_assoc (first_drawings asked most R) kept (text_from asked given m [] qs)
@@ -273,7 +283,7 @@ at_seam asked given most b (q ∷ qs) is =
 
 abbrev pub Bares : List Parcel → Type 0
 Bares [] = ⊤
-Bares (q ∷ qs) = (is_kept q.piece.begun.sort ≡ true → q.piece.begun.finding ≡ None) × Bares qs
+Bares (q ∷ qs) = (is_kept q.read.piece.begun.sort ≡ true → q.read.piece.begun.finding ≡ None) × Bares qs
 
 parts_from : (asked : Asked) (given : List ℕ → Held) (most : Option ℕ) (b ps qs : List Parcel) → Bares ps → open_parcels qs ≡ true
     → text_from asked given most b (ps ++ qs)
@@ -283,16 +293,16 @@ parts_from asked given most b [] qs bare is =
     ∙ ap (λ xs. first_drawings asked most (reports asked given b) ++ text_from asked given (still most (length (reports asked given xs))) [] qs) (sym (append-nil b))
 parts_from asked given most b (p ∷ ps) qs bare is =
     let R : List Found = reports asked given b in
-    let kept : List ℕ = kept_if asked (has_colors asked.theme) p.piece p.shown in
+    let kept : List ℕ = kept_if asked (has_colors asked.theme) p.read.piece p.shown in
     let m : Option ℕ = still most (length R) in
     let rest : List ℕ = text_from asked given (still most (length (reports asked given (b ++ p ∷ ps)))) [] qs in
-    elim (is_kept p.piece.begun.sort) as (λ v. is_kept p.piece.begun.sort ≡ v →
+    elim (is_kept p.read.piece.begun.sort) as (λ v. is_kept p.read.piece.begun.sort ≡ v →
     (if v then with_kept asked given most kept (ps ++ qs) R else text_from asked given most (b ++ p ∷ []) (ps ++ qs))
     ≡ (if v then with_kept asked given most kept ps R else text_from asked given most (b ++ p ∷ []) ps) ++ rest) [
       | true ↦ (λ e.
-          let none : p.piece.begun.finding ≡ None = bare.0 e in
+          let none : p.read.piece.begun.finding ≡ None = bare.0 e in
           let found : reports asked given (b ++ p ∷ ps) ≡ R ++ reports asked given ps =
-          reports_append asked given b (p ∷ ps) (open_starts p ps (bare_opens p.piece none)) ∙ ap (λ fs. R ++ fs) (bare_reports asked given p ps none) in
+          reports_append asked given b (p ∷ ps) (open_starts p ps (bare_opens p.read.piece none)) ∙ ap (λ fs. R ++ fs) (bare_reports asked given p ps none) in
           let more : still m (length (reports asked given ps)) ≡ still most (length (reports asked given (b ++ p ∷ ps))) =
           still_parts most (length R) (length (reports asked given ps)) ∙ ap (still most) (sym (length-append R (reports asked given ps)) ∙ ap length (sym found)) in
           ap (λ t. first_drawings asked most R ++ kept ++ t)
@@ -305,41 +315,41 @@ parts_from asked given most b (p ∷ ps) qs bare is =
 
 -- ---- the same of pieces of lines
 
-bare_parcels : (lines shown : List (List ℕ)) (ps : List PieceParts) → BarePieces ps → Bares (parcels lines shown ps)
+bare_parcels : (lines shown : List (List ℕ)) (ps : List ReadParts) → BarePieces (pieces_of ps) → Bares (parcels lines shown ps)
 bare_parcels lines shown [] bare = tt
-bare_parcels lines shown (p ∷ ps) bare = (bare.0, bare_parcels (drop p.lines lines) (drop p.lines shown) ps bare.1)
+bare_parcels lines shown (p ∷ ps) bare = (bare.0, bare_parcels (drop p.piece.lines lines) (drop p.piece.lines shown) ps bare.1)
 
-open_pieces : (lines shown : List (List ℕ)) (ps : List PieceParts) → all_open ps ≡ true → open_parcels (parcels lines shown ps) ≡ true
+open_pieces : (lines shown : List (List ℕ)) (ps : List ReadParts) → all_open (pieces_of ps) ≡ true → open_parcels (parcels lines shown ps) ≡ true
 open_pieces lines shown [] is = refl
 open_pieces lines shown (p ∷ ps) is = is
 
-parted : (lines shown more rest : List (List ℕ)) (front ps : List PieceParts) → span front ≤ length lines → span front ≤ length shown
+parted : (lines shown more rest : List (List ℕ)) (front ps : List ReadParts) → lines_in front ≤ length lines → lines_in front ≤ length shown
     → parcels (lines ++ more) (shown ++ rest) (front ++ ps)
-    ≡ parcels lines shown front ++ parcels (drop (span front) lines ++ more) (drop (span front) shown ++ rest) ps
+    ≡ parcels lines shown front ++ parcels (drop (lines_in front) lines ++ more) (drop (lines_in front) shown ++ rest) ps
 parted lines shown more rest front ps within room =
     parcels_append (lines ++ more) (shown ++ rest) front ps
-    ∙ (ap₂ (λ ls ss. parcels (lines ++ more) (shown ++ rest) front ++ parcels ls ss ps) (drop-append-le (span front) lines more within) (drop-append-le (span front) shown rest room)
-    ∙ ap (λ qs. qs ++ parcels (drop (span front) lines ++ more) (drop (span front) shown ++ rest) ps) (parcels_more lines shown more rest front within room))
+    ∙ (ap₂ (λ ls ss. parcels (lines ++ more) (shown ++ rest) front ++ parcels ls ss ps) (drop-append-le (lines_in front) lines more within) (drop-append-le (lines_in front) shown rest room)
+    ∙ ap (λ qs. qs ++ parcels (drop (lines_in front) lines ++ more) (drop (lines_in front) shown ++ rest) ps) (parcels_more lines shown more rest front within room))
 
-pub reports_parted : (asked : Asked) (given : List ℕ → Held) (lines more : List (List ℕ)) (front ps : List PieceParts) → span front ≤ length lines → all_open ps ≡ true
+pub reports_parted : (asked : Asked) (given : List ℕ → Held) (lines more : List (List ℕ)) (front ps : List ReadParts) → lines_in front ≤ length lines → all_open (pieces_of ps) ≡ true
     → reports_in (columns_of asked) given (lines ++ more) (front ++ ps)
-    ≡ reports_in (columns_of asked) given lines front ++ reports_in (columns_of asked) given (drop (span front) lines ++ more) ps
+    ≡ reports_in (columns_of asked) given lines front ++ reports_in (columns_of asked) given (drop (lines_in front) lines ++ more) ps
 reports_parted asked given lines more front ps within is =
-    let left : List (List ℕ) = drop (span front) lines ++ more in
+    let left : List (List ℕ) = drop (lines_in front) lines ++ more in
     reports_are asked given (lines ++ more) (lines ++ more) (front ++ ps)
     ∙ (ap (reports asked given) (parted lines lines more more front ps within within)
     ∙ (reports_append asked given (parcels lines lines front) (parcels left left ps) (open_all (parcels left left ps) (open_pieces left left ps is))
     ∙ ap₂ (λ fore bs. fore ++ bs) (sym (reports_are asked given lines lines front)) (sym (reports_are asked given left left ps))))
 
-drawn_parted : (asked : Asked) (given : List ℕ → Held) (most : Option ℕ) (lines shown more rest : List (List ℕ)) (front ps : List PieceParts)
-    → span front ≤ length lines → span front ≤ length shown → BarePieces front → all_open ps ≡ true
+drawn_parted : (asked : Asked) (given : List ℕ → Held) (most : Option ℕ) (lines shown more rest : List (List ℕ)) (front ps : List ReadParts)
+    → lines_in front ≤ length lines → lines_in front ≤ length shown → BarePieces (pieces_of front) → all_open (pieces_of ps) ≡ true
     → in_place asked given most [] (lines ++ more) (lines ++ more) (shown ++ rest) (front ++ ps)
     ≡ in_place asked given most [] lines lines shown front
-    ++ in_place asked given (still most (length (reports_in (columns_of asked) given lines front))) [] (drop (span front) lines ++ more) (drop (span front) lines ++ more)
-    (drop (span front) shown ++ rest) ps
+    ++ in_place asked given (still most (length (reports_in (columns_of asked) given lines front))) [] (drop (lines_in front) lines ++ more) (drop (lines_in front) lines ++ more)
+    (drop (lines_in front) shown ++ rest) ps
 drawn_parted asked given most lines shown more rest front ps within room bare is =
-    let left : List (List ℕ) = drop (span front) lines ++ more in
-    let later : List (List ℕ) = drop (span front) shown ++ rest in
+    let left : List (List ℕ) = drop (lines_in front) lines ++ more in
+    let later : List (List ℕ) = drop (lines_in front) shown ++ rest in
     placed_from asked given most [] (lines ++ more) (lines ++ more) (shown ++ rest) (shown ++ rest) (front ++ ps) refl refl
     ∙ (ap (text_from asked given most []) (parted lines shown more rest front ps within room)
     ∙ (parts_from asked given most [] (parcels lines shown front) (parcels left later ps) (bare_parcels lines shown front bare) (open_pieces left later ps is)
@@ -352,40 +362,40 @@ drawn_parted asked given most lines shown more rest front ps within room bare is
 abbrev reports_from : Asked → (List ℕ → Held) → List Parcel → List Parcel → List Found
 reports_from asked given before [] = reports asked given before
 reports_from asked given before (q ∷ qs) =
-    if is_kept q.piece.begun.sort then reports asked given before ++ reports_from asked given [] qs else reports_from asked given (before ++ q ∷ []) qs
+    if is_kept q.read.piece.begun.sort then reports asked given before ++ reports_from asked given [] qs else reports_from asked given (before ++ q ∷ []) qs
 
 gathered : (asked : Asked) (given : List ℕ → Held) (b qs : List Parcel) → Bares qs → reports_from asked given b qs ≡ reports asked given (b ++ qs)
 gathered asked given b [] bare = ap (reports asked given) (sym (append-nil b))
 gathered asked given b (q ∷ qs) bare =
-    elim (is_kept q.piece.begun.sort) as (λ v. is_kept q.piece.begun.sort ≡ v →
+    elim (is_kept q.read.piece.begun.sort) as (λ v. is_kept q.read.piece.begun.sort ≡ v →
     (if v then reports asked given b ++ reports_from asked given [] qs else reports_from asked given (b ++ q ∷ []) qs) ≡ reports asked given (b ++ q ∷ qs)) [
       | true ↦ (λ e.
-          let none : q.piece.begun.finding ≡ None = bare.0 e in
+          let none : q.read.piece.begun.finding ≡ None = bare.0 e in
           ap (λ fs. reports asked given b ++ fs) (gathered asked given [] qs bare.1 ∙ sym (bare_reports asked given q qs none))
-          ∙ sym (reports_append asked given b (q ∷ qs) (open_starts q qs (bare_opens q.piece none))))
+          ∙ sym (reports_append asked given b (q ∷ qs) (open_starts q qs (bare_opens q.read.piece none))))
       | false ↦ (λ e. gathered asked given (b ++ q ∷ []) qs bare.1 ∙ ap (reports asked given) (append_assoc b (q ∷ []) qs))
     ] refl
 
-placed_parcels : (asked : Asked) (given : List ℕ → Held) (before : List PieceParts) (from lines : List (List ℕ)) (ps : List PieceParts) → lines ≡ drop (span before) from
+placed_parcels : (asked : Asked) (given : List ℕ → Held) (before : List ReadParts) (from lines : List (List ℕ)) (ps : List ReadParts) → lines ≡ drop (lines_in before) from
     → reports_placed asked given before from lines ps ≡ reports_from asked given (parcels from from before) (parcels lines lines ps)
 unfolding reports_placed
 placed_parcels asked given before from lines [] is = reports_are asked given from from before
 placed_parcels asked given before from lines (p ∷ ps) is =
-    let behind : List (List ℕ) = drop p.lines lines in
-    elim (is_kept p.begun.sort) as (λ v.
+    let behind : List (List ℕ) = drop p.piece.lines lines in
+    elim (is_kept p.piece.begun.sort) as (λ v.
     (if v then reports_in (columns_of asked) given from before ++ reports_placed asked given [] behind behind ps
     else reports_placed asked given (before ++ p ∷ []) from behind ps)
     ≡ (if v then reports asked given (parcels from from before) ++ reports_from asked given [] (parcels behind behind ps)
-    else reports_from asked given (parcels from from before ++ parcel p (take p.lines lines) (take p.lines lines) ∷ []) (parcels behind behind ps))) [
+    else reports_from asked given (parcels from from before ++ parcel p (take p.piece.lines lines) (take p.piece.lines lines) ∷ []) (parcels behind behind ps))) [
       | true ↦ ap₂ (λ fore bs. fore ++ bs) (reports_are asked given from from before) (placed_parcels asked given [] behind behind ps refl)
       | false ↦ placed_parcels asked given (before ++ p ∷ []) from behind ps (one_behind before p from lines is)
           ∙ ap (λ qs. reports_from asked given qs (parcels behind behind ps))
           (parcels_append from from before (p ∷ [])
-          ∙ ap₂ (λ ls ss. parcels from from before ++ parcel p (take p.lines ls) (take p.lines ss) ∷ []) (sym is) (sym is))
+          ∙ ap₂ (λ ls ss. parcels from from before ++ parcel p (take p.piece.lines ls) (take p.piece.lines ss) ∷ []) (sym is) (sym is))
     ]
 
 -- they are the reports of all
-pub all_placed : (asked : Asked) (given : List ℕ → Held) (lines : List (List ℕ)) (ps : List PieceParts) → BarePieces ps
+pub all_placed : (asked : Asked) (given : List ℕ → Held) (lines : List (List ℕ)) (ps : List ReadParts) → BarePieces (pieces_of ps)
     → reports_placed asked given [] lines lines ps ≡ reports_in (columns_of asked) given lines ps
 all_placed asked given lines ps bare =
     placed_parcels asked given [] lines lines ps refl
@@ -403,15 +413,15 @@ annotations_append : (raw : Bool) (fore bs : List Found) → ci_text ci.Github r
 unfolding ci_text
 annotations_append raw fore bs = mapped_append _ _ _ fore bs
 
-pub text_parted : (asked : Asked) (given : List ℕ → Held) (most : Option ℕ) (lines came more rest : List (List ℕ)) (front ps : List PieceParts)
-    → span front ≤ length lines → span front ≤ length came → BarePieces front → all_open ps ≡ true
+pub text_parted : (asked : Asked) (given : List ℕ → Held) (most : Option ℕ) (lines came more rest : List (List ℕ)) (front ps : List ReadParts)
+    → lines_in front ≤ length lines → lines_in front ≤ length came → BarePieces (pieces_of front) → all_open (pieces_of ps) ≡ true
     → written asked given most (lines ++ more) (came ++ rest) (front ++ ps)
     ≡ written asked given most lines came front
-    ++ written asked given (still most (length (reports_in (columns_of asked) given lines front))) (drop (span front) lines ++ more) (drop (span front) came ++ rest) ps
+    ++ written asked given (still most (length (reports_in (columns_of asked) given lines front))) (drop (lines_in front) lines ++ more) (drop (lines_in front) came ++ rest) ps
 unfolding written
 text_parted asked given most lines came more rest front ps within room bare is =
-    let left : List (List ℕ) = drop (span front) lines ++ more in
-    let later : List (List ℕ) = drop (span front) came ++ rest in
+    let left : List (List ℕ) = drop (lines_in front) lines ++ more in
+    let later : List (List ℕ) = drop (lines_in front) came ++ rest in
     let R : List Found = reports_in (columns_of asked) given lines front in
     let next : Option ℕ = still most (length R) in
     elim (annotates asked.to) as (λ v.

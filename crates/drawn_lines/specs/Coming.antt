@@ -1,5 +1,5 @@
 -- Lines that are drawn as they come.
-use Rattle.std.specs.Prelude.{◌≡◌, ℕ, ◌+◌, ◌-◌, ◌||◌, List, [], ◌++◌, length, take, Option, None, Bool, true, if◌then◌else◌, All, string_bytes}
+use Rattle.std.specs.Prelude.{◌≡◌, ℕ, ◌+◌, ◌-◌, ◌||◌, List, [], ◌++◌, length, take, map, Option, None, Bool, true, false, if◌then◌else◌, All, string_bytes}
 use Rattle.found_reports.specs.Held.{Held}
 use Rattle.found_reports.specs.Found.{Found}
 use Rattle.found_reports.specs.Listed.{held_in, listed}
@@ -8,13 +8,16 @@ use Rattle.source_store.specs.Given.{IsGiven, MeetsTold}
 use Rattle.source_store.specs.declared.named.Spelling.TheVariants.{Path}
 use Rattle.tool_lines.specs.Lines.{ArePieces, PieceParts}
 use Rattle.line_reports.specs.Names.{names_in}
+use Rattle.line_reports.specs.Pieces.{AreRead, ReadParts}
 use Rattle.line_reports.specs.Reports.{reports_in}
 use Rattle.report_counts.specs.Counted.{one_reaches}
-use Rattle.drawn_lines.specs.Counts.{count_of, count_with}
+use Rattle.build_dirs.specs.Again.{Seen, none_seen, seen_in}
+use Rattle.drawn_lines.specs.Again.{fresh, repeated, seen_behind}
+use Rattle.drawn_lines.specs.Counts.{count_of, count_with, ending}
 use Rattle.girzohal_options.specs.declared.Asked.{Asked}
-use Rattle.drawn_lines.specs.Text.{AreRead, came_of, came_to_come, lines_of, to_come}
+use Rattle.drawn_lines.specs.Text.{AreRead as LinesAreRead, came_of, came_to_come, lines_of, to_come}
 use Rattle.drawn_lines.specs.Seam.{IsSeam, span}
-use Rattle.drawn_lines.specs.Lines.{annotates, aside_text, columns_of, ending, shapes_of, still, written}
+use Rattle.drawn_lines.specs.Lines.{annotates, aside_text, columns_of, shapes_of, still, written}
 use Rattle.drawn_lines.specs.declared.held.HeldLines.{HeldLines}
 use Rattle.drawn_lines.specs.declared.tally.Tally.{Tally}
 use Rattle.drawn_lines.specs.declared.coming.Look.{Look}
@@ -29,9 +32,18 @@ Told = List ℕ → Option Held
 abbrev pub sources_of : Tally → List Source
 sources_of tally = tally.sources.entries.items
 
+-- what was printed so far
+abbrev pub seen_of : Tally → Seen
+seen_of tally = seen_in tally.seen
+
 -- so many are still drawn
 abbrev pub most_of : Asked → Tally → Option ℕ
 most_of asked tally = still asked.most tally.count.total
+
+-- the bodies of these pieces of lines were read
+pub record Reads (lines : List (List ℕ)) (pieces : List PieceParts) (reads : List ReadParts) : Type 0 where
+  pub of_them : map (λ (it : ReadParts). it.piece) reads ≡ pieces
+  pub read : AreRead lines reads
 
 -- these pieces of lines, which came so, were written with what a store gave, and counted
 pub record Draws (told : Told) (asked : Asked) (before now : Tally) (lines came : List (List ℕ)) (pieces : List PieceParts) (text aside : List ℕ) : Type 0 where
@@ -39,11 +51,19 @@ pub record Draws (told : Told) (asked : Asked) (before now : Tally) (lines came 
   pub sources : sources_of now ≡ sources_of before ++ more
   pub told_so : All (MeetsTold told Path) more
   pub there : All (λ name. listed (sources_of now) name ≡ true) (names_in pieces)
+  pub seen : seen_of now ≡ seen_behind asked (seen_of before) lines pieces
+  pub reads : List ReadParts
+  pub reads_are : Reads lines (fresh asked (seen_of before) lines pieces) reads
+  pub others : List ReadParts
+  pub others_are : Reads lines (repeated asked (seen_of before) lines pieces) others
   pub found : List Found
-  pub found_is : found ≡ reports_in (columns_of asked) (held_in (sources_of now)) lines pieces
-  pub text_is : text ≡ written asked (held_in (sources_of now)) (most_of asked before) lines came pieces
+  pub found_is : found ≡ reports_in (columns_of asked) (held_in (sources_of now)) lines reads
+  pub again : List Found
+  pub again_is : again ≡ reports_in (columns_of asked) (held_in (sources_of now)) lines others
+  pub text_is : text ≡ written asked (held_in (sources_of now)) (most_of asked before) lines came reads
   pub aside_is : aside ≡ aside_text asked lines pieces
   pub counted : now.count ≡ count_with before.count (count_of asked found)
+  pub counted_again : now.again ≡ count_with before.again (count_of asked again)
 
 -- the first pieces of these lines were written behind those before, and what comes behind them belongs to none of them
 pub record Looks (told : Told) (asked : Asked) (before now : Tally) (lines came : List (List ℕ)) (text aside : List ℕ) (count : ℕ) : Type 0 where
@@ -64,26 +84,37 @@ IsLook told asked before lines came (Known drawn count) = Looks told asked befor
 abbrev pub Agrees : List Source → (List ℕ → Held) → Type 0
 Agrees sources given = (name : List ℕ) → listed sources name ≡ true → given name ≡ held_in sources name
 
--- what is written of the whole, what stands aside and the reports are those so far, and behind them what these pieces of the lines that are left add
-pub record GoesOn (told : Told) (asked : Asked) (given : List ℕ → Held) (whole whole_came : List (List ℕ)) (text aside : List ℕ) (found : List Found)
-    (most : Option ℕ) (left came : List (List ℕ)) (pieces : List PieceParts) : Type 0 where
+-- what is written of the whole, what stands aside and the reports are those so far, and behind them what these pieces of the lines that are left add,
+-- of which these are read that are new, and those others
+pub record GoesOn (told : Told) (asked : Asked) (given : List ℕ → Held) (whole whole_came : List (List ℕ)) (text aside : List ℕ) (found again : List Found)
+    (most : Option ℕ) (left came : List (List ℕ)) (pieces : List PieceParts) (reads others : List ReadParts) : Type 0 where
   pub all : List PieceParts
   pub are : ArePieces (shapes_of asked) None whole all
-  pub drawn : written asked given asked.most whole whole_came all ≡ text ++ written asked given most left came pieces
+  pub all_reads : List ReadParts
+  pub reads_are : Reads whole (fresh asked none_seen whole all) all_reads
+  pub all_others : List ReadParts
+  pub others_are : Reads whole (repeated asked none_seen whole all) all_others
+  pub drawn : written asked given asked.most whole whole_came all_reads ≡ text ++ written asked given most left came reads
   pub stands : aside_text asked whole all ≡ aside ++ aside_text asked left pieces
-  pub reports : reports_in (columns_of asked) given whole all ≡ found ++ reports_in (columns_of asked) given left pieces
+  pub reports : reports_in (columns_of asked) given whole all_reads ≡ found ++ reports_in (columns_of asked) given left reads
+  pub repeats : reports_in (columns_of asked) given whole all_others ≡ again ++ reports_in (columns_of asked) given left others
   pub said : IsGiven told Path (names_in pieces) given → IsGiven told Path (names_in all) given
 
 -- of these bytes this was written and stands aside, whatever comes behind them
 pub record IsComing (told : Told) (asked : Asked) (bytes text aside : List ℕ) (held : HeldLines) (tally : Tally) : Type 0 where
   pub found : List Found
+  pub again : List Found
   pub told_so : All (MeetsTold told Path) (sources_of tally)
   pub counted : tally.count ≡ count_of asked found
-  pub read : AreRead held
+  pub counted_again : tally.again ≡ count_of asked again
+  pub read : LinesAreRead held
+  pub bare : annotates asked.to ≡ false → aside ≡ []
   pub goes_on : (given : List ℕ → Held) → Agrees (sources_of tally) given → (more : List ℕ) (pieces : List PieceParts)
-      → ArePieces (shapes_of asked) None (to_come held more) pieces
-      → GoesOn told asked given (lines_of (bytes ++ more)) (came_of (bytes ++ more)) text aside found (most_of asked tally)
-      (to_come held more) (came_to_come held more) pieces
+      → ArePieces (shapes_of asked) None (to_come held more) pieces → (reads others : List ReadParts)
+      → Reads (to_come held more) (fresh asked (seen_of tally) (to_come held more) pieces) reads
+      → Reads (to_come held more) (repeated asked (seen_of tally) (to_come held more) pieces) others
+      → GoesOn told asked given (lines_of (bytes ++ more)) (came_of (bytes ++ more)) text aside found again (most_of asked tally)
+      (to_come held more) (came_to_come held more) pieces reads others
 
 -- this was written of these bytes and stands aside, whatever comes behind them
 abbrev pub IsBegun : Told → Asked → List ℕ → List ℕ → List ℕ → Type 0
@@ -91,14 +122,20 @@ IsBegun told asked bytes text aside = (held : HeldLines) × (tally : Tally) × I
 
 -- ---- the whole
 
--- what is written of the whole text, and what stands aside
+-- what is written of the whole text, and what stands aside; findings that are printed again are counted, and not written
 pub record IsDrawn (told : Told) (asked : Asked) (bytes text aside : List ℕ) (reached : Bool) : Type 0 where
   pub pieces : List PieceParts
   pub are : ArePieces (shapes_of asked) None (lines_of bytes) pieces
   pub given : List ℕ → Held
   pub told_so : IsGiven told Path (names_in pieces) given
+  pub reads : List ReadParts
+  pub reads_are : Reads (lines_of bytes) (fresh asked none_seen (lines_of bytes) pieces) reads
+  pub others : List ReadParts
+  pub others_are : Reads (lines_of bytes) (repeated asked none_seen (lines_of bytes) pieces) others
   pub found : List Found
-  pub reports : found ≡ reports_in (columns_of asked) given (lines_of bytes) pieces
-  pub drawn : text ≡ written asked given asked.most (lines_of bytes) (came_of bytes) pieces ++ ending asked found
+  pub reports : found ≡ reports_in (columns_of asked) given (lines_of bytes) reads
+  pub again : List Found
+  pub repeats : again ≡ reports_in (columns_of asked) given (lines_of bytes) others
+  pub drawn : text ≡ written asked given asked.most (lines_of bytes) (came_of bytes) reads ++ ending asked found again
   pub aside_is : aside ≡ aside_text asked (lines_of bytes) pieces
-  pub level : reached ≡ one_reaches asked.fail_on found
+  pub level : reached ≡ one_reaches asked.fail_on (found ++ again)

@@ -4,3 +4,4 @@ pub mod Counts
 pub mod Walk
 pub mod Seam
 pub mod Coming
+pub mod Again

@@ -17,11 +17,12 @@ use Rattle.line_shapes.specs.declared.parse.OwnShape.{OwnShape}
 use Rattle.line_shapes.specs.Shape.{ShapeParts}
 use Rattle.line_shapes.specs.Tools as tools
 use Rattle.tool_lines.specs.Lines.{PieceParts, is_kept, without_cr}
+use Rattle.line_reports.specs.Pieces.{ReadParts}
 use Rattle.line_reports.specs.Reports.{reports_in}
-use Rattle.report_texts.specs.Texts.{ending_text, first_drawings}
+use Rattle.report_texts.specs.Texts.{first_drawings}
 use Rattle.girzohal_options.specs.declared.Asked.{Asked}
 use Rattle.girzohal_options.specs.declared.OutputForm.{OutputForm}
-use Rattle.girzohal_options.specs.declared.OutputForm.TheVariants.{Drawing, Json, Document, Sarif, Problems, Github, Gitlab, Checkstyle, Junit, Stylish, Summary, Markdown}
+use Rattle.girzohal_options.specs.declared.OutputForm.TheVariants.{Drawing, Json, Document, Sarif, Problems, Github, Gitlab, Checkstyle, Junit, Stylish, Summary, Markdown, Html}
 use Rattle.girzohal_options.specs.declared.ThemeChoice.{ThemeChoice}
 use Rattle.girzohal_options.specs.declared.ThemeChoice.TheVariants.{Auto, Plain, Unicode, UnicodeNocolor}
 use Rattle.drawn_lines.specs.Text.{read_line}
@@ -69,6 +70,7 @@ annotates Junit = false
 annotates Stylish = false
 annotates Summary = false
 annotates Markdown = false
+annotates Html = false
 
 abbrev pub has_colors : ThemeChoice → Bool
 has_colors Auto = false
@@ -126,35 +128,31 @@ abbrev pub still : Option ℕ → ℕ → Option ℕ
 still most count = option_map (λ m. m - count) most
 
 -- the reports of pieces with the lines that they begin with, and their drawings
-abbrev pub reports_before : Asked → (List ℕ → Held) → List (List ℕ) → List PieceParts → List Found
+abbrev pub reports_before : Asked → (List ℕ → Held) → List (List ℕ) → List ReadParts → List Found
 reports_before asked given from before = reports_in (columns_of asked) given from before
 
-abbrev pub drawings_before : Asked → (List ℕ → Held) → Option ℕ → List (List ℕ) → List PieceParts → List ℕ
+abbrev pub drawings_before : Asked → (List ℕ → Held) → Option ℕ → List (List ℕ) → List ReadParts → List ℕ
 drawings_before asked given most from before = first_drawings asked most (reports_before asked given from before)
 
 -- pieces with the lines that they begin with are drawn as soon as a line is kept, behind them; kept lines are those of `shown`
-unfoldable pub in_place : Asked → (List ℕ → Held) → Option ℕ → List PieceParts → List (List ℕ) → List (List ℕ) → List (List ℕ) → List PieceParts → List ℕ
+unfoldable pub in_place : Asked → (List ℕ → Held) → Option ℕ → List ReadParts → List (List ℕ) → List (List ℕ) → List (List ℕ) → List ReadParts → List ℕ
 in_place asked given most before from lines shown [] = drawings_before asked given most from before
-in_place asked given most before from lines shown (piece ∷ pieces) =
-    let behind = drop piece.lines lines in
-    let later = drop piece.lines shown in
+in_place asked given most before from lines shown (read ∷ reads) =
+    let behind = drop read.piece.lines lines in
+    let later = drop read.piece.lines shown in
     let count = length (reports_before asked given from before) in
-    if is_kept piece.begun.sort
-    then drawings_before asked given most from before ++ kept_if asked (has_colors asked.theme) piece (take piece.lines shown)
-    ++ in_place asked given (still most count) [] behind behind later pieces
-    else in_place asked given most (before ++ piece ∷ []) from behind later pieces
+    if is_kept read.piece.begun.sort
+    then drawings_before asked given most from before ++ kept_if asked (has_colors asked.theme) read.piece (take read.piece.lines shown)
+    ++ in_place asked given (still most count) [] behind behind later reads
+    else in_place asked given most (before ++ read ∷ []) from behind later reads
 
 -- lines are shown as they came where the theme has colors, else as they were read
 abbrev pub shown_of : Asked → List (List ℕ) → List (List ℕ) → List (List ℕ)
 shown_of asked lines came = if has_colors asked.theme then came else lines
 
 -- what is written of pieces of lines, which came so: the annotations of all reports, or drawings with the kept lines in their place
-unfoldable pub written : Asked → (List ℕ → Held) → Option ℕ → List (List ℕ) → List (List ℕ) → List PieceParts → List ℕ
-written asked given most lines came pieces =
+unfoldable pub written : Asked → (List ℕ → Held) → Option ℕ → List (List ℕ) → List (List ℕ) → List ReadParts → List ℕ
+written asked given most lines came reads =
     if annotates asked.to
-    then ci_text ci.Github asked.raw (reports_in (columns_of asked) given lines pieces)
-    else in_place asked given most [] lines lines (shown_of asked lines came) pieces
-
--- what stands behind all drawings
-unfoldable pub ending : Asked → List Found → List ℕ
-ending asked found = if annotates asked.to then [] else ending_text asked found
+    then ci_text ci.Github asked.raw (reports_in (columns_of asked) given lines reads)
+    else in_place asked given most [] lines lines (shown_of asked lines came) reads

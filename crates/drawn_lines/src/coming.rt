@@ -9,7 +9,8 @@ ghost use Rattle.drawn_lines.specs.Coming.{IsComing, IsDrawn, IsLook, Told};
 use crate::count::{ending, none};
 use crate::held::{HeldLines, drop_first, lent};
 use crate::seam::part_of;
-use crate::tally::{Drawn, Tally, draw};
+use crate::tally::{Drawn, Tally, draw, reaches};
+use build_dirs::again::SeenKeys;
 use girzohal_options::Asked;
 use line_shapes::shape::Shape;
 use shown_reports::ShownSources;
@@ -61,6 +62,8 @@ impl Coming {
             held: HeldLines::new(alloc),
             tally: Tally {
                 count: none(),
+                again: none(),
+                seen: SeenKeys::new(alloc),
                 sources: ShownSources::empty(alloc),
             },
             wait: 0,
@@ -132,8 +135,8 @@ impl Coming {
             aside,
             tally,
         } = drawn;
-        text.push_str(ending(alloc, asked, tally.count)?.as_str())?;
-        let reached = tally.count.reached;
+        text.push_str(ending(alloc, asked, tally.count, tally.again)?.as_str())?;
+        let reached = reaches(&tally);
         Ok(Ended {
             text,
             aside,

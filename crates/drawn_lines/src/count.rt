@@ -1,10 +1,15 @@
 // How many reports there were.
-ghost use Rattle.std.specs.Prelude.{◌≡◌, ◌≤◌, ◌+◌, [], IfOk, length, string_bytes};
+ghost use Rattle.std.specs.Prelude.{◌≡◌, ◌≤◌, ◌+◌, ◌++◌, [], IfOk, OnOk, codes, decimal, length};
+ghost use Rattle.std.specs.Prelude.{string_bytes, unwrap_or};
+ghost use Rattle.report_counts.specs.Counted.{summary_line};
 ghost use Rattle.report_texts.specs.Texts.{drawn_count as drawn_of};
 ghost use Rattle.drawn_lines.specs.Counts.{count_of as count_meant, count_text as count_said};
-ghost use Rattle.drawn_lines.specs.Counts.{count_with, counts_with, ending_by, no_count};
+ghost use Rattle.drawn_lines.specs.Counts.{again_text, count_with, counts_with, ending_by};
+ghost use Rattle.drawn_lines.specs.Counts.{no_count};
+ghost use Rattle.escapes.specs.Cuts.{without_last as lf_less};
 
 use crate::form::annotates;
+use escapes::without_last;
 use found_reports::FoundReports;
 use girzohal_options::Asked;
 use report_counts::{Counts, counts_of, more_line, one_reaches, summary_line};
@@ -73,26 +78,70 @@ fn sum(a: usize, b: usize) -> Result<usize, AllocError>
     }
 }
 
-/// The text after all drawings.
-pub(crate) fn ending(alloc: Global, asked: &Asked, count: Count) -> Result<String, AllocError>
-    ensures { IfOk result (λ text. string_bytes text ≡ ending_by asked.now count) }
+/// The text after all drawings: `again` were printed again, and aren't in `count`.
+pub(crate) fn ending(
+    alloc: Global,
+    asked: &Asked,
+    count: Count,
+    again: Count,
+) -> Result<String, AllocError>
+    ensures { IfOk result (λ text. string_bytes text ≡ ending_by asked.now count again) }
 {
     if annotates(asked.to) {
         Ok(String::new(alloc))
     } else {
-        count_text(alloc, asked, count)
+        count_text(alloc, asked, count, again)
     }
 }
 
-/// The line that says how many reports there are, if not all were drawn.
-fn count_text(alloc: Global, asked: &Asked, count: Count) -> Result<String, AllocError>
-    ensures { IfOk result (λ text. string_bytes text ≡ count_said asked.now count) }
+/// The line that says how many reports there are more than were drawn, and the line with their
+/// numbers.
+fn count_text(
+    alloc: Global,
+    asked: &Asked,
+    count: Count,
+    again: Count,
+) -> Result<String, AllocError>
+    ensures { IfOk result (λ text. string_bytes text ≡ count_said asked.now count again) }
 {
     let mut text = more_line(alloc, count.total - drawn_count(asked.most, count.total))?;
     if !asked.quiet {
-        text.push_str(summary_line(alloc, count.counts)?.as_str())?;
+        text.push_str(numbers_line(alloc, count, again)?.as_str())?;
     }
     Ok(text)
+}
+
+/// The line with the numbers of reports, and how many of them were printed again.
+#[tactic(auto, unfolding(crate::specs::Counts::again_text))]
+fn numbers_line(alloc: Global, count: Count, again: Count) -> Result<String, AllocError>
+    ensures { IfOk result (λ text. string_bytes text
+        ≡ again_text (summary_line (counts_with count.counts again.counts)) again.total) }
+{
+    let all = added(count, again)?;
+    let line = summary_line(alloc, all.counts)?;
+    if again.total == 0 {
+        return Ok(line);
+    }
+    let mut text = String::from_str(alloc, without_lf(line.as_str()))?;
+    push_again(&mut text, again.total)?;
+    Ok(text)
+}
+
+/// A line without its LF.
+fn without_lf(line: &str) -> &str
+    ensures { result.now ≡ unwrap_or (lf_less 0x0A line.now) line.now }
+{
+    match without_last(line, '\n') {
+        Some(line) => line,
+        None => line,
+    }
+}
+
+fn push_again(text: &mut String, again: usize) -> Result<(), AllocError>
+    ensures { OnOk result (string_bytes text.new ≡ string_bytes text.old
+        ++ (codes " (" ++ decimal again ++ codes " printed again)\n")) }
+{
+    write!(text, " ({again} printed again)\n")
 }
 
 /// How many of `count` reports are drawn.

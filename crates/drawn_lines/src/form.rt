@@ -20,7 +20,8 @@ pub fn annotates(form: OutputForm) -> bool
         | OutputForm::Junit
         | OutputForm::Stylish
         | OutputForm::Summary
-        | OutputForm::Markdown => false,
+        | OutputForm::Markdown
+        | OutputForm::Html => false,
     }
 }
 

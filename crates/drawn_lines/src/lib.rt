@@ -7,6 +7,7 @@
 //! - [`lines_of`]: the lines of a text; [`kept_text`]: those that are no findings.
 #![tactic(auto)]
 
+mod again;
 mod coming;
 mod count;
 mod form;

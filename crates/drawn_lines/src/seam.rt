@@ -146,7 +146,7 @@ fn opens(piece: &Piece<'_>) -> bool
     !says_aside(&piece.begun.finding)
 }
 
-fn says_aside(finding: &Option<Finding<'_>>) -> bool
+pub(crate) fn says_aside(finding: &Option<Finding<'_>>) -> bool
     ensures { result ≡ says_it_aside (option_map finding_parts finding.now) }
 {
     match finding {

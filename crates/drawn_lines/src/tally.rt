@@ -1,21 +1,24 @@
 // What was drawn so far, and how more blocks are drawn.
-ghost use Rattle.std.specs.Prelude.{◌≡◌, IfOk, map, string_bytes};
+ghost use Rattle.std.specs.Prelude.{◌≡◌, ◌||◌, IfOk, map, string_bytes};
 ghost use Rattle.found_reports.specs.Listed.{held_in};
 ghost use Rattle.tool_lines.specs.Lines.{piece_parts};
+ghost use Rattle.line_reports.specs.Pieces.{read_parts};
 ghost use Rattle.line_reports.specs.Reports.{reports_in};
 ghost use Rattle.drawn_lines.specs.Lines.{columns_of as columns_meant, written as written_of};
 ghost use Rattle.drawn_lines.specs.Coming.{Draws};
 ghost use Rattle.drawn_lines.specs.Counts.{count_of as count_meant};
 ghost use Rattle.drawn_lines.specs.Seam.{BarePieces};
 
+use crate::again::sift;
 use crate::count::{Count, added, counted};
 use crate::form::annotates;
 use crate::kept::aside_text;
 use crate::reading::columns_of;
 use crate::walk::{Share, drawings, still};
+use build_dirs::again::SeenKeys;
 use ci_texts::{CiFormat, ci_text_on};
 use girzohal_options::Asked;
-use line_reports::{names_of, reports_of};
+use line_reports::{ReadPiece, names_of, read_pieces, reports_of};
 use shown_reports::ShownSources;
 use source_store::{Spelling, Store, gather_more};
 use std::alloc::{AllocError, Global};
@@ -24,8 +27,12 @@ use tool_lines::lines::Piece;
 /// What was drawn so far.
 #[derive(Drop)]
 pub(crate) struct Tally {
-    /// How many reports there were.
+    /// How many new reports there were.
     pub(crate) count: Count,
+    /// How many were printed again.
+    pub(crate) again: Count,
+    /// What was printed.
+    pub(crate) seen: SeenKeys,
     /// The sources that they are about.
     pub(crate) sources: ShownSources,
 }
@@ -42,6 +49,7 @@ pub(crate) struct Drawn {
 }
 
 /// The blocks that these lines begin with, as they are written after others.
+#[tactic(auto, using(crate::proofs::AgainLemmas::fresh_bare))]
 pub(crate) fn draw<S: Store>(
     alloc: Global,
     asked: &Asked,
@@ -56,15 +64,55 @@ pub(crate) fn draw<S: Store>(
         (map (λ line. line.now) lines.now) (map (λ line. line.items) came.now)
         (map piece_parts pieces.now) (string_bytes it.text) (string_bytes it.aside)) }
 {
-    let Tally { count, mut sources } = tally;
+    let Tally {
+        count,
+        again,
+        mut seen,
+        mut sources,
+    } = tally;
     let names = names_of(alloc, pieces)?;
     gather_more(alloc, store, Spelling::Path, &mut sources, &names)?;
+    let parts = sift(alloc, asked, &mut seen, lines, pieces)?;
     let most = still(asked.most, count.total);
-    let Share { text, count: here } = written(alloc, asked, most, lines, came, pieces, &sources)?;
+    let reads = read_pieces(alloc, lines, &parts.fresh)?;
+    let share = written(alloc, asked, most, lines, came, &reads, &sources)?;
+    let repeats = read_pieces(alloc, lines, &parts.again)?;
+    let others = count_in(alloc, asked, lines, &repeats, &sources)?;
     let aside = aside_text(alloc, asked, lines, pieces)?;
-    let count = added(count, here)?;
-    let tally = Tally { count, sources };
-    Ok(Drawn { text, aside, tally })
+    let tally = Tally {
+        count: added(count, share.count)?,
+        again: added(again, others)?,
+        seen,
+        sources,
+    };
+    Ok(Drawn {
+        text: share.text,
+        aside,
+        tally,
+    })
+}
+
+/// Whether a report is at or above the level.
+pub(crate) fn reaches(tally: &Tally) -> bool
+    ensures { result ≡ (tally.now.count.reached || tally.now.again.reached) }
+{
+    tally.count.reached || tally.again.reached
+}
+
+/// How many reports these blocks have.
+fn count_in(
+    alloc: Global,
+    asked: &Asked,
+    lines: &[&[u8]],
+    pieces: &[ReadPiece<'_>],
+    sources: &ShownSources,
+) -> Result<Count, AllocError>
+    ensures { IfOk result (λ count. count ≡ count_meant asked.now
+        (reports_in (columns_meant asked.now) (held_in sources.now.entries.items)
+        (map (λ line. line.now) lines.now) (map read_parts pieces.now))) }
+{
+    let found = reports_of(alloc, lines, pieces, sources.indexed(), columns_of(asked))?;
+    Ok(counted(asked, &found))
 }
 
 /// What is written of these blocks; `most` limits the number of reports that are drawn.
@@ -75,16 +123,16 @@ fn written(
     most: Option<usize>,
     lines: &[&[u8]],
     came: &[Vec<u8>],
-    pieces: &[Piece<'_>],
+    pieces: &[ReadPiece<'_>],
     sources: &ShownSources,
 ) -> Result<Share, AllocError>
-    requires { BarePieces (map piece_parts pieces.now) }
+    requires { BarePieces (map (λ it. it.piece) (map read_parts pieces.now)) }
     ensures text { IfOk result (λ it. string_bytes it.text ≡ written_of asked.now
         (held_in sources.now.entries.items) most (map (λ line. line.now) lines.now)
-        (map (λ line. line.items) came.now) (map piece_parts pieces.now)) }
+        (map (λ line. line.items) came.now) (map read_parts pieces.now)) }
     ensures count { IfOk result (λ it. it.count ≡ count_meant asked.now
         (reports_in (columns_meant asked.now) (held_in sources.now.entries.items)
-        (map (λ line. line.now) lines.now) (map piece_parts pieces.now))) }
+        (map (λ line. line.now) lines.now) (map read_parts pieces.now))) }
 {
     if annotates(asked.to) {
         let found = reports_of(alloc, lines, pieces, sources.indexed(), columns_of(asked))?;

@@ -1,10 +1,11 @@
 // Lines as they are drawn: their reports, and between them the lines that are kept.
 ghost use Rattle.std.specs.Prelude.{◌≡◌, ◌∷◌, ◌++◌, [], ℕ, List, IfOk, OnOk, true, false};
-ghost use Rattle.std.specs.Prelude.{map};
+ghost use Rattle.std.specs.Prelude.{drop, map, take};
 ghost use Rattle.std.specs.Prelude.{string_bytes};
 ghost use Rattle.found_reports.specs.Held.{Held};
 ghost use Rattle.found_reports.specs.Listed.{held_in};
-ghost use Rattle.tool_lines.specs.Lines.{PieceParts, piece_parts, is_kept as is_kept_sort};
+ghost use Rattle.tool_lines.specs.Lines.{is_kept as is_kept_sort};
+ghost use Rattle.line_reports.specs.Pieces.{ReadParts, read_parts};
 ghost use Rattle.report_texts.specs.Runs.{drawn_on};
 ghost use Rattle.girzohal_options.specs.declared.Asked.{Asked as AskedFor};
 ghost use Rattle.drawn_lines.specs.Lines.{drawings_before, in_place as placed, reports_before};
@@ -19,11 +20,10 @@ use crate::held::lent;
 use crate::kept::{behind, front, is_kept, push_kept};
 use crate::reading::columns_of;
 use girzohal_options::Asked;
-use line_reports::reports_of;
+use line_reports::{ReadPiece, reports_of};
 use report_texts::Drawings;
 use shown_reports::ShownSources;
 use std::alloc::{AllocError, Global};
-use tool_lines::lines::Piece;
 
 /// What blocks add to what was written, and to the reports.
 #[derive(Drop)]
@@ -41,8 +41,10 @@ pub(crate) struct Walk<'l, 'a, 'p> {
     count: Count,
     /// How many reports are still drawn at most.
     most: Option<usize>,
-    /// The blocks after the last line that was kept.
-    before: Vec<Piece<'p>>,
+    /// The blocks after the last line that was kept, and those that are left.
+    first: &'p [ReadPiece<'p>],
+    /// How many of these were walked over.
+    len: usize,
     /// The lines from the first of these blocks on.
     from: &'l [&'a [u8]],
     /// The lines after them.
@@ -59,18 +61,18 @@ pub(crate) fn drawings(
     most: Option<usize>,
     lines: &[&[u8]],
     came: &[Vec<u8>],
-    pieces: &[Piece<'_>],
+    pieces: &[ReadPiece<'_>],
     sources: &ShownSources,
 ) -> Result<Share, AllocError>
-    requires { BarePieces (map piece_parts pieces.now) }
+    requires { BarePieces (map (λ it. it.piece) (map read_parts pieces.now)) }
     ensures text { IfOk result (λ it. string_bytes it.text
         ≡ placed asked.now (held_in sources.now.entries.items) most []
         (map (λ line. line.now) lines.now) (map (λ line. line.now) lines.now)
         (shown_of asked.now (map (λ line. line.now) lines.now) (map (λ line. line.items) came.now))
-        (map piece_parts pieces.now)) }
+        (map read_parts pieces.now)) }
     ensures count { IfOk result (λ it. it.count ≡ count_meant asked.now
         (reports_before asked.now (held_in sources.now.entries.items)
-        (map (λ line. line.now) lines.now) (map piece_parts pieces.now))) }
+        (map (λ line. line.now) lines.now) (map read_parts pieces.now))) }
 {
     if has_colors(asked.theme) {
         let came = lent(alloc, came)?;
@@ -87,23 +89,24 @@ fn in_place<'l, 'a>(
     most: Option<usize>,
     lines: &'l [&'a [u8]],
     shown: &'l [&'a [u8]],
-    pieces: &[Piece<'_>],
+    pieces: &[ReadPiece<'_>],
     sources: &ShownSources,
 ) -> Result<Share, AllocError>
-    requires { BarePieces (map piece_parts pieces.now) }
+    requires { BarePieces (map (λ it. it.piece) (map read_parts pieces.now)) }
     ensures text { IfOk result (λ it. string_bytes it.text
         ≡ placed asked.now (held_in sources.now.entries.items) most []
         (map (λ line. line.now) lines.now) (map (λ line. line.now) lines.now)
-        (map (λ line. line.now) shown.now) (map piece_parts pieces.now)) }
+        (map (λ line. line.now) shown.now) (map read_parts pieces.now)) }
     ensures count { IfOk result (λ it. it.count ≡ count_meant asked.now
         (reports_before asked.now (held_in sources.now.entries.items)
-        (map (λ line. line.now) lines.now) (map piece_parts pieces.now))) }
+        (map (λ line. line.now) lines.now) (map read_parts pieces.now))) }
 {
     let mut walk = Walk {
         text: String::new(alloc),
         count: none(),
         most,
-        before: Vec::new(alloc),
+        first: pieces,
+        len: 0,
         from: lines,
         left: lines,
         shown,
@@ -111,7 +114,7 @@ fn in_place<'l, 'a>(
     let mut drawings = Drawings::new(alloc, asked, sources);
     let mut rest = pieces;
     while let [piece, more @ ..] = rest {
-        walk = step(alloc, asked, sources, &mut drawings, walk, piece)?;
+        walk = step(alloc, asked, sources, &mut drawings, walk, piece, more)?;
         rest = more;
     }
     finish(alloc, asked, sources, &mut drawings, walk)
@@ -124,23 +127,26 @@ fn step<'l, 'a, 'p>(
     sources: &ShownSources,
     drawings: &mut Drawings<'_>,
     walk: Walk<'l, 'a, 'p>,
-    piece: &Piece<'p>,
+    piece: &ReadPiece<'p>,
+    more: &'p [ReadPiece<'p>],
 ) -> Result<Walk<'l, 'a, 'p>, AllocError>
-    requires { drawings.old ≡ drawn_on asked.now sources.now.entries.items }
-    ensures walked { IfOk result (λ next. (rest : List PieceParts)
+    requires drawn { drawings.old ≡ drawn_on asked.now sources.now.entries.items }
+    requires follows { drop walk.len walk.first.now ≡ piece.now ∷ more.now }
+    ensures walked { IfOk result (λ next. (rest : List ReadParts)
         → walked asked.now (held_in sources.now.entries.items) next rest
         ≡ walked asked.now (held_in sources.now.entries.items) walk.entry
-        (piece_parts piece.now ∷ rest)) }
-    ensures counted { IfOk result (λ next. (rest : List PieceParts)
+        (read_parts piece.now ∷ rest)) }
+    ensures counted { IfOk result (λ next. (rest : List ReadParts)
         → counted_to asked.now (held_in sources.now.entries.items) next rest
         ≡ counted_to asked.now (held_in sources.now.entries.items) walk.entry
-        (piece_parts piece.now ∷ rest)) }
+        (read_parts piece.now ∷ rest)) }
+    ensures follows { IfOk result (λ next. drop next.len next.first.now ≡ more.entry.now) }
     ensures unchanged { drawings.new ≡ drawings.old }
 {
-    if is_kept(piece.begun.sort) {
-        keep(alloc, asked, sources, drawings, walk, piece)
+    if is_kept(piece.piece.begun.sort) {
+        keep(alloc, asked, sources, drawings, walk, piece, more)
     } else {
-        pass(walk, piece)
+        pass(walk, piece, more)
     }
 }
 
@@ -151,32 +157,38 @@ fn keep<'l, 'a, 'p>(
     sources: &ShownSources,
     drawings: &mut Drawings<'_>,
     walk: Walk<'l, 'a, 'p>,
-    piece: &Piece<'p>,
+    piece: &ReadPiece<'p>,
+    more: &'p [ReadPiece<'p>],
 ) -> Result<Walk<'l, 'a, 'p>, AllocError>
-    requires kept { is_kept_sort piece.now.begun.sort ≡ true }
+    requires kept { is_kept_sort piece.now.piece.begun.sort ≡ true }
     requires drawn { drawings.old ≡ drawn_on asked.now sources.now.entries.items }
-    ensures walked { IfOk result (λ next. (rest : List PieceParts)
+    requires follows { drop walk.len walk.first.now ≡ piece.now ∷ more.now }
+    ensures walked { IfOk result (λ next. (rest : List ReadParts)
         → walked asked.now (held_in sources.now.entries.items) next rest
         ≡ walked asked.now (held_in sources.now.entries.items) walk.entry
-        (piece_parts piece.now ∷ rest)) }
-    ensures counted { IfOk result (λ next. (rest : List PieceParts)
+        (read_parts piece.now ∷ rest)) }
+    ensures counted { IfOk result (λ next. (rest : List ReadParts)
         → counted_to asked.now (held_in sources.now.entries.items) next rest
         ≡ counted_to asked.now (held_in sources.now.entries.items) walk.entry
-        (piece_parts piece.now ∷ rest)) }
+        (read_parts piece.now ∷ rest)) }
+    ensures follows { IfOk result (λ next. drop next.len next.first.now ≡ more.entry.now) }
     ensures unchanged { drawings.new ≡ drawings.old }
 {
     let Walk {
         mut text,
         count,
         most,
-        before,
+        first,
+        len,
         from,
         left,
         shown,
     } = walk;
+    let before = front_of(first, len);
     let here = push_reports(
-        alloc, &mut text, asked, most, sources, drawings, from, &before,
+        alloc, &mut text, asked, most, sources, drawings, from, before,
     )?;
+    let piece = &piece.piece;
     let run = front(shown, piece.lines);
     push_kept(alloc, &mut text, asked, has_colors(asked.theme), piece, run)?;
     let left = behind(left, piece.lines);
@@ -185,7 +197,8 @@ fn keep<'l, 'a, 'p>(
         text,
         count: added(count, here)?,
         most: still(most, here.total),
-        before: Vec::new(alloc),
+        first: more,
+        len: 0,
         from: left,
         left,
         shown,
@@ -205,37 +218,53 @@ pub(crate) fn still(most: Option<usize>, count: usize) -> Option<usize>
 /// Goes on to a block that isn't kept.
 fn pass<'l, 'a, 'p>(
     walk: Walk<'l, 'a, 'p>,
-    piece: &Piece<'p>,
+    piece: &ReadPiece<'p>,
+    more: &'p [ReadPiece<'p>],
 ) -> Result<Walk<'l, 'a, 'p>, AllocError>
-    requires { is_kept_sort piece.now.begun.sort ≡ false }
+    requires kept { is_kept_sort piece.now.piece.begun.sort ≡ false }
+    requires follows { drop walk.len walk.first.now ≡ piece.now ∷ more.now }
     ensures walked { IfOk result (λ next. (asked : AskedFor) (given : List ℕ → Held)
-        (rest : List PieceParts) → walked asked given next rest
-        ≡ walked asked given walk.entry (piece_parts piece.now ∷ rest)) }
+        (rest : List ReadParts) → walked asked given next rest
+        ≡ walked asked given walk.entry (read_parts piece.now ∷ rest)) }
     ensures counted { IfOk result (λ next. (asked : AskedFor) (given : List ℕ → Held)
-        (rest : List PieceParts) → counted_to asked given next rest
-        ≡ counted_to asked given walk.entry (piece_parts piece.now ∷ rest)) }
+        (rest : List ReadParts) → counted_to asked given next rest
+        ≡ counted_to asked given walk.entry (read_parts piece.now ∷ rest)) }
+    ensures follows { IfOk result (λ next. drop next.len next.first.now ≡ more.entry.now) }
 {
     let Walk {
         text,
         count,
         most,
-        mut before,
+        first,
+        len,
         from,
         left,
         shown,
     } = walk;
-    before.push(*piece)?;
-    let left = behind(left, piece.lines);
-    let shown = behind(shown, piece.lines);
+    let Some(len) = len.checked_add(1) else {
+        return Err(AllocError);
+    };
+    let left = behind(left, piece.piece.lines);
+    let shown = behind(shown, piece.piece.lines);
     Ok(Walk {
         text,
         count,
         most,
-        before,
+        first,
+        len,
         from,
         left,
         shown,
     })
+}
+
+/// The first `count` blocks of a list, or all.
+#[tactic(auto, using(crate::proofs::LineLemmas::take_within))]
+fn front_of<'r, 'p>(pieces: &'r [ReadPiece<'p>], count: usize) -> &'r [ReadPiece<'p>]
+    ensures { result.now ≡ take count pieces.now }
+{
+    let count = count.min(pieces.len());
+    pieces.split_at(count).0
 }
 
 /// Draws the reports after the last line that was kept.
@@ -256,13 +285,15 @@ fn finish(
         mut text,
         count,
         most,
-        before,
+        first,
+        len,
         from,
         left: _,
         shown: _,
     } = walk;
+    let before = front_of(first, len);
     let here = push_reports(
-        alloc, &mut text, asked, most, sources, drawings, from, &before,
+        alloc, &mut text, asked, most, sources, drawings, from, before,
     )?;
     let count = added(count, here)?;
     Ok(Share { text, count })
@@ -277,15 +308,15 @@ fn push_reports(
     sources: &ShownSources,
     drawings: &mut Drawings<'_>,
     from: &[&[u8]],
-    before: &[Piece<'_>],
+    before: &[ReadPiece<'_>],
 ) -> Result<Count, AllocError>
     requires { drawings.old ≡ drawn_on asked.now sources.now.entries.items }
     ensures text { OnOk result (string_bytes text.new ≡ string_bytes text.old
         ++ drawings_before asked.now (held_in sources.now.entries.items) most
-        (map (λ line. line.now) from.now) (map piece_parts before.now)) }
+        (map (λ line. line.now) from.now) (map read_parts before.now)) }
     ensures count { IfOk result (λ count. count ≡ count_meant asked.now
         (reports_before asked.now (held_in sources.now.entries.items)
-        (map (λ line. line.now) from.now) (map piece_parts before.now))) }
+        (map (λ line. line.now) from.now) (map read_parts before.now))) }
     ensures unchanged { drawings.new ≡ drawings.old }
 {
     if before.is_empty() {

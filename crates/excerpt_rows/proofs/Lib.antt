@@ -1,5 +1,7 @@
+pub mod AlignedLemmas
 pub mod AlignmentLemmas
 pub mod EndLemmas
 pub mod ExpansionLemmas
 pub mod HunkLemmas
+pub mod PlaceLemmas
 pub mod SearchLemmas

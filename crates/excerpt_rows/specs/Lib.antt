@@ -1,3 +1,4 @@
+pub mod Aligned
 pub mod Alignment
 pub mod Ends
 pub mod Expansion

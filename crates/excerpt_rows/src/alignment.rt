@@ -2,7 +2,10 @@
 ghost use Rattle.std.specs.Prelude.{◌≡◌, ◌+◌, ◌-◌, ◌*◌, ◌^◌, ◌≤◌, ◌<◌, IfOk, MatchBool};
 ghost use Rattle.std.specs.Prelude.{MatchOption, length, min};
 ghost use Rattle.std.specs.List.{list_all};
+ghost use Rattle.std.specs.Option.{option_map};
 ghost use Rattle.excerpt_rows.specs.Ends.{is_blank as blank};
+ghost use Rattle.excerpt_rows.specs.Aligned.{OffsetsAreBoundaries, OffsetsAreWithin};
+ghost use Rattle.excerpt_rows.specs.Aligned.{OffsetsAscend, aligned_parts, alignment_of, offset_in};
 ghost use Rattle.excerpt_rows.specs.Alignment.{ColumnsAreRight, FirstLaid, HasNoAlignment};
 ghost use Rattle.excerpt_rows.specs.Alignment.{IsAlignment, IsLaid, IsNoPart, IsNotLaid, IsOther};
 ghost use Rattle.excerpt_rows.specs.Alignment.{IsPart, IsPrintedBy, IsWhole, NoneLaid, offset_at};
@@ -82,9 +85,11 @@ pub fn aligned(
     printed: &[char],
     source: &[char],
 ) -> Result<Option<Alignment>, AllocError>
-    ensures { IfOk result (λ found.
+    ensures found { IfOk result (λ found.
         MatchOption found (HasNoAlignment printed.now source.now)
         (IsAlignment printed.now source.now)) }
+    ensures value { IfOk result (λ found.
+        option_map aligned_parts found ≡ alignment_of printed.now source.now) }
 {
     if printed.len() > LIMIT || source.len() > LIMIT {
         return Ok(None);
@@ -219,7 +224,8 @@ impl Alignment {
     /// The offset in bytes, in the source's row, of the character that the printed row has at a
     /// column, in characters from 0. Past the row it is the row's end.
     pub fn offset(&self, column: usize) -> usize
-        ensures { result ≡ offset_at self.now column }
+        ensures at { result ≡ offset_at self.now column }
+        ensures value { result ≡ offset_in (aligned_parts self.now) column }
     {
         match self.places.get(self.shift.at(column)) {
             Some(offset) => *offset,
@@ -232,4 +238,12 @@ impl Alignment {
 /// the source's character that is printed there.
 pub fn columns_are_right()
     ensures { ColumnsAreRight }
+{}
+
+/// Each offset that [`Alignment::offset`] gives is at most the end of the source's row and between
+/// two of its characters, and no later column has a smaller one.
+pub fn offsets_are_right()
+    ensures boundaries { OffsetsAreBoundaries }
+    ensures within { OffsetsAreWithin }
+    ensures ascend { OffsetsAscend }
 {}

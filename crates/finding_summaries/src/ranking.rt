@@ -49,16 +49,16 @@ pub(crate) fn ranked_rules(alloc: Global, findings: &[Finding]) -> Result<Vec<Ro
     ranked(alloc, &names)
 }
 
-/// The file of a finding.
-fn file_of(finding: &Finding) -> &str
+/// The file of a finding, as summaries name it.
+pub fn file_of(finding: &Finding) -> &str
     ensures { result.now ≡ file_named (finding_parts finding.now) }
 {
     let name = finding.name.as_str();
     if name.is_empty() { "(no file)" } else { name }
 }
 
-/// The rule of a finding: its code.
-fn rule_of(finding: &Finding) -> &str
+/// The rule of a finding, as summaries name it: its code.
+pub fn rule_of(finding: &Finding) -> &str
     ensures { result.now ≡ rule_named (finding_parts finding.now) }
 {
     match &finding.code {

@@ -11,13 +11,13 @@ use oxc_protocol::Severity;
 use report_counts::{Counts, summary_line};
 use std::alloc::{AllocError, Global};
 
-/// Appends the line with the totals.
+/// Appends the line with the totals, as `3 findings: 2 errors, 1 note`, with an LF.
+///
+/// # Errors
+///
+/// Out of memory, after a first part was appended.
 #[tactic(auto, unfolding(crate::specs::Totals::totals))]
-pub(crate) fn push_totals(
-    alloc: Global,
-    out: &mut String,
-    findings: &[Finding],
-) -> Result<(), AllocError>
+pub fn push_totals(alloc: Global, out: &mut String, findings: &[Finding]) -> Result<(), AllocError>
     ensures { OnOk result (string_bytes out.new
         ≡ string_bytes out.old ++ totals (map finding_parts findings.now)) }
 {

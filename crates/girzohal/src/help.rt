@@ -11,8 +11,8 @@ usage: girzohal [OPTION].. [--] [FILE]
 
 Without FILE, or if FILE is -, standard input is read. The value of an option is
 the next argument, or follows a =. If an option is given again, its last value
-counts. But each --shape counts, and --to is given once. After -- all arguments
-are files.
+counts. But each --shape, --include, --exclude, --select, --ignore and --output
+counts, and --to is given once. After -- all arguments are files.
 
 Input
   --from FORM          The form of the input: auto, document, sarif or lines.
@@ -56,11 +56,46 @@ Source code
                        Read files outside of that folder too. Do so only for
                        input that you trust. Default: they aren't read.
 
+Filters
+  --changed DIFF       A file with a diff, as git writes it. Only findings on
+                       what it changed stay. Default: all stay.
+                       Example: --changed changes.diff
+  --filter-mode MODE   The findings that the diff leaves: added (on rows that it
+                       added), diff_context (on rows that it shows), file (in
+                       its files) or nofilter (all). It needs --changed.
+                       Default: added. Example: --filter-mode file
+  --strip N            How many folders to leave out of names in the diff. It
+                       needs --changed. Default: one if they begin with two
+                       letters such as a/ and b/, otherwise none.
+                       Example: --strip 1
+  --baseline LOG       A file with known findings: what --to document wrote, or
+                       an input of the same form. Only findings that aren't in
+                       it stay. Default: all stay. Example: --baseline old.json
+  --include GLOB       Only findings in files of this pattern stay. In it, *
+                       matches any characters but /, ** any characters, and ?
+                       one; a folder matches with all below it. Default: all
+                       stay. Example: --include 'src/**'
+  --exclude GLOB       Findings in files of this pattern are left out. Default:
+                       none. Example: --exclude vendor/
+  --select RULE        Only findings of rules of this pattern stay: of a code, a
+                       scope such as eslint, or both as eslint(no-var). Default:
+                       all stay. Example: --select 'E5*'
+  --ignore RULE        Findings of rules of this pattern are left out. Default:
+                       none. Example: --ignore E501
+  --severity LEVEL     Only findings of this severity or a higher one stay:
+                       error, warning or advice. Default: all stay.
+                       Example: --severity warning
+
 Output
   --to FORM            The form of the output: drawing, json, document, sarif,
                        problems, github, gitlab, checkstyle, junit, stylish,
-                       summary (totals, files and rules by count) or markdown
-                       (the same). Default: drawing. Example: --to github
+                       summary (totals, files and rules by count), markdown (the
+                       same) or html (a page with the drawings).
+                       Default: drawing. Example: --to github
+  --output FORM=FILE, -o FORM=FILE
+                       Write this form to a file too; - is standard output.
+                       Without --to nothing else goes to standard output.
+                       Default: none. Example: -o sarif=log.sarif -o github=-
   --color WHEN         Colors: auto, always or never. For auto the environment
                        decides, see below. Default: auto. Example: --color never
   --ascii              Draw with ASCII characters. Such drawings have no colors,
@@ -70,6 +105,10 @@ Output
                        Example: --width 100
   --tabs N             How many columns tab stops are apart, from 1 to 16.
                        Default: 4. Example: --tabs 8
+  --unique, --no-unique
+                       Leave out a finding that came before, or keep it; the
+                       last of both counts. Default: left out where lines are
+                       drawn.
   --max-findings N     Draw at most N findings, and print how many more there
                        are. Default: all are drawn. Example: --max-findings 10
   --only-findings      Leave out lines that aren't findings. Default: they are

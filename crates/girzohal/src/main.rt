@@ -4,22 +4,28 @@
 //! [`run`](girzohal_run::run) is the whole run over any source, store and sinks. `main` reads the
 //! arguments and calls it with the standard streams and the disk. The other modules:
 //!
+//! - `filters`: the files of filters
 //! - `help`: the help and the version
+//! - `outputs`: several outputs of one input
 //! - `surroundings`: colors and width from the environment
 #![tactic(auto)]
 
+mod filters;
 mod help;
+mod outputs;
 mod surroundings;
 
 use documents::{ReaderSource, Source, StderrSink, StdinSource, StdoutSink};
-use girzohal_options::{Asked, Fault, Program, Refusal, Request, message, read_words};
+use filters::{read_filters, why_closed};
+use girzohal_options::{Asked, Fault, Program, Refusal, Request, ThemeChoice, message, read_words};
 use girzohal_run::{Status, run};
 use harmless::{Kind, harmless};
 use help::{HELP, MORE, VERSION};
+use outputs::{has_files, printed_form, write_outputs};
 use source_store::DiskStore;
 use std::alloc::Global;
 use std::fs::Files;
-use std::io::{ErrorKind, IsTerminal};
+use std::io::IsTerminal;
 use std::process::ExitCode;
 use std::{env, fs};
 use surroundings::Surroundings;
@@ -53,26 +59,48 @@ fn tell(rt: &HostRuntime, text: &str) -> ExitCode {
 /// Runs with these options, over the streams and the disk of the system.
 fn obey(rt: &HostRuntime, alloc: Global, mut asked: Asked) -> ExitCode {
     let around = Surroundings::of(rt, rt.stdout().is_terminal());
+    let in_files = Surroundings::of(rt, false).theme(asked.theme);
     asked.theme = around.theme(asked.theme);
     asked.width = Some(around.width(asked.width));
     let Some(root) = folder_at(rt, alloc, asked.root.as_str()) else {
         return refuse_root(rt, alloc, asked.root.as_str());
     };
+    if asked.files.len() > 1 {
+        return refuse(rt, "only one FILE is read");
+    }
+    if let Err(status) = read_filters(rt, alloc, &mut asked, root.as_str()) {
+        return ExitCode::from(status.code());
+    }
     let store = DiskStore::new(rt, root, asked.anywhere);
-    let Some(file) = file_in(&asked) else {
+    let Some(file) = take_file(&mut asked) else {
         if rt.stdin().is_terminal() {
             let _waits = eprintln!(rt; "girzohal: reading from the terminal");
         }
-        return start(rt, alloc, &asked, &mut StdinSource::new(rt.stdin()), &store);
+        let mut input = StdinSource::new(rt.stdin());
+        return start(rt, alloc, &mut asked, in_files, &mut input, &store);
     };
-    read_file(rt, alloc, &asked, file, &store)
+    read_file(rt, alloc, &mut asked, in_files, file.as_str(), &store)
+}
+
+/// Takes the file to read; none for standard input.
+fn take_file(asked: &mut Asked) -> Option<String> {
+    if asked.files.is_empty() {
+        return None;
+    }
+    let file = asked.files.remove(0);
+    if file.as_str() == "-" {
+        None
+    } else {
+        Some(file)
+    }
 }
 
 /// Runs over a file, or writes why it isn't read.
 fn read_file(
     rt: &HostRuntime,
     alloc: Global,
-    asked: &Asked,
+    asked: &mut Asked,
+    in_files: ThemeChoice,
     file: &str,
     store: &DiskStore<'_, HostRuntime>,
 ) -> ExitCode {
@@ -82,17 +110,11 @@ fn read_file(
         }
     }
     match fs::open(rt, file) {
-        Ok(opened) => start(rt, alloc, asked, &mut ReaderSource::new(opened), store),
+        Ok(opened) => {
+            let mut input = ReaderSource::new(opened);
+            start(rt, alloc, asked, in_files, &mut input, store)
+        }
         Err(e) => refuse_file(rt, alloc, file, why_closed(e.kind())),
-    }
-}
-
-/// Why a file can't be opened.
-fn why_closed(kind: ErrorKind) -> &'static str {
-    match kind {
-        ErrorKind::NotFound => "isn't there",
-        ErrorKind::PermissionDenied => "may not be read",
-        _ => "can't be read",
     }
 }
 
@@ -102,14 +124,6 @@ fn folder_at(rt: &HostRuntime, alloc: Global, path: &str) -> Option<String> {
     match rt.metadata(real.as_path().as_str()) {
         Ok(about) if about.is_dir() => Some(real.into_string()),
         _ => None,
-    }
-}
-
-/// The file to read; none for standard input.
-fn file_in(asked: &Asked) -> Option<&str> {
-    match asked.file.as_deref() {
-        Some("-") | None => None,
-        Some(file) => Some(file),
     }
 }
 
@@ -126,13 +140,21 @@ fn refuse_file(rt: &HostRuntime, alloc: Global, file: &str, why: &str) -> ExitCo
 fn start<I: Source>(
     rt: &HostRuntime,
     alloc: Global,
-    asked: &Asked,
+    asked: &mut Asked,
+    in_files: ThemeChoice,
     input: &mut I,
     store: &DiskStore<'_, HostRuntime>,
 ) -> ExitCode {
+    if has_files(asked) {
+        return write_outputs(rt, alloc, asked, in_files, input, store);
+    }
+    if let Some(to) = printed_form(asked) {
+        asked.to = to;
+    }
     let mut out = StdoutSink::new(rt.stdout());
     let mut err = StderrSink::new(rt.stderr());
-    ExitCode::from(run(alloc, asked, input, store, &mut out, &mut err).code())
+    let status = run(alloc, asked, input, store, &mut out, &mut err);
+    ExitCode::from(status.code())
 }
 
 /// Writes which argument is wrong, and why.

@@ -1,5 +1,5 @@
 -- What is shown of a log's findings in an open file.
-use Rattle.std.specs.Prelude.{◌≡◌, ◌⊎◌, ℕ, List, [], ◌∷◌, true, Option, Some, None, unwrap_or, if◌then◌else◌}
+use Rattle.std.specs.Prelude.{◌≡◌, ◌⊎◌, ℕ, List, [], ◌∷◌, map, true, Option, Some, None, unwrap_or, if◌then◌else◌}
 use Rattle.std.specs.Borrow.{Bor}
 use Rattle.std.specs.List.{filter_map}
 use Rattle.oxc_protocol.specs.Parts.{OxcParts}
@@ -21,6 +21,7 @@ use Rattle.line_shapes.specs.declared.tools.Columns.{Columns}
 use Rattle.tool_lines.specs.Lines.{ArePieces, PieceParts, lines_of}
 use Rattle.tool_lines.specs.Paint.{unpainted}
 use Rattle.line_reports.specs.Names as lines
+use Rattle.line_reports.specs.Pieces.{AreRead, ReadParts}
 use Rattle.line_reports.specs.Reports as lines_meaning
 use Rattle.lsp_diagnostics.specs.Seen.{StandIn}
 use Rattle.source_store.specs.Matching.{is_named, means_file}
@@ -93,7 +94,10 @@ pub record ShowsLines (asked : Asked) (bytes path text : List ℕ) (shown : List
   pub those : ArePieces (tools.shapes_of (tool_name asked.tool)) None (lines_of (unpainted bytes)) pieces
   pub given : List ℕ → Held
   pub told_so : IsGiven (told_open path text) Path (lines.names_in pieces) given
-  pub are : AreShown Path path text (lines_meaning.reports_in (columns_of asked) given (lines_of (unpainted bytes)) pieces) shown
+  pub reads : List ReadParts
+  pub of_them : map (λ (it : ReadParts). it.piece) reads ≡ pieces
+  pub read : AreRead (lines_of (unpainted bytes)) reads
+  pub are : AreShown Path path text (lines_meaning.reports_in (columns_of asked) given (lines_of (unpainted bytes)) reads) shown
 
 abbrev pub Shows : Asked → LogFile → List ℕ → List ℕ → List OxcParts → Type 0
 Shows asked (Sarif log) path text shown = ShowsLog asked (log_view log) path text shown

@@ -1,5 +1,5 @@
 -- What the options mean to the server.
-use Rattle.std.specs.Prelude.{ℕ, List, nat_lt, length, string_bytes, if◌then◌else◌, ◌&&◌, Bool, Option, Some, None, is_some}
+use Rattle.std.specs.Prelude.{ℕ, List, [], ◌∷◌, nat_lt, length, string_bytes, if◌then◌else◌, ◌&&◌, Bool, Option, Some, None, is_some}
 use Rattle.std.specs.declared.string.String.{String}
 use Rattle.girzohal_options.specs.declared.Asked.{Asked as Options}
 use Rattle.girzohal_options.specs.declared.InputForm.{InputForm}
@@ -15,9 +15,9 @@ form_meant input.Sarif = Some form.Sarif
 form_meant input.Document = None
 
 -- the path of a log isn't empty
-abbrev pub log_meant : {A : Type 0} → Option (String A) → Option (List ℕ)
-log_meant None = None
-log_meant (Some path) = if nat_lt 0 (length (string_bytes path)) then Some (string_bytes path) else None
+abbrev pub log_meant : {A : Type 0} → List (String A) → Option (List ℕ)
+log_meant [] = None
+log_meant (path ∷ rest) = if nat_lt 0 (length (string_bytes path)) then Some (string_bytes path) else None
 
 abbrev pub can_serve : Options → Bool
-can_serve asked = is_some (form_meant asked.from) && is_some (log_meant asked.file)
+can_serve asked = is_some (form_meant asked.from) && is_some (log_meant asked.files.items)

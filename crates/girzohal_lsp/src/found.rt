@@ -90,7 +90,8 @@ fn found_in_lines(
     let pieces = pieces_of(alloc, &lines, &shapes)?;
     let names = line_reports::names_of(alloc, &pieces)?;
     let sources = gather_indexed(alloc, &file, Spelling::Path, &names)?;
-    let found = line_reports::reports_of(alloc, &lines, &pieces, &sources, columns_of(asked))?;
+    let reads = line_reports::read_pieces(alloc, &lines, &pieces)?;
+    let found = line_reports::reports_of(alloc, &lines, &reads, &sources, columns_of(asked))?;
     let shown = shown_of(alloc, Spelling::Path, &found, path, text)?;
     Ok(shown)
 }

@@ -42,10 +42,10 @@ pub fn served(asked: &girzohal_options::Asked) -> Option<Asked<'_>>
         ≡ option_map string_bytes asked.now.tool) }
     ensures columns { IfSome result (λ it. it.columns ≡ asked.now.columns) }
     ensures first { IfSome result (λ it. it.first_column ≡ asked.now.first_column) }
-    ensures log { IfSome result (λ it. log_meant asked.now.file ≡ Some it.log.now) }
+    ensures log { IfSome result (λ it. log_meant asked.now.files.items ≡ Some it.log.now) }
 {
     let from = form_of(asked.from)?;
-    let log = log_path(&asked.file)?;
+    let log = log_path(&asked.files)?;
     Some(Asked {
         from,
         tool: asked.tool.as_deref(),
@@ -66,12 +66,12 @@ fn form_of(form: InputForm) -> Option<Form>
     }
 }
 
-/// The path, if there is one and it isn't empty.
-fn log_path(file: &Option<String>) -> Option<&str>
-    ensures { option_copied result ≡ log_meant file.now }
+/// The first path, if there is one and it isn't empty.
+fn log_path(files: &[String]) -> Option<&str>
+    ensures { option_copied result ≡ log_meant files.now }
 {
-    match file {
-        Some(path) if !path.is_empty() => Some(path.as_str()),
+    match files {
+        [path, ..] if !path.is_empty() => Some(path.as_str()),
         _ => None,
     }
 }

@@ -1,20 +1,25 @@
 -- The values that options are given, and which argument is wrong.
-use Rattle.std.specs.Prelude.{◌≡◌, ℕ, List, [], ◌∷◌, ◌++◌, map, codes, if◌then◌else◌, ◌||◌, Bool, false, Option, Some, None, option_and_then, is_some, Result, Ok, Err}
+use Rattle.std.specs.Prelude.{◌≡◌, ℕ, List, [], ◌∷◌, ◌++◌, map, codes, if◌then◌else◌, ◌||◌, Bool, true, false, Option, Some, None, option_and_then, is_some, Result, Ok, Err}
 use Rattle.std.specs.List.{flat_map, list_any}
 use Rattle.std.specs.Option.{option_copied, option_or}
+use Rattle.std.specs.Str.{bytes_eq}
 use Rattle.escapes.specs.Cuts.{number_of}
 use Rattle.line_shapes.specs.Parse.{shape_of}
 use Rattle.line_shapes.specs.Shape.{ShapeParts}
 use Rattle.line_shapes.specs.declared.parse.ShapeError.{ShapeError}
+use Rattle.girzohal_options.specs.declared.InputForm.{InputForm}
+use Rattle.girzohal_options.specs.declared.InputForm.TheVariants as form
 use Rattle.girzohal_options.specs.declared.OutputForm.{OutputForm}
 use Rattle.girzohal_options.specs.Said.{Said, flag, setting, file, unknown, bare, valued, file_named, value_under}
-use Rattle.girzohal_options.specs.Values.{color_named, first_named, form_named, level_named, output_named, is_tool, tabs_named, unit_named, width_named}
+use Rattle.girzohal_options.specs.Values.{color_named, filter_named, first_named, form_named, form_of_tool, is_text, is_tool, level_named, output_in, output_named, severity_named, tabs_named, unit_named, width_named}
 use Rattle.girzohal_options.specs.declared.given.Fault.{Fault}
 use Rattle.girzohal_options.specs.declared.given.Fault.TheVariants as fault
 use Rattle.girzohal_options.specs.declared.given.Given.{Given as GivenValues}
 use Rattle.girzohal_options.specs.declared.given.Taken.{Taken}
+use Rattle.girzohal_options.specs.declared.table.Program.{Program}
+use Rattle.girzohal_options.specs.declared.table.Program.TheVariants.{Girzohal, Server}
 use Rattle.girzohal_options.specs.declared.table.Setting.{Setting}
-use Rattle.girzohal_options.specs.declared.table.Setting.TheVariants.{From, Tool, Columns, FirstColumn, To, Shape, Root, Color, Width, Tabs, MaxFindings, FailOn}
+use Rattle.girzohal_options.specs.declared.table.Setting.TheVariants.{From, Tool, Columns, FirstColumn, To, Output, Shape, Root, Changed, FilterMode, Strip, Baseline, Include, Exclude, Select, Ignore, Severity, Color, Width, Tabs, MaxFindings, FailOn}
 use Rattle.girzohal_options.specs.Shapes.{own_parts}
 
 -- the last value of an option, as it is meant
@@ -26,9 +31,27 @@ last meant name (it ∷ rest) = option_or (last meant name rest) (option_and_the
 abbrev pub last_text : List ℕ → List Said → Option (List ℕ)
 last_text name all = last (λ value. Some value) name all
 
+-- whether findings that are printed again are left out, if this says so
+abbrev pub unique_by : Said → Option Bool
+unique_by (flag name) = if bytes_eq name (codes "--unique") then Some true else if bytes_eq name (codes "--no-unique") then Some false else None
+unique_by other = None
+
+abbrev pub last_unique : List Said → Option Bool
+last_unique [] = None
+last_unique (it ∷ rest) = option_or (last_unique rest) (unique_by it)
+
+-- the form in which an input is read: as is asked for, else as the tool writes
+abbrev pub form_with : Program → Option InputForm → Option (List ℕ) → InputForm
+form_with program (Some it) tool = it
+form_with program None (Some tool) = form_of_tool program tool
+form_with program None None = form.Auto
+
+abbrev pub form_in : Program → List Said → InputForm
+form_in program all = form_with program (last form_named (codes "--from") all) (last_text (codes "--tool") all)
+
 -- nothing is given
 abbrev pub nothing : GivenValues
-nothing = record { from = None; to = None; columns = None; first_column = None; color = None; width = None; tabs = None; max_findings = None; fail_on = None; file = false }
+nothing = record { from = None; to = None; columns = None; first_column = None; color = None; width = None; tabs = None; max_findings = None; fail_on = None; filter_mode = None; strip = None; severity = None; unique = None; file = false }
 
 -- what is given, after earlier values: of each option the last value counts
 unfoldable pub given_with : GivenValues → List Said → GivenValues
@@ -42,6 +65,10 @@ given_with before all = record {
   tabs = option_or (last tabs_named (codes "--tabs") all) before.tabs;
   max_findings = option_or (last number_of (codes "--max-findings") all) before.max_findings;
   fail_on = option_or (last level_named (codes "--fail-on") all) before.fail_on;
+  filter_mode = option_or (last filter_named (codes "--filter-mode") all) before.filter_mode;
+  strip = option_or (last number_of (codes "--strip") all) before.strip;
+  severity = option_or (last severity_named (codes "--severity") all) before.severity;
+  unique = option_or (last_unique all) before.unique;
   file = list_any (λ it. is_some (file_named it)) all || before.file;
 }
 
@@ -62,6 +89,8 @@ pub record Takes (before : Taken) (all : List Said) (after : Taken) : Type 0 whe
   pub given_is : after.given ≡ given_with before.given all
   pub tool_is : option_copied after.tool ≡ option_or (last_text (codes "--tool") all) (option_copied before.tool)
   pub root_is : option_copied after.root ≡ option_or (last_text (codes "--root") all) (option_copied before.root)
+  pub changed_is : option_copied after.changed ≡ option_or (last_text (codes "--changed") all) (option_copied before.changed)
+  pub baseline_is : option_copied after.baseline ≡ option_or (last_text (codes "--baseline") all) (option_copied before.baseline)
   pub shapes_are : map own_parts after.shapes.items ≡ map own_parts before.shapes.items ++ shapes_in all
 
 -- ---- what is wrong
@@ -83,6 +112,12 @@ pub data Wrong : Type 0 where
   second_form : List ℕ → Wrong
   -- a unit in which a log's columns can't be counted
   uncounted : Wrong
+  -- an option that needs `--changed`, without it
+  without_diff : Setting → Wrong
+  -- a file that two outputs go to
+  written_twice : List ℕ → Wrong
+  -- standard input is read twice
+  read_twice : Wrong
 
 abbrev pub wrong : Fault → Wrong
 wrong (fault.Unknown name) = no_option name.now
@@ -93,6 +128,9 @@ wrong (fault.Shape why text) = no_shape why text.now
 wrong (fault.SecondFile name) = second_file name.now
 wrong (fault.SecondForm value) = second_form value.now
 wrong fault.Uncounted = uncounted
+wrong (fault.WithoutDiff it) = without_diff it
+wrong (fault.WrittenTwice path) = written_twice path.now
+wrong fault.ReadTwice = read_twice
 
 -- a value is wrong unless its option takes it
 abbrev pub unless : Bool → Setting → List ℕ → Option Wrong
@@ -108,31 +146,51 @@ abbrev pub wrong_shape : Result ShapeParts ShapeError → List ℕ → Option Wr
 wrong_shape (Ok shape) text = None
 wrong_shape (Err why) text = Some (no_shape why text)
 
--- what is wrong with the value of an option, after what is given before it
-abbrev pub wrong_value : GivenValues → Setting → List ℕ → Option Wrong
-wrong_value before From value = unless (is_some (form_named value)) From value
-wrong_value before Tool value = unless (is_tool value) Tool value
-wrong_value before Columns value = unless (is_some (unit_named value)) Columns value
-wrong_value before FirstColumn value = unless (is_some (first_named value)) FirstColumn value
-wrong_value before To value = once before.to (output_named value) value
-wrong_value before Shape value = wrong_shape (shape_of value) value
-wrong_value before Root value = None
-wrong_value before Color value = unless (is_some (color_named value)) Color value
-wrong_value before Width value = unless (is_some (width_named value)) Width value
-wrong_value before Tabs value = unless (is_some (tabs_named value)) Tabs value
-wrong_value before MaxFindings value = unless (is_some (number_of value)) MaxFindings value
-wrong_value before FailOn value = unless (is_some (level_named value)) FailOn value
+-- what is wrong with the value of an option that takes one of several, or a number
+abbrev pub wrong_choice : GivenValues → Setting → List ℕ → Option Wrong
+wrong_choice before From value = unless (is_some (form_named value)) From value
+wrong_choice before Columns value = unless (is_some (unit_named value)) Columns value
+wrong_choice before FirstColumn value = unless (is_some (first_named value)) FirstColumn value
+wrong_choice before To value = once before.to (output_named value) value
+wrong_choice before FilterMode value = unless (is_some (filter_named value)) FilterMode value
+wrong_choice before Strip value = unless (is_some (number_of value)) Strip value
+wrong_choice before Severity value = unless (is_some (severity_named value)) Severity value
+wrong_choice before Color value = unless (is_some (color_named value)) Color value
+wrong_choice before Width value = unless (is_some (width_named value)) Width value
+wrong_choice before Tabs value = unless (is_some (tabs_named value)) Tabs value
+wrong_choice before MaxFindings value = unless (is_some (number_of value)) MaxFindings value
+wrong_choice before FailOn value = unless (is_some (level_named value)) FailOn value
+wrong_choice before it value = None
 
--- what is wrong with an argument, after what is given before it: one file is read
-abbrev pub wrong_in : GivenValues → Said → Option Wrong
-wrong_in before (flag name) = None
-wrong_in before (setting it value) = wrong_value before it value
-wrong_in before (file name) = if before.file then Some (second_file name) else None
-wrong_in before (unknown name) = Some (no_option name)
-wrong_in before (bare it) = Some (no_value it)
-wrong_in before (valued name value) = Some (with_value name value)
+-- what is wrong with the value of an option, after what is given before it
+abbrev pub wrong_value : Program → GivenValues → Setting → List ℕ → Option Wrong
+wrong_value program before Tool value = unless (is_tool value) Tool value
+wrong_value program before Output value = unless (is_some (output_in value)) Output value
+wrong_value program before Shape value = wrong_shape (shape_of value) value
+wrong_value program before Root value = None
+wrong_value program before Changed value = unless (is_text value) Changed value
+wrong_value program before Baseline value = unless (is_text value) Baseline value
+wrong_value program before Include value = unless (is_text value) Include value
+wrong_value program before Exclude value = unless (is_text value) Exclude value
+wrong_value program before Select value = unless (is_text value) Select value
+wrong_value program before Ignore value = unless (is_text value) Ignore value
+wrong_value program before it value = wrong_choice before it value
+
+-- the server reads one file
+abbrev pub wrong_file : Program → Bool → List ℕ → Option Wrong
+wrong_file Girzohal again name = None
+wrong_file Server again name = if again then Some (second_file name) else None
+
+-- what is wrong with an argument, after what is given before it
+abbrev pub wrong_in : Program → GivenValues → Said → Option Wrong
+wrong_in program before (flag name) = None
+wrong_in program before (setting it value) = wrong_value program before it value
+wrong_in program before (file name) = wrong_file program before.file name
+wrong_in program before (unknown name) = Some (no_option name)
+wrong_in program before (bare it) = Some (no_value it)
+wrong_in program before (valued name value) = Some (with_value name value)
 
 -- the first argument that is wrong in itself, or after what is given before it
-abbrev pub first_wrong : GivenValues → List Said → Option Wrong
-first_wrong before [] = None
-first_wrong before (it ∷ rest) = option_or (wrong_in before it) (first_wrong (given_with before (it ∷ [])) rest)
+abbrev pub first_wrong : Program → GivenValues → List Said → Option Wrong
+first_wrong program before [] = None
+first_wrong program before (it ∷ rest) = option_or (wrong_in program before it) (first_wrong program (given_with before (it ∷ [])) rest)

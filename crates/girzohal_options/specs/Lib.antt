@@ -3,5 +3,7 @@ pub mod Names
 pub mod Said
 pub mod Values
 pub mod Given
+pub mod Lists
+pub mod Together
 pub mod Nearest
 pub mod Reads

@@ -5,7 +5,7 @@ use Rattle.std.specs.Str.{bytes_eq}
 use Rattle.girzohal_options.specs.declared.table.Program.{Program}
 use Rattle.girzohal_options.specs.declared.table.Program.TheVariants.{Girzohal, Server}
 use Rattle.girzohal_options.specs.declared.table.Setting.{Setting}
-use Rattle.girzohal_options.specs.declared.table.Setting.TheVariants.{From, Tool, Columns, FirstColumn, To, Shape, Root, Color, Width, Tabs, MaxFindings, FailOn}
+use Rattle.girzohal_options.specs.declared.table.Setting.TheVariants.{From, Tool, Columns, FirstColumn, To, Output, Shape, Root, Changed, FilterMode, Strip, Baseline, Include, Exclude, Select, Ignore, Severity, Color, Width, Tabs, MaxFindings, FailOn}
 
 -- the name of an option that takes a value
 abbrev pub setting_name : Setting → List ℕ
@@ -14,8 +14,18 @@ setting_name Tool = codes "--tool"
 setting_name Columns = codes "--columns"
 setting_name FirstColumn = codes "--first-column"
 setting_name To = codes "--to"
+setting_name Output = codes "--output"
 setting_name Shape = codes "--shape"
 setting_name Root = codes "--root"
+setting_name Changed = codes "--changed"
+setting_name FilterMode = codes "--filter-mode"
+setting_name Strip = codes "--strip"
+setting_name Baseline = codes "--baseline"
+setting_name Include = codes "--include"
+setting_name Exclude = codes "--exclude"
+setting_name Select = codes "--select"
+setting_name Ignore = codes "--ignore"
+setting_name Severity = codes "--severity"
 setting_name Color = codes "--color"
 setting_name Width = codes "--width"
 setting_name Tabs = codes "--tabs"
@@ -24,7 +34,7 @@ setting_name FailOn = codes "--fail-on"
 
 -- the options of a program that take a value
 unfoldable pub settings : Program → List Setting
-settings Girzohal = From ∷ Tool ∷ Columns ∷ FirstColumn ∷ To ∷ Shape ∷ Root ∷ Color ∷ Width ∷ Tabs ∷ MaxFindings ∷ FailOn ∷ []
+settings Girzohal = From ∷ Tool ∷ Columns ∷ FirstColumn ∷ To ∷ Output ∷ Shape ∷ Root ∷ Changed ∷ FilterMode ∷ Strip ∷ Baseline ∷ Include ∷ Exclude ∷ Select ∷ Ignore ∷ Severity ∷ Color ∷ Width ∷ Tabs ∷ MaxFindings ∷ FailOn ∷ []
 settings Server = From ∷ Tool ∷ Columns ∷ FirstColumn ∷ []
 
 -- the option with a name
@@ -32,9 +42,14 @@ abbrev pub setting_in : List Setting → List ℕ → Option Setting
 setting_in [] name = None
 setting_in (it ∷ rest) name = if bytes_eq (setting_name it) name then Some it else setting_in rest name
 
+-- the option of a program that takes a value and has a name; `-o` is short for `--output`
+abbrev pub setting_meant : Program → List ℕ → Option Setting
+setting_meant Girzohal name = if bytes_eq name (codes "-o") then Some Output else setting_in (settings Girzohal) name
+setting_meant Server name = setting_in (settings Server) name
+
 -- the options that take no value
 unfoldable pub flags : Program → List (List ℕ)
-flags Girzohal = codes "--help" ∷ codes "--version" ∷ codes "--allow-outside-root" ∷ codes "--ascii" ∷ codes "--only-findings" ∷ codes "--no-summary" ∷ codes "--quiet" ∷ codes "--raw" ∷ []
+flags Girzohal = codes "--help" ∷ codes "--version" ∷ codes "--allow-outside-root" ∷ codes "--ascii" ∷ codes "--only-findings" ∷ codes "--no-summary" ∷ codes "--quiet" ∷ codes "--raw" ∷ codes "--unique" ∷ codes "--no-unique" ∷ []
 flags Server = codes "--help" ∷ codes "--version" ∷ []
 
 -- short names of those

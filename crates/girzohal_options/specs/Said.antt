@@ -2,7 +2,7 @@
 use Rattle.std.specs.Prelude.{ℕ, List, [], ◌∷◌, map, codes, if◌then◌else◌, ◌==◌, not, Bool, true, false, Option, Some, None}
 use Rattle.std.specs.Str.{bytes_eq}
 use Rattle.escapes.specs.Cuts.{cut_at}
-use Rattle.girzohal_options.specs.Names.{is_flag, setting_in, setting_name, settings}
+use Rattle.girzohal_options.specs.Names.{is_flag, setting_meant, setting_name}
 use Rattle.girzohal_options.specs.declared.items.Item.{Item}
 use Rattle.girzohal_options.specs.declared.items.Item.TheVariants.{Flag, Given, File, Unknown, Bare, Valued}
 use Rattle.girzohal_options.specs.declared.items.Kind.{Kind as KindOfWord}
@@ -54,7 +54,7 @@ given_or None takes_none name value = if takes_none then valued name value else 
 
 -- a name and a value, around an equals sign
 abbrev pub valued_by : Program → List ℕ → List ℕ → Said
-valued_by program name value = given_or (setting_in (settings program) name) (is_flag program name) name value
+valued_by program name value = given_or (setting_meant program name) (is_flag program name) name value
 
 abbrev pub parted : Program → List ℕ → Option (List ℕ × List ℕ) → Said
 parted program word None = unknown word
@@ -68,7 +68,7 @@ unfoldable pub kind_of : Program → List ℕ → Kind
 kind_of program word =
     if is_file word then says (file word)
     else if is_flag program word then says (flag word)
-    else kind_by (setting_in (settings program) word) (parted program word (cut_at 0x3D word))
+    else kind_by (setting_meant program word) (parted program word (cut_at 0x3D word))
 
 -- what an argument of a kind says, with what the arguments after it say without it, and with the first of them as a value
 abbrev pub begun : Kind → List Said → (Setting → List Said) → List Said

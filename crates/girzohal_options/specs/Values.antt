@@ -1,11 +1,16 @@
 -- What the values of options mean.
-use Rattle.std.specs.Prelude.{ℕ, List, codes, if◌then◌else◌, ◌||◌, ◌&&◌, ◌==◌, nat_le, Bool, true, false, Option, Some, None, option_map, option_and_then, is_some, [], ◌∷◌}
+use Rattle.std.specs.Prelude.{ℕ, List, codes, if◌then◌else◌, ◌||◌, ◌&&◌, ◌==◌, nat_le, Bool, true, false, Option, Some, None, option_map, option_and_then, is_some, not, [], ◌∷◌}
+use Rattle.std.specs.List.{list_any}
 use Rattle.std.specs.Str.{bytes_eq}
-use Rattle.escapes.specs.Cuts.{number_of}
+use Rattle.escapes.specs.Cuts.{cut_at, number_of}
+use Rattle.finding_filters.specs.declared.changed.FilterMode.{FilterMode}
+use Rattle.finding_filters.specs.declared.changed.FilterMode.TheVariants as filter
 use Rattle.line_shapes.specs.declared.tables.Unit.{Unit as ColumnUnit}
 use Rattle.line_shapes.specs.declared.tables.Unit.TheVariants as unit
 use Rattle.line_shapes.specs.Shape.{ShapeParts}
 use Rattle.line_shapes.specs.Tools as tools
+use Rattle.oxc_protocol.specs.declared.protocol.Severity.{Severity}
+use Rattle.oxc_protocol.specs.declared.protocol.Severity.TheVariants as severity
 use Rattle.report_counts.specs.declared.counted.Level.{Level}
 use Rattle.report_counts.specs.declared.counted.Level.TheVariants as level
 use Rattle.girzohal_options.specs.declared.InputForm.{InputForm}
@@ -41,7 +46,20 @@ output_named value =
     else if bytes_eq value (codes "stylish") then Some to.Stylish
     else if bytes_eq value (codes "summary") then Some to.Summary
     else if bytes_eq value (codes "markdown") then Some to.Markdown
+    else if bytes_eq value (codes "html") then Some to.Html
     else None
+
+-- a text with something in it
+abbrev pub is_text : List ℕ → Bool
+is_text [] = false
+is_text (byte ∷ rest) = true
+
+abbrev pub with_path : List ℕ × List ℕ → Option (OutputForm × List ℕ)
+with_path parts = if is_text parts.1 then option_map (λ to. (to, parts.1)) (output_named parts.0) else None
+
+-- a form and the file that is written in it, around an equals sign
+unfoldable pub output_in : List ℕ → Option (OutputForm × List ℕ)
+output_in value = option_and_then with_path (cut_at 0x3D value)
 
 -- the theme of a choice of colors
 unfoldable pub color_named : List ℕ → Option ThemeChoice
@@ -65,6 +83,22 @@ level_named value =
     else if bytes_eq value (codes "warning") then Some level.Warning
     else if bytes_eq value (codes "advice") then Some level.Advice
     else if bytes_eq value (codes "never") then Some level.Never
+    else None
+
+-- the lowest severity of findings that stay
+unfoldable pub severity_named : List ℕ → Option Severity
+severity_named value =
+    if bytes_eq value (codes "error") then Some severity.Error
+    else if bytes_eq value (codes "warning") then Some severity.Warning
+    else if bytes_eq value (codes "advice") then Some severity.Advice
+    else None
+
+unfoldable pub filter_named : List ℕ → Option FilterMode
+filter_named value =
+    if bytes_eq value (codes "added") then Some filter.Added
+    else if bytes_eq value (codes "diff_context") then Some filter.DiffContext
+    else if bytes_eq value (codes "file") then Some filter.File
+    else if bytes_eq value (codes "nofilter") then Some filter.NoFilter
     else None
 
 -- ---- numbers

@@ -2,22 +2,26 @@
 ghost use Rattle.std.specs.Prelude.{◌≡◌, ◌∷◌, ◌++◌, [], IfOk, OnOk, is_some, map, option_map};
 ghost use Rattle.std.specs.Option.{option_or};
 ghost use Rattle.line_shapes.specs.Parse.{shape_of};
-ghost use Rattle.girzohal_options.specs.Given.{Takes, first_wrong, nothing, once, shapes_by, unless};
-ghost use Rattle.girzohal_options.specs.Given.{wrong, wrong_in, wrong_shape, wrong_value};
-ghost use Rattle.girzohal_options.specs.Said.{file as file_said, said, setting as setting_said};
+ghost use Rattle.girzohal_options.specs.Given.{Takes, first_wrong, given_with, nothing, once, shapes_by};
+ghost use Rattle.girzohal_options.specs.Given.{unless, wrong, wrong_choice, wrong_in, wrong_shape, wrong_value};
+ghost use Rattle.girzohal_options.specs.Said.{file as file_said, flag as flag_said, said};
+ghost use Rattle.girzohal_options.specs.Said.{setting as setting_said};
 ghost use Rattle.girzohal_options.specs.Shapes.{own_parts};
+ghost use Rattle.girzohal_options.specs.Values.{is_text as is_some_text};
 
 use crate::items::Item;
-use crate::table::Setting;
+use crate::table::{Program, Setting};
 use crate::values::{
-    color_named, first_named, form_named, is_tool, level_named, output_named, tabs_named,
-    unit_named, width_named,
+    color_named, filter_named, first_named, form_named, is_text, is_tool, level_named, output_in,
+    output_named, severity_named, tabs_named, unit_named, width_named,
 };
 use crate::{InputForm, OutputForm, ThemeChoice};
 use escapes::number;
+use finding_filters::FilterMode;
 use line_shapes::parse::{OwnShape, ShapeError, parse};
 use line_shapes::tables::Unit;
 use oxc_plan::TabWidth;
+use oxc_protocol::Severity;
 use report_counts::Level;
 use std::alloc::{AllocError, Global};
 
@@ -40,6 +44,12 @@ pub enum Fault<'w> {
     SecondForm(&'w str),
     /// A SARIF log's columns can't count bytes or cells.
     Uncounted,
+    /// The option needs `--changed`, which isn't given.
+    WithoutDiff(Setting),
+    /// Two outputs go to this file; `-` is standard output.
+    WrittenTwice(&'w str),
+    /// Standard input is read twice.
+    ReadTwice,
 }
 
 /// The last value of each option but those that are texts, and whether a file is named.
@@ -54,6 +64,10 @@ pub(crate) struct Given {
     pub(crate) tabs: Option<TabWidth>,
     pub(crate) max_findings: Option<usize>,
     pub(crate) fail_on: Option<Level>,
+    pub(crate) filter_mode: Option<FilterMode>,
+    pub(crate) strip: Option<usize>,
+    pub(crate) severity: Option<Severity>,
+    pub(crate) unique: Option<bool>,
     pub(crate) file: bool,
 }
 
@@ -65,6 +79,10 @@ pub(crate) struct Taken<'w> {
     pub(crate) tool: Option<&'w str>,
     /// The last `--root`.
     pub(crate) root: Option<&'w str>,
+    /// The last `--changed`.
+    pub(crate) changed: Option<&'w str>,
+    /// The last `--baseline`.
+    pub(crate) baseline: Option<&'w str>,
     /// The patterns of all `--shape`, in their order.
     pub(crate) shapes: Vec<OwnShape>,
 }
@@ -75,6 +93,8 @@ impl<'w> Taken<'w> {
         ensures given { result.given ≡ nothing }
         ensures tool { result.tool ≡ None }
         ensures root { result.root ≡ None }
+        ensures changed { result.changed ≡ None }
+        ensures baseline { result.baseline ≡ None }
         ensures shapes { result.shapes.items ≡ [] }
     {
         Taken {
@@ -88,28 +108,35 @@ impl<'w> Taken<'w> {
                 tabs: None,
                 max_findings: None,
                 fail_on: None,
+                filter_mode: None,
+                strip: None,
+                severity: None,
+                unique: None,
                 file: false,
             },
             tool: None,
             root: None,
+            changed: None,
+            baseline: None,
             shapes: Vec::new(alloc),
         }
     }
 
     /// Takes what arguments say, up to the first one that is wrong: in itself, or after earlier
-    /// ones, since one file is read and one form is written.
+    /// ones, since `--to` is given once and the server reads one file.
     pub(crate) fn take_all(
         &mut self,
         alloc: Global,
+        program: Program,
         items: &[Item<'w>],
     ) -> Result<Option<Fault<'w>>, AllocError>
         ensures fault { IfOk result (λ fault. option_map wrong fault
-            ≡ first_wrong self.old.given (map said items.now)) }
+            ≡ first_wrong program self.old.given (map said items.now)) }
         ensures taken { IfOk result (λ fault. fault ≡ None
             → Takes self.old (map said items.now) self.new) }
     {
         for item in items {
-            if let Some(fault) = self.take(alloc, *item)? {
+            if let Some(fault) = self.take(alloc, program, *item)? {
                 return Ok(Some(fault));
             }
         }
@@ -118,15 +145,23 @@ impl<'w> Taken<'w> {
 
     /// Takes what an argument says, and returns what is wrong with it.
     #[tactic(auto, unfolding(crate::specs::Given::given_with))]
-    fn take(&mut self, alloc: Global, item: Item<'w>) -> Result<Option<Fault<'w>>, AllocError>
+    fn take(
+        &mut self,
+        alloc: Global,
+        program: Program,
+        item: Item<'w>,
+    ) -> Result<Option<Fault<'w>>, AllocError>
         ensures fault { IfOk result (λ fault. option_map wrong fault
-            ≡ wrong_in self.old.given (said item.entry)) }
+            ≡ wrong_in program self.old.given (said item.entry)) }
         ensures taken { OnOk result (Takes self.old (said item.entry ∷ []) self.new) }
     {
         match item {
-            Item::Flag(_) => Ok(None),
-            Item::Given(setting, value) => self.set(alloc, setting, value),
-            Item::File(name) => Ok(self.take_file(name)),
+            Item::Flag(name) => {
+                self.take_flag(name);
+                Ok(None)
+            }
+            Item::Given(setting, value) => self.set(alloc, program, setting, value),
+            Item::File(name) => Ok(self.take_file(program, name)),
             Item::Unknown(name) => Ok(Some(Fault::Unknown(name))),
             Item::Bare(setting) => Ok(Some(Fault::Bare(setting))),
             Item::Valued(name, value) => Ok(Some(Fault::Valued(name, value))),
@@ -135,16 +170,29 @@ impl<'w> Taken<'w> {
 
     /// Takes a file, and returns what is wrong with it.
     #[tactic(auto, unfolding(crate::specs::Given::given_with))]
-    fn take_file(&mut self, name: &'w str) -> Option<Fault<'w>>
+    fn take_file(&mut self, program: Program, name: &'w str) -> Option<Fault<'w>>
         ensures fault { option_map wrong result
-            ≡ wrong_in self.old.given (file_said name.entry.now) }
+            ≡ wrong_in program self.old.given (file_said name.entry.now) }
         ensures taken { Takes self.old (file_said name.entry.now ∷ []) self.new }
     {
-        if self.given.file {
-            return Some(Fault::SecondFile(name));
-        }
+        let again = self.given.file;
         self.given.file = true;
-        None
+        match program {
+            Program::Server if again => Some(Fault::SecondFile(name)),
+            _ => None,
+        }
+    }
+
+    /// Takes an option without a value.
+    #[tactic(auto, unfolding(crate::specs::Given::given_with))]
+    fn take_flag(&mut self, name: &str)
+        ensures { Takes self.old (flag_said name.now ∷ []) self.new }
+    {
+        match name {
+            "--unique" => self.given.unique = Some(true),
+            "--no-unique" => self.given.unique = Some(false),
+            _ => {}
+        }
     }
 
     /// Sets an option to a value, and returns what is wrong with that.
@@ -152,40 +200,69 @@ impl<'w> Taken<'w> {
     fn set(
         &mut self,
         alloc: Global,
+        program: Program,
         setting: Setting,
         value: &'w str,
     ) -> Result<Option<Fault<'w>>, AllocError>
         ensures fault { IfOk result (λ fault. option_map wrong fault
-            ≡ wrong_value self.old.given setting value.entry.now) }
+            ≡ wrong_value program self.old.given setting value.entry.now) }
         ensures taken { OnOk result
             (Takes self.old (setting_said setting value.entry.now ∷ []) self.new) }
     {
-        let given = &mut self.given;
         match setting {
-            Setting::From => Ok(put(&mut given.from, form_named(value), setting, value)),
             Setting::Tool => {
                 self.tool = Some(value);
                 Ok(fault_unless(is_tool(alloc, value)?, setting, value))
             }
-            Setting::Columns => Ok(put(&mut given.columns, unit_named(value), setting, value)),
-            Setting::FirstColumn => {
-                Ok(put(&mut given.first_column, first_named(value), setting, value))
-            }
-            Setting::To => Ok(put_once(&mut given.to, output_named(value), value)),
             Setting::Shape => push_shape(alloc, &mut self.shapes, value),
+            Setting::Output => Ok(fault_unless(output_in(value).is_some(), setting, value)),
             Setting::Root => {
                 self.root = Some(value);
                 Ok(None)
             }
-            Setting::Color => Ok(put(&mut given.color, color_named(value), setting, value)),
-            Setting::Width => Ok(put(&mut given.width, width_named(value), setting, value)),
-            Setting::Tabs => Ok(put(&mut given.tabs, tabs_named(value), setting, value)),
-            Setting::MaxFindings => {
-                Ok(put(&mut given.max_findings, number(value), setting, value))
-            }
-            Setting::FailOn => Ok(put(&mut given.fail_on, level_named(value), setting, value)),
+            Setting::Changed => Ok(put_text(&mut self.changed, setting, value)),
+            Setting::Baseline => Ok(put_text(&mut self.baseline, setting, value)),
+            Setting::Include | Setting::Exclude | Setting::Select | Setting::Ignore => Ok(
+                fault_unless(is_text(value), setting, value),
+            ),
+            _ => Ok(choose(&mut self.given, setting, value)),
         }
     }
+}
+
+/// Sets an option that takes one of several values, or a number, and returns what is wrong with
+/// that. Of other options it sets nothing.
+#[tactic(auto, unfolding(crate::specs::Given::given_with))]
+fn choose<'w>(given: &mut Given, setting: Setting, value: &'w str) -> Option<Fault<'w>>
+    ensures fault { option_map wrong result ≡ wrong_choice given.old setting value.entry.now }
+    ensures given { given.new
+        ≡ given_with given.old (setting_said setting value.entry.now ∷ []) }
+{
+    match setting {
+        Setting::From => put(&mut given.from, form_named(value), setting, value),
+        Setting::Columns => put(&mut given.columns, unit_named(value), setting, value),
+        Setting::FirstColumn => put(&mut given.first_column, first_named(value), setting, value),
+        Setting::To => put_once(&mut given.to, output_named(value), value),
+        Setting::FilterMode => put(&mut given.filter_mode, filter_named(value), setting, value),
+        Setting::Strip => put(&mut given.strip, number(value), setting, value),
+        Setting::Severity => put(&mut given.severity, severity_named(value), setting, value),
+        Setting::Color => put(&mut given.color, color_named(value), setting, value),
+        Setting::Width => put(&mut given.width, width_named(value), setting, value),
+        Setting::Tabs => put(&mut given.tabs, tabs_named(value), setting, value),
+        Setting::MaxFindings => put(&mut given.max_findings, number(value), setting, value),
+        Setting::FailOn => put(&mut given.fail_on, level_named(value), setting, value),
+        _ => None,
+    }
+}
+
+/// Replaces a text, and returns what is wrong with the new one: it may not be empty.
+fn put_text<'w>(slot: &mut Option<&'w str>, setting: Setting, text: &'w str) -> Option<Fault<'w>>
+    ensures slot { slot.new ≡ Some text.entry }
+    ensures fault { option_map wrong result ≡ unless (is_some_text text.entry.now) setting
+        text.entry.now }
+{
+    *slot = Some(text);
+    fault_unless(is_text(text), setting, text)
 }
 
 /// Replaces a value if there is a new one, and returns what is wrong with its text.

@@ -4,6 +4,8 @@
 //! - `items`: what each argument says, with the next one if that is its value
 //! - `values`: what the values of options mean
 //! - `given`: the values that count, and the first wrong argument
+//! - `lists`: what is said of options that count each time, and of files
+//! - `together`: which options make no sense together
 //! - `reading`: what arguments ask for if none is wrong
 //! - `near`: the known option that an unknown one may mean
 //! - `messages`: the line that says which argument is wrong, and why
@@ -11,20 +13,25 @@
 
 mod given;
 mod items;
+mod lists;
 mod messages;
 mod near;
 mod reading;
 mod table;
+mod together;
 mod values;
 
+use finding_filters::FilterMode;
 pub use given::Fault;
 use line_shapes::parse::OwnShape;
 use line_shapes::tables::Unit;
 pub use messages::message;
 pub use near::nearest;
 use oxc_plan::TabWidth;
+use oxc_protocol::Severity;
 pub use reading::{Refusal, Request, read_words};
 use report_counts::Level;
+use report_filters::Rules;
 pub use table::{Program, Setting};
 
 /// The form of the input.
@@ -67,6 +74,8 @@ pub enum OutputForm {
     Summary,
     /// The same in Markdown.
     Markdown,
+    /// A page with the drawings.
+    Html,
 }
 
 /// The characters and colors of a drawing.
@@ -82,19 +91,32 @@ pub enum ThemeChoice {
     UnicodeNocolor,
 }
 
+/// An output, other than what `--to` writes on standard output.
+#[derive(Drop)]
+pub struct Output {
+    /// What is written.
+    pub to: OutputForm,
+    /// The file to write; `-` is standard output. It isn't empty.
+    pub path: String,
+}
+
 /// The options of a run.
 #[derive(Drop)]
 pub struct Asked {
-    /// The file to read; standard input if there is none.
-    pub file: Option<String>,
+    /// The files to read, in this order; `-` is standard input, which is read if there are none.
+    pub files: Vec<String>,
     /// The folder in which sources are read.
     pub root: String,
     /// Whether sources outside of that folder are read too.
     pub anywhere: bool,
     /// The form of the input.
     pub from: InputForm,
-    /// What is written.
+    /// What is written on standard output, if anything is.
     pub to: OutputForm,
+    /// Whether that is written: it is given, or there is no other output.
+    pub prints: bool,
+    /// The other outputs, in the order in which they are given.
+    pub outputs: Vec<Output>,
     /// The characters and colors of a drawing.
     pub theme: ThemeChoice,
     /// The width of a drawing in columns; if there is none, the environment's.
@@ -119,4 +141,26 @@ pub struct Asked {
     pub quiet: bool,
     /// Whether texts are written raw, even if they drive a terminal.
     pub raw: bool,
+    /// The file with the diff whose findings stay.
+    pub changed: Option<String>,
+    /// Which findings the diff leaves.
+    pub filter_mode: FilterMode,
+    /// How many folders of a name in the diff are left out; if there is none, as the diff says.
+    pub strip: Option<usize>,
+    /// The file with the findings that are known already.
+    pub baseline: Option<String>,
+    /// Patterns of the files whose findings stay; all without a pattern.
+    pub include: Vec<String>,
+    /// Patterns of the files whose findings are left out.
+    pub exclude: Vec<String>,
+    /// Patterns of the rules whose findings stay; all without a pattern.
+    pub select: Vec<String>,
+    /// Patterns of the rules whose findings are left out.
+    pub ignore: Vec<String>,
+    /// The lowest severity of findings that stay; all without it.
+    pub severity: Option<Severity>,
+    /// Whether findings that come again are left out; if there is none, where lines are drawn.
+    pub unique: Option<bool>,
+    /// The filters, with what their files say, which the program reads; arguments set none.
+    pub rules: Option<Rules>,
 }

@@ -6,6 +6,8 @@ ghost use Rattle.harmless.specs.declared.Kind.TheVariants.{Name};
 use crate::given::Fault;
 use crate::near::nearest;
 use crate::table::{Program, Setting};
+use crate::values::output_named;
+use escapes::cut;
 use harmless::{Kind, harmless};
 use line_shapes::parse::ShapeError;
 use std::alloc::{AllocError, Global};
@@ -32,6 +34,7 @@ fn why(alloc: Global, program: Program, fault: Fault<'_>) -> Result<String, Allo
         Fault::Valued(name, value) => {
             format!(in alloc; "{name} takes no value, but has '{value}'")
         }
+        Fault::Value(Setting::Output, value) => output(alloc, value),
         Fault::Value(setting, value) => {
             let (name, expected) = (setting.name(), expected(program, setting));
             format!(in alloc; "{name}: expected {expected}, not '{value}'")
@@ -44,10 +47,43 @@ fn why(alloc: Global, program: Program, fault: Fault<'_>) -> Result<String, Allo
             format!(in alloc; "{name} is a second file; only one is read")
         }
         Fault::SecondForm(form) => {
-            format!(in alloc; "--to: '{form}' is a second form; only one is written")
+            format!(in alloc; "--to: '{form}' is a second form; --output writes others")
         }
         Fault::Uncounted => {
             String::from_str(alloc, "--columns: a SARIF log counts characters or utf16")
+        }
+        Fault::WithoutDiff(setting) => {
+            let name = setting.name();
+            format!(in alloc; "{name} needs --changed")
+        }
+        Fault::WrittenTwice("-") => {
+            String::from_str(alloc, "--output: two forms can't go to standard output")
+        }
+        Fault::WrittenTwice(path) => {
+            format!(in alloc; "--output: two forms can't go to '{path}'")
+        }
+        Fault::ReadTwice => {
+            String::from_str(
+                alloc,
+                "standard input is read once, as FILE, --changed or --baseline",
+            )
+        }
+    }
+}
+
+/// What is wrong with the value of `--output`.
+fn output(alloc: Global, value: &str) -> Result<String, AllocError> {
+    match cut(value, '=') {
+        None => {
+            let expected = Setting::Output.expected();
+            format!(in alloc; "--output: expected {expected}, not '{value}'")
+        }
+        Some((form, _)) if output_named(form).is_some() => {
+            format!(in alloc; "--output: the file is missing in '{value}'")
+        }
+        Some((form, _)) => {
+            let forms = Setting::To.expected();
+            format!(in alloc; "--output: expected {forms}, not '{form}' in '{value}'")
         }
     }
 }

@@ -1,22 +1,26 @@
 //! What arguments ask for.
-ghost use Rattle.std.specs.Prelude.{◌≡◌, [], IfOk, codes, map, option_map, string_bytes};
+ghost use Rattle.std.specs.Prelude.{◌≡◌, [], IfOk, codes, map, option_map, string_bytes, unwrap_or};
 ghost use Rattle.std.specs.Option.{option_copied};
 ghost use Rattle.girzohal_options.specs.Given.{given_with, last_text, nothing};
-ghost use Rattle.girzohal_options.specs.Given.{shapes_in};
+ghost use Rattle.girzohal_options.specs.Given.{form_with, shapes_in};
+ghost use Rattle.girzohal_options.specs.Lists.{files_in as files_said, output_parts};
+ghost use Rattle.girzohal_options.specs.Lists.{outputs_in as outputs_said, texts_under};
 ghost use Rattle.girzohal_options.specs.Reads.{Asks, Reads, asks_help as help_asked};
 ghost use Rattle.girzohal_options.specs.Reads.{asks_quiet as quiet_asked};
-ghost use Rattle.girzohal_options.specs.Reads.{asks_version as version_asked, can_count as counts_so};
-ghost use Rattle.girzohal_options.specs.Reads.{first_file as first_file_of, form_with};
-ghost use Rattle.girzohal_options.specs.Reads.{has_flag as has_flag_of, theme_with};
+ghost use Rattle.girzohal_options.specs.Reads.{asks_version as version_asked};
+ghost use Rattle.girzohal_options.specs.Reads.{has_flag as has_flag_of, prints_with as prints_so};
+ghost use Rattle.girzohal_options.specs.Reads.{theme_with};
 ghost use Rattle.girzohal_options.specs.Said.{is_named as is_named_so, said, said_by};
 ghost use Rattle.girzohal_options.specs.Shapes.{own_parts};
 
 use crate::given::{Fault, Taken};
 use crate::items::{Item, items_of};
-use crate::table::Program;
+use crate::lists::{files_in, outputs_in, texts_in};
+use crate::table::{Program, Setting};
+use crate::together::wrong_together;
 use crate::values::form_of_tool;
-use crate::{Asked, InputForm, OutputForm, ThemeChoice};
-use line_shapes::tables::Unit;
+use crate::{Asked, InputForm, Output, OutputForm, ThemeChoice};
+use finding_filters::FilterMode;
 use oxc_plan::TabWidth;
 use report_counts::Level;
 use std::alloc::{AllocError, Global};
@@ -53,12 +57,13 @@ impl<'w> From<AllocError> for Refusal<'w> {
 }
 
 /// What the arguments of a program ask for. Options come in any order, and the last value of an
-/// option counts, but each of `--shape`. A value is the next argument, or follows `=`. After `--`
-/// all arguments are files, of which there may be one.
+/// option counts, but each of `--output`, of patterns and of forms. A value is the next argument,
+/// or follows `=`. After `--` all arguments are files; the server reads one.
 ///
 /// # Errors
 ///
-/// The first wrong argument, unless help or the version is asked for; and out of memory.
+/// The first wrong argument, or else options that make no sense together, unless help or the version
+/// is asked for; and out of memory.
 pub fn read_words<'w>(
     alloc: Global,
     program: Program,
@@ -86,15 +91,13 @@ fn request_in<'w>(
         return Ok(Request::Version);
     }
     let mut taken = Taken::new(alloc);
-    if let Some(fault) = taken.take_all(alloc, items)? {
+    if let Some(fault) = taken.take_all(alloc, program, items)? {
         return Err(Refusal::Fault(fault));
     }
-    let asked = asked(alloc, program, items, taken)?;
-    if can_count(asked.from, asked.columns) {
-        Ok(Request::Run(asked))
-    } else {
-        Err(Refusal::Fault(Fault::Uncounted))
+    if let Some(fault) = wrong_together(alloc, program, items, &taken)? {
+        return Err(Refusal::Fault(fault));
     }
+    Ok(Request::Run(asked(alloc, program, items, taken)?))
 }
 
 impl Asked {
@@ -122,20 +125,26 @@ fn asked(
     requires given { taken.given ≡ given_with nothing (map said items.now) }
     requires tool { option_copied taken.tool ≡ last_text (codes "--tool") (map said items.now) }
     requires root { option_copied taken.root ≡ last_text (codes "--root") (map said items.now) }
+    requires changed { option_copied taken.changed
+        ≡ last_text (codes "--changed") (map said items.now) }
+    requires baseline { option_copied taken.baseline
+        ≡ last_text (codes "--baseline") (map said items.now) }
     requires shapes { map own_parts taken.shapes.items ≡ shapes_in (map said items.now) }
     ensures { IfOk result (Asks program (map said items.now)) }
 {
     let given = taken.given;
+    let lists = lists_in(alloc, items)?;
+    let texts = texts_of(alloc, program, &taken)?;
     Ok(Asked {
-        file: owned(alloc, first_file(items))?,
-        root: String::from_str(alloc, taken.root.unwrap_or("."))?,
+        root: texts.root,
         anywhere: has_flag(items, "--allow-outside-root"),
-        from: form_in(program, given.from, taken.tool),
+        from: texts.from,
         to: given.to.unwrap_or(OutputForm::Drawing),
+        prints: prints_with(given.to.is_some(), &lists.outputs),
         theme: theme_in(given.color, has_flag(items, "--ascii")),
         width: given.width.unwrap_or(None),
         tabs: given.tabs.unwrap_or(TabWidth::default()),
-        tool: owned(alloc, taken.tool)?,
+        tool: texts.tool,
         shapes: taken.shapes,
         columns: given.columns,
         first_column: given.first_column,
@@ -144,7 +153,96 @@ fn asked(
         most: given.max_findings,
         quiet: is_quiet(items),
         raw: has_flag(items, "--raw"),
+        changed: texts.changed,
+        filter_mode: given.filter_mode.unwrap_or(FilterMode::Added),
+        strip: given.strip,
+        baseline: texts.baseline,
+        severity: given.severity,
+        unique: given.unique,
+        rules: None,
+        files: lists.files,
+        outputs: lists.outputs,
+        include: lists.include,
+        exclude: lists.exclude,
+        select: lists.select,
+        ignore: lists.ignore,
     })
+}
+
+/// The texts that count once, and the form that the tool may set.
+#[derive(Drop)]
+struct Texts {
+    root: String,
+    from: InputForm,
+    tool: Option<String>,
+    changed: Option<String>,
+    baseline: Option<String>,
+}
+
+fn texts_of(alloc: Global, program: Program, taken: &Taken<'_>) -> Result<Texts, AllocError>
+    ensures root { IfOk result (λ it. string_bytes it.root
+        ≡ unwrap_or (option_copied taken.now.root) (codes ".")) }
+    ensures from { IfOk result (λ it. it.from
+        ≡ form_with program taken.now.given.from (option_copied taken.now.tool)) }
+    ensures tool { IfOk result (λ it. option_map string_bytes it.tool
+        ≡ option_copied taken.now.tool) }
+    ensures changed { IfOk result (λ it. option_map string_bytes it.changed
+        ≡ option_copied taken.now.changed) }
+    ensures baseline { IfOk result (λ it. option_map string_bytes it.baseline
+        ≡ option_copied taken.now.baseline) }
+{
+    Ok(Texts {
+        root: String::from_str(alloc, taken.root.unwrap_or("."))?,
+        from: form_in(program, taken.given.from, taken.tool),
+        tool: owned(alloc, taken.tool)?,
+        changed: owned(alloc, taken.changed)?,
+        baseline: owned(alloc, taken.baseline)?,
+    })
+}
+
+/// The values of options that count each time, and the files.
+#[derive(Drop)]
+struct Lists {
+    files: Vec<String>,
+    outputs: Vec<Output>,
+    include: Vec<String>,
+    exclude: Vec<String>,
+    select: Vec<String>,
+    ignore: Vec<String>,
+}
+
+fn lists_in(alloc: Global, items: &[Item<'_>]) -> Result<Lists, AllocError>
+    ensures files { IfOk result (λ it. map string_bytes it.files.items
+        ≡ files_said (map said items.now)) }
+    ensures outputs { IfOk result (λ it. map output_parts it.outputs.items
+        ≡ outputs_said (map said items.now)) }
+    ensures include { IfOk result (λ it. map string_bytes it.include.items
+        ≡ texts_under (codes "--include") (map said items.now)) }
+    ensures exclude { IfOk result (λ it. map string_bytes it.exclude.items
+        ≡ texts_under (codes "--exclude") (map said items.now)) }
+    ensures select { IfOk result (λ it. map string_bytes it.select.items
+        ≡ texts_under (codes "--select") (map said items.now)) }
+    ensures ignore { IfOk result (λ it. map string_bytes it.ignore.items
+        ≡ texts_under (codes "--ignore") (map said items.now)) }
+{
+    Ok(Lists {
+        files: files_in(alloc, items)?,
+        outputs: outputs_in(alloc, items)?,
+        include: texts_in(alloc, items, Setting::Include)?,
+        exclude: texts_in(alloc, items, Setting::Exclude)?,
+        select: texts_in(alloc, items, Setting::Select)?,
+        ignore: texts_in(alloc, items, Setting::Ignore)?,
+    })
+}
+
+/// Whether `--to` is written: it is given, or there is no other output.
+fn prints_with(given: bool, outputs: &[Output]) -> bool
+    ensures { result ≡ prints_so given (map output_parts outputs.now) }
+{
+    match outputs {
+        [] => true,
+        [_, ..] => given,
+    }
 }
 
 /// Whether the line with the numbers of reports is left out.
@@ -165,7 +263,7 @@ fn owned(alloc: Global, text: Option<&str>) -> Result<Option<String>, AllocError
 }
 
 /// The form in which an input is read: of `--from`, else of `--tool`.
-fn form_in(program: Program, from: Option<InputForm>, tool: Option<&str>) -> InputForm
+pub(crate) fn form_in(program: Program, from: Option<InputForm>, tool: Option<&str>) -> InputForm
     ensures { result ≡ form_with program from (option_copied tool.entry) }
 {
     match (from, tool) {
@@ -183,17 +281,6 @@ fn theme_in(color: Option<ThemeChoice>, ascii: bool) -> ThemeChoice
         return ThemeChoice::Plain;
     }
     color.unwrap_or(ThemeChoice::Auto)
-}
-
-/// Whether the columns of an input can count a unit: those of a SARIF log don't count bytes or
-/// cells.
-fn can_count(form: InputForm, unit: Option<Unit>) -> bool
-    ensures { result ≡ counts_so form unit }
-{
-    match (form, unit) {
-        (InputForm::Sarif, Some(Unit::Bytes | Unit::Cells)) => false,
-        _ => true,
-    }
 }
 
 /// Whether an option without a value is there.
@@ -218,18 +305,4 @@ fn is_named(item: Item<'_>, name: &str) -> bool
         Item::Flag(other) => other == name,
         _ => false,
     }
-}
-
-/// The file that is named first.
-fn first_file<'w>(items: &[Item<'w>]) -> Option<&'w str>
-    ensures { option_copied result ≡ first_file_of (map said items.now) }
-{
-    let mut rest = items;
-    while let [item, more @ ..] = rest {
-        if let Item::File(name) = *item {
-            return Some(name);
-        }
-        rest = more;
-    }
-    None
 }

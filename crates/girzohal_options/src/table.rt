@@ -3,7 +3,7 @@ ghost use Rattle.std.specs.Prelude.{◌≡◌, map};
 ghost use Rattle.std.specs.List.{list_any};
 ghost use Rattle.std.specs.Str.{bytes_eq};
 ghost use Rattle.girzohal_options.specs.Names.{is_flag as is_flag_named, setting_in, setting_name};
-ghost use Rattle.girzohal_options.specs.Names.{settings};
+ghost use Rattle.girzohal_options.specs.Names.{setting_meant};
 
 /// The program whose options are read.
 #[derive(Clone, Copy)]
@@ -22,8 +22,18 @@ pub enum Setting {
     Columns,
     FirstColumn,
     To,
+    Output,
     Shape,
     Root,
+    Changed,
+    FilterMode,
+    Strip,
+    Baseline,
+    Include,
+    Exclude,
+    Select,
+    Ignore,
+    Severity,
     Color,
     Width,
     Tabs,
@@ -55,10 +65,20 @@ impl Setting {
             Setting::To => (
                 "--to",
                 "drawing, json, document, sarif, problems, github, gitlab, checkstyle, junit, \
-                stylish, summary or markdown",
+                stylish, summary, markdown or html",
             ),
+            Setting::Output => ("--output", "a form and a file such as github=notes.txt"),
             Setting::Shape => ("--shape", "a pattern such as '{name}:{line}: {message}'"),
             Setting::Root => ("--root", "a folder"),
+            Setting::Changed => ("--changed", "a file with a diff"),
+            Setting::FilterMode => ("--filter-mode", "added, diff_context, file or nofilter"),
+            Setting::Strip => ("--strip", "a number from 0"),
+            Setting::Baseline => ("--baseline", "a file with findings"),
+            Setting::Include => ("--include", "a pattern of files such as 'src/**'"),
+            Setting::Exclude => ("--exclude", "a pattern of files such as 'vendor/'"),
+            Setting::Select => ("--select", "a pattern of rules such as 'E5*'"),
+            Setting::Ignore => ("--ignore", "a pattern of rules such as 'E501'"),
+            Setting::Severity => ("--severity", "error, warning or advice"),
             Setting::Color => ("--color", "auto, always or never"),
             Setting::Width => ("--width", "auto or a number from 1"),
             Setting::Tabs => ("--tabs", "a number from 1 to 16"),
@@ -69,14 +89,24 @@ impl Setting {
 }
 
 /// The options that take a value; those of the server come first.
-pub(crate) const SETTINGS: [Setting; 12] = [
+pub(crate) const SETTINGS: [Setting; 22] = [
     Setting::From,
     Setting::Tool,
     Setting::Columns,
     Setting::FirstColumn,
     Setting::To,
+    Setting::Output,
     Setting::Shape,
     Setting::Root,
+    Setting::Changed,
+    Setting::FilterMode,
+    Setting::Strip,
+    Setting::Baseline,
+    Setting::Include,
+    Setting::Exclude,
+    Setting::Select,
+    Setting::Ignore,
+    Setting::Severity,
     Setting::Color,
     Setting::Width,
     Setting::Tabs,
@@ -88,7 +118,7 @@ pub(crate) const SETTINGS: [Setting; 12] = [
 pub(crate) const SERVER_SETTINGS: usize = 4;
 
 /// The options that take no value; those of the server come first.
-pub(crate) const FLAGS: [&str; 8] = [
+pub(crate) const FLAGS: [&str; 10] = [
     "--help",
     "--version",
     "--allow-outside-root",
@@ -97,6 +127,8 @@ pub(crate) const FLAGS: [&str; 8] = [
     "--no-summary",
     "--quiet",
     "--raw",
+    "--unique",
+    "--no-unique",
 ];
 
 /// How many of them the server has.
@@ -105,12 +137,13 @@ pub(crate) const SERVER_FLAGS: usize = 2;
 /// Short names; those of the server come first.
 const SHORT: [&str; 3] = ["-h", "-V", "-q"];
 
-/// The option of a program that takes a value and has this name.
+/// The option of a program that takes a value and has this name; `-o` is short for `--output`.
 #[tactic(auto, unfolding(crate::specs::Names::settings))]
 pub(crate) fn setting_named(program: Program, name: &str) -> Option<Setting>
-    ensures { result ≡ setting_in (settings program) name.now }
+    ensures { result ≡ setting_meant program name.now }
 {
     match program {
+        Program::Girzohal if name == "-o" => Some(Setting::Output),
         Program::Girzohal => setting_among(&SETTINGS, name),
         Program::Server => setting_among(&SETTINGS[..SERVER_SETTINGS], name),
     }
@@ -139,7 +172,8 @@ pub(crate) fn is_flag(program: Program, name: &str) -> bool
     }
 }
 
-fn is_among(names: &[&str], name: &str) -> bool
+/// Whether a name is one of these.
+pub(crate) fn is_among(names: &[&str], name: &str) -> bool
     ensures { result ≡ list_any (λ known. bytes_eq known name.now) (map (λ it. it.now) names.now) }
 {
     let mut rest = names;

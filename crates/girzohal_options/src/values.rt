@@ -1,21 +1,25 @@
 //! What the values of options mean.
 ghost use Rattle.std.specs.Prelude.{◌≡◌, IfOk, option_map};
 ghost use Rattle.girzohal_options.specs.Values.{color_named as color_meant, first_named as first_meant};
-ghost use Rattle.girzohal_options.specs.Values.{form_named as form_meant};
+ghost use Rattle.girzohal_options.specs.Values.{filter_named as filter_meant, form_named as form_meant};
 ghost use Rattle.girzohal_options.specs.Values.{form_of_tool as form_written};
-ghost use Rattle.girzohal_options.specs.Values.{has_lines as lines_known, is_tool as is_known_tool};
+ghost use Rattle.girzohal_options.specs.Values.{has_lines as lines_known};
+ghost use Rattle.girzohal_options.specs.Values.{is_text as is_some_text, is_tool as is_known_tool};
 ghost use Rattle.girzohal_options.specs.Values.{level_named as level_meant};
-ghost use Rattle.girzohal_options.specs.Values.{output_named as output_meant, positive as from_one};
+ghost use Rattle.girzohal_options.specs.Values.{output_in as output_said, output_named as output_meant};
+ghost use Rattle.girzohal_options.specs.Values.{positive as from_one, severity_named as severity_meant};
 ghost use Rattle.girzohal_options.specs.Values.{tabs_named as tabs_meant};
 ghost use Rattle.girzohal_options.specs.Values.{unit_named as unit_meant};
 ghost use Rattle.girzohal_options.specs.Values.{width_named as width_meant, within as within_range};
 
 use crate::table::Program;
 use crate::{InputForm, OutputForm, ThemeChoice};
-use escapes::number;
+use escapes::{cut, number};
+use finding_filters::FilterMode;
 use line_shapes::tables::Unit;
 use line_shapes::tools::{columns_of_tool, tool_shapes};
 use oxc_plan::TabWidth;
+use oxc_protocol::Severity;
 use report_counts::Level;
 use std::alloc::{AllocError, Global};
 
@@ -49,8 +53,27 @@ pub(crate) fn output_named(value: &str) -> Option<OutputForm>
         "stylish" => Some(OutputForm::Stylish),
         "summary" => Some(OutputForm::Summary),
         "markdown" => Some(OutputForm::Markdown),
+        "html" => Some(OutputForm::Html),
         _ => None,
     }
+}
+
+/// A form, and the file that is written in it.
+#[tactic(auto, unfolding(crate::specs::Values::output_in))]
+pub(crate) fn output_in(value: &str) -> Option<(OutputForm, &str)>
+    ensures { option_map (λ it. (it.0, it.1.now)) result ≡ output_said value.now }
+{
+    match cut(value, '=') {
+        Some((form, path)) if is_text(path) => Some((output_named(form)?, path)),
+        _ => None,
+    }
+}
+
+/// Whether there is something in a text.
+pub(crate) fn is_text(text: &str) -> bool
+    ensures { result ≡ is_some_text text.now }
+{
+    !text.is_empty()
 }
 
 /// The theme of a choice of colors.
@@ -88,6 +111,31 @@ pub(crate) fn level_named(value: &str) -> Option<Level>
         "warning" => Some(Level::Warning),
         "advice" => Some(Level::Advice),
         "never" => Some(Level::Never),
+        _ => None,
+    }
+}
+
+#[tactic(auto, unfolding(crate::specs::Values::severity_named))]
+pub(crate) fn severity_named(value: &str) -> Option<Severity>
+    ensures { result ≡ severity_meant value.now }
+{
+    match value {
+        "error" => Some(Severity::Error),
+        "warning" => Some(Severity::Warning),
+        "advice" => Some(Severity::Advice),
+        _ => None,
+    }
+}
+
+#[tactic(auto, unfolding(crate::specs::Values::filter_named))]
+pub(crate) fn filter_named(value: &str) -> Option<FilterMode>
+    ensures { result ≡ filter_meant value.now }
+{
+    match value {
+        "added" => Some(FilterMode::Added),
+        "diff_context" => Some(FilterMode::DiffContext),
+        "file" => Some(FilterMode::File),
+        "nofilter" => Some(FilterMode::NoFilter),
         _ => None,
     }
 }

@@ -1,3 +1,4 @@
 pub mod RunLemmas
 pub mod LiveLemmas
 pub mod ObjectLemmas
+pub mod EachLemmas

@@ -1,5 +1,5 @@
 -- An input that is written as it comes.
-use Rattle.std.proofs.Common.{◌≡◌, ◌⊎◌, ℕ, ◌+◌, ◌<◌, ◌≤◌, ◌==◌, inl, inr, ◌||◌, Bool, true, false, not, if◌then◌else◌, List, [], ◌∷◌, ◌++◌, length, drop, Option, Some, None, refl, sym, ap, ◌∙◌, subst, append_assoc, append-nil, length-drop, string_bytes, suc, zero, arith}
+use Rattle.std.proofs.Common.{◌≡◌, ◌⊎◌, ℕ, ◌+◌, ◌<◌, ◌≤◌, ◌==◌, inl, inr, ◌||◌, ◌&&◌, Bool, true, false, not, if◌then◌else◌, is_none, List, [], ◌∷◌, ◌++◌, length, drop, Option, Some, None, refl, sym, ap, ◌∙◌, subst, append_assoc, append-nil, length-drop, string_bytes, suc, zero, arith}
 use Rattle.std.proofs.lemmas.Bool.{and_parts}
 use Rattle.std.proofs.lemmas.List.{length-append}
 use Rattle.std.specs.Io.KnownBytes.{Appends, Consumes, IsAtEnd, Keeps}
@@ -7,32 +7,25 @@ use Rattle.oxc_protocol.specs.Faults.{Rose}
 use Rattle.oxc_protocol.specs.Sink.{AppendsPrefix}
 use Rattle.oxc_protocol.proofs.Appending.{Appends-trans}
 use Rattle.documents.proofs.Consuming.{Consumes-trans}
-use Rattle.found_reports.specs.Files.{files_of}
-use Rattle.found_reports.specs.Kept.{FoundParts}
 use Rattle.found_reports.specs.Listed.{held_in}
-use Rattle.line_reports.specs.Reports.{reports_in}
 use Rattle.line_shapes.specs.Shape.{ShapeParts}
 use Rattle.tool_lines.specs.Lines.{ArePieces, PieceParts, begun, behind, below_at, head, name_behind, piece, piece_of}
 use Rattle.input_forms.specs.Begun.{begins_as}
 use Rattle.input_forms.specs.declared.begun.Begun.{Begun}
 use Rattle.input_forms.specs.declared.begun.Begun.TheVariants.{Object, OtherJson, Lines}
-use Rattle.ci_formats.specs.declared.format.CiFormat.TheVariants as ci
-use Rattle.ci_texts.specs.Texts.{ci_text}
 use Rattle.drawn_lines.specs.Coming.{IsBegun, IsComing, IsDrawn, sources_of}
-use Rattle.drawn_lines.specs.Lines.{annotates, columns_of, ending, shapes_of, written}
-use Rattle.drawn_lines.specs.Text.{lines_of, to_come}
+use Rattle.drawn_lines.specs.Lines.{annotates, shapes_of, written}
+use Rattle.drawn_lines.specs.Text.{to_come}
 use Rattle.drawn_lines.specs.declared.held.HeldLines.{HeldLines}
 use Rattle.drawn_lines.specs.declared.tally.Tally.{Tally}
 use Rattle.drawn_lines.specs.declared.coming.Come.{Come}
 use Rattle.drawn_lines.specs.declared.coming.Coming.{Coming}
+use Rattle.report_filters.specs.declared.rules.Rules.{Rules}
 use Rattle.girzohal_options.specs.declared.Asked.{Asked}
 use Rattle.girzohal_options.specs.declared.InputForm.{InputForm}
 use Rattle.girzohal_options.specs.declared.InputForm.TheVariants as form
-use Rattle.girzohal_options.specs.declared.OutputForm.{OutputForm}
-use Rattle.girzohal_options.specs.declared.OutputForm.TheVariants.{Drawing, Json, Document, Sarif, Problems, Github, Gitlab, Checkstyle, Junit, Stylish, Summary, Markdown}
 use Rattle.girzohal_run.specs.Told.{Told}
-use Rattle.girzohal_run.specs.Texts.{IsTextIn}
-use Rattle.girzohal_run.specs.Lines.{ListsLines, MakesLines, MakesLinesBy, is_drawing, is_live}
+use Rattle.girzohal_run.specs.Lines.{MakesLines, MakesLinesBy, is_live, may_come}
 use Rattle.girzohal_run.specs.Made.{IsMade, MakesAs, MakesBegun}
 use Rattle.girzohal_run.specs.Run.{Device, Drew, DrewPart, NeverComes, IsTold, Outgrew, Sent, SentPart, Stays, Stopped, TookWhole, begins_lines, comes, limit, reads_lines}
 use Rattle.girzohal_run.specs.Opens.{is_auto, may_begin}
@@ -107,30 +100,6 @@ hears_part false err now count bytes more is heard told rose =
     (part_behind err.before err.now now bytes more heard.0 told, rose_since err.faults_before err.faults_now count heard.1 rose)
 hears_part true err now count bytes more is heard told rose = cc
 
--- ---- of drawings nothing stands aside
-
--- all lines have pieces
-are_pieces : (n : ℕ) (shapes : List ShapeParts) (name : Option (List ℕ)) (lines : List (List ℕ)) → length lines ≤ n
-    → (ps : List PieceParts) × ArePieces shapes name lines ps
-are_pieces n shapes name [] within = ([], refl)
-are_pieces zero shapes name (line ∷ lines) within = absurd (omega (arith, within))
-are_pieces (suc n) shapes name (line ∷ lines) within =
-    let here = begun shapes line (head lines) in
-    let p = piece shapes name (line ∷ lines) in
-    let some : 1 ≤ p.lines =
-    elim (below_at name line) as (λ found. 1 ≤ (piece_of found here (behind shapes here.sort lines)).lines) [ None ↦ omega arith | Some finding ↦ omega arith ] in
-    let rest = are_pieces n shapes (name_behind p.begun.sort name (line ∷ lines)) (drop p.lines (line ∷ lines))
-    (omega (arith, within, some, length-drop p.lines (line ∷ lines))) in
-    (p ∷ rest.0, (record { some = omega arith; same = refl }, rest.1))
-
-nothing_aside : (told : Told) (asked : Asked) (bytes text aside : List ℕ) (held : HeldLines) (tally : Tally) → IsComing told asked bytes text aside held tally
-    → annotates asked.to ≡ false → aside ≡ []
-nothing_aside told asked bytes text aside held tally coming is =
-    let left = to_come held [] in
-    let some = are_pieces (length left) (shapes_of asked) None left (omega arith) in
-    let goes = coming.goes_on (held_in (sources_of tally)) (λ name there. refl) [] some.0 some.1 in
-    sym (append-nil aside) ∙ sym (rw is at goes.stands)
-
 -- ---- what was written stays
 
 -- behind what stands aside a line was told
@@ -162,7 +131,7 @@ went_drew told asked input out err next count bytes live goes taken =
       text = goes.text;
       aside = goes.aside;
       drawn = (live.coming.held, live.coming.tally, goes.coming);
-      bare = nothing_aside told asked goes.taken goes.text goes.aside live.coming.held live.coming.tally goes.coming;
+      bare = goes.coming.bare;
       written = goes.written;
       is = goes.heard;
     }
@@ -178,7 +147,7 @@ goes_drew told asked input out err live goes =
       text = goes.text;
       aside = goes.aside;
       drawn = (live.coming.held, live.coming.tally, goes.coming);
-      bare = nothing_aside told asked goes.taken goes.text goes.aside live.coming.held live.coming.tally goes.coming;
+      bare = goes.coming.bare;
       written = goes.written;
       is = goes.heard;
     }
@@ -196,7 +165,7 @@ outgrew told asked input out err said line live goes past tells =
       text = goes.text;
       aside = goes.aside;
       drawn = goes.known;
-      bare = nothing_aside told asked goes.taken goes.text goes.aside live.coming.held live.coming.tally goes.coming;
+      bare = goes.coming.bare;
       written = goes.written;
       is = tells goes.aside goes.heard;
     }
@@ -324,7 +293,7 @@ came_part told asked input out err said now after quiet come deaf deafer came wr
       text = came.text ++ string_bytes come.text;
       aside = came.aside ++ string_bytes come.aside;
       drawn = (come.coming.held, come.coming.tally, came.coming);
-      bare = nothing_aside told asked came.taken (came.text ++ string_bytes come.text) (came.aside ++ string_bytes come.aside) come.coming.held come.coming.tally came.coming;
+      bare = came.coming.bare;
       written = part_behind out.before out.now now came.text (string_bytes come.text) came.written written;
       fault = rose_since out.faults_before out.faults_now after came.later rose;
       heard = heard_told deafer said (came.aside ++ string_bytes come.aside) (hears came.aside came.heard);
@@ -359,7 +328,7 @@ auto_lines form.Document bytes is begins = cc
 auto_lines form.Sarif bytes is begins = cc
 auto_lines form.Lines bytes is begins = cc
 
-comes_by : (asked : Asked) (bytes : List ℕ) → is_live asked.to ≡ true → reads_lines asked.from bytes ≡ true → comes asked bytes ≡ true
+comes_by : (asked : Asked) (bytes : List ℕ) → may_come asked ≡ true → reads_lines asked.from bytes ≡ true → comes asked bytes ≡ true
 comes_by asked bytes live lines = rw live lines
 
 absurd_true : (b : Bool) → b ≡ true → b ≡ false → ⊥
@@ -370,11 +339,11 @@ absurd_true false e f = cc
 pub surely_comes : (asked : Asked) (bytes : List ℕ) → may_begin asked ≡ true → ((more : List ℕ) → begins_as (bytes ++ more) ≡ Lines)
     → (more : List ℕ) → comes asked (bytes ++ more) ≡ true
 surely_comes asked bytes may begins more =
-    let parts = and_parts (is_live asked.to) (is_auto asked.from) may in
+    let parts = and_parts (may_come asked) (is_auto asked.from) may in
     comes_by asked (bytes ++ more) parts.0 (auto_lines asked.from (bytes ++ more) parts.1 (begins more))
 
 -- and one that is read as lines, whatever it is
-pub always_comes : (asked : Asked) (bytes : List ℕ) → is_live asked.to ≡ true → asked.from ≡ form.Lines → comes asked bytes ≡ true
+pub always_comes : (asked : Asked) (bytes : List ℕ) → may_come asked ≡ true → asked.from ≡ form.Lines → comes asked bytes ≡ true
 always_comes asked bytes live is = comes_by asked bytes live (ap (λ from. reads_lines from bytes) is)
 
 -- one that never comes doesn't begin so
@@ -387,47 +356,10 @@ comes_never asked (Some left) (Some rest) bytes taken lines never =
 
 -- ---- the end
 
--- annotations that are written as lines come are those of the whole
-annotated : (to : OutputForm) (asked : Asked) (parts : FoundParts) (text : List ℕ) → annotates to ≡ true → text ≡ ci_text ci.Github asked.raw parts.found → IsTextIn to asked parts text
-annotated Drawing asked parts text is made = cc
-annotated Json asked parts text is made = cc
-annotated Document asked parts text is made = cc
-annotated Sarif asked parts text is made = cc
-annotated Problems asked parts text is made = cc
-annotated Github asked parts text is made = made
-annotated Gitlab asked parts text is made = cc
-annotated Checkstyle asked parts text is made = cc
-annotated Junit asked parts text is made = cc
-annotated Stylish asked parts text is made = cc
-annotated Summary asked parts text is made = cc
-annotated Markdown asked parts text is made = cc
-
-lists_of : (told : Told) (asked : Asked) (bytes text aside : List ℕ) (reached : Bool) → annotates asked.to ≡ true → IsDrawn told asked bytes text aside reached
-    → ListsLines told asked bytes text aside reached
-unfolding written ending
-lists_of told asked bytes text aside reached is drawn =
-    let made : text ≡ ci_text ci.Github asked.raw (reports_in (columns_of asked) drawn.given (lines_of bytes) drawn.pieces) = (rw is at drawn.drawn) ∙ append-nil _ in
-    let parts : FoundParts = record { files = files_of drawn.found; found = drawn.found } in
-    record {
-      pieces = drawn.pieces;
-      are = drawn.are;
-      given = drawn.given;
-      told_so = drawn.told_so;
-      writes = record {
-        parts = parts;
-        reports = drawn.reports;
-        files = refl;
-        written = annotated asked.to asked parts text is (made ∙ ap (ci_text ci.Github asked.raw) (sym drawn.reports));
-        kept = rw is at drawn.aside_is;
-        level = drawn.level;
-      };
-    }
-
-lines_made : (drawing annotating : Bool) (told : Told) (asked : Asked) (bytes text aside : List ℕ) (reached : Bool) → annotates asked.to ≡ annotating
-    → drawing || annotating ≡ true → IsDrawn told asked bytes text aside reached → MakesLinesBy drawing told asked bytes text aside reached
-lines_made true annotating told asked bytes text aside reached is some drawn = drawn
-lines_made false true told asked bytes text aside reached is some drawn = lists_of told asked bytes text aside reached is drawn
-lines_made false false told asked bytes text aside reached is some drawn = cc
+lines_made : (live : Bool) (told : Told) (asked : Asked) (bytes text aside : List ℕ) (reached : Bool) → live ≡ true → IsDrawn told asked bytes text aside reached
+    → MakesLinesBy live told asked bytes text aside reached
+lines_made true told asked bytes text aside reached is drawn = drawn
+lines_made false told asked bytes text aside reached is drawn = cc
 
 begun_made : (begun : Begun) (told : Told) (asked : Asked) (bytes text aside : List ℕ) (reached : Bool) → begins_lines begun ≡ true
     → MakesLines told asked bytes text aside reached → MakesBegun begun told asked bytes text aside reached
@@ -445,9 +377,9 @@ as_made form.Lines told asked bytes text aside reached is made = made
 pub drawn_made : (told : Told) (asked : Asked) (bytes text aside : List ℕ) (reached : Bool) → comes asked bytes ≡ true → IsDrawn told asked bytes text aside reached
     → IsMade told asked bytes text aside reached
 drawn_made told asked bytes text aside reached is drawn =
-    let parts = and_parts (is_live asked.to) (reads_lines asked.from bytes) is in
+    let parts = and_parts (may_come asked) (reads_lines asked.from bytes) is in
     as_made asked.from told asked bytes text aside reached parts.1
-    (lines_made (is_drawing asked.to) (annotates asked.to) told asked bytes text aside reached refl parts.0 drawn)
+    (lines_made (may_come asked) told asked bytes text aside reached parts.0 drawn)
 
 -- lines that come have no limit
 none_within : (asked : Asked) (bytes : List ℕ) → comes asked bytes ≡ true → comes asked bytes ≡ false → length bytes ≤ limit

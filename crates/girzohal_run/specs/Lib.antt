@@ -1,6 +1,8 @@
 pub mod Code
 pub mod Told
+pub mod Html
 pub mod Texts
+pub mod Filtering
 pub mod Lines
 pub mod Logs
 pub mod Reads
@@ -8,3 +10,6 @@ pub mod Made
 pub mod Run
 pub mod Opens
 pub mod Live
+pub mod Rules
+pub mod Baseline
+pub mod Each

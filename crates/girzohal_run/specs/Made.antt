@@ -1,8 +1,7 @@
 -- What is made of an input.
-use Rattle.std.specs.Prelude.{◌≡◌, ⊤, ℕ, ◌++◌, List, Bool, Option, Some, None, codes}
+use Rattle.std.specs.Prelude.{◌≡◌, ⊤, ℕ, ◌++◌, List, Bool, false, Option, Some, None, codes}
 use Rattle.std.specs.declared.ops.Range.{Range}
 use Rattle.found_reports.specs.Kept.{FoundParts}
-use Rattle.report_counts.specs.Counted.{one_reaches}
 use Rattle.input_forms.specs.Begun.{begins_as}
 use Rattle.input_forms.specs.Object.{IsJsonPart}
 use Rattle.input_forms.specs.declared.begun.Begun.{Begun}
@@ -13,7 +12,7 @@ use Rattle.girzohal_options.specs.declared.Asked.{Asked}
 use Rattle.girzohal_options.specs.declared.InputForm.{InputForm}
 use Rattle.girzohal_options.specs.declared.InputForm.TheVariants as form
 use Rattle.girzohal_run.specs.Told.{Told}
-use Rattle.girzohal_run.specs.Texts.{IsText}
+use Rattle.girzohal_run.specs.Filtering.{IsWritten, with_line}
 use Rattle.girzohal_run.specs.Lines.{MakesLines}
 use Rattle.girzohal_run.specs.Logs.{log_columns}
 use Rattle.girzohal_run.specs.Reads.{ReadsPart, IsNonePart, around, before, part_of}
@@ -22,14 +21,9 @@ use Rattle.girzohal_run.specs.declared.object.ObjectForm.TheVariants.{Keyed, AsD
 use Rattle.girzohal_run.specs.declared.fault.Fault.{Fault}
 use Rattle.girzohal_run.specs.declared.fault.Fault.TheVariants.{NoForm, OutOfMemory}
 
--- what is written of reports and their files, and whether one is at or above the level
-pub record IsWritten (asked : Asked) (parts : FoundParts) (text : List ℕ) (reached : Bool) : Type 0 where
-  pub text_is : IsText asked parts text
-  pub level : reached ≡ one_reaches asked.fail_on parts.found
-
--- the text and the level of the reports, with their files, that are P
-abbrev pub Writes : (FoundParts → Type 0) → Asked → List ℕ → Bool → Type 0
-Writes P asked text reached = (parts : FoundParts) × P parts × IsWritten asked parts text reached
+-- the text and the level of the reports, with their files, that are P, and the line about them
+abbrev pub Writes : (FoundParts → Type 0) → Asked → List ℕ → List ℕ → Bool → Type 0
+Writes P asked text line reached = (parts : FoundParts) × P parts × IsWritten asked false parts text line reached
 
 -- ---- a JSON object among other lines
 
@@ -37,8 +31,9 @@ Writes P asked text reached = (parts : FoundParts) × P parts × IsWritten asked
 pub record MakesObject (how : ObjectForm) (told : Told) (asked : Asked) (bytes text aside : List ℕ) (reached : Bool) : Type 0 where
   pub range : Range ℕ
   pub there : IsJsonPart bytes range
-  pub written : Writes (ReadsPart how told (log_columns asked.columns) (part_of bytes range)) asked text reached
-  pub aside_is : aside ≡ around bytes range
+  pub line : List ℕ
+  pub written : Writes (ReadsPart how told (log_columns asked.columns) (part_of bytes range)) asked text line reached
+  pub aside_is : aside ≡ with_line (around bytes range) line
 
 -- the object means nothing; what is said of it is what stands before it, and then the line that says why
 pub record IsNoObject (how : ObjectForm) (columns : Option ColumnUnit) (bytes said : List ℕ) : Type 0 where

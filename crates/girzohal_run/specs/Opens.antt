@@ -5,7 +5,7 @@ use Rattle.oxc_protocol.specs.Faults.{Rose}
 use Rattle.girzohal_options.specs.declared.Asked.{Asked}
 use Rattle.girzohal_options.specs.declared.InputForm.{InputForm}
 use Rattle.girzohal_options.specs.declared.InputForm.TheVariants as form
-use Rattle.girzohal_run.specs.Lines.{is_live}
+use Rattle.girzohal_run.specs.Lines.{may_come}
 use Rattle.girzohal_run.specs.Run.{comes, limit}
 use Rattle.girzohal_run.specs.declared.opening.Opening.{Opening}
 use Rattle.girzohal_run.specs.declared.opening.Opening.TheVariants as opening
@@ -18,7 +18,7 @@ is_auto form.Lines = false
 
 -- the first bytes of the input tell its form, and lines are written as they come
 abbrev pub may_begin : Asked → Bool
-may_begin asked = is_live asked.to && is_auto asked.from
+may_begin asked = may_come asked && is_auto asked.from
 
 -- these bytes were taken, and are lines that are written as they come, or no more than a run reads at once
 abbrev pub Opens : Asked → Option (List ℕ) → Option (List ℕ) → Opening → Type 0

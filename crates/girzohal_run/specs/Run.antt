@@ -12,7 +12,7 @@ use Rattle.input_forms.specs.declared.begun.Begun.TheVariants.{Object, OtherJson
 use Rattle.drawn_lines.specs.Coming.{IsBegun}
 use Rattle.drawn_lines.specs.Lines.{annotates}
 use Rattle.girzohal_run.specs.Told.{Told}
-use Rattle.girzohal_run.specs.Lines.{is_live}
+use Rattle.girzohal_run.specs.Lines.{may_come}
 use Rattle.girzohal_run.specs.Made.{IsMade, IsOfNoForm}
 use Rattle.girzohal_run.specs.declared.making.Made.{Made}
 use Rattle.girzohal_run.specs.declared.status.Status.{Status}
@@ -63,9 +63,9 @@ reads_lines form.Document bytes = false
 reads_lines form.Sarif bytes = false
 reads_lines form.Lines bytes = true
 
--- the input is lines, of which a drawing or annotations are written as they come
+-- the input is lines, of which a drawing or annotations are written as they come; with filters it is read whole
 abbrev pub comes : Asked → List ℕ → Bool
-comes asked bytes = is_live asked.to && reads_lines asked.from bytes
+comes asked bytes = may_come asked && reads_lines asked.from bytes
 
 -- what an input holds isn't lines that are written as they come; of one that doesn't tell what it holds, whatever it may be
 abbrev pub NeverComes : Asked → Option (List ℕ) → Type 0

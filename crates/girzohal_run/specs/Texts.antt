@@ -6,9 +6,10 @@ use Rattle.ci_formats.specs.declared.format.CiFormat.TheVariants as ci
 use Rattle.ci_texts.specs.Texts.{ci_text, findings_in, gitlab_text}
 use Rattle.finding_summaries.specs.Markdown.{IsMarkdown}
 use Rattle.finding_summaries.specs.Summary.{IsSummary}
+use Rattle.girzohal_run.specs.Html.{IsReportPage}
 use Rattle.girzohal_options.specs.declared.Asked.{Asked}
 use Rattle.girzohal_options.specs.declared.OutputForm.{OutputForm}
-use Rattle.girzohal_options.specs.declared.OutputForm.TheVariants.{Drawing, Json, Document, Sarif, Problems, Github, Gitlab, Checkstyle, Junit, Stylish, Summary, Markdown}
+use Rattle.girzohal_options.specs.declared.OutputForm.TheVariants.{Drawing, Json, Document, Sarif, Problems, Github, Gitlab, Checkstyle, Junit, Stylish, Summary, Markdown, Html}
 
 -- what is written of reports and their files in a form
 abbrev pub IsTextIn : OutputForm → Asked → FoundParts → List ℕ → Type 0
@@ -24,6 +25,7 @@ IsTextIn Junit asked parts text = text ≡ ci_text ci.Junit asked.raw parts.foun
 IsTextIn Stylish asked parts text = text ≡ ci_text ci.Stylish asked.raw parts.found
 IsTextIn Summary asked parts text = IsSummary (findings_in asked.raw parts.found) text
 IsTextIn Markdown asked parts text = IsMarkdown (findings_in asked.raw parts.found) text
+IsTextIn Html asked parts text = IsReportPage asked parts text
 
 -- what is written of reports, as it was asked for
 abbrev pub IsText : Asked → FoundParts → List ℕ → Type 0

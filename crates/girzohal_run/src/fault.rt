@@ -7,7 +7,7 @@ use std::alloc::{AllocError, Global};
 
 /// Why nothing is made of an input.
 #[derive(Drop)]
-pub(crate) enum Fault {
+pub enum Fault {
     /// The input isn't of its form: the text for the error output, which ends in the line that
     /// says why.
     NoForm(Vec<u8>),

@@ -1,21 +1,30 @@
 //! The run of the program `girzohal`, over any source, store and sinks.
 //!
 //! - [`run`]: reads an input and writes the output.
+//! - [`rules_of`]: the filters that options ask for; [`read_baseline`]: the findings of a baseline.
+//! - [`run_each`]: reads an input and makes several outputs of it, each [`Wanted`] and [`Made`].
 //! - [`Status`]: how a run ended, and its exit status.
 //!
 //! Modules, in the order in which a run uses them:
 //!
 //! - `program`: the run itself
+//! - `each`: several outputs of one input
 //! - `making`: what is made of an input, in its form
 //! - `object`, `logs`: the same for a JSON object, which is a document or a log
 //! - `lines`: the same for lines that a tool prints for people
 //! - `opening`, `live`: the same for lines that are written as they come
-//! - `texts`: the texts of reports
+//! - `filtering`: what is written of the reports that filters leave
+//! - `texts`: the texts of reports; `html`: the page of them
+//! - `rules`, `baseline`: the filters that options ask for, and what a baseline has
 //! - `fault`: why nothing is made
 //! - `status`: how a run ended
 #![tactic(auto)]
 
+mod baseline;
+mod each;
 mod fault;
+mod filtering;
+mod html;
 mod lines;
 mod live;
 mod logs;
@@ -23,8 +32,15 @@ mod making;
 mod object;
 mod opening;
 mod program;
+mod rules;
 mod status;
 mod texts;
 
+pub use baseline::read_baseline;
+pub use each::{Wanted, run_each};
+pub use fault::Fault;
+pub use making::Made;
+pub use opening::LIMIT;
 pub use program::run;
+pub use rules::{refusal_text, rules_of};
 pub use status::Status;

@@ -2,22 +2,23 @@
 ghost use Rattle.std.specs.Prelude.{◌≡◌, IfErr, IfOk, map, string_bytes};
 ghost use Rattle.found_reports.specs.Listed.{held_in};
 ghost use Rattle.tool_lines.specs.Lines.{piece_parts};
+ghost use Rattle.line_reports.specs.Pieces.{read_parts};
 ghost use Rattle.drawn_lines.specs.Coming.{IsDrawn};
 ghost use Rattle.drawn_lines.specs.Text.{lines_in_text, without_lf as lf_less};
 ghost use Rattle.girzohal_run.specs.Lines.{ListsLines, MakesLines, WritesPieces};
-ghost use Rattle.girzohal_run.specs.Lines.{is_drawing as is_drawn, is_live as is_live_form};
+ghost use Rattle.girzohal_run.specs.Lines.{is_drawing as is_drawn};
+ghost use Rattle.girzohal_run.specs.Lines.{is_live as is_live_form, may_come as may_come_so};
 ghost use Rattle.girzohal_run.specs.Made.{IsFree};
 
 use crate::fault::Fault;
+use crate::filtering::{push_line, write_left};
 use crate::making::{Made, Written};
-use crate::texts::text_of;
 use drawn_lines::{Come, Coming, Ended, annotates, columns_of, kept_text, shapes_of};
 use girzohal_options::{Asked, OutputForm};
 use indexed_sources::IndexedSources;
 use input_forms::without_mark;
-use line_reports::{names_of, reports_of};
+use line_reports::{ReadPiece, names_of, read_pieces, reports_of};
 use line_shapes::bytes::before_last;
-use report_counts::one_reaches;
 use source_store::{Spelling, Store, gather_indexed};
 use std::alloc::{AllocError, Global};
 use tool_lines::lines::{Piece, lines_of, pieces_of};
@@ -34,7 +35,7 @@ pub(crate) fn make_lines<S: Store>(
         (string_bytes it.written.text) it.aside.items it.written.reached) }
     ensures cause { IfErr result IsFree }
 {
-    if is_drawing(asked.to) {
+    if may_come(asked) {
         drawn(alloc, asked, bytes, store)
     } else {
         list_lines(alloc, asked, bytes, store)
@@ -57,18 +58,26 @@ fn is_drawing(form: OutputForm) -> bool
         | OutputForm::Junit
         | OutputForm::Stylish
         | OutputForm::Summary
-        | OutputForm::Markdown => false,
+        | OutputForm::Markdown
+        | OutputForm::Html => false,
     }
 }
 
+/// Whether lines are written as they come: drawings or annotations without filters.
+pub(crate) fn may_come(asked: &Asked) -> bool
+    ensures { result ≡ may_come_so asked.now }
+{
+    is_live(asked.to) && asked.rules.is_none()
+}
+
 /// Whether drawings or annotations are written: for lines, that is done as the lines come.
-pub(crate) fn is_live(form: OutputForm) -> bool
+fn is_live(form: OutputForm) -> bool
     ensures { result ≡ is_live_form form }
 {
     is_drawing(form) || annotates(form)
 }
 
-/// The drawing of lines.
+/// The drawing of lines, or their annotations.
 fn drawn<S: Store>(alloc: Global, asked: &Asked, bytes: &[u8], store: &S) -> Result<Made, Fault>
     ensures drawn { IfOk result (λ it. IsDrawn (S.told store.now) asked.now bytes.now
         (string_bytes it.written.text) it.aside.items it.written.reached) }
@@ -91,7 +100,11 @@ fn drawn<S: Store>(alloc: Global, asked: &Asked, bytes: &[u8], store: &S) -> Res
     } = end;
     text.push_str(rest.as_str())?;
     aside.push_str(more.as_str())?;
-    let written = Written { text, reached };
+    let written = Written {
+        text,
+        line: String::new(alloc),
+        reached,
+    };
     let aside = aside.into_bytes();
     Ok(Made { written, aside })
 }
@@ -113,7 +126,8 @@ fn list_lines<S: Store>(
     let pieces = pieces_of(alloc, &lines, &shapes)?;
     let names = names_of(alloc, &pieces)?;
     let sources = gather_indexed(alloc, store, Spelling::Path, &names)?;
-    write_pieces(alloc, asked, &lines, &pieces, &sources)
+    let reads = read_pieces(alloc, &lines, &pieces)?;
+    write_pieces(alloc, asked, &lines, &pieces, &reads, &sources)
 }
 
 /// The lines of a whole text: a last LF ends a line, and begins none.
@@ -144,17 +158,17 @@ fn write_pieces(
     asked: &Asked,
     lines: &[&[u8]],
     pieces: &[Piece<'_>],
+    reads: &[ReadPiece<'_>],
     sources: &IndexedSources,
 ) -> Result<Made, Fault>
     ensures made { IfOk result (λ it. WritesPieces asked.now (held_in sources.now.entries.items)
         (map (λ line. line.now) lines.now) (map piece_parts pieces.now)
-        (string_bytes it.written.text) it.aside.items it.written.reached) }
+        (map read_parts reads.now) (string_bytes it.written.text) it.aside.items it.written.reached) }
     ensures cause { IfErr result IsFree }
 {
-    let found = reports_of(alloc, lines, pieces, sources, columns_of(asked))?;
-    let reached = one_reaches(asked.fail_on, &found);
-    let text = text_of(alloc, asked, &found)?;
-    let aside = kept_text(alloc, asked, lines, pieces)?.into_bytes();
-    let written = Written { text, reached };
+    let found = reports_of(alloc, lines, reads, sources, columns_of(asked))?;
+    let written = write_left(alloc, asked, found, true)?;
+    let mut aside = kept_text(alloc, asked, lines, pieces)?.into_bytes();
+    push_line(&mut aside, written.line.as_str())?;
     Ok(Made { written, aside })
 }

@@ -5,8 +5,8 @@ ghost use Rattle.girzohal_run.specs.Logs.{fault_line, harmless_path as harmless_
 ghost use Rattle.girzohal_run.specs.Made.{HasCause, Says, Writes};
 
 use crate::fault::Fault;
+use crate::filtering::write_left;
 use crate::making::Written;
-use crate::object::write;
 use bytecount::count;
 use girzohal_options::Asked;
 use harmless::{Kind, harmless};
@@ -25,7 +25,7 @@ pub(crate) fn write_log<S: Store>(
 ) -> Result<Written, Fault>
     ensures written { IfOk result (λ it. Writes
         (ReadsLog (S.told store.now) (columns_of asked.now.columns) part.now) asked.now
-        (string_bytes it.text) it.reached) }
+        (string_bytes it.text) (string_bytes it.line) it.reached) }
     ensures cause { IfErr result (HasCause IsNoLog part.now) }
 {
     let log = match read_log(alloc, part) {
@@ -39,7 +39,7 @@ pub(crate) fn write_log<S: Store>(
     let names = names_of(alloc, &log)?;
     let sources = gather(alloc, store, Spelling::Uri, &names)?;
     let found = reports_of(alloc, &log, &sources, log_columns(asked.columns))?;
-    write(alloc, asked, &found)
+    write_left(alloc, asked, found, false)
 }
 
 /// The unit of a log's columns.

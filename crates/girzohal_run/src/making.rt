@@ -17,18 +17,41 @@ use std::alloc::Global;
 pub(crate) struct Written {
     /// The text.
     pub(crate) text: String,
+    /// The line about filters, for the error output; empty without filters.
+    pub(crate) line: String,
     /// Whether a report is at or above the level.
     pub(crate) reached: bool,
 }
 
 /// What is made of an input: its output, and the rest.
 #[derive(Drop)]
-pub(crate) struct Made {
+pub struct Made {
     /// What is written.
     pub(crate) written: Written,
     /// The part of the input that is none of its reports, for the error output.
     pub(crate) aside: Vec<u8>,
 }
+
+impl Made {
+    ghost use Rattle.std.specs.Prelude.{◌≡◌, string_bytes};
+
+    /// The text of the output.
+    pub fn text(&self) -> &str
+        ensures { result.now ≡ string_bytes self.now.written.text }
+    {
+        self.written.text.as_str()
+    }
+
+    /// Whether a report is at or above the level.
+    pub fn reached(&self) -> bool
+        ensures { result ≡ self.now.written.reached }
+    {
+        self.written.reached
+    }
+}
+
+/// What is said of an input of no known form.
+const OTHER_FORM: &str = "JSON of no known form; lines and SARIF are read, and documents";
 
 /// What is made of an input in the form that was asked for.
 pub(crate) fn make<S: Store>(
@@ -44,10 +67,7 @@ pub(crate) fn make<S: Store>(
     match asked.from {
         InputForm::Auto => match begins_as(bytes) {
             Begun::Object => make_object(alloc, object_form(asked.columns), asked, bytes, store),
-            Begun::OtherJson => Err(no_form(
-                alloc,
-                "JSON of no known form; lines and SARIF are read, and documents",
-            )),
+            Begun::OtherJson => Err(no_form(alloc, OTHER_FORM)),
             Begun::Lines => make_lines(alloc, asked, bytes, store),
         },
         InputForm::Document => make_object(alloc, ObjectForm::AsDocument, asked, bytes, store),

@@ -3,24 +3,22 @@ ghost use Rattle.std.specs.Prelude.{◌≡◌, ◌≤◌, ◌++◌, IfErr, IfOk,
 ghost use Rattle.std.specs.Prelude.{string_bytes};
 ghost use Rattle.input_forms.specs.Object.{has_files as key_files};
 ghost use Rattle.girzohal_run.specs.Logs.{log_columns as columns_of};
-ghost use Rattle.girzohal_run.specs.Made.{HasCause, IsFree, IsNoObject, IsToldBehind};
-ghost use Rattle.girzohal_run.specs.Made.{IsWritten, MakesObject, Says, Writes};
+ghost use Rattle.girzohal_run.specs.Made.{HasCause, IsNoObject, IsToldBehind};
+ghost use Rattle.girzohal_run.specs.Made.{MakesObject, Says, Writes};
 ghost use Rattle.girzohal_run.specs.Reads.{IsNoDocument, IsNoneKeyed, IsNonePart};
 ghost use Rattle.girzohal_run.specs.Reads.{no_document as said_of_none, refusal_line};
 ghost use Rattle.girzohal_run.specs.Reads.{refusal_text as refusal_text_of};
 ghost use Rattle.girzohal_run.specs.Reads.{ReadsDocument, ReadsKeyed, ReadsPart, around as around_range};
 
 use crate::fault::{Fault, no_form};
+use crate::filtering::{push_line, write_left};
 use crate::logs::write_log;
 use crate::making::{Made, Written};
-use crate::texts::text_of;
 use documents::read_document;
-use found_reports::FoundReports;
 use girzohal_options::Asked;
 use input_forms::{has_files, json_part, without_mark};
 use line_shapes::tables::Unit;
 use render_files::ReportError;
-use report_counts::one_reaches;
 use shown_reports::document_reports;
 use source_store::Store;
 use std::alloc::{AllocError, Global};
@@ -55,7 +53,8 @@ pub(crate) fn make_object<S: Store>(
     let part = &bytes[range.start..range.end];
     match write_part(alloc, form, asked, before, part, store) {
         Ok(written) => {
-            let aside = around(alloc, bytes, range)?;
+            let mut aside = around(alloc, bytes, range)?;
+            push_line(&mut aside, written.line.as_str())?;
             Ok(Made { written, aside })
         }
         Err(fault) => Err(told_behind(alloc, without_mark(before), fault)),
@@ -109,7 +108,7 @@ fn write_part<S: Store>(
 ) -> Result<Written, Fault>
     ensures written { IfOk result (λ it. Writes
         (ReadsPart form (S.told store.now) (columns_of asked.now.columns) part.now) asked.now
-        (string_bytes it.text) it.reached) }
+        (string_bytes it.text) (string_bytes it.line) it.reached) }
     ensures cause { IfErr result (HasCause (IsNonePart form asked.now.columns) part.now) }
 {
     match form {
@@ -129,7 +128,7 @@ fn write_keyed<S: Store>(
 ) -> Result<Written, Fault>
     ensures written { IfOk result (λ it. Writes
         (ReadsKeyed (key_files part.now) (S.told store.now) (columns_of asked.now.columns) part.now)
-        asked.now (string_bytes it.text) it.reached) }
+        asked.now (string_bytes it.text) (string_bytes it.line) it.reached) }
     ensures cause { IfErr result (HasCause
         (λ text. IsNoneKeyed (key_files text) asked.now.columns text) part.now) }
 {
@@ -143,32 +142,17 @@ fn write_keyed<S: Store>(
 /// The output for a document.
 fn write_document(alloc: Global, asked: &Asked, part: &[u8]) -> Result<Written, Fault>
     ensures written { IfOk result (λ it. Writes (ReadsDocument part.now) asked.now
-        (string_bytes it.text) it.reached) }
+        (string_bytes it.text) (string_bytes it.line) it.reached) }
     ensures cause { IfErr result (HasCause (IsNoDocument asked.now.columns) part.now) }
 {
     let Some(document) = read_document(alloc, part)? else {
         return Err(no_form(alloc, no_document(asked.columns)));
     };
     match document_reports(alloc, &document) {
-        Ok(found) => write(alloc, asked, &found),
+        Ok(found) => write_left(alloc, asked, found, false),
         Err(ReportError::OutOfMemory) => Err(Fault::OutOfMemory),
         Err(why) => Err(refused(alloc, why)),
     }
-}
-
-/// The output for reports.
-pub(crate) fn write(
-    alloc: Global,
-    asked: &Asked,
-    found: &FoundReports<'_>,
-) -> Result<Written, Fault>
-    ensures written { IfOk result (λ it. IsWritten asked.now found.now
-        (string_bytes it.text) it.reached) }
-    ensures cause { IfErr result IsFree }
-{
-    let reached = one_reaches(asked.fail_on, found);
-    let text = text_of(alloc, asked, found)?;
-    Ok(Written { text, reached })
 }
 
 /// Why an object isn't a document. With columns that a log can't have, a log isn't read either.

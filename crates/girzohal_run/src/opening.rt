@@ -3,7 +3,7 @@ ghost use Rattle.std.specs.Prelude.{◌≡◌, true};
 ghost use Rattle.girzohal_run.specs.Opens.{HasOpeningCause, Opens};
 ghost use Rattle.girzohal_run.specs.Opens.{may_begin};
 
-use crate::lines::is_live;
+use crate::lines::may_come;
 use documents::Source;
 use girzohal_options::{Asked, InputForm};
 use input_forms::{FirstBytes, first_bytes};
@@ -12,7 +12,7 @@ use std::alloc::Global;
 
 /// The limit in bytes, 64 MiB: of an input that is read whole, and of lines after the last known
 /// block.
-pub(crate) const LIMIT: usize = 67_108_864;
+pub const LIMIT: usize = 67_108_864;
 
 /// How many bytes one read may give.
 pub(crate) const CHUNK: usize = 65_536;
@@ -37,7 +37,7 @@ pub(crate) fn open<I: Source>(alloc: Global, asked: &Asked, input: &mut I) -> Op
     ensures opens { Opens asked.now (I.left input.old) (I.left input.new) result }
     ensures cause { HasOpeningCause (I.faults input.old) (I.faults input.new) result }
 {
-    if !is_live(asked.to) {
+    if !may_come(asked) {
         return Opening::Whole(Vec::new(alloc));
     }
     match asked.from {

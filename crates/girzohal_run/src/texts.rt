@@ -4,6 +4,7 @@ ghost use Rattle.girzohal_run.specs.Made.{IsFree};
 ghost use Rattle.girzohal_run.specs.Texts.{IsText};
 
 use crate::fault::Fault;
+use crate::html::html_text;
 use ci_texts::{CiFormat, ci_text, gitlab_text, markdown_text, summary_text};
 use found_reports::FoundReports;
 use girzohal_options::{Asked, OutputForm};
@@ -32,5 +33,6 @@ pub(crate) fn text_of(
         OutputForm::Stylish => Ok(ci_text(alloc, CiFormat::Stylish, asked.raw, found)?),
         OutputForm::Summary => Ok(summary_text(alloc, asked.raw, found)?),
         OutputForm::Markdown => Ok(markdown_text(alloc, asked.raw, found)?),
+        OutputForm::Html => html_text(alloc, asked, found),
     }
 }

@@ -4,6 +4,7 @@ ghost use Rattle.std.specs.Prelude.{length, option_map, string_bytes};
 ghost use Rattle.found_reports.specs.Files.{files_of};
 ghost use Rattle.found_reports.specs.Found.{file_at};
 ghost use Rattle.found_reports.specs.Held.{held_of};
+ghost use Rattle.found_reports.specs.Kept.{Stands, file_view, report_view};
 ghost use Rattle.found_reports.specs.Listed.{held_in};
 ghost use Rattle.indexed_sources.specs.Indexed.{AreTold, text_held};
 ghost use Rattle.json_forms.specs.Finding.{finding_view};
@@ -28,7 +29,7 @@ ghost use Rattle.line_reports.specs.Reports.{label_of};
 use crate::diagnostics::{diagnostic, label};
 use crate::marks::{Mark, file_of, label_beside, mark_of, name_of};
 use crate::spans::{given_of, span_of};
-use found_reports::{FoundReports, GivenPlace, Lack};
+use found_reports::{FoundFile, FoundReport, FoundReports, GivenPlace, Lack};
 use indexed_sources::{IndexedSources, RowText};
 use json_forms::{Beside, Finding, Place};
 use oxc_protocol::LabeledSpan;
@@ -57,6 +58,49 @@ pub fn reports_of<'s>(
     let mut gathered = Gathered::new(alloc);
     gathered.push_all(alloc, sources, findings)?;
     Ok(gathered.found)
+}
+
+/// The same, and then the reports of `more`, whose files have the texts of these sources.
+///
+/// # Errors
+///
+/// Out of memory, and nothing else.
+pub fn reports_with<'s>(
+    alloc: Global,
+    findings: &[Finding<'_>],
+    sources: &'s IndexedSources,
+    more: FoundReports<'s>,
+) -> Result<FoundReports<'s>, AllocError>
+    requires { AreTold (held_in sources.now.entries.items) more.files }
+    ensures found { IfOk result (λ it. it.found
+        ≡ map (report_of (held_in sources.now.entries.items)) (map finding_view findings.now)
+        ++ more.entry.found) }
+    ensures files { IfOk result (λ it. it.files ≡ files_of it.found) }
+    ensures told { IfOk result (λ it. AreTold (held_in sources.now.entries.items) it.files) }
+{
+    let mut gathered = Gathered::new(alloc);
+    gathered.push_all(alloc, sources, findings)?;
+    let files = copied(alloc, more.files())?;
+    let mut reports = more.into_reports();
+    reports.reverse();
+    while let Some(report) = reports.pop() {
+        gathered.push_report(alloc, sources, &files, report)?;
+    }
+    Ok(gathered.found)
+}
+
+/// The same files.
+fn copied<'s>(alloc: Global, files: &[FoundFile<'s>]) -> Result<Vec<FoundFile<'s>>, AllocError>
+    ensures { IfOk result (λ it. map file_view it.items ≡ map file_view files.now) }
+{
+    let mut copies = Vec::new(alloc);
+    for file in files {
+        copies.push(FoundFile {
+            name: String::from_str(alloc, file.name.as_str())?,
+            source: file.source,
+        })?;
+    }
+    Ok(copies)
 }
 
 /// The reports so far, with the rows of their files' texts.
@@ -93,6 +137,7 @@ impl<'s> Gathered<'s> {
         requires texts { AreTexts self.old.texts.items self.old.found.files }
         requires told { AreTold (held_in sources.now.entries.items) self.old.found.files }
         requires listed { IsListed self.old.numbers self.old.found }
+        ensures texts { OnOk result (AreTexts self.new.texts.items self.new.found.files) }
         ensures told { OnOk result (AreTold (held_in sources.now.entries.items)
             self.new.found.files) }
         ensures listed { OnOk result (IsListed self.new.numbers self.new.found) }
@@ -126,6 +171,56 @@ impl<'s> Gathered<'s> {
     {
         let file = self.file(alloc, sources, name_of(finding))?;
         self.push_in(alloc, file, finding)
+    }
+
+    /// Adds a report that is on one of these files.
+    #[tactic(auto, using(line_reports::proofs::NumberLemmas::listed_push))]
+    fn push_report(
+        &mut self,
+        alloc: Global,
+        sources: &'s IndexedSources,
+        given: &[FoundFile<'s>],
+        report: FoundReport,
+    ) -> Result<(), AllocError>
+        requires texts { AreTexts self.old.texts.items self.old.found.files }
+        requires told { AreTold (held_in sources.now.entries.items) self.old.found.files }
+        requires listed { IsListed self.old.numbers self.old.found }
+        requires given { AreTold (held_in sources.now.entries.items) (map file_view given.now) }
+        requires stands { Stands (map file_view given.now) report }
+        ensures texts { OnOk result (AreTexts self.new.texts.items self.new.found.files) }
+        ensures told { OnOk result (AreTold (held_in sources.now.entries.items)
+            self.new.found.files) }
+        ensures listed { OnOk result (IsListed self.new.numbers self.new.found) }
+        ensures found { OnOk result (self.new.found.found
+            ≡ self.old.found.found ++ report_view (map file_view given.now) report ∷ []) }
+    {
+        let file = self.file_like(alloc, sources, given, report.file)?;
+        self.found.push(file, report.diagnostic, report.place)
+    }
+
+    /// The number here of one of these files.
+    fn file_like(
+        &mut self,
+        alloc: Global,
+        sources: &'s IndexedSources,
+        given: &[FoundFile<'s>],
+        number: usize,
+    ) -> Result<usize, AllocError>
+        requires texts { AreTexts self.old.texts.items self.old.found.files }
+        requires told { AreTold (held_in sources.now.entries.items) self.old.found.files }
+        requires listed { IsListed self.old.numbers self.old.found }
+        requires given { AreTold (held_in sources.now.entries.items) (map file_view given.now) }
+        requires number { number < length given.now }
+        ensures texts { OnOk result (AreTexts self.new.texts.items self.new.found.files) }
+        ensures told { OnOk result (AreTold (held_in sources.now.entries.items)
+            self.new.found.files) }
+        ensures listed { IfOk result (IsListedWith self.new.numbers self.new.found) }
+        ensures file { IfOk result (λ file. file < length self.new.found.files) }
+        ensures same { IfOk result (λ file. file_at self.new.found.files file
+            ≡ file_at (map file_view given.now) number) }
+        ensures found { self.new.found.found ≡ self.old.found.found }
+    {
+        self.file(alloc, sources, given[number].name.as_str())
     }
 
     /// Adds the report of a finding that is in this file.

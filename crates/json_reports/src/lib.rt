@@ -1,6 +1,7 @@
 //! The findings in a tool's JSON, as reports on files.
 //!
 //! - [`reports_of`]: one report for each finding, with its span in the text of its file.
+//! - [`reports_with`]: the same, and then other reports.
 //! - [`names_of`]: the names whose texts it looks up, to be read before.
 #![tactic(auto)]
 
@@ -11,5 +12,5 @@ mod names;
 mod spans;
 mod words;
 
-pub use gathered::reports_of;
+pub use gathered::{reports_of, reports_with};
 pub use names::names_of;

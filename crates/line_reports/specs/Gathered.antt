@@ -1,5 +1,5 @@
 -- What is known of the files of the reports so far.
-use Rattle.std.specs.Prelude.{ℕ, ◌≡◌, ◌≤◌, ◌<◌, ◌^◌, List, Option, Some, None, IfSome, Bool, true, false, String, slice_get, map, option_map}
+use Rattle.std.specs.Prelude.{ℕ, ◌≡◌, ◌≤◌, ◌<◌, ◌^◌, List, [], Option, Some, None, IfSome, Bool, true, false, String, slice_get, map, option_map}
 use Rattle.std.specs.BTreeMap.{BTreeMap, get_by_text}
 use Rattle.std.specs.List.{All, list_any}
 use Rattle.std.specs.Str.{bytes_eq}
@@ -14,6 +14,7 @@ use Rattle.found_reports.specs.Kept.{FoundParts}
 use Rattle.indexed_sources.specs.declared.row_text.RowText.{RowText}
 use Rattle.line_reports.specs.declared.labels.Mark.{Mark}
 use Rattle.line_reports.specs.Told.{told_parts}
+use Rattle.line_reports.specs.Drawings.{PlacedParts, PlacedStand, drawings_parts}
 use Rattle.line_reports.specs.Reports.{MarkParts}
 
 abbrev pub text_in : Held → Option (List ℕ)
@@ -42,11 +43,21 @@ pub record FitsLabel (range : Range ℕ) : Type 0 where
   pub short : range.end < 2 ^ 32
 
 abbrev pub mark_parts : Mark → MarkParts
-mark_parts mark = record { note = told_parts mark.note.now; span = mark.span }
+mark_parts mark = record { note = told_parts mark.note.now; span = mark.span; drawings = drawings_parts mark.drawings }
 
--- the spans of notes stand in what is held
+-- labels of an excerpt stand in what is held
+abbrev pub PlacedHeld : Held → List PlacedParts → Type 0
+PlacedHeld (holds text) placed = PlacedStand text placed
+PlacedHeld (lacks why) placed = placed ≡ []
+
+-- a note's span and its labels do
+pub record MarkStands (held : Held) (mark : MarkParts) : Type 0 where
+  pub span : IfSome mark.span (StandsHeld held)
+  pub labels : PlacedHeld held mark.drawings.labels
+
+-- the spans of notes and their labels do
 abbrev pub MarksStand : Held → List MarkParts → Type 0
-MarksStand held marks = All (λ mark. IfSome mark.span (StandsHeld held)) marks
+MarksStand held marks = All (MarkStands held) marks
 
 abbrev pub MarksFit : List MarkParts → Type 0
 MarksFit marks = All (λ mark. IfSome mark.span FitsLabel) marks

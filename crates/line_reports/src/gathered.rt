@@ -8,19 +8,25 @@ ghost use Rattle.found_reports.specs.Held.{held_of};
 ghost use Rattle.indexed_sources.specs.Indexed.{AreTold, text_held};
 ghost use Rattle.found_reports.specs.Listed.{held_in};
 ghost use Rattle.oxc_protocol.specs.Source.{Fits};
-ghost use Rattle.tool_lines.specs.Lines.{piece_parts};
 ghost use Rattle.line_reports.specs.Gathered.{AreNumbers, AreTexts, FitsLabel, IsNumber};
 ghost use Rattle.line_reports.specs.Gathered.{IsListed, IsListedWith, MarksStand, StandsHeld};
 ghost use Rattle.line_reports.specs.Gathered.{is_named, mark_parts, row_text as text_of, text_in};
 ghost use Rattle.line_reports.specs.Joined.{group_parts};
 ghost use Rattle.line_reports.specs.Reports.{all_reports, group_by, group_reports, held_span};
+ghost use Rattle.line_reports.specs.Drawings.{drawings_parts, placed_parts};
+ghost use Rattle.line_reports.specs.Gathered.{PlacedHeld};
+ghost use Rattle.line_reports.specs.Reports.{drawings_on as drawings_if, held_drawings};
 ghost use Rattle.line_reports.specs.Reports.{kept_place as place_kept, marks_of, named_file};
 ghost use Rattle.line_reports.specs.Reports.{note_span, other_notes, own_labels as labels_by};
 ghost use Rattle.line_reports.specs.Reports.{report_alone, report_in, reports_in};
+ghost use Rattle.line_reports.specs.Pieces.{read_parts};
 ghost use Rattle.line_reports.specs.Told.{told_parts};
 
+use crate::drawings::{Drawings, no_drawings};
 use crate::groups::{Group, joined};
 use crate::labels::{Mark, diagnostic, labels, lines};
+use crate::pieces::ReadPiece;
+use crate::placed::Placed;
 use crate::rows::span_at;
 use crate::told::Told;
 use found_reports::{FoundReports, GivenPlace, Lack};
@@ -30,7 +36,6 @@ use oxc_protocol::LabeledSpan;
 use std::alloc::{AllocError, Global};
 use std::collections::BTreeMap;
 use std::ops::Range;
-use tool_lines::lines::Piece;
 
 /// The reports of blocks, which begin with the first of these lines.
 ///
@@ -45,12 +50,12 @@ use tool_lines::lines::Piece;
 pub fn reports_of<'s>(
     alloc: Global,
     lines: &[&[u8]],
-    pieces: &[Piece<'_>],
+    pieces: &[ReadPiece<'_>],
     sources: &'s IndexedSources,
     columns: Columns,
 ) -> Result<FoundReports<'s>, AllocError>
     ensures found { IfOk result (λ it. it.found ≡ reports_in columns (held_in sources.now.entries.items)
-        (map (λ line. line.now) lines.now) (map piece_parts pieces.now)) }
+        (map (λ line. line.now) lines.now) (map read_parts pieces.now)) }
     ensures files { IfOk result (λ it. it.files ≡ files_of it.found) }
     ensures told { IfOk result (λ it. AreTold (held_in sources.now.entries.items) it.files) }
 {
@@ -163,8 +168,14 @@ impl<'s> Gathered<'s> {
             (group_parts group.now) (Some range.now)) }
     {
         let marks = self.marks(alloc, columns, file, group.notes.as_slice())?;
-        let labels = labels(alloc, range, marks.as_slice())?;
-        let lines = lines(alloc, &group.head, marks.as_slice())?;
+        let drawings = self.drawings(alloc, file, &group.head)?;
+        let labels = labels(alloc, range, drawings.labels.as_slice(), marks.as_slice())?;
+        let lines = lines(
+            alloc,
+            &group.head,
+            drawings.shown.as_slice(),
+            marks.as_slice(),
+        )?;
         let diagnostic = diagnostic(alloc, &group.head, labels, lines.as_slice())?;
         self.found.push(file, diagnostic, None)?;
         self.push_others(alloc, sources, columns, marks.as_slice())
@@ -266,13 +277,16 @@ impl<'s> Gathered<'s> {
             ++ report_in columns (file_at self.old.found.files file) (told_parts told.now) ∷ []) }
     {
         let span = self.span(columns, file, told);
-        let labels = own_labels(alloc, &span)?;
-        let diagnostic = diagnostic(alloc, told, labels, told.details())?;
+        let drawings = self.drawings_on(alloc, file, told, &span)?;
+        let labels = own_labels(alloc, &span, drawings.labels.as_slice())?;
+        let lines = told.lines(alloc, drawings.shown.as_slice())?;
+        let diagnostic = diagnostic(alloc, told, labels, lines.as_slice())?;
         self.found.push(file, diagnostic, kept_place(told, &span))?;
         Ok(())
     }
 
     /// The notes with their spans in a file.
+    #[tactic(auto, using(crate::proofs::LabelLemmas::mark_stands_by))]
     fn marks<'n, 'a>(
         &self,
         alloc: Global,
@@ -291,7 +305,12 @@ impl<'s> Gathered<'s> {
         let mut marks = Vec::new(alloc);
         while let [note, rest @ ..] = notes {
             let span = self.note_span(alloc, columns, file, note)?;
-            marks.push(Mark { note, span })?;
+            let drawings = self.drawings_on(alloc, file, note, &span)?;
+            marks.push(Mark {
+                note,
+                span,
+                drawings,
+            })?;
             notes = rest;
         }
         Ok(marks)
@@ -333,6 +352,47 @@ impl<'s> Gathered<'s> {
         match self.text(file) {
             Some(text) => span_at(text, columns, told.spot()),
             None => None,
+        }
+    }
+
+    /// The drawings of a finding's excerpt in a file, if it has a span there.
+    #[tactic(auto, using(crate::proofs::LabelLemmas::held_none))]
+    fn drawings_on(
+        &self,
+        alloc: Global,
+        file: usize,
+        told: &Told<'_>,
+        span: &Option<Range<usize>>,
+    ) -> Result<Drawings, AllocError>
+        requires texts { AreTexts self.now.texts.items self.now.found.files }
+        requires file { file < length self.now.found.files }
+        ensures drawings { IfOk result (λ it. drawings_parts it
+            ≡ drawings_if (file_at self.now.found.files file).held (told_parts told.now) span.now) }
+        ensures stand { IfOk result (λ it.
+            PlacedHeld (file_at self.now.found.files file).held (drawings_parts it).labels) }
+    {
+        match span {
+            Some(_) => self.drawings(alloc, file, told),
+            None => Ok(no_drawings(alloc)),
+        }
+    }
+
+    /// The drawings of a finding's excerpt in a file.
+    #[tactic(auto, using(crate::proofs::LabelLemmas::held_rules))]
+    fn drawings(&self, alloc: Global, file: usize, told: &Told<'_>) -> Result<Drawings, AllocError>
+        requires texts { AreTexts self.now.texts.items self.now.found.files }
+        requires file { file < length self.now.found.files }
+        ensures drawings { IfOk result (λ it. drawings_parts it
+            ≡ held_drawings (file_at self.now.found.files file).held (told_parts told.now)) }
+        ensures stand { IfOk result (λ it.
+            PlacedHeld (file_at self.now.found.files file).held (drawings_parts it).labels) }
+    {
+        match self.text(file) {
+            Some(text) => {
+                let drawings = told.drawings(alloc, text)?;
+                Ok(drawings)
+            }
+            None => Ok(no_drawings(alloc)),
         }
     }
 
@@ -459,12 +519,17 @@ fn row_text<'s>(source: Result<RowText<'s>, Lack>) -> Option<RowText<'s>>
 }
 
 /// The label of a finding alone.
-fn own_labels(alloc: Global, span: &Option<Range<usize>>) -> Result<Vec<LabeledSpan>, AllocError>
+fn own_labels(
+    alloc: Global,
+    span: &Option<Range<usize>>,
+    placed: &[Placed],
+) -> Result<Vec<LabeledSpan>, AllocError>
     requires { IfSome span.now FitsLabel }
-    ensures { IfOk result (λ labels. labels.items ≡ labels_by span.now) }
+    ensures { IfOk result (λ labels. labels.items
+        ≡ labels_by span.now (map placed_parts placed.now)) }
 {
     match span {
-        Some(range) => labels(alloc, range, &[]),
+        Some(range) => labels(alloc, range, placed, &[]),
         None => Ok(Vec::new(alloc)),
     }
 }

@@ -49,7 +49,7 @@ fn end(text: &str, index: &LineIndex, columns: Columns, place: GivenPlace) -> Op
 }
 
 /// The row with a number, from 1.
-fn row(text: &str, index: &LineIndex, number: Option<u32>) -> Option<Row>
+pub(crate) fn row(text: &str, index: &LineIndex, number: Option<u32>) -> Option<Row>
     requires { index.now ≡ index_of text.now }
     ensures value { result ≡ row_numbered (rows_in breaks text.now) number }
     ensures stands { IfSome result (IsRowOf text.now) }

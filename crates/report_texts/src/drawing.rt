@@ -15,7 +15,7 @@ use shown_reports::{ShowError, shown_reports};
 use std::alloc::{AllocError, Global};
 
 /// The default width of a drawing.
-const WIDTH: usize = 80;
+pub(crate) const WIDTH: usize = 80;
 
 /// The drawings of the first reports, up to `--max-findings`; then the lines of [`ending_text`].
 ///

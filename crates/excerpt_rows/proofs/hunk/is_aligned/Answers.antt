@@ -3,4 +3,4 @@ use Rattle.excerpt_rows.proofs.HunkLemmas.{aligned_if}
 use Rattle.excerpt_rows.proofs.hunk.is_aligned.Goals as goal
 
 pub returns : goal.returns
-returns c = aligned_if c.in_ok-found.found c.is_some.result c.args.printed.now c.args.source.now c.in_ok-found.ensures c.is_some.ensures
+returns c = aligned_if c.in_ok-found.found c.is_some.result c.args.printed.now c.args.source.now c.in_ok-found.ensures.found c.is_some.ensures

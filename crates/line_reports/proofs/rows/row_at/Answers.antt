@@ -1,6 +1,5 @@
 -- The row of a number that has a start.
-use Rattle.std.proofs.Common.{◌≡◌, ◌<◌, ◌≤◌, Some, length, min, ap, ap₂, sym, ◌∙◌, subst, arith}
-use Rattle.oxc_windows.specs.Breaks.{breaks_of}
+use Rattle.std.proofs.Common.{◌≡◌, Some, min, ap, ap₂, sym, ◌∙◌, subst, arith}
 use Rattle.source_location.specs.Locations.{counted_from}
 use Rattle.sarif_spans.specs.declared.rows.Row.{Row}
 use Rattle.sarif_spans.specs.Rows.{IsRowOf, row_at}

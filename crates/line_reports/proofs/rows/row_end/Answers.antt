@@ -1,5 +1,5 @@
 -- A row ends where the break starts that ends before the next row.
-use Rattle.std.proofs.Common.{◌≡◌, ◌+◌, ◌≤◌, ap, length, sym, subst, ◌∙◌, arith}
+use Rattle.std.proofs.Common.{◌+◌, ◌≤◌, ap, length, sym, subst, ◌∙◌, arith}
 use Rattle.std.proofs.lemmas.Bool.{ltb-true}
 use Rattle.line_reports.specs.Rows.{break_start}
 use Rattle.line_reports.proofs.RowLemmas.{NextStart, next_start, next_within, row_ends}

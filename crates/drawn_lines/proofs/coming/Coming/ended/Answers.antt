@@ -23,7 +23,7 @@ returns g c = λ taken text aside coming.
     let asked = c.args.asked.now in
     let drawn = c.in_ok-drawn.drawn in
     let all = c.in_ok-held.held in
-    let end = ending_by asked drawn.tally.count in
+    let end = ending_by asked drawn.tally.count drawn.tally.again in
     let lines = map (λ (line : Bor (List ℕ)). line.now) c.in_ok-lines.lines.items in
     let pieces = map piece_parts c.in_ok-pieces.pieces.items in
     let cut = rw c.deref-2.ensures.value at c.in_ok-pieces.ensures in
@@ -32,6 +32,7 @@ returns g c = λ taken text aside coming.
     let lines_are = c.in_ok-lines.ensures ∙ ap (map (λ (line : Vec ℕ Global). line.items)) c.deref.ensures.value in
     let said = c.as_str.ensures.value ∙ c.in_ok-ending.ensures in
     let pushed = c.in_ok-push_str.ensures.bytes ∙ ap (λ t. string_bytes drawn.text ++ t) said in
-    subst (λ b. IsDrawn told asked taken (text ++ b) (aside ++ string_bytes drawn.aside) drawn.tally.count.reached) (sym pushed)
+    subst (λ b. IsDrawn told asked taken (text ++ b) (aside ++ string_bytes drawn.aside) c.reaches-reached.result) (sym pushed)
+    (subst (λ r. IsDrawn told asked taken (text ++ (string_bytes drawn.text ++ end)) (aside ++ string_bytes drawn.aside) r) (sym c.reaches-reached.ensures)
     (all_drawn told asked taken text aside (string_bytes drawn.text) (string_bytes drawn.aside) end c.args.self.held all c.args.self.tally drawn.tally lines pieces lines_are
-    c.in_ok-held.ensures.came c.in_ok-held.ensures.read are draws refl coming)
+    c.in_ok-held.ensures.came c.in_ok-held.ensures.read are draws refl coming))

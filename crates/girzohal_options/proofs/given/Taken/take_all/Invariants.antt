@@ -5,4 +5,4 @@ use Rattle.girzohal_options.proofs.GivenLemmas.{StillTakes}
 use Rattle.girzohal_options.proofs.given.Taken.take_all.Given as goal
 
 abbrev pub invariant-loop-item : goal.invariant-loop-item
-invariant-loop-item l = StillTakes l.initial.self l.self (map said l.items) (map said (drop l.item-index l.items))
+invariant-loop-item l = StillTakes l.program l.initial.self l.self (map said l.items) (map said (drop l.item-index l.items))

@@ -1,0 +1,146 @@
+// Several outputs of one input.
+use documents::{Source, StderrSink, StdoutSink};
+use girzohal_options::{Asked, Output, OutputForm, ThemeChoice};
+use girzohal_run::{Made, Status, Wanted, run_each};
+use harmless::{Kind, harmless};
+use oxc_protocol::write_all;
+use source_store::DiskStore;
+use std::alloc::{AllocError, Global};
+use std::process::ExitCode;
+use whole_files::{Text, WriteError, replace_all};
+
+/// Whether an output is a file.
+pub(crate) fn has_files(asked: &Asked) -> bool {
+    asked.outputs.iter().any(|output| is_file(output))
+}
+
+/// Whether an output is a file, and not standard output.
+fn is_file(output: &Output) -> bool {
+    output.path.as_str() != "-"
+}
+
+/// The form of standard output, if anything is written there.
+pub(crate) fn printed_form(asked: &Asked) -> Option<OutputForm> {
+    if asked.prints {
+        return Some(asked.to);
+    }
+    for output in &asked.outputs {
+        if !is_file(output) {
+            return Some(output.to);
+        }
+    }
+    None
+}
+
+/// Makes all outputs of an input, and then writes them: first the files, then standard output.
+pub(crate) fn write_outputs<I: Source>(
+    rt: &HostRuntime,
+    alloc: Global,
+    asked: &mut Asked,
+    in_files: ThemeChoice,
+    input: &mut I,
+    store: &DiskStore<'_, HostRuntime>,
+) -> ExitCode {
+    let printed = printed_form(asked);
+    let Ok(wanted) = wanted_of(alloc, asked, printed, in_files) else {
+        return ExitCode::from(Status::OutOfMemory.code());
+    };
+    let mut err = StderrSink::new(rt.stderr());
+    match run_each(alloc, asked, &wanted, input, store, &mut err) {
+        Ok(made) => write_made(rt, alloc, asked, printed, &made),
+        Err(status) => ExitCode::from(status.code()),
+    }
+}
+
+/// The outputs: that on standard output first.
+fn wanted_of(
+    alloc: Global,
+    asked: &Asked,
+    printed: Option<OutputForm>,
+    in_files: ThemeChoice,
+) -> Result<Vec<Wanted>, AllocError> {
+    let mut wanted = Vec::new(alloc);
+    if let Some(to) = printed {
+        let theme = asked.theme;
+        wanted.push(Wanted { to, theme })?;
+    }
+    for output in &asked.outputs {
+        if is_file(output) {
+            wanted.push(Wanted {
+                to: output.to,
+                theme: in_files,
+            })?;
+        }
+    }
+    Ok(wanted)
+}
+
+/// Writes what is made for each output, that on standard output first.
+fn write_made(
+    rt: &HostRuntime,
+    alloc: Global,
+    asked: &Asked,
+    printed: Option<OutputForm>,
+    made: &[Made],
+) -> ExitCode {
+    let (first, others) = match (printed, made) {
+        (Some(_), [first, others @ ..]) => (Some(first), others),
+        _ => (None, made),
+    };
+    let Ok(texts) = texts_of(alloc, asked, others) else {
+        return ExitCode::from(Status::OutOfMemory.code());
+    };
+    match replace_all(alloc, rt, &texts) {
+        Ok(()) => {}
+        Err(WriteError::File(path)) => return refuse_output(rt, alloc, path),
+        Err(WriteError::OutOfMemory) => return ExitCode::from(Status::OutOfMemory.code()),
+    }
+    if let Some(first) = first {
+        let mut out = StdoutSink::new(rt.stdout());
+        if write_all(&mut out, first.text().as_bytes()).is_err() {
+            return ExitCode::from(Status::SinkFault.code());
+        }
+    }
+    ExitCode::from(status_of(made).code())
+}
+
+/// The files with their texts.
+fn texts_of<'a>(
+    alloc: Global,
+    asked: &'a Asked,
+    made: &'a [Made],
+) -> Result<Vec<Text<'a>>, AllocError> {
+    let mut texts = Vec::new(alloc);
+    let mut rest = made;
+    for output in &asked.outputs {
+        if is_file(output) {
+            if let [made, more @ ..] = rest {
+                let path = output.path.as_str();
+                texts.push(Text {
+                    path,
+                    text: made.text(),
+                })?;
+                rest = more;
+            }
+        }
+    }
+    Ok(texts)
+}
+
+/// How a run ended that made this.
+fn status_of(made: &[Made]) -> Status {
+    if made.iter().any(|it| it.reached()) {
+        Status::Reached
+    } else {
+        Status::Clean
+    }
+}
+
+/// Writes that a file can't be written, with its name sanitized.
+fn refuse_output(rt: &HostRuntime, alloc: Global, path: &str) -> ExitCode {
+    let Ok(name) = harmless(alloc, Kind::Name, path) else {
+        return ExitCode::from(Status::OutOfMemory.code());
+    };
+    let _told = eprintln!(rt; "girzohal: {name} can't be written");
+    ExitCode::from(Status::SinkFault.code())
+}

@@ -1,0 +1,77 @@
+-- The filters that options ask for.
+use Rattle.std.specs.Prelude.{◌≡◌, ℕ, ◌++◌, Bool, true, false, List, ◌∷◌, map, reverse, Option, Some, None, String, string_bytes, unwrap_or, Vec, codes, decimal}
+use Rattle.std.specs.Str.{chars}
+use Rattle.std.specs.declared.alloc.Global.{Global}
+use Rattle.changed_rows.specs.Changes.{Changes}
+use Rattle.changed_rows.specs.declared.error.Refusal.{Refusal}
+use Rattle.changed_rows.specs.declared.error.Wanted.{Wanted}
+use Rattle.changed_rows.specs.declared.error.Wanted.TheVariants.{PlainText, TwoFiles, HunkHead, Names, Rows, MoreRows, Escape, Quote}
+use Rattle.changed_rows.specs.declared.names.Root.{Root}
+use Rattle.finding_filters.specs.Patterns.{GlobParts, glob_in}
+use Rattle.finding_filters.specs.Tokens.{tokens_of}
+use Rattle.finding_filters.specs.declared.changed.Changed.{Changed}
+use Rattle.finding_filters.specs.declared.changed.FilterMode.{FilterMode}
+use Rattle.finding_filters.specs.declared.selection.Selection.{Selection}
+use Rattle.finding_filters.specs.declared.tokens.Token.{Token}
+use Rattle.report_filters.specs.declared.entries.Entry.{Entry}
+use Rattle.report_filters.specs.declared.rules.Rules.{Rules}
+use Rattle.girzohal_options.specs.declared.Asked.{Asked}
+
+abbrev pub glob_of : String Global → GlobParts
+glob_of text = glob_in (chars (string_bytes text))
+
+abbrev pub rule_of : String Global → List Token
+rule_of text = reverse (tokens_of true false (chars (string_bytes text)))
+
+-- the patterns and the severity that options give
+pub record IsSelection (asked : Asked) (it : Selection) : Type 0 where
+  pub include : it.include.items ≡ map glob_of asked.include.items
+  pub exclude : it.exclude.items ≡ map glob_of asked.exclude.items
+  pub select : it.select.items ≡ map rule_of asked.select.items
+  pub ignore : it.ignore.items ≡ map rule_of asked.ignore.items
+  pub least : it.least ≡ asked.severity
+
+abbrev pub changed_by : FilterMode → Option Changes → Option Changed
+changed_by mode None = None
+changed_by mode (Some diff) = Some (record { diff = diff; mode = mode })
+
+-- the filters that options ask for, with these files
+pub record AreRules (asked : Asked) (root : Root) (diff : Option Changes) (baseline : Option (Vec Entry Global)) (it : Rules) : Type 0 where
+  pub unique : it.filters.unique ≡ unwrap_or asked.unique false
+  pub selection : IsSelection asked it.filters.selection
+  pub changed : it.filters.changed ≡ changed_by asked.filter_mode diff
+  pub root_is : it.root ≡ root
+  pub baseline_is : it.baseline ≡ baseline
+
+-- ---- what is said of a diff that isn't read
+
+abbrev pub words_of : Wanted → List ℕ
+words_of PlainText = codes "a diff in UTF-8 without a byte order mark"
+words_of TwoFiles = codes "a diff of two files, not a combined one"
+words_of HunkHead = codes "@@ -ROW,COUNT +ROW,COUNT @@"
+words_of Names = codes "--- and +++ before a hunk"
+words_of Rows = codes "a hunk with rows"
+words_of (MoreRows old new) = codes "a hunk with rows"
+words_of Escape = codes "a name as git quotes it"
+words_of Quote = codes "the end of a quoted name"
+
+abbrev pub wanted_words : ℕ → List ℕ → List ℕ
+wanted_words row words = codes "line " ++ (decimal row ++ (codes ": wanted " ++ words))
+
+abbrev pub more_words : ℕ → ℕ → ℕ → List ℕ
+more_words row old new =
+    codes "line " ++ (decimal row ++ (codes ": wanted " ++ (decimal old ++ (codes " more rows of the old file and " ++ (decimal new ++ codes " of the new one")))))
+
+abbrev pub refusal_at : ℕ → Wanted → List ℕ
+refusal_at row PlainText = wanted_words row (words_of PlainText)
+refusal_at row TwoFiles = wanted_words row (words_of TwoFiles)
+refusal_at row HunkHead = wanted_words row (words_of HunkHead)
+refusal_at row Names = wanted_words row (words_of Names)
+refusal_at row Rows = wanted_words row (words_of Rows)
+refusal_at row (MoreRows old new) = more_words row old new
+refusal_at row Escape = wanted_words row (words_of Escape)
+refusal_at row Quote = wanted_words row (words_of Quote)
+
+-- where a diff is refused, and what was wanted there
+abbrev pub refusal_text : Refusal → List ℕ
+refusal_text it = refusal_at it.row it.wanted

@@ -1,0 +1,84 @@
+// What is written of the reports that filters leave.
+ghost use Rattle.std.specs.Prelude.{◌≡◌, IfErr, IfOk, OnOk, string_bytes};
+ghost use Rattle.girzohal_run.specs.Filtering.{IsLeftBy, IsWritten, broken};
+ghost use Rattle.girzohal_run.specs.Filtering.{is_broken as is_broken_text, with_line};
+ghost use Rattle.girzohal_run.specs.Made.{IsFree};
+
+use crate::fault::Fault;
+use crate::making::Written;
+use crate::texts::text_of;
+use found_reports::FoundReports;
+use girzohal_options::Asked;
+use report_counts::one_reaches;
+use report_filters::{Left, filtered};
+use std::alloc::{AllocError, Global};
+
+/// The output for reports, after filters. With `notes`, advice without a code after a finding is
+/// its note.
+pub(crate) fn write_left(
+    alloc: Global,
+    asked: &Asked,
+    found: FoundReports<'_>,
+    notes: bool,
+) -> Result<Written, Fault>
+    ensures written { IfOk result (λ it. IsWritten asked.now notes found.entry
+        (string_bytes it.text) (string_bytes it.line) it.reached) }
+    ensures cause { IfErr result IsFree }
+{
+    let Left { found, line } = left_of(alloc, asked, found, notes)?;
+    let reached = one_reaches(asked.fail_on, &found);
+    let text = text_of(alloc, asked, &found)?;
+    Ok(Written {
+        text,
+        line,
+        reached,
+    })
+}
+
+/// The reports that filters leave, and the line about them.
+fn left_of<'s>(
+    alloc: Global,
+    asked: &Asked,
+    found: FoundReports<'s>,
+    notes: bool,
+) -> Result<Left<'s>, AllocError>
+    ensures { IfOk result (λ it. IsLeftBy asked.now.rules notes found.entry it.found
+        (string_bytes it.line)) }
+{
+    match &asked.rules {
+        Some(rules) => Ok(filtered(alloc, rules, found, notes)?),
+        None => Ok(Left {
+            found,
+            line: String::new(alloc),
+        }),
+    }
+}
+
+/// Appends a line of its own, if there is one.
+pub(crate) fn push_line(text: &mut Vec<u8>, line: &str) -> Result<(), AllocError>
+    ensures { OnOk result (text.new.items ≡ with_line text.old.items line.now) }
+{
+    if line.is_empty() {
+        return Ok(());
+    }
+    push_break(text)?;
+    text.extend_from_slice(line.as_bytes())
+}
+
+/// Appends an LF to a text, unless it is empty or ends in one.
+fn push_break(text: &mut Vec<u8>) -> Result<(), AllocError>
+    ensures { OnOk result (text.new.items ≡ broken text.old.items) }
+{
+    if is_broken(text) {
+        return Ok(());
+    }
+    text.push(b'\n')?;
+    Ok(())
+}
+
+/// Whether a text is empty or ends in an LF.
+fn is_broken(text: &[u8]) -> bool
+    ensures { result ≡ is_broken_text text.now }
+{
+    text.is_empty() || text.ends_with(b"\n")
+}

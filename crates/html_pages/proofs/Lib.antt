@@ -1,0 +1,4 @@
+pub mod EscapedLemmas
+pub mod SpanLemmas
+pub mod StyleLemmas
+pub mod SpotLemmas

@@ -1,0 +1,325 @@
+//! The drawings of an excerpt, laid over the source.
+ghost use Rattle.std.specs.Prelude.{◌≡◌, ◌++◌, ◌∷◌, [], IfOk, IfSome, None, OnOk, map, option_map};
+ghost use Rattle.std.specs.Prelude.{All, slice_range, string_bytes};
+ghost use Rattle.std.specs.Str.{IsCharBoundary, chars};
+ghost use Rattle.excerpt_texts.specs.Labels.{drawn_parts};
+ghost use Rattle.excerpts.specs.Body.{block_of};
+ghost use Rattle.sarif_spans.specs.Rows.{IsRowOf};
+ghost use Rattle.found_reports.specs.Found.{StandsIn};
+ghost use Rattle.oxc_protocol.specs.Source.{Fits};
+ghost use Rattle.line_reports.specs.Drawings.{is_single as is_single_so, other_label};
+ghost use Rattle.line_reports.specs.Drawings.{all_laid as are_all_laid, begun_with, block_placed};
+ghost use Rattle.line_reports.specs.Drawings.{is_near as is_near_row, laid_at as laid_there};
+ghost use Rattle.line_reports.specs.Drawings.{laid_over as laid_over_row, laid_parts};
+ghost use Rattle.line_reports.specs.Drawings.{laid_row as row_laid, place_on as place_there};
+ghost use Rattle.line_reports.specs.Drawings.{placed_by, placed_from, placed_if as placed_so};
+ghost use Rattle.line_reports.specs.Drawings.{LaidStand, PlacedStand, drawings_parts};
+ghost use Rattle.line_reports.specs.Drawings.{no_drawings as none_drawn, placed_parts};
+ghost use Rattle.line_reports.specs.Drawings.{printed_text as text_printed, shown_in, with_block};
+
+use crate::labels::copied;
+use crate::pieces::text_characters;
+use crate::placed::Placed;
+use crate::rows::row;
+use crate::spans::place_in;
+use excerpt_blocks::below::{Row as PrintedRow, tail};
+use excerpt_rows::alignment::{Alignment, aligned};
+use excerpt_texts::labels::{DrawnLabel, labels_in};
+use excerpt_texts::lines::{flag, line_at};
+use excerpts::body::Block;
+use indexed_sources::RowText;
+use line_shapes::tables::Unit;
+use sarif_spans::Row;
+use std::alloc::{AllocError, Global};
+
+/// A printed row that is a row of the source.
+#[derive(Drop)]
+pub struct Laid {
+    alignment: Alignment,
+    row: Row,
+}
+
+/// The drawings of an excerpt.
+#[derive(Drop)]
+pub struct Drawings {
+    /// For each block whether it is shown by labels.
+    pub shown: Vec<bool>,
+    /// All these labels.
+    pub labels: Vec<Placed>,
+}
+
+/// No drawings.
+pub(crate) fn no_drawings(alloc: Global) -> Drawings
+    ensures none { drawings_parts result ≡ none_drawn }
+    ensures labels { (drawings_parts result).labels ≡ [] }
+{
+    Drawings {
+        shown: Vec::new(alloc),
+        labels: Vec::new(alloc),
+    }
+}
+
+/// Blocks; one with a flag is shown by its labels, if each of its printed rows is a row of the source.
+///
+/// # Errors
+///
+/// Out of memory.
+#[tactic(auto, unfolding(crate::specs::Drawings::shown_in))]
+pub(crate) fn drawings_of(
+    alloc: Global,
+    source: &RowText<'_>,
+    lines: &[&[char]],
+    flags: &[bool],
+    blocks: &[Block],
+) -> Result<Drawings, AllocError>
+    ensures stand { IfOk result (λ it.
+        PlacedStand source.now.text.now (drawings_parts it).labels) }
+    ensures shown { IfOk result (λ it. drawings_parts it ≡ shown_in source.now.text.now
+        (map (λ line. line.now) lines.now) flags.now (map block_of blocks.now)) }
+{
+    let mut drawings = no_drawings(alloc);
+    let mut flags_left = flags;
+    let mut rest = blocks;
+    while let [block, more @ ..] = rest {
+        let labels = placed_if(alloc, flag(flags_left), source, lines, block)?;
+        drawings.add(labels)?;
+        flags_left = tail(flags_left, 1);
+        rest = more;
+    }
+    Ok(drawings)
+}
+
+impl Drawings {
+    /// Adds a block with its labels, if it is shown by them.
+    fn add(&mut self, labels: Option<Vec<Placed>>) -> Result<(), AllocError>
+        ensures { OnOk result (drawings_parts self.new ≡ with_block (drawings_parts self.old)
+            (option_map (λ it. map placed_parts it.items) labels)) }
+    {
+        match labels {
+            Some(mut labels) => {
+                self.shown.push(true)?;
+                self.labels.append(&mut labels)?;
+            }
+            None => self.shown.push(false)?,
+        }
+        Ok(())
+    }
+}
+
+fn placed_if(
+    alloc: Global,
+    shown: bool,
+    source: &RowText<'_>,
+    lines: &[&[char]],
+    block: &Block,
+) -> Result<Option<Vec<Placed>>, AllocError>
+    ensures stand { IfOk result (λ all.
+        IfSome all (λ it. PlacedStand source.now.text.now (map placed_parts it.items))) }
+    ensures placed { IfOk result (λ all. option_map (λ it. map placed_parts it.items) all
+        ≡ placed_so shown source.now.text.now (map (λ line. line.now) lines.now) (block_of block.now)) }
+{
+    if shown {
+        labels_placed(alloc, source, lines, block)
+    } else {
+        Ok(None)
+    }
+}
+
+/// The labels of a block, if each of its printed rows is a row of the source.
+#[tactic(auto, unfolding(crate::specs::Drawings::block_placed))]
+fn labels_placed(
+    alloc: Global,
+    source: &RowText<'_>,
+    lines: &[&[char]],
+    block: &Block,
+) -> Result<Option<Vec<Placed>>, AllocError>
+    ensures stand { IfOk result (λ all.
+        IfSome all (λ it. PlacedStand source.now.text.now (map placed_parts it.items))) }
+    ensures placed { IfOk result (λ all. option_map (λ it. map placed_parts it.items) all
+        ≡ block_placed source.now.text.now (map (λ line. line.now) lines.now) (block_of block.now)) }
+{
+    let laid = laid_rows(alloc, source, lines, block.below.rows.as_slice())?;
+    let labels = labels_in(alloc, lines, block)?;
+    placed_all(alloc, source.text, laid.as_slice(), labels.as_slice())
+}
+
+/// Printed rows, each laid over the row of its number.
+fn laid_rows(
+    alloc: Global,
+    source: &RowText<'_>,
+    lines: &[&[char]],
+    mut rows: &[PrintedRow],
+) -> Result<Vec<Option<Laid>>, AllocError>
+    ensures stand { IfOk result (λ all.
+        LaidStand source.now.text.now (map (option_map laid_parts) all.items)) }
+    ensures laid { IfOk result (λ all. map (option_map laid_parts) all.items
+        ≡ map (row_laid source.now.text.now (map (λ line. line.now) lines.now)) rows.entry.now) }
+{
+    let mut all = Vec::new(alloc);
+    while let [row, rest @ ..] = rows {
+        let laid = laid_row(alloc, source, lines, *row)?;
+        all.push(laid)?;
+        rows = rest;
+    }
+    Ok(all)
+}
+
+/// A printed row, laid over the row of its number.
+#[tactic(auto, unfolding(crate::specs::Drawings::laid_row))]
+fn laid_row(
+    alloc: Global,
+    source: &RowText<'_>,
+    lines: &[&[char]],
+    printed: PrintedRow,
+) -> Result<Option<Laid>, AllocError>
+    ensures stands { IfOk result (λ laid.
+        IfSome (option_map laid_parts laid) (λ it. IsRowOf source.now.text.now it.row)) }
+    ensures laid { IfOk result (λ laid. option_map laid_parts laid
+        ≡ row_laid source.now.text.now (map (λ line. line.now) lines.now) printed) }
+{
+    match row(source.text, source.index, printed.number) {
+        Some(row) => laid_over(alloc, source.text, printed_text(lines, printed), row),
+        None => Ok(None),
+    }
+}
+
+/// The text of a printed row.
+fn printed_text<'l>(lines: &[&'l [char]], row: PrintedRow) -> &'l [char]
+    ensures { result.now ≡ text_printed (map (λ line. line.now) lines.now) row }
+{
+    tail(line_at(lines, row.line), row.text)
+}
+
+/// A printed row, laid over a row, if it is that.
+fn laid_over(
+    alloc: Global,
+    text: &str,
+    printed: &[char],
+    row: Row,
+) -> Result<Option<Laid>, AllocError>
+    requires { IsRowOf text.now row }
+    ensures stands { IfOk result (λ laid.
+        IfSome (option_map laid_parts laid) (λ it. IsRowOf text.now it.row)) }
+    ensures laid { IfOk result (λ laid. option_map laid_parts laid
+        ≡ laid_over_row text.now printed.now row) }
+{
+    if !is_near(row, printed) {
+        return Ok(None);
+    }
+    let source = text_characters(alloc, &text[row.start..row.end])?;
+    match aligned(alloc, printed, source.as_slice())? {
+        Some(alignment) => Ok(Some(Laid { alignment, row })),
+        None => Ok(None),
+    }
+}
+
+/// Whether a row isn't much longer than a printed one.
+fn is_near(row: Row, printed: &[char]) -> bool
+    ensures { result ≡ is_near_row row printed.now }
+{
+    row.end.saturating_sub(row.start) <= printed.len().saturating_add(1).saturating_mul(256)
+}
+
+/// Places labels; nothing if a row isn't laid, or one of them has no place.
+#[tactic(auto, using(crate::proofs::DrawingLemmas::none_placed))]
+fn placed_all(
+    alloc: Global,
+    text: &str,
+    laid: &[Option<Laid>],
+    mut labels: &[DrawnLabel],
+) -> Result<Option<Vec<Placed>>, AllocError>
+    requires short { Fits text.now }
+    requires laid { LaidStand text.now (map (option_map laid_parts) laid.now) }
+    ensures stand { IfOk result (λ all.
+        IfSome all (λ it. PlacedStand text.now (map placed_parts it.items))) }
+    ensures placed { IfOk result (λ all. option_map (λ it. map placed_parts it.items) all
+        ≡ placed_from text.now (map (option_map laid_parts) laid.now)
+        (begun_with (are_all_laid (map (option_map laid_parts) laid.now))) (map drawn_parts labels.entry.now)) }
+{
+    if !all_laid(laid) {
+        return Ok(None);
+    }
+    let mut all = Vec::new(alloc);
+    while let [label, rest @ ..] = labels {
+        let Some(placed) = placed_label(alloc, text, laid, label)? else {
+            return Ok(None);
+        };
+        push_placed(&mut all, placed)?;
+        labels = rest;
+    }
+    Ok(Some(all))
+}
+
+fn push_placed(all: &mut Vec<Placed>, placed: Placed) -> Result<(), AllocError>
+    ensures { OnOk result (map placed_parts all.new.items
+        ≡ map placed_parts all.old.items ++ placed_parts placed ∷ []) }
+{
+    all.push(placed)?;
+    Ok(())
+}
+
+fn all_laid(mut laid: &[Option<Laid>]) -> bool
+    ensures { result ≡ are_all_laid (map (option_map laid_parts) laid.entry.now) }
+{
+    while let [it, rest @ ..] = laid {
+        if it.is_none() {
+            return false;
+        }
+        laid = rest;
+    }
+    true
+}
+
+/// A label in the source, if its rows are there.
+#[tactic(auto, unfolding(crate::specs::Drawings::placed_by), using(crate::proofs::DrawingLemmas::placed_rules))]
+fn placed_label(
+    alloc: Global,
+    text: &str,
+    laid: &[Option<Laid>],
+    label: &DrawnLabel,
+) -> Result<Option<Placed>, AllocError>
+    requires short { Fits text.now }
+    requires laid { LaidStand text.now (map (option_map laid_parts) laid.now) }
+    ensures stands { IfOk result (λ placed.
+        IfSome placed (λ it. StandsIn text.now (other_label (placed_parts it)))) }
+    ensures value { IfOk result (λ placed. option_map placed_parts placed
+        ≡ placed_by text.now (map (option_map laid_parts) laid.now) (drawn_parts label.now)) }
+{
+    let Some(start) = place_on(text, laid, label.start_row, label.start) else {
+        return Ok(None);
+    };
+    let Some(end) = place_on(text, laid, label.row, label.end) else {
+        return Ok(None);
+    };
+    Ok(Some(Placed {
+        start: start as u32,
+        len: end.saturating_sub(start) as u32,
+        single: is_single(label),
+        primary: label.primary,
+        text: copied(alloc, &label.text)?,
+    }))
+}
+
+/// Its mark has one character.
+fn is_single(label: &DrawnLabel) -> bool
+    ensures { result ≡ is_single_so (drawn_parts label.now) }
+{
+    label.row == label.start_row && label.end.saturating_sub(label.start) == 1
+}
+
+/// The place of a character of a printed row.
+fn place_on(text: &str, laid: &[Option<Laid>], row: usize, column: usize) -> Option<usize>
+    requires { LaidStand text.now (map (option_map laid_parts) laid.now) }
+    ensures stands { IfSome result (IsCharBoundary text.now) }
+    ensures value { result ≡ place_there text.now (laid_there (map (option_map laid_parts) laid.now) row) column }
+{
+    match laid.get(row) {
+        Some(Some(laid)) => Some(place_in(
+            Unit::Bytes,
+            laid.alignment.offset(column),
+            text,
+            laid.row,
+        )),
+        _ => None,
+    }
+}

@@ -1,0 +1,3 @@
+pub mod OnceLemmas
+pub mod EntryLemmas
+pub mod LawLemmas

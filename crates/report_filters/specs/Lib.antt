@@ -1,0 +1,4 @@
+pub mod Kept
+pub mod Once
+pub mod Entries
+pub mod Filtered

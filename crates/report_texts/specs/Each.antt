@@ -1,0 +1,18 @@
+-- The drawing of each report by itself.
+use Rattle.std.specs.Prelude.{unwrap_or}
+use Rattle.oxc_handlers.specs.declared.theme.GraphicalTheme.{GraphicalTheme}
+use Rattle.oxc_handlers.specs.Theme.{none_theme, unicode_theme}
+use Rattle.oxc_handlers.specs.Handler.{Handler}
+use Rattle.girzohal_options.specs.declared.Asked.{Asked}
+use Rattle.girzohal_options.specs.declared.ThemeChoice.{ThemeChoice}
+use Rattle.girzohal_options.specs.declared.ThemeChoice.TheVariants.{Auto, Plain, Unicode, UnicodeNocolor}
+
+-- styles stand in a page as classes, whatever a terminal shows
+abbrev pub page_theme : ThemeChoice → GraphicalTheme
+page_theme Auto = unicode_theme
+page_theme Plain = none_theme
+page_theme Unicode = unicode_theme
+page_theme UnicodeNocolor = unicode_theme
+
+abbrev pub page_handler : Asked → Handler
+page_handler asked = record { theme = page_theme asked.theme; width = unwrap_or asked.width 80; tab = asked.tabs }
