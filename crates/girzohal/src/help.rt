@@ -68,9 +68,10 @@ Filters
                        needs --changed. Default: one if they begin with two
                        letters such as a/ and b/, otherwise none.
                        Example: --strip 1
-  --baseline LOG       A file with known findings: what --to document wrote, or
-                       an input of the same form. Only findings that aren't in
-                       it stay. Default: all stay. Example: --baseline old.json
+  --baseline LOG       A file with known findings, in any form that is read;
+                       --to document or --to sarif writes one. Only findings
+                       that aren't in it stay. Default: all stay. Example:
+                       --baseline old.json
   --include GLOB       Only findings in files of this pattern stay. In it, *
                        matches any characters but /, ** any characters, and ?
                        one; a folder matches with all below it. Default: all
