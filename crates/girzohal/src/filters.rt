@@ -34,7 +34,7 @@ fn diff_in(rt: &HostRuntime, alloc: Global, asked: &Asked) -> Result<Option<Diff
     let Some(name) = asked.changed.as_deref() else {
         return Ok(None);
     };
-    let bytes = bytes_of(rt, alloc, name)?;
+    let bytes = bytes_of(rt, alloc, name, LIMIT)?;
     match read_diff(alloc, &bytes, asked.strip) {
         Ok(diff) => Ok(Some(diff)),
         Err(DiffError::OutOfMemory) => Err(Status::OutOfMemory),
@@ -58,7 +58,7 @@ fn baseline_in(
     let Ok(name) = String::from_str(alloc, name) else {
         return Err(Status::OutOfMemory);
     };
-    let bytes = bytes_of(rt, alloc, name.as_str())?;
+    let bytes = bytes_of(rt, alloc, name.as_str(), LIMIT)?;
     match read_baseline(alloc, asked, names, &bytes) {
         Ok(baseline) => Ok(Some(baseline)),
         Err(Fault::OutOfMemory) => Err(Status::OutOfMemory),
@@ -79,10 +79,15 @@ fn baseline_in(
     }
 }
 
-/// The bytes of a file; `-` is standard input.
-fn bytes_of(rt: &HostRuntime, alloc: Global, name: &str) -> Result<Vec<u8>, Status> {
+/// The bytes of a file, at most `limit`; `-` is standard input.
+pub(crate) fn bytes_of(
+    rt: &HostRuntime,
+    alloc: Global,
+    name: &str,
+    limit: usize,
+) -> Result<Vec<u8>, Status> {
     if name == "-" {
-        return whole(rt, alloc, name, &mut StdinSource::new(rt.stdin()));
+        return whole(rt, alloc, name, limit, &mut StdinSource::new(rt.stdin()));
     }
     if let Ok(about) = rt.metadata(name) {
         if about.is_dir() {
@@ -90,7 +95,7 @@ fn bytes_of(rt: &HostRuntime, alloc: Global, name: &str) -> Result<Vec<u8>, Stat
         }
     }
     match fs::open(rt, name) {
-        Ok(opened) => whole(rt, alloc, name, &mut ReaderSource::new(opened)),
+        Ok(opened) => whole(rt, alloc, name, limit, &mut ReaderSource::new(opened)),
         Err(e) => Err(refuse(
             rt,
             alloc,
@@ -107,9 +112,10 @@ fn whole<I: Source>(
     rt: &HostRuntime,
     alloc: Global,
     name: &str,
+    limit: usize,
     input: &mut I,
 ) -> Result<Vec<u8>, Status> {
-    match read_all(alloc, input, LIMIT) {
+    match read_all(alloc, input, limit) {
         Reading::Whole(bytes) => Ok(bytes),
         Reading::TooLong => Err(refuse(rt, alloc, name, " ", "is too long", Status::InputTooLong)),
         Reading::Fault => Err(refuse(rt, alloc, name, " ", "can't be read", Status::ReadFault)),

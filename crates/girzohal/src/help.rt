@@ -3,16 +3,18 @@
 /// What `--help` prints.
 pub(crate) const HELP: &str = "girzohal: draws what compilers and linters report, with the sources
 
-usage: girzohal [OPTION].. [--] [FILE]
+usage: girzohal [OPTION].. [--] [FILE]..
 
   make 2>&1 | girzohal                    draw what a build reports, as it comes
   girzohal --to github log.sarif          write a SARIF log as annotations
   clang .. 2>&1 | girzohal --from sarif   read a log among other lines
+  girzohal gcc.log a.sarif --to gitlab    write the findings of two files
 
-Without FILE, or if FILE is -, standard input is read. The value of an option is
-the next argument, or follows a =. If an option is given again, its last value
-counts. But each --shape, --include, --exclude, --select, --ignore and --output
-counts, and --to is given once. After -- all arguments are files.
+Without FILE, or if FILE is -, standard input is read. Each FILE is read by
+itself, and the findings of all are written together, in order. The value of an
+option is the next argument, or follows a =. If an option is given again, its
+last value counts. But each --shape, --include, --exclude, --select, --ignore
+and --output counts, and --to is given once. After -- all arguments are files.
 
 Input
   --from FORM          The form of the input: auto, document, sarif or lines.
@@ -126,9 +128,9 @@ Output
   --version, -V        Print the version.
 
 Drawings and annotations of lines are written as the lines come. For everything
-else the input is read whole before anything is written. Lines that aren't
-findings keep their place in a drawing. With other forms they go to standard
-error, and so do lines around a log.
+else, and for several FILEs, the input is read whole before anything is written.
+Lines that aren't findings keep their place in a drawing. With other forms or
+several FILEs they go to standard error, and so do lines around a log.
 
 Environment
   FORCE_COLOR, CLICOLOR_FORCE

@@ -13,3 +13,6 @@ pub mod Live
 pub mod Rules
 pub mod Baseline
 pub mod Each
+pub mod Owned
+pub mod Finds
+pub mod Several

@@ -51,7 +51,8 @@ impl Made {
 }
 
 /// What is said of an input of no known form.
-const OTHER_FORM: &str = "JSON of no known form; lines and SARIF are read, and documents";
+pub(crate) const OTHER_FORM: &str =
+    "JSON of no known form; lines and SARIF are read, and documents";
 
 /// What is made of an input in the form that was asked for.
 pub(crate) fn make<S: Store>(
@@ -78,7 +79,7 @@ pub(crate) fn make<S: Store>(
 
 /// How a JSON object is read that may be a document or a log. A log's columns can't count bytes or
 /// cells.
-fn object_form(columns: Option<Unit>) -> ObjectForm
+pub(crate) fn object_form(columns: Option<Unit>) -> ObjectForm
     ensures { result ≡ form_of_object columns }
 {
     match columns {
