@@ -195,7 +195,7 @@ fn has_dots(line: &[char]) -> bool
 }
 
 /// The part that lines begin with, of which the first has this number in the body; nothing if it
-/// isn't read. A line that stands alone is kept wherever it is.
+/// isn't read. A line that is alone is kept wherever it is.
 #[tactic(auto, unfolding(crate::specs::Cuts::part_in))]
 pub fn part_at(spot: Spot, state: Open, first: usize, lines: &[Outline]) -> Option<Part>
     requires { 0 < length lines.now }

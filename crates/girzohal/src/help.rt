@@ -10,9 +10,9 @@ usage: girzohal [OPTION].. [--] [FILE]..
   clang .. 2>&1 | girzohal --from sarif   read a log among other lines
   girzohal gcc.log a.sarif --to gitlab    write the findings of two files
 
-Without FILE, or if FILE is -, standard input is read. Each FILE is read by
-itself, and the findings of all are written together, in order. The value of an
-option is the next argument, or follows a =. If an option is given again, its
+Without FILE, or if FILE is -, standard input is read. Each FILE is read in its
+own form, and the findings of all are written together, in order. The value of
+an option is the next argument, or follows a =. If an option is given again, its
 last value counts. But each --shape, --include, --exclude, --select, --ignore
 and --output counts, and --to is given once. After -- all arguments are files.
 

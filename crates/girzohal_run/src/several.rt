@@ -39,9 +39,9 @@ pub struct Input {
 }
 
 /// Makes each output of the findings of all inputs, in order, with the sources of a store. Each
-/// input is read by itself, as a run would that has no other. Nothing is written but to `err`: the
-/// rest of each input, or the line that says why the first one is refused that is none. `asked` has
-/// the form and the theme of another output after it.
+/// input is read as a run would read it alone. Nothing is written but to `err`: the rest of each
+/// input, or the line that says why the first one is refused that is none. `asked` has the form and
+/// the theme of another output after it.
 ///
 /// # Errors
 ///

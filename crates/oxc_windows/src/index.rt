@@ -63,7 +63,7 @@ impl WindowIndex {
         &self.rows.starts
     }
 
-    /// Begins anew with the rows round an offset whose row is known: no break before it is counted.
+    /// Begins again with the rows round an offset whose row is known: no break before it is counted.
     ///
     /// # Errors
     ///

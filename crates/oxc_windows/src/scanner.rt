@@ -101,7 +101,7 @@ impl<'a> SpanScanner<'a> {
         self.index.kept()
     }
 
-    /// Begins anew with the rows round an offset whose row is known, as if an empty span there had
+    /// Begins again with the rows round an offset whose row is known, as if an empty span there had
     /// been read first: no break before it is counted. It changes no later result.
     ///
     /// # Errors
@@ -173,7 +173,7 @@ fn read_on_own<'a, P: Page>(
     scanner.read_span_counted(span, &mut steps)
 }
 
-/// Begins an index of a source anew, with a counter of its own.
+/// Begins an index of a source again, with a counter of its own.
 fn begin_on_own<'a, P: Page>(
     index: &mut WindowIndex,
     source: &SliceSource<'a>,
