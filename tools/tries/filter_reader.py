@@ -143,8 +143,9 @@ def message_of(text):
     return " ".join(re.split(r"[ \t\r\n]+", re.sub(f"(?<![{beside}])[0-9]+(?![{beside}])", "0", text).strip(" \t\r\n")))
 
 
-def kind_of(it, root):
-    return plain(it["file"], root) if it["file"] else "", it["scope"] or "", it["code"] or "", message_of(it["message"])
+def kind_of(it, root, scopes):
+    """What alike findings share. Only a document says scopes: with any other baseline they aren't compared."""
+    return plain(it["file"], root) if it["file"] else "", scopes and it["scope"] or "", it["code"] or "", message_of(it["message"])
 
 
 def row_of(it):
@@ -161,9 +162,9 @@ def repeats(findings, root):
     return [text in texts[:at] for at, text in enumerate(texts)]
 
 
-def known(findings, taken, entries, late, root):
+def known(findings, taken, entries, late, root, scopes):
     """Which findings are taken or have an entry: by equal rows; then those without a row, by entries with one; then by entries without."""
-    flags, left = list(taken), [(kind_of(it, root), row_of(it)) for it in entries]
+    flags, left = list(taken), [(kind_of(it, root, scopes), row_of(it)) for it in entries]
     order = sorted(range(len(findings)), key=lambda at: late[at])
 
     def serve(at, fits):
@@ -175,7 +176,7 @@ def known(findings, taken, entries, late, root):
 
     for wanted in (0, 1, 2):
         for at in order:
-            kind, row = kind_of(findings[at], root), row_of(findings[at])
+            kind, row = kind_of(findings[at], root, scopes), row_of(findings[at])
             if flags[at]:
                 continue
             if wanted == 0 and row is not None:
@@ -229,7 +230,7 @@ def judge(findings, wants, root):
     entries = wants["baseline"] or []
     if wants["unique"]:
         entries = [it for it, again in zip(entries, repeats(entries, root)) if not again]
-    taken, gone = known(findings, twice, entries, late, root)
+    taken, gone = known(findings, twice, entries, late, root, wants.get("scopes", True))
     counts, stays = {"repeated": 0, "in the baseline": 0, "not selected": 0, WORDS[wants["mode"]]: 0}, []
     for it, again, has, changed in zip(findings, twice, taken, late):
         why = "repeated" if again else "in the baseline" if has else "not selected" if not selected(it, wants, root) else None

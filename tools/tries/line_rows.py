@@ -71,13 +71,13 @@ PAINTED = [
 
 # What the lines after a finding add to it: its drawing, which has no source to lie over, and two lines, before the one that names its location.
 DETAILED = "Cart.java:3: error: x\n\t\treturn sume;\n\t\t       ^\n  symbol:   variable sume\n  location: class Cart"
-DETAILS = ["\t\treturn sume;", "\t\t       ^", "  symbol:   variable sume", "  location: class Cart", "at Cart.java:3"]
+DETAILS = ["\t\treturn sume;", "\t\t       ^", "symbol:   variable sume", "location: class Cart", "at Cart.java:3"]
 
 # Lines in their order: a finding of two lines, two lines, a finding, a heading, a finding below it, a line.
 COMING = "a.c:1:2: error: x\n  y\n\nz\na.c:2:3: error: x\na.js\n  3:5  error  x  no-undef\nw"
 COME = ("a.c:1:2:0:0: error: x\na.c:2:3:0:0: error: x\na.js:3:5:0:0: error[no-undef]: x\n", "\nz\nw\n")
 # The same as a drawing, which is written as lines come: each block where its lines were.
-DRAWN = ("\n  x x\n  note:   y\n           at a.c:1:2\n" "\n" "z\n" "\n  x x\n  note: at a.c:2:3\n" "\n  x no-undef: x\n  note: at a.js:3:5\n" "w\n" "3 errors\n")
+DRAWN = ("\n  x x\n  note: y\n           at a.c:1:2\n" "\n" "z\n" "\n  x x\n  note: at a.c:2:3\n" "\n  x no-undef: x\n  note: at a.js:3:5\n" "w\n" "3 errors\n")
 
 # A row with a tab, an accented letter of two bytes, and a letter of four bytes and two units of UTF-16.
 ROW = "\t\u00e9\U0001d54f b"

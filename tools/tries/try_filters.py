@@ -153,6 +153,7 @@ class Tries:
                 rows = self.random.random() < 0.7
                 wants["baseline"] = old if rows else [self.as_line(it) for it in old if it["severity"] != "advice" or it["code"]]
                 self.write("old.txt", self.document(old, texts) if rows else self.lines(wants["baseline"]))
+                wants["scopes"] = rows
                 words += ["--baseline", "old.txt"]
             self.compare(f"case {at} ({form})", given, findings, wants, words)
 

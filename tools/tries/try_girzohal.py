@@ -20,6 +20,7 @@ import summary_rows
 from finding_rows import FindingRows
 from tries_around import Around
 from tries_outputs import OutputTries
+from tries_several import SeveralTries
 
 TOP = os.path.dirname(os.path.dirname(os.path.dirname(os.path.abspath(__file__))))
 EXAMPLES = os.path.join(TOP, "examples")
@@ -81,7 +82,7 @@ def drives(text):
     return re.search("[\x00-\x08\x0b-\x1f\x7f\x80-\x9f\u202a-\u202e\u2066-\u2069]", text.replace("\r\n", "\n")) is not None
 
 
-class Tries(Around, FindingRows, OutputTries):
+class Tries(Around, FindingRows, OutputTries, SeveralTries):
     def __init__(self, program):
         self.program, self.passed, self.failed = program, 0, 0
 
@@ -236,7 +237,7 @@ class Tries(Around, FindingRows, OutputTries):
             found = self.labelled("--tool", tool, given=text, cwd=os.path.join(EXAMPLES, "outputs", "src"))
             self.check(f"--tool {tool} on {name}.txt: {found}", wanted in found)
             without = self.labelled(given=text, cwd=os.path.join(EXAMPLES, "outputs", "src"))
-            self.check(f"{name}.txt without the tool: {without}", (wanted in without) == (tool not in ("gcc", "mypy", "pylint")))
+            self.check(f"{name}.txt without the tool: {without}", (wanted in without) == (tool not in ("mypy", "pylint")))
 
     def try_looks(self):
         self.check("--color always: colors", b"\x1b[" in self.run("--color", "always").stdout)
@@ -262,7 +263,7 @@ class Tries(Around, FindingRows, OutputTries):
             self.ends("the version", 0, "--version", out=b"girzohal " + file.read().strip().encode())
         bad = [("--color", "pink"), ("--width", "x"), ("--tabs", "17"), ("--tabs", "0"), ("--first-column", "2"), ("--from", "xml"),
                ("--to", "pdf"), ("--tool", "nobody"), ("--columns", "inches"), ("--fail-on", "never!"), ("--max-findings", "-1"), ("--shape", "{nothing}"),
-               ("--unknown",), ("--color",), ("a", "b"), ("--quiet=yes",), ("--theme", "none"), ("--most", "1"), ("--anywhere",)]
+               ("--unknown",), ("--color",), ("-", "a", "-"), ("--quiet=yes",), ("--theme", "none"), ("--most", "1"), ("--anywhere",)]
         for words in bad:
             said = self.ends("a wrong argument", 2, *words, err=b"--help")
             self.check(f"two lines: {' '.join(words)}", said.stderr.count(b"\n") == 2 and said.stdout == b"", said)
@@ -607,6 +608,9 @@ class Tries(Around, FindingRows, OutputTries):
                 found = re.findall(rb"(?m)^::error (.*?)(?:,title=.*)?::here$", back.stdout)
                 self.check(f"its place again, of {form}: {place}", found == [f"file={name},{told}".encode()], back)
 
+    def try_files(self):
+        self.try_several(LINE, json.dumps(LOG).encode(), json.dumps(DOCUMENT).encode())
+
     def try_all(self):
         with tempfile.TemporaryDirectory() as self.room:
             os.mkdir(f"{self.room}/sub")
@@ -616,7 +620,8 @@ class Tries(Around, FindingRows, OutputTries):
             for each in (self.try_runs, self.try_words, self.try_columns, self.try_effects, self.try_tools, self.try_looks, self.try_asking, self.try_inputs,
                          self.try_sources, self.try_terminals, self.try_pipes, self.try_slowly, self.try_paint, self.try_formats, self.try_lost,
                          self.try_colors, self.try_keyboard, self.try_limits, self.try_memory, self.try_help, self.try_manual,
-                         self.try_completions, self.try_install, self.try_pages, self.try_outputs, self.try_findings, self.try_finding_logs, self.try_finding_lines):
+                         self.try_completions, self.try_install, self.try_pages, self.try_outputs, self.try_files, self.try_findings,
+                         self.try_finding_logs, self.try_finding_lines):
                 try:
                     each()
                 except Exception as why:
