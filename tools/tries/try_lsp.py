@@ -362,8 +362,8 @@ def own_logs(folder, end):
 # the text in the sources where the tools say that they found something: a word, or one character that isn't part of one
 COVERED = {
     "clang.txt": ["sum", "total(p, 4)"], "clang-color.txt": ["sum", "total(p, 4)"], "gcc.txt": ["%s"], "gcc-color.txt": ["%s"],
-    "mypy-columns.txt": ["self.items", '"0"', "cart.totals"], "go-vet.txt": ["sum", "fmt"], "javac.txt": ["", "sume"],
-    "cppcheck.txt": ["printf", "-", "/", "sum", "sum"], "rustc.txt": ["sum as String", "sum as String", "xs", "moved"],
+    "mypy-columns.txt": ["self.items", '"0"', "cart.totals"], "go-vet.txt": ["sum", "fmt"], "javac.txt": ["", "s"],
+    "cppcheck.txt": ["p", "-", "/", "s", "s"], "rustc.txt": ["sum as String", "sum as String", "xs", "moved"],
     "shellcheck.txt": ["$", "*", "$", "cd", "$", "$", "$", "="], "yamllint.txt": ["a", " ", "a", "2", " "],
     "flake8.txt": ["import", "import", ",", "summe", "def", "-", "\t", "\t", "return"],
 }
