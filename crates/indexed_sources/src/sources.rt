@@ -84,7 +84,11 @@ impl IndexedSources {
     }
 
     /// The text of the entry at a place, with the index of its rows.
-    fn rows_at(&self, place: usize) -> Result<RowText<'_>, Lack>
+    ///
+    /// # Errors
+    ///
+    /// Why there is none. A text of `u32::MAX` bytes or more is too long.
+    pub fn rows_at(&self, place: usize) -> Result<RowText<'_>, Lack>
         requires { place < length self.now.entries.items }
         ensures { Some (text_held result) ≡ slice_get (map held_by self.now.entries.items) place }
     {

@@ -3,13 +3,14 @@ ghost use Rattle.std.specs.Prelude.{◌≡◌, ℕ, ◌*◌, true, Some, None, I
 ghost use Rattle.std.specs.Prelude.{IfOk, OnOk, OnErr};
 ghost use Rattle.oxc_windows.specs.declared.breaks.LineBreak.{LineBreak};
 ghost use Rattle.oxc_windows.specs.Breaks.{IsBreakList};
+ghost use Rattle.oxc_windows.specs.Rows.{row_of};
 ghost use Rattle.oxc_windows.specs.Window.{window_of};
 ghost use Rattle.oxc_windows.specs.Kept.{AllStay, AreKept};
 ghost use Rattle.oxc_windows.specs.Index.{IsIndexOf, index_view, is_served, new_index};
 ghost use Rattle.oxc_windows.specs.WindowRead.{KeepsRows, ReadsWindow, TicksForWindow};
 
 use crate::held::Rows;
-use crate::seed::seeded;
+use crate::seed::{seeded, seeded_in};
 use crate::{BreakSource, Steps, Window};
 use oxc_span::Span;
 use std::alloc::{AllocError, Global};
@@ -60,6 +61,34 @@ impl WindowIndex {
             → AreKept len breaks self.now.before self.now.first result.now }
     {
         &self.rows.starts
+    }
+
+    /// Begins anew with the rows round an offset whose row is known: no break before it is counted.
+    ///
+    /// # Errors
+    ///
+    /// Out of memory; it changes nothing.
+    pub fn begin_at<L: Ledger, S: BreakSource<L>>(
+        &mut self,
+        source: &S,
+        start: usize,
+        row: usize,
+        steps: &mut Steps<L>,
+    ) -> Result<(), AllocError>
+        requires within { start ≤ S.size source.now }
+        requires row { row ≡ row_of (S.breaks source.now) start }
+        ensures index { OnOk result (IsIndexOf (S.size source.now) (S.breaks source.now) self.new) }
+        ensures before { self.new.before ≡ self.old.before }
+        ensures after { self.new.after ≡ self.old.after }
+        ensures first { OnOk result (self.new.first ≡ Some start) }
+        ensures unchanged { OnErr result (self.new ≡ self.old) }
+    {
+        let mut rows = seeded_in(self.alloc, source, self.before, start, row, steps)?;
+        let _window = rows.answer(source, self.before, self.after, start, start, steps)?;
+        self.rows = rows;
+        self.len = source.len();
+        self.first = Some(start);
+        Ok(())
     }
 
     /// The window of the first span.

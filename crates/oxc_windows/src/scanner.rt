@@ -3,7 +3,9 @@ ghost use Rattle.std.specs.Prelude.{◌≡◌, ℕ, Some, None, Ok, [], ◌+◌,
 ghost use Rattle.std.specs.Prelude.{IfOk, OnOk, OnErr, IfSome, IsNone, IsSome, IsTrue, MatchResult};
 ghost use Rattle.oxc_windows.specs.Breaks.{breaks_of};
 ghost use Rattle.oxc_windows.specs.Kept.{AreKept};
-ghost use Rattle.oxc_windows.specs.Scan.{new_scan};
+ghost use Rattle.oxc_windows.specs.Index.{IsIndexOf};
+ghost use Rattle.oxc_windows.specs.Rows.{row_of};
+ghost use Rattle.oxc_windows.specs.Scan.{IsSameReader, new_scan};
 ghost use Rattle.oxc_windows.specs.Text.{IsAsText};
 ghost use Rattle.oxc_windows.specs.SpanRead.{ReadsSpan, TicksForSpan};
 
@@ -99,6 +101,22 @@ impl<'a> SpanScanner<'a> {
         self.index.kept()
     }
 
+    /// Begins anew with the rows round an offset whose row is known, as if an empty span there had
+    /// been read first: no break before it is counted. It changes no later result.
+    ///
+    /// # Errors
+    ///
+    /// Out of memory; it changes nothing.
+    pub fn begin_at(&mut self, start: usize, row: usize) -> Result<(), AllocError>
+        requires within { start ≤ length self.old.input }
+        requires row { row ≡ row_of (breaks_of self.old.input) start }
+        ensures same { IsSameReader self.old self.new }
+        ensures first { OnOk result (self.new.first ≡ Some start) }
+        ensures unchanged { OnErr result (self.new ≡ self.old) }
+    {
+        begin_on_own::<Brand>(&mut self.index, &self.source, start, row, Blank::new(1))
+    }
+
     /// The contents of the window of a span whose start is not after its end; none exactly if the
     /// span ends past the source.
     ///
@@ -153,6 +171,30 @@ fn read_on_own<'a, P: Page>(
 {
     let mut steps = Steps::new(OwnLedger::<P>::new(blank));
     scanner.read_span_counted(span, &mut steps)
+}
+
+/// Begins an index of a source anew, with a counter of its own.
+fn begin_on_own<'a, P: Page>(
+    index: &mut WindowIndex,
+    source: &SliceSource<'a>,
+    start: usize,
+    row: usize,
+    blank: Blank,
+) -> Result<(), AllocError>
+    requires named { blank.name ≡ P.number }
+    requires cut { blank.parts ≡ P.pieces }
+    requires some { 0 < blank.parts }
+    requires within { start ≤ length source.now.bytes.now }
+    requires row { row ≡ row_of (breaks_of source.now.bytes.now) start }
+    ensures index { OnOk result (IsIndexOf (length source.now.bytes.now)
+        (breaks_of source.now.bytes.now) index.new) }
+    ensures before { index.new.before ≡ index.old.before }
+    ensures after { index.new.after ≡ index.old.after }
+    ensures first { OnOk result (index.new.first ≡ Some start) }
+    ensures unchanged { OnErr result (index.new ≡ index.old) }
+{
+    let mut steps = Steps::new(OwnLedger::<P>::new(blank));
+    index.begin_at(source, start, row, &mut steps)
 }
 
 /// Bytes as a text, or the length of their longest UTF-8 prefix.

@@ -113,3 +113,25 @@ fn seeded_at<L: Ledger, S: BreakSource<L>>(
     let low = place.saturating_sub(before);
     walked_back(alloc, source, cut, place, low, steps)
 }
+
+/// The rows of the first span, the row of whose start is known: a walk back alone.
+pub fn seeded_in<L: Ledger, S: BreakSource<L>>(
+    alloc: Global,
+    source: &S,
+    before: usize,
+    start: usize,
+    row: usize,
+    steps: &mut Steps<L>,
+) -> Result<Rows, AllocError>
+    requires within { start ≤ S.size source.now }
+    requires row { row ≡ row_of (S.breaks source.now) start }
+    ensures held { IfOk result (λ r. AreRowsOf (S.size source.now) (S.breaks source.now) r) }
+    ensures top { IfOk result (λ r. r.top ≡ row - before) }
+{
+    let low = row.saturating_sub(before);
+    if source.inside(start, steps) {
+        walked_back(alloc, source, start - 1, row, low, steps)
+    } else {
+        walked_back(alloc, source, start, row, low, steps)
+    }
+}

@@ -3,6 +3,8 @@ ghost use Rattle.std.specs.Prelude.{◌≡◌, ◌<◌, ◌≤◌, ◌++◌, [],
 ghost use Rattle.std.specs.Prelude.{Some, None, map, string_bytes, take};
 ghost use Rattle.std.specs.Option.{option_copied};
 ghost use Rattle.oxc_span.specs.Label.{label_end};
+ghost use Rattle.oxc_windows.specs.Breaks.{breaks_of};
+ghost use Rattle.oxc_windows.specs.Rows.{row_of};
 ghost use Rattle.oxc_handlers.specs.Report.{drawn, plan_of, view_parts};
 ghost use Rattle.oxc_protocol.specs.Code.{shown_of};
 ghost use Rattle.oxc_protocol.specs.Parts.{parts_with};
@@ -23,7 +25,6 @@ use girzohal_options::Asked;
 use harmless::Kind;
 use oxc_handlers::{DiagnosticView, GraphicalReportHandler};
 use oxc_protocol::{Diagnostic, LabeledSpan, OxcDiagnostic, SourceRef};
-use oxc_span::Span;
 use oxc_windows::SpanScanner;
 use shown_reports::{ShownSources, shown_diagnostic, shown_text};
 use std::alloc::{AllocError, Global};
@@ -207,17 +208,30 @@ impl<'s> Drawings<'s> {
         requires { place < length self.now.entries }
         ensures { IfOk result (Reads (text_at self.now place) 1) }
     {
-        scanner_of(self.alloc, self.sources.shown(place, self.raw), from)
+        let source = self.sources.shown(place, self.raw);
+        let row = self.sources.row_at(place, from);
+        scanner_of(self.alloc, source, from, row)
     }
 }
 
-/// A scanner of a text, which keeps rows from this start on.
-fn scanner_of<'s>(alloc: Global, source: &'s str, from: u32) -> Result<SpanScanner<'s>, AllocError>
-    requires { Fits source.now }
+/// A scanner of a text, which keeps rows from this start on. The row of the start is given, so that
+/// no break before it is counted.
+fn scanner_of<'s>(
+    alloc: Global,
+    source: &'s str,
+    from: u32,
+    row: usize,
+) -> Result<SpanScanner<'s>, AllocError>
+    requires short { Fits source.now }
+    requires row { row ≡ row_of (breaks_of source.now) from }
     ensures { IfOk result (Reads source.entry.now 1) }
 {
     let mut scanner = SpanScanner::of_text(alloc, source, 1, 1);
-    scanner.read_span(Span::new(from, from))?;
+    let from = from as usize;
+    if from > source.len() {
+        return Ok(scanner);
+    }
+    scanner.begin_at(from, row)?;
     Ok(scanner)
 }
 

@@ -1,5 +1,5 @@
 -- Sources with what is shown of them.
-use Rattle.std.specs.Prelude.{◌≡◌, ℕ, Bool, List, Option, String, map, option_map, string_bytes}
+use Rattle.std.specs.Prelude.{◌≡◌, ℕ, Bool, List, [], Option, String, map, option_map, slice_get, string_bytes, unwrap_or}
 use Rattle.std.specs.declared.alloc.Global.{Global}
 use Rattle.harmless.specs.Harmless.{changed_source}
 use Rattle.found_reports.specs.Held.{held_text}
@@ -14,6 +14,10 @@ changed_by source = changed_source (held_text (held_by source))
 -- what is shown of the text of a source
 abbrev pub shown_by : Bool → Source → List ℕ
 shown_by raw source = shown_source raw (held_text (held_by source))
+
+-- what is shown of the source at a place, nothing where there is none
+abbrev pub shown_at : Bool → List Source → ℕ → List ℕ
+shown_at raw entries place = unwrap_or (slice_get (map (shown_by raw) entries) place) []
 
 -- these are the texts that are changed of these sources
 abbrev pub AreChanged : List Source → List (Option (String Global)) → Type 0

@@ -1,19 +1,25 @@
 // Sources with what is shown of them, which is made once.
-ghost use Rattle.std.specs.Prelude.{◌≡◌, ◌<◌, [], ℕ, List, Some, length, map, option_map};
+ghost use Rattle.std.specs.Prelude.{◌≡◌, ◌<◌, [], ℕ, Bool, List, Some, length, map, option_map};
 ghost use Rattle.std.specs.Prelude.{slice_get, string_bytes};
 ghost use Rattle.std.specs.Str.{IsUtf8};
+ghost use Rattle.source_location.specs.Index.{index_of};
+ghost use Rattle.oxc_windows.specs.Breaks.{breaks_of};
+ghost use Rattle.oxc_windows.specs.Rows.{row_of};
 ghost use Rattle.oxc_protocol.specs.Source.{Fits};
 ghost use Rattle.found_reports.specs.Held.{held_text};
 ghost use Rattle.found_reports.specs.Listed.{held_by, held_in};
-ghost use Rattle.indexed_sources.specs.Indexed.{CountsAt};
-ghost use Rattle.shown_reports.specs.Sources.{changed_by, shown_by};
+ghost use Rattle.indexed_sources.specs.Indexed.{CountsAt, text_held};
+ghost use Rattle.shown_reports.specs.Shown.{shown_source};
+ghost use Rattle.shown_reports.specs.Sources.{changed_by, shown_at, shown_by};
 ghost use Rattle.shown_reports.specs.Standing.{KeepsHeld};
 
-use found_reports::Source;
+use found_reports::{Lack, Source};
 use harmless::changed_source;
-use indexed_sources::{IndexedSources, SourceList};
+use indexed_sources::{IndexedSources, RowText, SourceList};
+use source_location::LineIndex;
 use std::alloc::{AllocError, Global};
 use std::marker::Model;
+use text_size::TextSize;
 
 /// A list of sources, each with the index of its rows, and with its sanitized text if that is
 /// another. Both are made when a source is added. Contracts see the entries.
@@ -65,6 +71,16 @@ impl ShownSources {
     {
         shown_of(&self.indexed.entries()[place], &self.changed[place], raw)
     }
+
+    /// The row of an offset of what is shown of the entry at an index, from 0. It takes a search
+    /// among the row starts that are kept.
+    pub fn row_at(&self, place: usize, offset: u32) -> usize
+        requires { place < length self.now.entries.items }
+        ensures { (raw : Bool) → result
+            ≡ row_of (breaks_of (shown_at raw self.now.entries.items place)) offset }
+    {
+        row_in(&self.indexed.rows_at(place), offset)
+    }
 }
 
 impl SourceList for ShownSources {
@@ -81,6 +97,28 @@ impl SourceList for ShownSources {
         self.changed.push_reserved(changed);
         Ok(())
     }
+}
+
+/// The row of an offset of what is shown of a text, or 0 if there is none.
+#[tactic(auto, using(crate::proofs::RowAtLemmas::no_row))]
+fn row_in(rows: &Result<RowText<'_>, Lack>, offset: u32) -> usize
+    ensures { (raw : Bool) → result
+        ≡ row_of (breaks_of (shown_source raw (held_text (text_held rows.now)))) offset }
+{
+    match rows {
+        Ok(rows) => row_with(rows.text, rows.index, offset),
+        Err(_) => 0,
+    }
+}
+
+/// The row of an offset of what is shown of the text with this index.
+fn row_with(text: &str, index: &LineIndex, offset: u32) -> usize
+    requires { index.now ≡ index_of text.now }
+    ensures { (raw : Bool) → result ≡ row_of (breaks_of (shown_source raw text.now)) offset }
+{
+    index
+        .line_index(TextSize::new(offset))
+        .to_zero_indexed_usize()
 }
 
 /// What is shown of a source that is this one sanitized, if that is another.
