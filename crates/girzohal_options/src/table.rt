@@ -38,6 +38,7 @@ pub enum Setting {
     Width,
     Tabs,
     MaxFindings,
+    MaxRow,
     FailOn,
 }
 
@@ -83,13 +84,14 @@ impl Setting {
             Setting::Width => ("--width", "auto or a number from 1"),
             Setting::Tabs => ("--tabs", "a number from 1 to 16"),
             Setting::MaxFindings => ("--max-findings", "a number from 0"),
+            Setting::MaxRow => ("--max-row", "a number from 0"),
             Setting::FailOn => ("--fail-on", "error, warning, advice or never"),
         }
     }
 }
 
 /// The options that take a value; those of the server come first.
-pub(crate) const SETTINGS: [Setting; 22] = [
+pub(crate) const SETTINGS: [Setting; 23] = [
     Setting::From,
     Setting::Tool,
     Setting::Columns,
@@ -111,6 +113,7 @@ pub(crate) const SETTINGS: [Setting; 22] = [
     Setting::Width,
     Setting::Tabs,
     Setting::MaxFindings,
+    Setting::MaxRow,
     Setting::FailOn,
 ];
 
