@@ -81,7 +81,7 @@ fn baseline_in(
 }
 
 /// The bytes of a file; `-` is standard input.
-fn bytes_of(rt: &HostRuntime, alloc: Global, name: &str) -> Result<Vec<u8>, Status> {
+pub(crate) fn bytes_of(rt: &HostRuntime, alloc: Global, name: &str) -> Result<Vec<u8>, Status> {
     if name == "-" {
         return whole(rt, alloc, name, &mut StdinSource::new(rt.stdin()));
     }
@@ -128,7 +128,7 @@ pub(crate) fn why_closed(kind: ErrorKind) -> &'static str {
 }
 
 /// Writes why a file isn't read, with its name sanitized.
-fn refuse(
+pub(crate) fn refuse(
     rt: &HostRuntime,
     alloc: Global,
     name: &str,

@@ -6,6 +6,7 @@
 //!
 //! - `filters`: the files of filters
 //! - `help`: the help and the version
+//! - `shapes`: the user's own forms of JSON
 //! - `outputs`: several outputs of one input
 //! - `surroundings`: colors and width from the environment
 #![tactic(auto)]
@@ -13,6 +14,7 @@
 mod filters;
 mod help;
 mod outputs;
+mod shapes;
 mod surroundings;
 
 use documents::{ReaderSource, Source, StderrSink, StdinSource, StdoutSink};
@@ -22,6 +24,7 @@ use girzohal_run::{Status, run};
 use harmless::{Kind, harmless};
 use help::{HELP, MORE, VERSION};
 use outputs::{has_files, printed_form, write_outputs};
+use shapes::read_shapes;
 use source_store::DiskStore;
 use std::alloc::Global;
 use std::fs::Files;
@@ -67,6 +70,9 @@ fn obey(rt: &HostRuntime, alloc: Global, mut asked: Asked) -> ExitCode {
     };
     if asked.files.len() > 1 {
         return refuse(rt, "only one FILE is read");
+    }
+    if let Err(status) = read_shapes(rt, alloc, &mut asked) {
+        return ExitCode::from(status.code());
     }
     if let Err(status) = read_filters(rt, alloc, &mut asked, root.as_str()) {
         return ExitCode::from(status.code());

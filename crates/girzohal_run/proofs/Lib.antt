@@ -2,3 +2,4 @@ pub mod RunLemmas
 pub mod LiveLemmas
 pub mod ObjectLemmas
 pub mod EachLemmas
+pub mod ValuesLemmas

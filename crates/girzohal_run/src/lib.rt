@@ -12,6 +12,7 @@
 //! - `making`: what is made of an input, in its form
 //! - `object`, `logs`: the same for a JSON object, which is a document or a log
 //! - `lines`: the same for lines that a tool prints for people
+//! - `values`: the same for JSON values among lines
 //! - `opening`, `live`: the same for lines that are written as they come
 //! - `filtering`: what is written of the reports that filters leave
 //! - `texts`: the texts of reports; `html`: the page of them
@@ -35,6 +36,7 @@ mod program;
 mod rules;
 mod status;
 mod texts;
+mod values;
 
 pub use baseline::read_baseline;
 pub use each::{Wanted, run_each};
