@@ -2,9 +2,8 @@
 use changed_rows::{Diff, DiffError, Root, read_diff};
 use documents::{ReaderSource, Reading, Source, StdinSource, read_all};
 use girzohal_options::Asked;
-use girzohal_run::{Fault, LIMIT, Status, read_baseline, refusal_text, rules_of};
+use girzohal_run::{Baseline, Fault, LIMIT, Status, read_baseline, refusal_text, rules_of};
 use harmless::{Kind, harmless};
-use report_filters::Entry;
 use std::alloc::Global;
 use std::fs;
 use std::fs::Files;
@@ -52,7 +51,7 @@ fn baseline_in(
     alloc: Global,
     asked: &mut Asked,
     names: &Root,
-) -> Result<Option<Vec<Entry>>, Status> {
+) -> Result<Option<Baseline>, Status> {
     let Some(name) = asked.baseline.as_deref() else {
         return Ok(None);
     };
@@ -61,7 +60,7 @@ fn baseline_in(
     };
     let bytes = bytes_of(rt, alloc, name.as_str())?;
     match read_baseline(alloc, asked, names, &bytes) {
-        Ok(entries) => Ok(Some(entries)),
+        Ok(baseline) => Ok(Some(baseline)),
         Err(Fault::OutOfMemory) => Err(Status::OutOfMemory),
         Err(Fault::NoForm(said)) => {
             let said = String::from_utf8_lossy(alloc, &said);

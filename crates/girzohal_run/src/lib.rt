@@ -1,7 +1,7 @@
 //! The run of the program `girzohal`, over any source, store and sinks.
 //!
 //! - [`run`]: reads an input and writes the output.
-//! - [`rules_of`]: the filters that options ask for; [`read_baseline`]: the findings of a baseline.
+//! - [`rules_of`]: the filters that options ask for; [`read_baseline`]: a [`Baseline`].
 //! - [`run_each`]: reads an input and makes several outputs of it, each [`Wanted`] and [`Made`].
 //! - [`Status`]: how a run ended, and its exit status.
 //!
@@ -36,7 +36,7 @@ mod rules;
 mod status;
 mod texts;
 
-pub use baseline::read_baseline;
+pub use baseline::{Baseline, read_baseline};
 pub use each::{Wanted, run_each};
 pub use fault::Fault;
 pub use making::Made;

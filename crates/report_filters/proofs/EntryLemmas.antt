@@ -1,14 +1,15 @@
 -- Notes of reports, with their files and without.
-use Rattle.std.proofs.Common.{◌≡◌, ℕ, ◌+◌, ◌&&◌, Bool, true, false, List, [], ◌∷◌, ◌++◌, map, refl, sym, ap, subst, ◌∙◌, append_assoc}
+use Rattle.std.proofs.Common.{◌≡◌, ℕ, ◌+◌, ◌&&◌, if◌then◌else◌, Bool, true, false, List, [], ◌∷◌, ◌++◌, map, refl, sym, ap, subst, ◌∙◌, append_assoc}
 use Rattle.std.specs.List.{All, prefix_len}
 use Rattle.std.proofs.lemmas.List.Elements.{All-head, All-tail}
 use Rattle.ci_findings.specs.Finding.{finding_of, finding_parts}
 use Rattle.ci_findings.specs.declared.finding.Finding.{Finding}
 use Rattle.finding_filters.specs.Finding.{FindingParts}
-use Rattle.found_reports.specs.Found.{Found, NamedHeld}
+use Rattle.found_reports.specs.Found.{Found, NamedHeld, StandsIn}
 use Rattle.found_reports.specs.Kept.{Stands, report_view}
 use Rattle.found_reports.specs.declared.reports.FoundReport.{FoundReport}
-use Rattle.report_filters.specs.Entries.{entries_from, entry_of, is_more, is_note, new_entry, notes_first, notes_in}
+use Rattle.oxc_span.specs.Label.{Label}
+use Rattle.report_filters.specs.Entries.{entries_from, entry_of, is_more, is_note, main_of, new_entry, notes_first, notes_in}
 
 same_run : (files : List NamedHeld) (reports : List FoundReport) → prefix_len (λ report. is_more report.diagnostic) reports ≡ prefix_len is_note (map (report_view files) reports)
 same_run files [] = refl
@@ -48,3 +49,13 @@ pub stand_on : (files : List NamedHeld) (rest others : List FoundReport) (report
 stand_on files rest others report is stand =
     let here : All (Stands files) (report ∷ others) = subst (All (Stands files)) is stand in
     (All-head (Stands files) report others here, All-tail (Stands files) report others here)
+
+-- ---- the label that a report is about stands in the text
+
+pub main_stands : (text : List ℕ) (first : Label) (labels : List Label) → StandsIn text first → All (StandsIn text) labels → StandsIn text (main_of first labels)
+main_stands text first [] here stand = here
+main_stands text first (label ∷ rest) here stand = go label.primary
+  where
+    go : (is : Bool) → StandsIn text (if is then label else main_of first rest)
+    go true = All-head (StandsIn text) label rest stand
+    go false = main_stands text first rest here (All-tail (StandsIn text) label rest stand)

@@ -55,10 +55,15 @@ after_in text at = prefix_len is_inner (slice_range text at (min (at + near) (le
 unfoldable pub row_near : List ℕ → ℕ → List ℕ
 row_near text at = utf8_lossy (slice_range text (at - before_in text at) (at + after_in text at))
 
--- the text of the row of a report: where its first label starts
+-- the label that a report is about: its first primary one, or else this
+abbrev pub main_of : Label → List Label → Label
+main_of first [] = first
+main_of first (label ∷ rest) = if label.primary then label else main_of first rest
+
+-- the text of the row of a report: where the label that it is about starts, so that a log that puts this label first has the same
 abbrev pub row_of : Held → List Label → Option (List ℕ)
 row_of (holds text) [] = None
-row_of (holds text) (head ∷ others) = Some (row_near text head.offset)
+row_of (holds text) (head ∷ others) = Some (row_near text (main_of head (head ∷ others)).offset)
 row_of (lacks why) labels = None
 
 abbrev pub row_if : Bool → Held → List Label → Option (List ℕ)

@@ -12,7 +12,7 @@ ghost use Rattle.ci_findings.specs.Finding.{finding_of, finding_parts as finding
 ghost use Rattle.finding_filters.specs.Finding.{finding_parts};
 ghost use Rattle.report_filters.specs.Entries.{entries_of as entries_in, new_entry};
 ghost use Rattle.report_filters.specs.Entries.{entry_of, entry_parts, has_none, is_advice as is_advice_level};
-ghost use Rattle.report_filters.specs.Entries.{is_inner as is_inner_byte, is_more, notes_in};
+ghost use Rattle.report_filters.specs.Entries.{is_inner as is_inner_byte, is_more, main_of, notes_in};
 ghost use Rattle.report_filters.specs.Entries.{row_if, row_near as row_near_in, spot_of};
 
 use changed_rows::Root;
@@ -287,7 +287,7 @@ fn text_or_none(alloc: Global, text: &Option<String>) -> Result<String, AllocErr
     }
 }
 
-/// The text of the row where the first label starts, if it is asked for.
+/// The text of the row where the label starts that the report is about, if it is asked for.
 fn row_text(
     alloc: Global,
     rows: bool,
@@ -299,11 +299,25 @@ fn row_text(
 {
     match (source, labels) {
         (Ok(text), [head, ..]) if rows => {
-            let at = head.span().start as usize;
+            let at = main_label(head, labels).offset() as usize;
             Ok(Some(row_near(alloc, text.as_bytes(), at)?))
         }
         _ => Ok(None),
     }
+}
+
+/// The label that a report is about: its first primary one, or else `first`.
+fn main_label<'l>(first: &'l LabeledSpan, labels: &'l [LabeledSpan]) -> &'l LabeledSpan
+    ensures { result.now ≡ main_of first.now labels.now }
+{
+    let mut rest = labels;
+    while let [label, others @ ..] = rest {
+        if label.primary() {
+            return label;
+        }
+        rest = others;
+    }
+    first
 }
 
 /// The text of the row of a place, as far as it is near.
