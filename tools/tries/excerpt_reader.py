@@ -30,6 +30,9 @@ HOOK = re.compile(r"(?:[╰├└]─+|`-+)(?= |\Z)")
 MOST_ITEMS = 500
 
 
+ALONE = ('fix-it:"', "In file included from ")
+
+
 class Refused(Exception):
     """A line of a body isn't read."""
 
@@ -481,7 +484,18 @@ class Excerpt:
                 said[to] += [text for text in texts if not is_bare(text)]
             elif part.block and not any(part.block is block for block in shown):
                 said["note"] += [text for text in texts if not is_bare(text)]
-        return said
+        return {**said, "kept": outdented(said["kept"])}
+
+
+def outdented(lines):
+    """Lines without the spaces that all of them begin with."""
+    spaces = min((len(line) - len(line.lstrip(" ")) for line in lines), default=0)
+    return [line[spaces:] for line in lines]
+
+
+def kept(lines):
+    """What is shown of a body that is kept as a whole."""
+    return outdented([line for line in lines if not is_bare(line)])
 
 
 class Body:
@@ -504,6 +518,9 @@ class Body:
 
     def part(self, at):
         line = self.lines[at]
+        if line.text.startswith(ALONE):
+            self.below = None
+            return self.take("kept", at)
         if self.below is not None and self.goes_on(line):
             return Part("goes on", at, [line], below=self.below)
         self.below = None
@@ -531,7 +548,7 @@ class Body:
 
     def drawing(self, at):
         end = at
-        while end < len(self.lines) and self.in_block(self.lines[end]):
+        while end < len(self.lines) and self.in_block(self.lines[end]) and not self.lines[end].text.startswith(ALONE):
             end += 1
         if end == at:
             if self.drawn:

@@ -150,7 +150,7 @@ int x = y;
         ^
   symbol: variable y
 """,
-        [(1, 8, 1, 9, True, None)], kept=["  symbol: variable y"]),
+        [(1, 8, 1, 9, True, None)], kept=["symbol: variable y"]),
     Row("a hook", "a.js", "let x = 1;\n",
         """\
   × oops
@@ -199,6 +199,41 @@ error: x
   = warning: old
 """,
         [(1, 0, 1, 1, True, None)], ["expected `u32`", "   found `i32`", "warning: old"]),
+    Row("an edit below a drawing", "a.c", "    p.color = 2;\n",
+        """\
+a.c:1:6: error: no such name
+    1 |     p.color = 2;
+      |     ~^
+      |      ->
+fix-it:"a.c":{1:6-1:7}:"->"
+""",
+        [(1, 4, 1, 6, True, None), (1, 5, 1, 5, False, "help: ->")], kept=['fix-it:"a.c":{1:6-1:7}:"->"']),
+    Row("two characters are marked", "a.rs", "    return (1);\n",
+        """\
+warning: unnecessary parentheses
+ --> a.rs:1:12
+  |
+1 |     return (1);
+  |            ^ ^
+""",
+        [(1, 11, 1, 12, True, None), (1, 13, 1, 14, True, None)]),
+    Row("the mark is where the column isn't, which counts bytes", "a.c", 'f("\u65e5", x);\n',
+        """\
+a.c:1:10: error: no such name
+    1 | f("\u65e5", x);
+      |         ^
+""",
+        [(1, 7, 1, 8, True, None)]),
+    Row("the message is below", "M.hs", "import Data.Nope\n",
+        """\
+M.hs:1:1: error:
+    Could not find module Data.Nope
+    Use -v to see the files.
+  |
+1 | import Data.Nope
+  | ^^^^^^^^^^^^^^^^
+""",
+        [(1, 0, 1, 16, True, None)], kept=["Could not find module Data.Nope", "Use -v to see the files."]),
     Row("marks without a row", "a.c", "int x;\n", "a.c:1:5: error: x\n      |     ^ nobody's\n", read=False),
     Row("a bar in prose", "a.c", "int x;\n", "a.c:1:5: error: x\n    1 | int x;\n      |     ^\n  one | two\n", read=False),
     Row("a gutter that changes", "a.c", "int x;\n", "a.c:1:5: error: x\n    1 | int x;\n       |     ^\n", read=False),

@@ -33,7 +33,7 @@ TOP = os.path.dirname(os.path.dirname(os.path.dirname(os.path.abspath(__file__))
 OUTPUTS = os.path.join(TOP, "examples", "outputs")
 CHARS = " |^~-_/\\+=.`╰─┬│·:0123abé日\t>"
 # Words of heads that a drawing has in another form.
-HEADS = set("error warning note help fatal e f w n c r i internal convention refactor hint suggestion info information style remark col line".split())
+HEADS = set("error warning note help fatal e f w n c r i internal convention refactor hint suggestion info information style remark col line file characters alert usr bin main".split())
 SHOWN_FAILURES = 20
 
 
@@ -82,6 +82,7 @@ class Findings:
     def __init__(self, text, source):
         self.source, self.reader = source, line_reader.Reader(text.encode())
         self.pieces = [(it, at, end) for _, it, at, end in self.reader.pieces()]
+        self.sorts = {at: sort for sort, _, at, _ in self.reader.pieces()}
 
     def are_apart(self):
         """No note is right after a finding, whose report would have it."""
@@ -90,11 +91,21 @@ class Findings:
     def expected(self):
         return [self.of_finding(it, at, [shown(line) for line in self.reader.lines[at:end]]) for it, at, end in self.pieces if it]
 
+    def below(self, at):
+        """The line that has the message of a finding whose head has none, and whether the finding says all what that line says."""
+        sort = self.sorts[at]
+        if sort not in ("inline", "spaced", "announced"):
+            return None, False
+        head = self.reader.begun(at)[1]
+        details = self.reader.announced_run(at, head)[1]["details"] if sort == "announced" else self.reader.trail(at + 1, sort == "spaced")[1]
+        if head["message"] or not details:
+            return None, False
+        return shown(details[0]), len(line_reader.retold({**head, "details": details})["details"]) < len(details)
+
     def excerpt(self, it, at, lines):
-        """What is read below a finding; none if its message is one of these lines."""
+        """What is read below a finding; none if it says what one of these lines says."""
         line = it["line"] or None
-        alone = self.reader.begun(at)[1]
-        return None if alone and not alone["message"] else excerpt_reader.read((line, it["column"] if line else None), lines[1:])
+        return None if self.below(at)[1] else excerpt_reader.read((line, it["column"] if line else None), lines[1:])
 
     def of_finding(self, it, at, lines):
         name, line = shown(it["name"]), it["line"] or None
@@ -109,8 +120,8 @@ class Findings:
             if found is not None:
                 drawn += found
                 blocks.append(block)
-        said = excerpt.said(own, blocks) if excerpt else {"note": list(map(shown, it["details"])), "kept": [], "help": []}
-        note = said["note"] + said["kept"] + ([] if span else [placed(own)])
+        said = excerpt.said(own, blocks) if excerpt else {"note": [], "kept": excerpt_reader.kept(lines[1:]), "help": []}
+        note = said["note"] + without(self.below(at)[0], said["kept"]) + ([] if span else [placed(own)])
         return Expected(shown(it["message"]), labels_over(span, drawn) if span else [], note, said["help"], numbers, it)
 
     def own_span(self, name, rows, it):
@@ -128,9 +139,15 @@ class Findings:
         for label in [*block.labels, *inserts]:
             there = excerpt_reader.place_in_source(label, rows)
             start, end = self.source.offset(name, *there[:2]), self.source.offset(name, *there[2:])
-            single = label.row is label.end_row and label.end - label.start == 1
-            found.append((start, max(start, end), label.primary, label.text, single))
+            row = (self.source.offset(name, there[0], 0), self.source.offset(name, there[0], len(rows[there[0] - 1])))
+            found.append((start, max(start, end), label.primary, label.text, row))
         return found
+
+
+def without(text, lines):
+    """Lines without the first that is this text."""
+    at = next((at for at, line in enumerate(lines) if line.strip(" \t") == text), len(lines))
+    return lines[:at] + lines[at + 1:]
 
 
 def is_laid(row, rows):
@@ -142,15 +159,12 @@ def is_laid(row, rows):
 
 
 def labels_over(span, drawn):
-    """The finding's own label, which is as long as it is drawn and has the text there, and the others, of which none is primary. It is
-    the first that the tool marks at its start, else the first that it marks with its start in it. A mark of one character at its start
-    says nothing of its end."""
+    """The finding's own label, which is as long as it is drawn and has the text there, and the others. It is the first that the tool marks
+    at its start, else the first that it marks with its start in it, else the first that it marks in its row."""
     marked = [label for label in drawn if label[2]]
     own = next((it for it in marked if it[0] == span[0]), None) or next((it for it in marked if it[0] <= span[0] < it[1]), None)
-    others = [(start, end, False, text) for label in drawn if label is not own for start, end, _, text, _ in [label]]
-    if own is None or (own[4] and own[0] == span[0] and own[1] < span[1]):
-        return [(*span, True, own and own[3]), *others]
-    return [own[:4], *others]
+    own = own or next((it for it in marked if it[4][0] <= span[0] <= it[4][1]), None)
+    return [own[:4] if own else (*span, True, None), *(label[:4] for label in drawn if label is not own)]
 
 
 def placed(own):
@@ -215,15 +229,19 @@ class Tries:
         self.check(what, [said_by(it) for it in reports], [said_by(it) for it in expected], text)
 
     def drawn(self, what, whole, texts, source):
-        """Each word of a text is in what is drawn of it."""
+        """Each word of a text is in what is drawn of it. A finding that is printed again isn't drawn again."""
         drawing = self.run(whole, "drawing", source, "--ascii", "--width", "4000", "--no-summary")
         parts, at = [""] * (len(texts) + 1), 0
         for line in drawing.split("\n"):
             it = re.search(r"sentinel (\d+)", line)
             at = int(it[1]) + 1 if it else at
             parts[at] += line + "\n"
+        told = set()
         for number, text in enumerate(texts):
-            self.check(f"{what} {number}: words", missing_words(text, parts[number]), [], text)
+            finding = text.split("\nIn file included from ")[0]
+            if finding not in told:
+                self.check(f"{what} {number}: words", missing_words(text, parts[number]), [], text)
+            told.add(finding)
 
 
 def sentinel(number):
@@ -239,13 +257,14 @@ def words_of(text):
 
 
 def missing_words(text, drawing):
-    """The words of a text that aren't drawn. Heads are drawn in another form, and columns in another unit."""
+    """The words of a text that aren't drawn. Heads are drawn in another form, columns in another unit, and `<U+200D>` as it is in the source."""
     heads = set()
     for _, it, at, _ in line_reader.Reader(text.encode()).pieces():
         if it:
             heads |= {str(it[key]) for key in ("line", "column", "endline", "endcolumn")}
-    missing = [word for word in words_of(line_reader.PAINT.sub(b"", text.encode()).decode()) if word not in drawing]
-    return [word for word in missing if word.lower() not in HEADS and word.lstrip("0") not in heads]
+    plain = re.sub(r"<U\+[0-9A-F]+>", "", line_reader.PAINT.sub(b"", text.encode()).decode())
+    missing = [word for word in words_of(plain) if word not in drawing]
+    return [word for word in missing if word.lower() not in HEADS and (word.lstrip("0") or "0") not in heads]
 
 
 def findings_of(text):

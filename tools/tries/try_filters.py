@@ -126,6 +126,8 @@ class Tries:
             words += ["--severity", wants["severity"]]
         if self.random.random() < 0.6:
             diff, strip = self.diff(texts)
+            if self.random.random() < 0.1:
+                diff = diff.replace("\n", "\r\n")
             self.write("changes.diff", diff)
             words += ["--changed", "changes.diff", *(("--strip", str(strip)) if strip is not None else ())]
             wants["changed"] = reader.read_diff(diff, strip)
@@ -177,9 +179,11 @@ class Tries:
             findings = [self.finding(texts) for _ in range(self.random.randrange(1, 14))]
             given = self.document(findings, texts)
             for form in ("document", "sarif"):
+                # (a log names its tool as the scope, so it is a baseline of logs)
                 _, old, _ = self.run("--to", form, given=given)
+                read = given if form == "document" else old
                 self.write("own.txt", old)
-                status, out, err = self.run("--to", "problems", "--baseline", "own.txt", given=given)
+                status, out, err = self.run("--to", "problems", "--baseline", "own.txt", given=read)
                 nothing = (status, out) == (0, "") and err.startswith(f"girzohal: 0 of {len(findings)} finding")
                 self.check(nothing and "gone" not in err, f"law {at}: its own baseline as {form}", out, err)
             self.write("own.txt", self.document([], texts))
@@ -193,6 +197,19 @@ class Tries:
                 self.check(len(out.splitlines()) <= most, f"law {at}: a longer baseline", out)
                 most = len(out.splitlines())
                 old = old + [self.random.choice(findings)]
+
+    def try_logs(self):
+        """A SARIF log with another one as its baseline, both with their sources: as of documents whose findings are of one scope."""
+        for at in range(max(self.cases // 10, 5)):
+            texts = {name: self.text() for name in NAMES}
+            findings = [dict(self.finding(texts), scope="girzohal") for _ in range(self.random.randrange(10))]
+            old = [dict(self.random.choice(findings) if findings and self.random.random() < 0.6 else self.finding(texts), scope="girzohal") for _ in range(self.random.randrange(10))]
+            logs = [self.run("--to", "sarif", "--fail-on", "never", given=self.document(them, texts))[1] for them in (findings, old)]
+            self.write("old.sarif", logs[1])
+            wants = dict(unique=self.random.random() < 0.3, baseline=old, changed=None, mode="added",
+                         severity=self.random.choice([None, *reader.RANK]), include=[], exclude=[], select=[], ignore=[])
+            words = ["--baseline", "old.sarif", *(["--unique"] if wants["unique"] else []), *(["--severity", wants["severity"]] if wants["severity"] else [])]
+            self.compare(f"logs {at}", logs[0], findings, wants, words)
 
     def try_refused(self):
         """What isn't read: a diff or a baseline that is missing or of no form; nothing is written."""

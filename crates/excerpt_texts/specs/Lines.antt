@@ -1,6 +1,6 @@
 -- The lines of text that an excerpt has beside its drawings.
-use Rattle.std.specs.Prelude.{ℕ, ◌==◌, ◌&&◌, ◌||◌, not, if◌then◌else◌, Bool, true, false, List, [], ◌∷◌, ◌++◌, take, drop, map, filter, codes, slice_range, string_bytes, Option, Some, None}
-use Rattle.std.specs.List.{list_all, slice_index_or}
+use Rattle.std.specs.Prelude.{ℕ, ◌==◌, ◌&&◌, ◌||◌, not, if◌then◌else◌, Bool, true, false, List, [], ◌∷◌, ◌++◌, take, drop, map, filter, codes, min, slice_range, string_bytes, unwrap_or, Option, Some, None}
+use Rattle.std.specs.List.{list_all, prefix_len, slice_index_or}
 use Rattle.std.specs.Str.{bytes_eq, encode_utf8_all}
 use Rattle.excerpt_lines.specs.declared.places.Place.{Place as PlaceAt}
 use Rattle.excerpt_lines.specs.declared.tables.NoteKind.{NoteKind}
@@ -89,25 +89,75 @@ place_lines own line place = if is_own own line place then [] else said InNote (
 abbrev pub inked : List (List ℕ) → List (List ℕ)
 inked lines = filter (λ line. not (is_bare line)) lines
 
+-- ---- how far kept lines are indented
+
+abbrev pub is_space : ℕ → Bool
+is_space c = c == 0x20
+
+abbrev pub least : Option ℕ → ℕ → Option ℕ
+least None n = Some n
+least (Some m) n = Some (min m n)
+
+-- with the spaces that a line begins with
+abbrev pub with_spaces : Option ℕ → List ℕ → Option ℕ
+with_spaces before line = least before (prefix_len is_space line)
+
+abbrev pub indent_from : Option ℕ → List (List ℕ) → Option ℕ
+indent_from before [] = before
+indent_from before (line ∷ lines) = indent_from (if is_bare line then before else with_spaces before line) lines
+
+-- the spaces that all lines begin with that aren't blanks and bars alone
+abbrev pub indent_of : List (List ℕ) → ℕ
+indent_of lines = unwrap_or (indent_from None lines) 0
+
+abbrev pub indent_by : List (List ℕ) → Option ℕ → Part → PartKind → Option ℕ
+indent_by lines before part Empty = before
+indent_by lines before part (Place p) = before
+indent_by lines before part (Note n) = before
+indent_by lines before part (GoesOn below) = before
+indent_by lines before part Frames = before
+indent_by lines before part Source = before
+indent_by lines before part Loose = before
+indent_by lines before part Suggestion = before
+indent_by lines before part Kept = with_spaces before (line_at lines part.first)
+
+abbrev pub parts_indent : List (List ℕ) → Option ℕ → List Part → Option ℕ
+parts_indent lines before [] = before
+parts_indent lines before (part ∷ parts) = parts_indent lines (indent_by lines before part part.kind) parts
+
+-- the spaces that all lines begin with that parts keep
+abbrev pub kept_indent : List (List ℕ) → List Part → ℕ
+kept_indent lines parts = unwrap_or (parts_indent lines None parts) 0
+
+-- ---- the lines of text
+
+-- a line without the spaces that all lines begin with that are kept
+abbrev pub kept : ℕ → List ℕ → LineParts
+kept indent line = said AsIs (drop indent line)
+
+-- the lines of a body that is kept as a whole
+unfoldable pub kept_in : List (List ℕ) → List LineParts
+kept_in lines = map (kept (indent_of lines)) (inked lines)
+
 -- a drawing that isn't shown otherwise, as it is
 abbrev pub drawn_lines : Bool → List (List ℕ) → List LineParts
 drawn_lines true lines = []
 drawn_lines false lines = map (said InNote) (inked lines)
 
 -- the lines that a part adds; those of a suggestion go where the note before it goes
-abbrev pub part_by : OwnParts → List (List ℕ) → Use → Bool → Part → PartKind → List LineParts
-part_by own lines to shown part Empty = []
-part_by own lines to shown part (Place p) = place_lines own (line_at lines part.first) p
-part_by own lines to shown part (Note n) = said (use_of n.kind) (word_of n.kind ++ drop n.text (line_at lines part.first)) ∷ []
-part_by own lines to shown part (GoesOn below) = said to (drop below (line_at lines part.first)) ∷ []
-part_by own lines to shown part Frames = []
-part_by own lines to shown part Source = drawn_lines shown (part_lines lines part)
-part_by own lines to shown part Loose = drawn_lines shown (part_lines lines part)
-part_by own lines to shown part Suggestion = map (said to) (inked (part_lines lines part))
-part_by own lines to shown part Kept = said AsIs (line_at lines part.first) ∷ []
+abbrev pub part_by : OwnParts → List (List ℕ) → ℕ → Use → Bool → Part → PartKind → List LineParts
+part_by own lines indent to shown part Empty = []
+part_by own lines indent to shown part (Place p) = place_lines own (line_at lines part.first) p
+part_by own lines indent to shown part (Note n) = said (use_of n.kind) (word_of n.kind ++ drop n.text (line_at lines part.first)) ∷ []
+part_by own lines indent to shown part (GoesOn below) = said to (drop below (line_at lines part.first)) ∷ []
+part_by own lines indent to shown part Frames = []
+part_by own lines indent to shown part Source = drawn_lines shown (part_lines lines part)
+part_by own lines indent to shown part Loose = drawn_lines shown (part_lines lines part)
+part_by own lines indent to shown part Suggestion = map (said to) (inked (part_lines lines part))
+part_by own lines indent to shown part Kept = kept indent (line_at lines part.first) ∷ []
 
-unfoldable pub part_said : OwnParts → List (List ℕ) → Use → Bool → Part → List LineParts
-part_said own lines to shown part = part_by own lines to shown part part.kind
+unfoldable pub part_said : OwnParts → List (List ℕ) → ℕ → Use → Bool → Part → List LineParts
+part_said own lines indent to shown part = part_by own lines indent to shown part part.kind
 
 -- where a line after a part goes that goes on with a note
 abbrev pub use_after : Use → PartKind → Use
@@ -130,14 +180,14 @@ flags_after true flags = drop 1 flags
 flags_after false flags = flags
 
 -- the lines that parts add; each block has a flag: whether it is shown otherwise
-abbrev pub said_from : OwnParts → List (List ℕ) → Use → List Bool → List Part → List LineParts
-said_from own lines to flags [] = []
-said_from own lines to flags (part ∷ parts) =
-    part_said own lines to (first_flag flags) part ++ said_from own lines (use_after to part.kind) (flags_after (is_block part.kind) flags) parts
+abbrev pub said_from : OwnParts → List (List ℕ) → ℕ → Use → List Bool → List Part → List LineParts
+said_from own lines indent to flags [] = []
+said_from own lines indent to flags (part ∷ parts) =
+    part_said own lines indent to (first_flag flags) part ++ said_from own lines indent (use_after to part.kind) (flags_after (is_block part.kind) flags) parts
 
 -- the lines of text of an excerpt; suggestions without a note before them are help
 unfoldable pub said_in : OwnParts → List (List ℕ) → List Bool → List Part → List LineParts
-said_in own lines flags parts = said_from own lines InHelp flags parts
+said_in own lines flags parts = said_from own lines (kept_indent lines parts) InHelp flags parts
 
 -- whether the lines after a place line are of the finding's file
 abbrev pub here_after : OwnParts → List (List ℕ) → Bool → Part → PartKind → Bool

@@ -1,10 +1,14 @@
 //! The lines of text that an excerpt has beside its drawings.
 ghost use Rattle.std.specs.Prelude.{◌≡◌, ◌++◌, ◌∷◌, [], IfOk, None, OnOk, Some};
 ghost use Rattle.std.specs.Prelude.{if◌then◌else◌, map, option_map, string_bytes};
+ghost use Rattle.std.specs.List.{prefix_len};
 ghost use Rattle.std.specs.Str.{encode_utf8_all};
 ghost use Rattle.excerpts.specs.Body.{is_block};
 ghost use Rattle.excerpt_texts.specs.Lines.{drawings_in, first_flag, flag_list, flags_after};
-ghost use Rattle.excerpt_texts.specs.Lines.{here_after, inked, is_bare as is_bare_line};
+ghost use Rattle.excerpt_texts.specs.Lines.{here_after, inked, is_bare as is_bare_line, kept_in};
+ghost use Rattle.excerpt_texts.specs.Lines.{indent_by, indent_of as indent_of_lines, is_space};
+ghost use Rattle.excerpt_texts.specs.Lines.{kept_indent as kept_indent_of};
+ghost use Rattle.excerpt_texts.specs.Lines.{with_spaces as with_spaces_of};
 ghost use Rattle.excerpt_texts.specs.Lines.{is_drawing as is_drawing_kind};
 ghost use Rattle.excerpt_texts.specs.Lines.{is_number as is_same_number, is_own as is_own_place};
 ghost use Rattle.excerpt_texts.specs.Lines.{line_at as line_there, line_parts, names_own};
@@ -53,7 +57,8 @@ pub struct Own<'a> {
 }
 
 /// The lines of text of an excerpt. `flags` says of each block whether it is shown otherwise; one
-/// that isn't is kept as it is, but for lines of blanks and bars.
+/// that isn't is kept as it is, but for lines of blanks and bars. Kept lines lose the spaces that
+/// all of them begin with.
 ///
 /// # Errors
 ///
@@ -69,17 +74,103 @@ pub fn lines_of(
     ensures { IfOk result (λ all. map line_parts all.items
         ≡ said_in (own_parts own.entry) (map (λ line. line.now) lines.now) flags.now parts.now) }
 {
+    let indent = kept_indent(lines, parts);
     let mut all = Vec::new(alloc);
     let mut to = Use::InHelp;
     let mut flags_left = flags;
     let mut rest = parts;
     while let [part, more @ ..] = rest {
-        push_part(alloc, &mut all, own, lines, to, flag(flags_left), *part)?;
+        let shown = flag(flags_left);
+        push_part(alloc, &mut all, own, lines, indent, to, shown, *part)?;
         to = use_after(to, part.kind);
         flags_left = after_block(part.kind, flags_left);
         rest = more;
     }
     Ok(all)
+}
+
+/// The lines of a body that is kept as a whole, without those of blanks and bars alone, and without
+/// the spaces that all of them begin with.
+///
+/// # Errors
+///
+/// Out of memory.
+#[tactic(auto, unfolding(crate::specs::Lines::kept_in))]
+pub fn kept_lines(alloc: Global, lines: &[&[char]]) -> Result<Vec<TextLine>, AllocError>
+    ensures { IfOk result (λ all. map line_parts all.items
+        ≡ kept_in (map (λ line. line.now) lines.now)) }
+{
+    let indent = indent_of(lines);
+    let mut all = Vec::new(alloc);
+    let mut rest = lines;
+    while let [line, more @ ..] = rest {
+        if !is_bare(line) {
+            push_line(alloc, &mut all, Use::AsIs, &[], tail(line, indent))?;
+        }
+        rest = more;
+    }
+    Ok(all)
+}
+
+/// The spaces that all lines begin with that aren't blanks and bars alone.
+fn indent_of(mut lines: &[&[char]]) -> usize
+    ensures { result ≡ indent_of_lines (map (λ line. line.now) lines.entry.now) }
+{
+    let mut least = None;
+    while let [line, rest @ ..] = lines {
+        if !is_bare(line) {
+            least = with_spaces(least, line);
+        }
+        lines = rest;
+    }
+    least.unwrap_or(0)
+}
+
+/// The spaces that all lines begin with that parts keep.
+fn kept_indent(lines: &[&[char]], mut parts: &[Part]) -> usize
+    ensures { result ≡ kept_indent_of (map (λ line. line.now) lines.now) parts.entry.now }
+{
+    let mut least = None;
+    while let [part, rest @ ..] = parts {
+        least = with_part(lines, least, *part);
+        parts = rest;
+    }
+    least.unwrap_or(0)
+}
+
+/// The same with the line of one more part, if it is kept.
+fn with_part(lines: &[&[char]], least: Option<usize>, part: Part) -> Option<usize>
+    ensures { result ≡ indent_by (map (λ line. line.now) lines.now) least part part.kind }
+{
+    match part.kind {
+        PartKind::Kept => with_spaces(least, line_at(lines, part.first)),
+        PartKind::Source
+        | PartKind::Loose
+        | PartKind::Suggestion
+        | PartKind::Empty
+        | PartKind::Place(_)
+        | PartKind::Note(_)
+        | PartKind::GoesOn(_)
+        | PartKind::Frames => least,
+    }
+}
+
+/// The least of a number and of the spaces that a line begins with.
+fn with_spaces(least: Option<usize>, line: &[char]) -> Option<usize>
+    ensures { result ≡ with_spaces_of least line.now }
+{
+    let spaces = spaces(line);
+    match least {
+        Some(least) => Some(least.min(spaces)),
+        None => Some(spaces),
+    }
+}
+
+/// The spaces that a line begins with.
+fn spaces(line: &[char]) -> usize
+    ensures { result ≡ prefix_len is_space line.now }
+{
+    line.iter().take_while(|c| **c == ' ').count()
 }
 
 /// The first flag.
@@ -160,12 +251,13 @@ fn push_part(
     all: &mut Vec<TextLine>,
     own: Own<'_>,
     lines: &[&[char]],
+    indent: usize,
     to: Use,
     shown: bool,
     part: Part,
 ) -> Result<(), AllocError>
     ensures { OnOk result (map line_parts all.new.items ≡ map line_parts all.old.items
-        ++ part_said (own_parts own.entry) (map (λ line. line.now) lines.now) to shown part) }
+        ++ part_said (own_parts own.entry) (map (λ line. line.now) lines.now) indent to shown part) }
 {
     let line = line_at(lines, part.first);
     match part.kind {
@@ -183,7 +275,7 @@ fn push_part(
             push_drawing(alloc, all, shown, part_lines(lines, part))
         }
         PartKind::Suggestion => push_inked(alloc, all, to, part_lines(lines, part)),
-        PartKind::Kept => push_line(alloc, all, Use::AsIs, &[], line),
+        PartKind::Kept => push_line(alloc, all, Use::AsIs, &[], tail(line, indent)),
     }
 }
 
@@ -496,7 +588,8 @@ fn with_line(
     Ok(Some(all))
 }
 
-fn is_use(one: Use, other: Use) -> bool
+/// Whether two uses are the same.
+pub fn is_use(one: Use, other: Use) -> bool
     ensures { result ≡ is_one_use one other }
 {
     match (one, other) {

@@ -1,6 +1,6 @@
 -- A body cut into parts.
-use Rattle.std.specs.Prelude.{◌≡◌, ℕ, ◌+◌, ◌==◌, ◌&&◌, ◌||◌, not, nat_le, nat_lt, if◌then◌else◌, Bool, true, false, List, [], ◌∷◌, length, take, drop, slice_index, Option, Some, None}
-use Rattle.std.specs.List.{list_all, list_any}
+use Rattle.std.specs.Prelude.{◌≡◌, ℕ, ◌+◌, ◌==◌, ◌&&◌, ◌||◌, not, nat_eq, nat_le, nat_lt, if◌then◌else◌, Bool, true, false, List, [], ◌∷◌, length, take, drop, slice_index, Option, Some, None, codes}
+use Rattle.std.specs.List.{list_all, list_any, starts_with}
 use Rattle.std.specs.Option.{is_none, is_some}
 use Rattle.excerpt_lines.specs.declared.gutter.Sign.{Sign}
 use Rattle.excerpt_lines.specs.declared.gutter.Sign.TheVariants.{Unsigned, Added, Removed, Changed}
@@ -47,6 +47,17 @@ link_of line LooseLine = None
 link_of line Frame = None
 link_of line Plain = None
 
+-- an edit, as gcc and clang print it below a finding: `fix-it:"a.c":{5:8-5:14}:"color"`
+abbrev pub is_edit : List ℕ → Bool
+is_edit line = starts_with nat_eq line (codes "fix-it:\"")
+
+-- how they came to a file: `In file included from a.c:1:`
+abbrev pub is_include : List ℕ → Bool
+is_include line = starts_with nat_eq line (codes "In file included from ")
+
+abbrev pub is_alone : List ℕ → Bool
+is_alone line = is_edit line || is_include line
+
 -- what is to be known of a line before it is read
 pub record IsOutline (line : List ℕ) (outline : Outline) : Type 0 where
   pub kind : IsKind line outline.kind
@@ -55,6 +66,7 @@ pub record IsOutline (line : List ℕ) (outline : Outline) : Type 0 where
   pub sign : outline.sign ≡ bare_sign line
   pub dots : outline.dots ≡ list_any is_dot line
   pub link : outline.link ≡ link_of line outline.kind
+  pub alone : outline.alone ≡ is_alone line
 
 abbrev pub line_part : PartKind → ℕ → Part
 line_part kind first = record { kind = kind; first = first; lines = 1 }
@@ -111,10 +123,10 @@ in_block under LooseLine = under
 in_block under Frame = true
 in_block under Plain = under
 
--- how many lines a block has
+-- how many lines a block has; a line that stands alone is in none
 abbrev pub block_len : Bool → List Outline → ℕ
 block_len under [] = 0
-block_len under (line ∷ lines) = if in_block under line.kind then 1 + block_len under lines else 0
+block_len under (line ∷ lines) = if line.alone || not (in_block under line.kind) then 0 else 1 + block_len under lines
 
 abbrev pub has_sign : Sign → Bool
 has_sign Unsigned = false
@@ -257,12 +269,13 @@ abbrev pub below_or_zero : Option ℕ → ℕ
 below_or_zero None = 0
 below_or_zero (Some below) = below
 
--- the part that lines begin with: a line that goes on with a note, an empty line, a place, a note, or another one; nothing
--- if it isn't read
+-- the part that lines begin with: one that stands alone, which is kept, a line that goes on with a note, an empty line, a place, a note, or
+-- another one; nothing if it isn't read
 unfoldable pub part_in : Spot → Open → ℕ → List Outline → Option Part
 part_in spot state first [] = None
 part_in spot state first (line ∷ lines) =
-    if continued state line state.below then Some (line_part (GoesOn (below_or_zero state.below)) first)
+    if line.alone then Some (line_part Kept first)
+    else if continued state line state.below then Some (line_part (GoesOn (below_or_zero state.below)) first)
     else part_by_kind spot state first (line ∷ lines) line.kind
 
 abbrev pub is_led : NoteForm → Bool

@@ -6,7 +6,8 @@ ghost use Rattle.excerpts.specs.Cuts.{bare_sign as bare_sign_in, begins_note as 
 ghost use Rattle.excerpts.specs.Cuts.{block_len as block_length, drawing as drawing_in};
 ghost use Rattle.excerpts.specs.Cuts.{drawing_or_kept as drawing_or_kept_in, goes_on as goes_on_in};
 ghost use Rattle.excerpts.specs.Cuts.{has_gutter as has_some_gutter, in_block as is_in_block};
-ghost use Rattle.excerpts.specs.Cuts.{indented_len as indented_run, is_dot, is_framed};
+ghost use Rattle.excerpts.specs.Cuts.{indented_len as indented_run, is_alone, is_dot, is_framed};
+ghost use Rattle.excerpts.specs.Cuts.{is_edit as is_edit_line, is_include as is_include_line};
 ghost use Rattle.excerpts.specs.Cuts.{is_kind_signed, is_loose as is_loose_line, is_signed};
 ghost use Rattle.excerpts.specs.Cuts.{is_straight as is_straight_from, line_part};
 ghost use Rattle.excerpts.specs.Cuts.{loose_or_kept as loose_or_kept_in, loose_run as loose_run_in};
@@ -90,6 +91,9 @@ pub struct Outline {
     pub dots: bool,
     /// Where the link begins that follows the margin, if it has marks.
     pub link: Option<usize>,
+    /// It is an edit, as gcc and clang print it (`fix-it:"a.c":{5:8-5:14}:"color"`), or says how
+    /// they came to a file (`In file included from a.c:1:`).
+    pub alone: bool,
 }
 
 /// The outline of a line.
@@ -104,7 +108,30 @@ pub fn outline_of(line: &[char]) -> Outline
         sign: bare_sign(line),
         dots: has_dots(line),
         link: link_in_kind(line, kind),
+        alone: stands_alone(line),
     }
+}
+
+/// Whether a line is an edit of gcc or clang, or says how they came to a file.
+fn stands_alone(line: &[char]) -> bool
+    ensures { result ≡ is_alone line.now }
+{
+    is_edit(line) || is_include(line)
+}
+
+fn is_edit(line: &[char]) -> bool
+    ensures { result ≡ is_edit_line line.now }
+{
+    line.starts_with(&['f', 'i', 'x', '-', 'i', 't', ':', '"'])
+}
+
+fn is_include(line: &[char]) -> bool
+    ensures { result ≡ is_include_line line.now }
+{
+    line.starts_with(&[
+        'I', 'n', ' ', 'f', 'i', 'l', 'e', ' ', 'i', 'n', 'c', 'l', 'u', 'd', 'e', 'd', ' ', 'f',
+        'r', 'o', 'm', ' ',
+    ])
 }
 
 /// Where the link begins that follows the margin of a line of marks.
@@ -168,7 +195,7 @@ fn has_dots(line: &[char]) -> bool
 }
 
 /// The part that lines begin with, of which the first has this number in the body; nothing if it
-/// isn't read.
+/// isn't read. A line that stands alone is kept wherever it is.
 #[tactic(auto, unfolding(crate::specs::Cuts::part_in))]
 pub fn part_at(spot: Spot, state: Open, first: usize, lines: &[Outline]) -> Option<Part>
     requires { 0 < length lines.now }
@@ -177,6 +204,9 @@ pub fn part_at(spot: Spot, state: Open, first: usize, lines: &[Outline]) -> Opti
     ensures within { IfSome result (λ part. part.lines ≤ length lines.now) }
     ensures first { IfSome result (λ part. part.first ≡ first) }
 {
+    if lines[0].alone {
+        return Some(one_line(PartKind::Kept, first));
+    }
     if let Some(below) = state.below {
         if goes_on(state, below, lines[0]) {
             return Some(one_line(PartKind::GoesOn(below), first));
@@ -318,7 +348,7 @@ fn block_len(under: bool, lines: &[Outline]) -> usize
 {
     let mut count = 0;
     for line in lines {
-        if !in_block(under, line.kind) {
+        if line.alone || !in_block(under, line.kind) {
             return count;
         }
         count += 1;

@@ -62,7 +62,7 @@ taken_length : (filters : Filters) (its old : List FindingParts) → length (tak
 taken_length filters its old =
     let items = items_of filters its in
     let long : length items ≡ length its = length-map its _ in
-    known_length items (twice_in filters its) (entries_of old (twice_in filters old)) (if_length filters.unique its ∙ sym long) ∙ long
+    known_length items (twice_in filters its) (entries_of filters old (twice_in filters old)) (if_length filters.unique its ∙ sym long) ∙ long
 
 -- each finding has a verdict
 pub each_judged : (filters : Filters) (its old : List FindingParts) → length (verdicts_of filters its old) ≡ length its

@@ -1,5 +1,5 @@
 -- What becomes of findings.
-use Rattle.std.specs.Prelude.{◌&&◌, not, Bool, true, false, List, [], ◌∷◌, map, Option, Some, None, option_map, if◌then◌else◌}
+use Rattle.std.specs.Prelude.{ℕ, ◌&&◌, not, Bool, true, false, List, [], ◌∷◌, map, Option, Some, None, option_map, if◌then◌else◌}
 use Rattle.finding_filters.specs.Baseline.{ItemParts, known}
 use Rattle.finding_filters.specs.Changed.{is_changed}
 use Rattle.finding_filters.specs.Finding.{FindingParts}
@@ -29,9 +29,17 @@ next_verdict filters seen it = if filters.unique && seen (exact_text it) then Tw
 
 -- ---- lists
 
+-- what a baseline compares of a finding: the scope only where scopes are compared
+abbrev pub compared : Filters → FindingParts → FindingParts
+compared filters it = if filters.compares_scopes then it else record it { scope = [] }
+
+-- the kind by which a baseline compares a finding
+abbrev pub kind_in : Filters → FindingParts → List ℕ
+kind_in filters it = kind_text (compared filters it)
+
 -- how a baseline compares a finding
-abbrev pub item_of : Bool → FindingParts → ItemParts
-item_of late it = record { kind = kind_text it; class = option_map (row_class (kind_text it)) it.row_text; late = late }
+abbrev pub item_of : Filters → Bool → FindingParts → ItemParts
+item_of filters late it = record { kind = kind_in filters it; class = option_map (row_class (kind_in filters it)) it.row_text; late = late }
 
 abbrev pub is_late : Option Changed → FindingParts → Bool
 is_late None it = false
@@ -39,20 +47,21 @@ is_late (Some changed) it = is_changed changed.diff changed.mode it
 
 -- findings on changed rows come last
 abbrev pub items_of : Filters → List FindingParts → List ItemParts
-items_of filters its = map (λ it. item_of (is_late filters.changed it) it) its
+items_of filters its = map (λ it. item_of filters (is_late filters.changed it) it) its
 
 -- entries that aren't repetitions
-abbrev pub entries_of : List FindingParts → List Bool → List ItemParts
-entries_of [] flags = []
-entries_of (it ∷ its) [] = []
-entries_of (it ∷ its) (flag ∷ flags) = if flag then entries_of its flags else item_of false it ∷ entries_of its flags
+abbrev pub entries_of : Filters → List FindingParts → List Bool → List ItemParts
+entries_of filters [] flags = []
+entries_of filters (it ∷ its) [] = []
+entries_of filters (it ∷ its) (flag ∷ flags) =
+    if flag then entries_of filters its flags else item_of filters false it ∷ entries_of filters its flags
 
 abbrev pub twice_in : Filters → List FindingParts → List Bool
 twice_in filters its = repeats_if filters.unique its
 
 -- which are repetitions, or in the baseline
 abbrev pub taken_in : Filters → List FindingParts → List FindingParts → List Bool
-taken_in filters its old = known (items_of filters its) (twice_in filters its) (entries_of old (twice_in filters old))
+taken_in filters its old = known (items_of filters its) (twice_in filters its) (entries_of filters old (twice_in filters old))
 
 abbrev pub verdict_at : Filters → FindingParts → Bool → Bool → Verdict
 verdict_at filters it twice taken = if twice then Twice else if taken then InBaseline else verdict_of filters it

@@ -2,6 +2,7 @@
 ghost use Rattle.std.specs.Prelude.{◌≡◌, map, length, IfOk};
 ghost use Rattle.finding_filters.specs.Baseline.{item_parts};
 ghost use Rattle.finding_filters.specs.Finding.{finding_parts};
+ghost use Rattle.filtered_findings.specs.Verdicts.{compared as compared_of};
 ghost use Rattle.filtered_findings.specs.Verdicts.{entries_of as entries_in, is_late};
 ghost use Rattle.filtered_findings.specs.Verdicts.{item_of as item_in, items_of as items_in, twice_in};
 ghost use Rattle.filtered_findings.specs.Counts.{gone_of};
@@ -38,13 +39,13 @@ pub fn judge_all(
 ) -> Result<Verdicts, AllocError>
     ensures each { IfOk result (λ it. it.each.items ≡ verdicts_of filters.now
         (map finding_parts findings.now) (map finding_parts baseline.now)) }
-    ensures gone { IfOk result (λ it. it.gone ≡ gone_of it.each.items (length (entries_in
+    ensures gone { IfOk result (λ it. it.gone ≡ gone_of it.each.items (length (entries_in filters.now
         (map finding_parts baseline.now) (twice_in filters.now (map finding_parts baseline.now))))) }
 {
     let twice = twice_of(alloc, filters, findings)?;
     let repeated = twice_of(alloc, filters, baseline)?;
     let items = items_of(alloc, filters, findings)?;
-    let entries = entries_of(alloc, baseline, &repeated)?;
+    let entries = entries_of(alloc, filters, baseline, &repeated)?;
     let taken = known(alloc, &items, &twice, &entries)?;
     let each = each_of(alloc, filters, findings, &twice, &taken)?;
     let gone = entries
@@ -94,7 +95,7 @@ fn items_of(
     let mut items = Vec::new(alloc);
     for finding in findings {
         let late = is_changed(filters, finding);
-        items.push(item_of(alloc, late, finding)?)?;
+        items.push(item_of(alloc, filters, late, finding)?)?;
     }
     Ok(items)
 }
@@ -112,11 +113,12 @@ fn is_changed(filters: &Filters, finding: &FindingView<'_>) -> bool
 /// The entries that aren't repetitions.
 fn entries_of(
     alloc: Global,
+    filters: &Filters,
     findings: &[FindingView<'_>],
     repeated: &[bool],
 ) -> Result<Vec<Item>, AllocError>
     ensures { IfOk result (λ items. map item_parts items.items
-        ≡ entries_in (map finding_parts findings.now) repeated.now) }
+        ≡ entries_in filters.now (map finding_parts findings.now) repeated.now) }
 {
     let mut items = Vec::new(alloc);
     let mut rest = findings;
@@ -126,7 +128,7 @@ fn entries_of(
             return Ok(items);
         };
         if !*flag {
-            items.push(item_of(alloc, false, finding)?)?;
+            items.push(item_of(alloc, filters, false, finding)?)?;
         }
         rest = others;
         flags = more;
@@ -135,15 +137,35 @@ fn entries_of(
 }
 
 /// How a baseline compares a finding.
-fn item_of(alloc: Global, late: bool, finding: &FindingView<'_>) -> Result<Item, AllocError>
-    ensures { IfOk result (λ item. item_parts item ≡ item_in late (finding_parts finding.now)) }
+fn item_of(
+    alloc: Global,
+    filters: &Filters,
+    late: bool,
+    finding: &FindingView<'_>,
+) -> Result<Item, AllocError>
+    ensures { IfOk result (λ item. item_parts item
+        ≡ item_in filters.now late (finding_parts finding.now)) }
 {
-    let kind = kind_of(alloc, finding)?;
+    let kind = kind_of(alloc, &compared(filters, finding))?;
     let class = match finding.row_text {
         Some(row) => Some(class_of(alloc, kind.as_str(), row)?),
         None => None,
     };
     Ok(Item { kind, class, late })
+}
+
+/// What a baseline compares of a finding: the scope only if scopes are compared.
+fn compared<'f>(filters: &Filters, finding: &FindingView<'f>) -> FindingView<'f>
+    ensures { finding_parts result ≡ compared_of filters.now (finding_parts finding.now) }
+{
+    if filters.compares_scopes {
+        *finding
+    } else {
+        FindingView {
+            scope: "",
+            ..*finding
+        }
+    }
 }
 
 /// What becomes of each finding.

@@ -33,6 +33,8 @@ pub struct Filters {
     pub selection: Selection,
     /// What a diff leaves.
     pub changed: Option<Changed>,
+    /// Whether a baseline compares the scopes of codes.
+    pub compares_scopes: bool,
 }
 
 impl Filters {

@@ -2,9 +2,8 @@
 use changed_rows::{Diff, DiffError, Root, read_diff};
 use documents::{ReaderSource, Reading, Source, StdinSource, read_all};
 use girzohal_options::Asked;
-use girzohal_run::{Fault, LIMIT, Status, read_baseline, refusal_text, rules_of};
+use girzohal_run::{Baseline, Fault, LIMIT, Status, read_baseline, refusal_text, rules_of};
 use harmless::{Kind, harmless};
-use report_filters::Entry;
 use std::alloc::Global;
 use std::fs;
 use std::fs::Files;
@@ -35,7 +34,7 @@ fn diff_in(rt: &HostRuntime, alloc: Global, asked: &Asked) -> Result<Option<Diff
     let Some(name) = asked.changed.as_deref() else {
         return Ok(None);
     };
-    let bytes = bytes_of(rt, alloc, name)?;
+    let bytes = bytes_of(rt, alloc, name, LIMIT)?;
     match read_diff(alloc, &bytes, asked.strip) {
         Ok(diff) => Ok(Some(diff)),
         Err(DiffError::OutOfMemory) => Err(Status::OutOfMemory),
@@ -52,16 +51,16 @@ fn baseline_in(
     alloc: Global,
     asked: &mut Asked,
     names: &Root,
-) -> Result<Option<Vec<Entry>>, Status> {
+) -> Result<Option<Baseline>, Status> {
     let Some(name) = asked.baseline.as_deref() else {
         return Ok(None);
     };
     let Ok(name) = String::from_str(alloc, name) else {
         return Err(Status::OutOfMemory);
     };
-    let bytes = bytes_of(rt, alloc, name.as_str())?;
+    let bytes = bytes_of(rt, alloc, name.as_str(), LIMIT)?;
     match read_baseline(alloc, asked, names, &bytes) {
-        Ok(entries) => Ok(Some(entries)),
+        Ok(baseline) => Ok(Some(baseline)),
         Err(Fault::OutOfMemory) => Err(Status::OutOfMemory),
         Err(Fault::NoForm(said)) => {
             let said = String::from_utf8_lossy(alloc, &said);
@@ -80,10 +79,15 @@ fn baseline_in(
     }
 }
 
-/// The bytes of a file; `-` is standard input.
-fn bytes_of(rt: &HostRuntime, alloc: Global, name: &str) -> Result<Vec<u8>, Status> {
+/// The bytes of a file, at most `limit`; `-` is standard input.
+pub(crate) fn bytes_of(
+    rt: &HostRuntime,
+    alloc: Global,
+    name: &str,
+    limit: usize,
+) -> Result<Vec<u8>, Status> {
     if name == "-" {
-        return whole(rt, alloc, name, &mut StdinSource::new(rt.stdin()));
+        return whole(rt, alloc, name, limit, &mut StdinSource::new(rt.stdin()));
     }
     if let Ok(about) = rt.metadata(name) {
         if about.is_dir() {
@@ -91,7 +95,7 @@ fn bytes_of(rt: &HostRuntime, alloc: Global, name: &str) -> Result<Vec<u8>, Stat
         }
     }
     match fs::open(rt, name) {
-        Ok(opened) => whole(rt, alloc, name, &mut ReaderSource::new(opened)),
+        Ok(opened) => whole(rt, alloc, name, limit, &mut ReaderSource::new(opened)),
         Err(e) => Err(refuse(
             rt,
             alloc,
@@ -108,9 +112,10 @@ fn whole<I: Source>(
     rt: &HostRuntime,
     alloc: Global,
     name: &str,
+    limit: usize,
     input: &mut I,
 ) -> Result<Vec<u8>, Status> {
-    match read_all(alloc, input, LIMIT) {
+    match read_all(alloc, input, limit) {
         Reading::Whole(bytes) => Ok(bytes),
         Reading::TooLong => Err(refuse(rt, alloc, name, " ", "is too long", Status::InputTooLong)),
         Reading::Fault => Err(refuse(rt, alloc, name, " ", "can't be read", Status::ReadFault)),
@@ -128,7 +133,7 @@ pub(crate) fn why_closed(kind: ErrorKind) -> &'static str {
 }
 
 /// Writes why a file isn't read, with its name sanitized.
-fn refuse(
+pub(crate) fn refuse(
     rt: &HostRuntime,
     alloc: Global,
     name: &str,

@@ -6,13 +6,17 @@
 //!
 //! - `filters`: the files of filters
 //! - `help`: the help and the version
-//! - `outputs`: several outputs of one input
+//! - `shapes`: the user's own forms of JSON
+//! - `inputs`: several inputs
+//! - `outputs`: several outputs
 //! - `surroundings`: colors and width from the environment
 #![tactic(auto)]
 
 mod filters;
 mod help;
+mod inputs;
 mod outputs;
+mod shapes;
 mod surroundings;
 
 use documents::{ReaderSource, Source, StderrSink, StdinSource, StdoutSink};
@@ -21,7 +25,9 @@ use girzohal_options::{Asked, Fault, Program, Refusal, Request, ThemeChoice, mes
 use girzohal_run::{Status, run};
 use harmless::{Kind, harmless};
 use help::{HELP, MORE, VERSION};
+use inputs::run_inputs;
 use outputs::{has_files, printed_form, write_outputs};
+use shapes::read_shapes;
 use source_store::DiskStore;
 use std::alloc::Global;
 use std::fs::Files;
@@ -65,21 +71,29 @@ fn obey(rt: &HostRuntime, alloc: Global, mut asked: Asked) -> ExitCode {
     let Some(root) = folder_at(rt, alloc, asked.root.as_str()) else {
         return refuse_root(rt, alloc, asked.root.as_str());
     };
-    if asked.files.len() > 1 {
-        return refuse(rt, "only one FILE is read");
+    if let Err(status) = read_shapes(rt, alloc, &mut asked) {
+        return ExitCode::from(status.code());
     }
     if let Err(status) = read_filters(rt, alloc, &mut asked, root.as_str()) {
         return ExitCode::from(status.code());
     }
     let store = DiskStore::new(rt, root, asked.anywhere);
+    if asked.files.len() > 1 {
+        return run_inputs(rt, alloc, &mut asked, in_files, &store);
+    }
     let Some(file) = take_file(&mut asked) else {
-        if rt.stdin().is_terminal() {
-            let _waits = eprintln!(rt; "girzohal: reading from the terminal");
-        }
+        tell_waiting(rt);
         let mut input = StdinSource::new(rt.stdin());
         return start(rt, alloc, &mut asked, in_files, &mut input, &store);
     };
     read_file(rt, alloc, &mut asked, in_files, file.as_str(), &store)
+}
+
+/// Writes that the program waits for a terminal, if standard input is one.
+pub(crate) fn tell_waiting(rt: &HostRuntime) {
+    if rt.stdin().is_terminal() {
+        let _waits = eprintln!(rt; "girzohal: reading from the terminal");
+    }
 }
 
 /// Takes the file to read; none for standard input.

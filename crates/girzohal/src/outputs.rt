@@ -1,7 +1,7 @@
-// Several outputs of one input.
+// Several outputs.
 use documents::{Source, StderrSink, StdoutSink};
 use girzohal_options::{Asked, Output, OutputForm, ThemeChoice};
-use girzohal_run::{Made, Status, Wanted, run_each};
+use girzohal_run::{Input, Made, Status, Wanted, run_each, run_several};
 use harmless::{Kind, harmless};
 use oxc_protocol::write_all;
 use source_store::DiskStore;
@@ -47,6 +47,27 @@ pub(crate) fn write_outputs<I: Source>(
     };
     let mut err = StderrSink::new(rt.stderr());
     match run_each(alloc, asked, &wanted, input, store, &mut err) {
+        Ok(made) => write_made(rt, alloc, asked, printed, &made),
+        Err(status) => ExitCode::from(status.code()),
+    }
+}
+
+/// Makes all outputs of the findings of several inputs, and then writes them: first the files, then
+/// standard output.
+pub(crate) fn write_several(
+    rt: &HostRuntime,
+    alloc: Global,
+    asked: &mut Asked,
+    in_files: ThemeChoice,
+    inputs: &[Input],
+    store: &DiskStore<'_, HostRuntime>,
+) -> ExitCode {
+    let printed = printed_form(asked);
+    let Ok(wanted) = wanted_of(alloc, asked, printed, in_files) else {
+        return ExitCode::from(Status::OutOfMemory.code());
+    };
+    let mut err = StderrSink::new(rt.stderr());
+    match run_several(alloc, asked, &wanted, inputs, store, &mut err) {
         Ok(made) => write_made(rt, alloc, asked, printed, &made),
         Err(status) => ExitCode::from(status.code()),
     }

@@ -1,9 +1,13 @@
 -- The findings of a baseline.
-use Rattle.std.specs.Prelude.{◌≡◌, ℕ, Bool, true, List, Option, Some, None}
+use Rattle.std.specs.Prelude.{◌≡◌, ℕ, Bool, true, false, List, Option, Some, None}
+use Rattle.std.specs.declared.ops.Range.{Range}
 use Rattle.documents.specs.Document.{document_of}
 use Rattle.documents.specs.Views.{document_view}
 use Rattle.documents.specs.declared.document.Document as code
 use Rattle.input_forms.specs.Begun.{begins_as}
+use Rattle.input_forms.specs.Object.{IsJsonPart, has_files}
+use Rattle.input_forms.specs.declared.begun.Begun.{Begun}
+use Rattle.input_forms.specs.declared.begun.Begun.TheVariants.{Object, OtherJson, Lines}
 use Rattle.found_reports.specs.Held.{Held, lacks}
 use Rattle.found_reports.specs.declared.sources.Lack.TheVariants.{Missing}
 use Rattle.shown_reports.specs.Given.{found_document}
@@ -14,6 +18,7 @@ use Rattle.girzohal_options.specs.declared.InputForm.TheVariants as form
 use Rattle.girzohal_options.specs.declared.OutputForm.TheVariants as to
 use Rattle.girzohal_run.specs.Told.{Told}
 use Rattle.girzohal_run.specs.Made.{IsMade}
+use Rattle.girzohal_run.specs.Reads.{part_of}
 use Rattle.girzohal_run.specs.Run.{begins_lines}
 
 -- a store without sources
@@ -43,3 +48,20 @@ pub record IsBaseline (asked : Asked) (front bytes : List ℕ) (entries : List F
   pub document : code.Document
   pub read : IsRead (as_document asked) bytes document
   pub entries_are : IsBaselineRead front (is_lines bytes) document entries
+
+-- ---- whether it says the scopes of codes
+
+-- the JSON object of an input has the key `files`, or hasn't
+pub record HasKeyFiles (bytes : List ℕ) (has : Bool) : Type 0 where
+  pub range : Range ℕ
+  pub there : IsJsonPart bytes range
+  pub is : has ≡ has_files (part_of bytes range)
+
+abbrev pub SaysScopesAs : Begun → List ℕ → Bool → Type 0
+SaysScopesAs Object bytes says = HasKeyFiles bytes says
+SaysScopesAs OtherJson bytes says = says ≡ false
+SaysScopesAs Lines bytes says = says ≡ false
+
+-- a document says scopes; a log and lines don't
+abbrev pub SaysScopes : List ℕ → Bool → Type 0
+SaysScopes bytes says = SaysScopesAs (begins_as bytes) bytes says

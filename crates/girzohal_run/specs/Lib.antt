@@ -4,6 +4,8 @@ pub mod Html
 pub mod Texts
 pub mod Filtering
 pub mod Lines
+pub mod Joined
+pub mod Values
 pub mod Logs
 pub mod Reads
 pub mod Made
@@ -13,3 +15,6 @@ pub mod Live
 pub mod Rules
 pub mod Baseline
 pub mod Each
+pub mod Owned
+pub mod Finds
+pub mod Several

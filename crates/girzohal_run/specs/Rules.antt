@@ -16,6 +16,7 @@ use Rattle.finding_filters.specs.declared.tokens.Token.{Token}
 use Rattle.report_filters.specs.declared.entries.Entry.{Entry}
 use Rattle.report_filters.specs.declared.rules.Rules.{Rules}
 use Rattle.girzohal_options.specs.declared.Asked.{Asked}
+use Rattle.girzohal_run.specs.declared.baseline.Baseline.{Baseline}
 
 abbrev pub glob_of : String Global → GlobParts
 glob_of text = glob_in (chars (string_bytes text))
@@ -35,13 +36,23 @@ abbrev pub changed_by : FilterMode → Option Changes → Option Changed
 changed_by mode None = None
 changed_by mode (Some diff) = Some (record { diff = diff; mode = mode })
 
+-- scopes are compared, unless the baseline doesn't say them
+abbrev pub scopes_of : Option Baseline → Bool
+scopes_of None = true
+scopes_of (Some baseline) = baseline.says_scopes
+
+abbrev pub findings_of : Option Baseline → Option (Vec Entry Global)
+findings_of None = None
+findings_of (Some baseline) = Some baseline.findings
+
 -- the filters that options ask for, with these files
-pub record AreRules (asked : Asked) (root : Root) (diff : Option Changes) (baseline : Option (Vec Entry Global)) (it : Rules) : Type 0 where
+pub record AreRules (asked : Asked) (root : Root) (diff : Option Changes) (baseline : Option Baseline) (it : Rules) : Type 0 where
   pub unique : it.filters.unique ≡ unwrap_or asked.unique false
   pub selection : IsSelection asked it.filters.selection
   pub changed : it.filters.changed ≡ changed_by asked.filter_mode diff
   pub root_is : it.root ≡ root
-  pub baseline_is : it.baseline ≡ baseline
+  pub scopes : it.filters.compares_scopes ≡ scopes_of baseline
+  pub baseline_is : it.baseline ≡ findings_of baseline
 
 -- ---- what is said of a diff that isn't read
 

@@ -1,7 +1,8 @@
 // The findings of a baseline.
 ghost use Rattle.std.specs.Prelude.{◌≡◌, IfOk, None, map, string_bytes};
 ghost use Rattle.report_filters.specs.Entries.{entry_parts};
-ghost use Rattle.girzohal_run.specs.Baseline.{IsBaseline, IsBaselineRead, IsRead, as_document};
+ghost use Rattle.girzohal_run.specs.Baseline.{HasKeyFiles, IsBaseline, IsBaselineRead, IsRead};
+ghost use Rattle.girzohal_run.specs.Baseline.{SaysScopes, as_document};
 ghost use Rattle.girzohal_run.specs.Baseline.{is_lines as is_lines_input};
 
 use crate::fault::{Fault, no_form};
@@ -10,11 +11,21 @@ use changed_rows::Root;
 use documents::{Document, read_document};
 use found_reports::ListedSources;
 use girzohal_options::{Asked, InputForm, OutputForm};
-use input_forms::{Begun, begins_as};
+use input_forms::{Begun, begins_as, has_files, json_part};
 use report_filters::{Entry, entries_of};
 use shown_reports::document_reports;
 use source_store::MapStore;
-use std::alloc::Global;
+use std::alloc::{AllocError, Global};
+
+/// What a baseline has.
+#[derive(Drop)]
+pub struct Baseline {
+    /// Its findings.
+    pub findings: Vec<Entry>,
+    /// Whether it says the scopes of their codes. A document does; a log has the name of its tool
+    /// instead, and lines have none.
+    pub says_scopes: bool,
+}
 
 /// The findings of an input of any form, for a baseline. Rows have the texts that the input has
 /// itself: sources may have changed since. The options are as before, without filters.
@@ -27,9 +38,10 @@ pub fn read_baseline(
     asked: &mut Asked,
     root: &Root,
     bytes: &[u8],
-) -> Result<Vec<Entry>, Fault>
-    ensures read { IfOk result (λ entries. IsBaseline asked.old (string_bytes root.now.front)
-        bytes.now (map entry_parts entries.items)) }
+) -> Result<Baseline, Fault>
+    ensures read { IfOk result (λ it. IsBaseline asked.old (string_bytes root.now.front)
+        bytes.now (map entry_parts it.findings.items)) }
+    ensures scopes { IfOk result (λ it. SaysScopes bytes.now it.says_scopes) }
     ensures kept { asked.new ≡ record asked.old { rules = None } }
 {
     let (from, to, raw) = (asked.from, asked.to, asked.raw);
@@ -41,7 +53,12 @@ pub fn read_baseline(
     asked.from = from;
     asked.to = to;
     asked.raw = raw;
-    findings_of(alloc, root, is_lines(bytes), &read?)
+    let findings = findings_of(alloc, root, is_lines(bytes), &read?)?;
+    let says_scopes = says_scopes(alloc, bytes)?;
+    Ok(Baseline {
+        findings,
+        says_scopes,
+    })
 }
 
 /// An input as a document, with no more sources than it has itself.
@@ -72,6 +89,24 @@ fn findings_of(
         Ok(found) => Ok(entries_of(alloc, root, &found, notes, true)?),
         Err(_) => Err(Fault::OutOfMemory),
     }
+}
+
+/// Whether an input says scopes: only a document does.
+fn says_scopes(alloc: Global, bytes: &[u8]) -> Result<bool, AllocError>
+    ensures { IfOk result (SaysScopes bytes.now) }
+{
+    match begins_as(bytes) {
+        Begun::Object => has_key_files(alloc, bytes),
+        Begun::OtherJson | Begun::Lines => Ok(false),
+    }
+}
+
+/// Whether the JSON object of an input has the key `files`.
+fn has_key_files(alloc: Global, bytes: &[u8]) -> Result<bool, AllocError>
+    ensures { IfOk result (HasKeyFiles bytes.now) }
+{
+    let range = json_part(bytes);
+    has_files(alloc, &bytes[range.start..range.end])
 }
 
 /// Whether an input is lines of a tool.

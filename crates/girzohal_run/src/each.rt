@@ -105,7 +105,7 @@ fn make_each<S: Store>(
 }
 
 /// The rest of the input, as the first output has it.
-fn first_aside(made: &[Made]) -> &[u8]
+pub(crate) fn first_aside(made: &[Made]) -> &[u8]
     ensures { result.now ≡ first_aside (map texts_of made.now) }
 {
     match made {

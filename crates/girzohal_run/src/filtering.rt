@@ -66,7 +66,7 @@ pub(crate) fn push_line(text: &mut Vec<u8>, line: &str) -> Result<(), AllocError
 }
 
 /// Appends an LF to a text, unless it is empty or ends in one.
-fn push_break(text: &mut Vec<u8>) -> Result<(), AllocError>
+pub(crate) fn push_break(text: &mut Vec<u8>) -> Result<(), AllocError>
     ensures { OnOk result (text.new.items ≡ broken text.old.items) }
 {
     if is_broken(text) {

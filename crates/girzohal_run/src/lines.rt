@@ -132,7 +132,7 @@ fn list_lines<S: Store>(
 
 /// The lines of a whole text: a last LF ends a line, and begins none.
 #[tactic(auto, unfolding(drawn_lines::specs::Text::lines_in_text))]
-fn text_lines<'a>(alloc: Global, text: &'a [u8]) -> Result<Vec<&'a [u8]>, AllocError>
+pub(crate) fn text_lines<'a>(alloc: Global, text: &'a [u8]) -> Result<Vec<&'a [u8]>, AllocError>
     ensures { IfOk result (λ lines. map (λ line. line.now) lines.items
         ≡ lines_in_text text.entry.now) }
 {

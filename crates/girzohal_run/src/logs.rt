@@ -1,5 +1,7 @@
 // The output for a SARIF log.
 ghost use Rattle.std.specs.Prelude.{◌≡◌, IfErr, IfOk, string_bytes};
+ghost use Rattle.sarif_log.specs.Answer.{answer_to, log as log_is};
+ghost use Rattle.sarif_log.specs.Views.{log_view};
 ghost use Rattle.girzohal_run.specs.Logs.{IsNoLog, NamesPlace, ReadsLog, log_columns as columns_of};
 ghost use Rattle.girzohal_run.specs.Logs.{fault_line, harmless_path as harmless_path_of, no_log_line};
 ghost use Rattle.girzohal_run.specs.Made.{HasCause, Says, Writes};
@@ -11,7 +13,7 @@ use bytecount::count;
 use girzohal_options::Asked;
 use harmless::{Kind, harmless};
 use line_shapes::tables::Unit;
-use sarif::{ColumnKind, LogError, names_of, read_log, reports_of};
+use sarif::{ColumnKind, Log, LogError, names_of, read_log, reports_of};
 use source_store::{Spelling, Store, gather};
 use std::alloc::{AllocError, Global};
 
@@ -28,22 +30,30 @@ pub(crate) fn write_log<S: Store>(
         (string_bytes it.text) (string_bytes it.line) it.reached) }
     ensures cause { IfErr result (HasCause IsNoLog part.now) }
 {
-    let log = match read_log(alloc, part) {
-        Ok(log) => log,
-        Err(LogError::OutOfMemory) => return Err(Fault::OutOfMemory),
-        Err(LogError::NoJson { line, column }) => {
-            return Err(no_json(alloc, count(before, b'\n').saturating_add(line), column));
-        }
-        Err(LogError::Fault { path, wanted }) => return Err(no_log(alloc, path.as_str(), wanted)),
-    };
+    let log = log_of(alloc, before, part)?;
     let names = names_of(alloc, &log)?;
     let sources = gather(alloc, store, Spelling::Uri, &names)?;
     let found = reports_of(alloc, &log, &sources, log_columns(asked.columns))?;
     write_left(alloc, asked, found, false)
 }
 
+/// The log that a text is, after `before`.
+pub(crate) fn log_of(alloc: Global, before: &[u8], part: &[u8]) -> Result<Log, Fault>
+    ensures log { IfOk result (λ log. answer_to part.now ≡ log_is (log_view log)) }
+    ensures cause { IfErr result (HasCause IsNoLog part.now) }
+{
+    match read_log(alloc, part) {
+        Ok(log) => Ok(log),
+        Err(LogError::OutOfMemory) => Err(Fault::OutOfMemory),
+        Err(LogError::NoJson { line, column }) => {
+            Err(no_json(alloc, count(before, b'\n').saturating_add(line), column))
+        }
+        Err(LogError::Fault { path, wanted }) => Err(no_log(alloc, path.as_str(), wanted)),
+    }
+}
+
 /// The unit of a log's columns.
-fn log_columns(unit: Option<Unit>) -> Option<ColumnKind>
+pub(crate) fn log_columns(unit: Option<Unit>) -> Option<ColumnKind>
     ensures { result ≡ columns_of unit }
 {
     match unit {

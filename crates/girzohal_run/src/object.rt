@@ -62,7 +62,7 @@ pub(crate) fn make_object<S: Store>(
 }
 
 /// A fault with a text before its line.
-fn told_behind(alloc: Global, text: &[u8], fault: Fault) -> Fault
+pub(crate) fn told_behind(alloc: Global, text: &[u8], fault: Fault) -> Fault
     ensures { IsToldBehind text.now fault result }
 {
     let Fault::NoForm(line) = fault else {
@@ -85,7 +85,11 @@ fn joined(alloc: Global, first: &[u8], second: &[u8]) -> Result<Vec<u8>, AllocEr
 }
 
 /// What is around a range, without a byte order mark at the start.
-fn around(alloc: Global, bytes: &[u8], range: Range<usize>) -> Result<Vec<u8>, AllocError>
+pub(crate) fn around(
+    alloc: Global,
+    bytes: &[u8],
+    range: Range<usize>,
+) -> Result<Vec<u8>, AllocError>
     requires start { range.start ≤ length bytes.now }
     requires end { range.end ≤ length bytes.now }
     ensures { IfOk result (λ aside. aside.items ≡ around_range bytes.now range) }
@@ -156,7 +160,7 @@ fn write_document(alloc: Global, asked: &Asked, part: &[u8]) -> Result<Written, 
 }
 
 /// Why an object isn't a document. With columns that a log can't have, a log isn't read either.
-fn no_document(columns: Option<Unit>) -> &'static str
+pub(crate) fn no_document(columns: Option<Unit>) -> &'static str
     ensures { result.now ≡ said_of_none columns }
 {
     match columns {
@@ -168,7 +172,7 @@ fn no_document(columns: Option<Unit>) -> &'static str
 }
 
 /// The line that says which report of a document has an error, and why.
-fn refused(alloc: Global, error: ReportError) -> Fault
+pub(crate) fn refused(alloc: Global, error: ReportError) -> Fault
     ensures { Says (λ line. line ≡ refusal_line error) result }
 {
     match refusal_text(alloc, error) {

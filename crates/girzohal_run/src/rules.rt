@@ -1,8 +1,10 @@
 // The filters that options ask for.
 ghost use Rattle.std.specs.Prelude.{◌≡◌, IfOk, map, string_bytes};
 ghost use Rattle.girzohal_run.specs.Rules.{IsSelection, glob_of, refusal_text as refusal_said};
-ghost use Rattle.girzohal_run.specs.Rules.{AreRules, rule_of, wanted_words, words_of};
+ghost use Rattle.girzohal_run.specs.Rules.{AreRules, findings_of as findings_meant, rule_of};
+ghost use Rattle.girzohal_run.specs.Rules.{scopes_of as scopes_meant, wanted_words, words_of};
 
+use crate::baseline::Baseline;
 use changed_rows::{Diff, Refusal, Root, Wanted};
 use filtered_findings::Filters;
 use finding_filters::{Changed, Glob, Rule, Selection};
@@ -10,7 +12,8 @@ use girzohal_options::Asked;
 use report_filters::{Entry, Rules};
 use std::alloc::{AllocError, Global};
 
-/// The filters that options ask for, with what their files say. Names are compared from `root`.
+/// The filters that options ask for, with what their files say. Names are compared from `root`, and
+/// scopes with those of a baseline that says them.
 ///
 /// # Errors
 ///
@@ -20,7 +23,7 @@ pub fn rules_of(
     asked: &Asked,
     root: Root,
     diff: Option<Diff>,
-    baseline: Option<Vec<Entry>>,
+    baseline: Option<Baseline>,
 ) -> Result<Rules, AllocError>
     ensures { IfOk result (AreRules asked.now root diff baseline) }
 {
@@ -37,10 +40,31 @@ pub fn rules_of(
             unique: asked.unique.unwrap_or(false),
             selection,
             changed,
+            compares_scopes: says_scopes(&baseline),
         },
         root,
-        baseline,
+        baseline: findings_of(baseline),
     })
+}
+
+/// Whether scopes are compared: unless there is a baseline that doesn't say them.
+fn says_scopes(baseline: &Option<Baseline>) -> bool
+    ensures { result ≡ scopes_meant baseline.now }
+{
+    match baseline {
+        Some(baseline) => baseline.says_scopes,
+        None => true,
+    }
+}
+
+/// The findings of a baseline, if there is one.
+fn findings_of(baseline: Option<Baseline>) -> Option<Vec<Entry>>
+    ensures { result ≡ findings_meant baseline }
+{
+    match baseline {
+        Some(baseline) => Some(baseline.findings),
+        None => None,
+    }
 }
 
 /// Which findings were asked for.

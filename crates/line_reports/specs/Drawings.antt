@@ -1,5 +1,5 @@
 -- The drawings of an excerpt, laid over the source.
-use Rattle.std.specs.Prelude.{ℕ, ◌+◌, ◌-◌, ◌*◌, ◌==◌, ◌&&◌, nat_le, if◌then◌else◌, Bool, true, false, List, [], ◌∷◌, ◌++◌, length, drop, map, slice_range, slice_index_or, string_bytes, Option, Some, None, option_map, option_and_then, IfSome}
+use Rattle.std.specs.Prelude.{ℕ, ◌+◌, ◌-◌, ◌*◌, nat_le, if◌then◌else◌, Bool, true, false, List, [], ◌∷◌, ◌++◌, length, drop, map, slice_range, slice_index_or, string_bytes, Option, Some, None, option_map, option_and_then, IfSome}
 use Rattle.std.specs.List.{All, list_all}
 use Rattle.std.specs.Option.{is_some}
 use Rattle.std.specs.Str.{chars}
@@ -41,21 +41,21 @@ laid_over text printed row =
 unfoldable pub laid_row : List ℕ → List (List ℕ) → PrintedRow → Option LaidParts
 laid_row text lines row = option_and_then (laid_over text (printed_text lines row)) (row_numbered (rows_in breaks text) row.number)
 
--- the place of a character of a printed row
-abbrev pub place_on : List ℕ → Option LaidParts → ℕ → Option ℕ
+-- the place of a character of a printed row, and the row that it is in
+abbrev pub place_on : List ℕ → Option LaidParts → ℕ → Option (ℕ × Row)
 place_on text None column = None
-place_on text (Some laid) column = Some (place_in Bytes (offset_in laid.aligned column) text laid.row)
+place_on text (Some laid) column = Some (place_in Bytes (offset_in laid.aligned column) text laid.row, laid.row)
 
--- a label in the source, from an offset on
+-- a label in the source, from an offset on, and the row in which it begins
 pub record PlacedParts : Type 0 where
   pub start : ℕ
   pub len : ℕ
-  pub single : Bool
+  pub row : Row
   pub primary : Bool
   pub text : Option (List ℕ)
 
 abbrev pub placed_parts : Placed → PlacedParts
-placed_parts placed = record { start = placed.start; len = placed.len; single = placed.single; primary = placed.primary; text = option_map string_bytes placed.text }
+placed_parts placed = record { start = placed.start; len = placed.len; row = placed.row; primary = placed.primary; text = option_map string_bytes placed.text }
 
 -- which blocks are shown by labels, and all these labels
 pub record DrawingsParts : Type 0 where
@@ -68,14 +68,10 @@ drawings_parts drawings = record { shown = drawings.shown.items; labels = map pl
 abbrev pub other_label : PlacedParts → Label
 other_label placed = record { text = placed.text; offset = placed.start; len = placed.len; primary = false }
 
--- its mark has one character
-abbrev pub is_single : DrawnParts → Bool
-is_single label = label.row == label.start_row && label.end - label.start == 1
-
-abbrev pub placed_between : DrawnParts → Option ℕ → Option ℕ → Option PlacedParts
+abbrev pub placed_between : DrawnParts → Option (ℕ × Row) → Option (ℕ × Row) → Option PlacedParts
 placed_between label None end = None
 placed_between label (Some start) None = None
-placed_between label (Some start) (Some end) = Some (record { start = start; len = end - start; single = is_single label; primary = label.primary; text = label.text })
+placed_between label (Some start) (Some end) = Some (record { start = start.0; len = end.0 - start.0; row = start.1; primary = label.primary; text = label.text })
 
 abbrev pub laid_at : List (Option LaidParts) → ℕ → Option LaidParts
 laid_at laid row = slice_index_or laid row None

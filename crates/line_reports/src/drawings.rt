@@ -7,7 +7,7 @@ ghost use Rattle.excerpts.specs.Body.{block_of};
 ghost use Rattle.sarif_spans.specs.Rows.{IsRowOf};
 ghost use Rattle.found_reports.specs.Found.{StandsIn};
 ghost use Rattle.oxc_protocol.specs.Source.{Fits};
-ghost use Rattle.line_reports.specs.Drawings.{is_single as is_single_so, other_label};
+ghost use Rattle.line_reports.specs.Drawings.{other_label};
 ghost use Rattle.line_reports.specs.Drawings.{all_laid as are_all_laid, begun_with, block_placed};
 ghost use Rattle.line_reports.specs.Drawings.{is_near as is_near_row, laid_at as laid_there};
 ghost use Rattle.line_reports.specs.Drawings.{laid_over as laid_over_row, laid_parts};
@@ -285,41 +285,32 @@ fn placed_label(
     ensures value { IfOk result (λ placed. option_map placed_parts placed
         ≡ placed_by text.now (map (option_map laid_parts) laid.now) (drawn_parts label.now)) }
 {
-    let Some(start) = place_on(text, laid, label.start_row, label.start) else {
+    let Some((start, row)) = place_on(text, laid, label.start_row, label.start) else {
         return Ok(None);
     };
-    let Some(end) = place_on(text, laid, label.row, label.end) else {
+    let Some((end, _)) = place_on(text, laid, label.row, label.end) else {
         return Ok(None);
     };
     Ok(Some(Placed {
         start: start as u32,
         len: end.saturating_sub(start) as u32,
-        single: is_single(label),
+        row,
         primary: label.primary,
         text: copied(alloc, &label.text)?,
     }))
 }
 
-/// Its mark has one character.
-fn is_single(label: &DrawnLabel) -> bool
-    ensures { result ≡ is_single_so (drawn_parts label.now) }
-{
-    label.row == label.start_row && label.end.saturating_sub(label.start) == 1
-}
-
-/// The place of a character of a printed row.
-fn place_on(text: &str, laid: &[Option<Laid>], row: usize, column: usize) -> Option<usize>
+/// The place of a character of a printed row, and the row that it is in.
+fn place_on(text: &str, laid: &[Option<Laid>], row: usize, column: usize) -> Option<(usize, Row)>
     requires { LaidStand text.now (map (option_map laid_parts) laid.now) }
-    ensures stands { IfSome result (IsCharBoundary text.now) }
+    ensures stands { IfSome result (λ it. IsCharBoundary text.now it.0) }
     ensures value { result ≡ place_there text.now (laid_there (map (option_map laid_parts) laid.now) row) column }
 {
     match laid.get(row) {
-        Some(Some(laid)) => Some(place_in(
-            Unit::Bytes,
-            laid.alignment.offset(column),
-            text,
-            laid.row,
-        )),
+        Some(Some(laid)) => {
+            let at = place_in(Unit::Bytes, laid.alignment.offset(column), text, laid.row);
+            Some((at, laid.row))
+        }
         _ => None,
     }
 }

@@ -3,6 +3,7 @@ ghost use Rattle.std.specs.Prelude.{◌≡◌, ◌+◌, ◌<◌, ◌^◌};
 ghost use Rattle.oxc_span.specs.Views.{text_bytes};
 
 use oxc_protocol::LabeledSpan;
+use sarif_spans::Row;
 
 /// A label in the source.
 #[derive(Drop)]
@@ -10,8 +11,8 @@ pub struct Placed {
     /// Where it begins, in bytes, and how many it has.
     pub start: u32,
     pub len: u32,
-    /// Its mark has one character.
-    pub single: bool,
+    /// The row of the source in which it begins.
+    pub row: Row,
     /// It marks what was found.
     pub primary: bool,
     /// Its text.

@@ -1,24 +1,28 @@
 //! The lines of text that a finding has beside its labels.
-ghost use Rattle.std.specs.Prelude.{◌≡◌, IfOk, map, option_map};
-ghost use Rattle.excerpt_texts.specs.Lines.{drawings_in, line_parts, own_parts, said_in};
+ghost use Rattle.std.specs.Prelude.{◌≡◌, ◌<◌, IfOk, IfSome, length, map};
+ghost use Rattle.std.specs.Option.{option_copied};
+ghost use Rattle.excerpt_texts.specs.Lines.{drawings_in, kept_in, line_parts, own_parts, said_in};
 ghost use Rattle.excerpts.specs.Body.{block_of};
 ghost use Rattle.line_reports.specs.Drawings.{PlacedStand, drawings_parts, shown_in};
-ghost use Rattle.line_reports.specs.Pieces.{excerpt_parts};
-ghost use Rattle.line_reports.specs.Told.{body_lines, drawings_of as drawings_there, excerpt_of};
-ghost use Rattle.line_reports.specs.Told.{lines_of as lines_there, own_of, plain_line, told_parts};
+ghost use Rattle.line_reports.specs.Told.{bare_text as bare_text_of, body_lines};
+ghost use Rattle.line_reports.specs.Told.{drawings_of as drawings_there};
+ghost use Rattle.line_reports.specs.Told.{lines_of as lines_there, own_of, tells as tells_so};
+ghost use Rattle.line_reports.specs.Told.{lines_by, told_from, told_parts, without_told};
+ghost use Rattle.line_reports.specs.Told.{without_line as without_line_there};
 
 use crate::drawings::{Drawings, drawings_of, no_drawings};
 use crate::pieces::{characters, lent};
 use crate::told::Told;
-use excerpt_texts::lines::{Own, TextLine, Use, drawings, lines_of};
+use excerpt_texts::lines::{Own, TextLine, Use, drawings, is_use, kept_lines, lines_of};
 use excerpts::body::Excerpt;
 use found_reports::GivenPlace;
 use indexed_sources::RowText;
+use line_shapes::bytes::{Kind, run, trimmed};
 use std::alloc::{AllocError, Global};
 
 impl<'a> Told<'a> {
     /// The lines of text of its report: what its excerpt says beside the blocks that are shown, or
-    /// what its other lines add.
+    /// its other lines as they are; not again the line that has its message.
     ///
     /// # Errors
     ///
@@ -28,9 +32,18 @@ impl<'a> Told<'a> {
         ensures { IfOk result (λ it. map line_parts it.items
             ≡ lines_there (told_parts self.now) shown.now) }
     {
-        match self.shown_excerpt() {
+        let lines = self.all_lines(alloc, shown)?;
+        untold(alloc, lines, self.below)
+    }
+
+    /// The same, with the line that has its message.
+    fn all_lines(&self, alloc: Global, shown: &[bool]) -> Result<Vec<TextLine>, AllocError>
+        ensures { IfOk result (λ it. map line_parts it.items
+            ≡ lines_by (told_parts self.now) shown.now (told_parts self.now).excerpt) }
+    {
+        match self.excerpt {
             Some(excerpt) => self.excerpt_lines(alloc, excerpt, shown),
-            None => plain_lines(alloc, self.details()),
+            None => self.kept_lines(alloc),
         }
     }
 
@@ -50,22 +63,20 @@ impl<'a> Told<'a> {
         ensures drawings { IfOk result (λ it. drawings_parts it
             ≡ drawings_there source.now.text.now (told_parts self.now)) }
     {
-        match self.shown_excerpt() {
+        match self.excerpt {
             Some(excerpt) => self.excerpt_drawings(alloc, source, excerpt),
             None => Ok(no_drawings(alloc)),
         }
     }
 
-    /// The excerpt; nothing if the message is one of its lines.
-    fn shown_excerpt(&self) -> Option<&'a Excerpt>
-        ensures { option_map (λ it. excerpt_parts it.now) result
-            ≡ excerpt_of (told_parts self.now) }
+    /// Its other lines, as they are.
+    fn kept_lines(&self, alloc: Global) -> Result<Vec<TextLine>, AllocError>
+        ensures { IfOk result (λ it. map line_parts it.items
+            ≡ kept_in (body_lines (told_parts self.now))) }
     {
-        if self.finding.says.message.is_empty() {
-            None
-        } else {
-            self.excerpt
-        }
+        let lines = characters(alloc, self.body)?;
+        let lines = lent(alloc, lines.as_slice())?;
+        kept_lines(alloc, lines.as_slice())
     }
 
     /// The lines of text of an excerpt.
@@ -133,19 +144,64 @@ fn own(name: &str, place: GivenPlace) -> Own<'_>
     }
 }
 
-/// Lines as lines of a note.
-fn plain_lines(alloc: Global, mut lines: &[&[u8]]) -> Result<Vec<TextLine>, AllocError>
+/// Lines without the first that is kept and has the message.
+fn untold(
+    alloc: Global,
+    lines: Vec<TextLine>,
+    below: Option<&[u8]>,
+) -> Result<Vec<TextLine>, AllocError>
     ensures { IfOk result (λ it. map line_parts it.items
-        ≡ map plain_line (map (λ line. line.now) lines.entry.now)) }
+        ≡ without_told (option_copied below.entry) (map line_parts lines.items)) }
 {
-    let mut all = Vec::new(alloc);
+    match below {
+        Some(below) => {
+            let text = String::from_utf8_lossy(alloc, below)?;
+            Ok(without_line(lines, text.as_str()))
+        }
+        None => Ok(lines),
+    }
+}
+
+/// Lines without the first that is kept and is this text.
+#[tactic(auto, using(crate::proofs::TextLemmas::removed))]
+fn without_line(mut lines: Vec<TextLine>, text: &str) -> Vec<TextLine>
+    ensures { map line_parts result.items ≡ without_line_there (map line_parts lines.items)
+        (told_from 0 text.now (map line_parts lines.items)) }
+{
+    match told_at(text, lines.as_slice()) {
+        Some(at) => {
+            let _told = lines.remove(at);
+            lines
+        }
+        None => lines,
+    }
+}
+
+/// The index of the first line that is kept and is this text.
+fn told_at(text: &str, mut lines: &[TextLine]) -> Option<usize>
+    ensures value { result ≡ told_from 0 text.now (map line_parts lines.entry.now) }
+    ensures within { IfSome result (λ at. at < length lines.entry.now) }
+{
+    let mut count = 0;
     while let [line, rest @ ..] = lines {
-        let text = String::from_utf8_lossy(alloc, line)?;
-        all.push(TextLine {
-            to: Use::InNote,
-            text,
-        })?;
+        if tells(text, line) {
+            return Some(count);
+        }
+        count += 1;
         lines = rest;
     }
-    Ok(all)
+    None
+}
+
+/// Whether a line is kept and is this text, but for blanks around it.
+fn tells(text: &str, line: &TextLine) -> bool
+    ensures { result ≡ tells_so text.now (line_parts line.now) }
+{
+    is_use(Use::AsIs, line.to) && bare_text(line.text.as_bytes()) == text.as_bytes()
+}
+
+fn bare_text(text: &[u8]) -> &[u8]
+    ensures { result.now ≡ bare_text_of text.now }
+{
+    trimmed(text.split_at(run(Kind::Blank, text)).1)
 }

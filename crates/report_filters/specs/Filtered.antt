@@ -51,7 +51,7 @@ verdicts_in rules notes found = verdicts_of rules.filters (findings_in rules not
 
 -- how many entries of the baseline no finding took
 abbrev pub gone_in : Rules → Bool → List Found → ℕ
-gone_in rules notes found = gone_of (verdicts_in rules notes found) (length (items_of_baseline (baseline_of rules) (twice_in rules.filters (baseline_of rules))))
+gone_in rules notes found = gone_of (verdicts_in rules notes found) (length (items_of_baseline rules.filters (baseline_of rules) (twice_in rules.filters (baseline_of rules))))
 
 unfoldable pub counts_for : Rules → Bool → List Found → Counts
 counts_for rules notes found = counts_in (verdicts_in rules notes found) (gone_in rules notes found)

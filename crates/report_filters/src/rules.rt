@@ -37,6 +37,7 @@ impl Rules {
                     least: None,
                 },
                 changed: None,
+                compares_scopes: true,
             },
             root: Root::none(alloc),
             baseline: None,

@@ -7,7 +7,7 @@ use Rattle.filtered_findings.proofs.judged.entries_of.Given as goal
 -- the entries that are left come next
 abbrev pub invariant-loop-rest : goal.invariant-loop-rest
 invariant-loop-rest l =
-    map item_parts l.items.items ++ entries_in (map finding_parts l.rest) l.flags ≡ entries_in (map finding_parts l.findings) l.repeated
+    map item_parts l.items.items ++ entries_in l.filters (map finding_parts l.rest) l.flags ≡ entries_in l.filters (map finding_parts l.findings) l.repeated
 
 abbrev pub decreases-loop-rest : goal.decreases-loop-rest
 decreases-loop-rest l = length l.rest

@@ -1,0 +1,80 @@
+-- What is found in an input.
+use Rattle.std.specs.Prelude.{◌≡◌, ℕ, List, Bool, true, false, None}
+use Rattle.std.specs.declared.ops.Range.{Range}
+use Rattle.found_reports.specs.Found.{Found}
+use Rattle.found_reports.specs.Held.{Held}
+use Rattle.found_reports.specs.Kept.{FoundParts}
+use Rattle.source_store.specs.Given.{IsGiven}
+use Rattle.source_store.specs.declared.named.Spelling.TheVariants.{Path}
+use Rattle.tool_lines.specs.Lines.{ArePieces, PieceParts}
+use Rattle.line_reports.specs.Names.{names_in}
+use Rattle.line_reports.specs.Pieces.{ReadParts}
+use Rattle.line_reports.specs.Reports.{reports_in}
+use Rattle.drawn_lines.specs.Text.{lines_of}
+use Rattle.drawn_lines.specs.Lines.{columns_of, kept_text, shapes_of}
+use Rattle.drawn_lines.specs.Coming.{Reads}
+use Rattle.input_forms.specs.Begun.{begins_as}
+use Rattle.input_forms.specs.Object.{IsJsonPart}
+use Rattle.input_forms.specs.declared.begun.Begun.{Begun}
+use Rattle.input_forms.specs.declared.begun.Begun.TheVariants.{Object, OtherJson, Lines}
+use Rattle.json_inputs.specs.Marks.{is_report_object}
+use Rattle.girzohal_options.specs.declared.Asked.{Asked}
+use Rattle.girzohal_options.specs.declared.InputForm.{InputForm}
+use Rattle.girzohal_options.specs.declared.InputForm.TheVariants as form
+use Rattle.girzohal_run.specs.Told.{Told}
+use Rattle.girzohal_run.specs.Logs.{log_columns}
+use Rattle.girzohal_run.specs.Made.{object_form}
+use Rattle.girzohal_run.specs.Reads.{ReadsPart, around, part_of}
+use Rattle.girzohal_run.specs.Values.{FindsValues}
+use Rattle.girzohal_run.specs.declared.object.ObjectForm.{ObjectForm}
+use Rattle.girzohal_run.specs.declared.object.ObjectForm.TheVariants.{Keyed, AsDocument, AsLog}
+
+-- the reports that these pieces of lines mean with what was given, where their bodies are read; and the lines that are no findings
+pub record FindsPieces (asked : Asked) (given : List ℕ → Held) (lines : List (List ℕ)) (pieces : List PieceParts) (reads : List ReadParts) (found : List Found) (aside : List ℕ) : Type 0 where
+  pub reports : found ≡ reports_in (columns_of asked) given lines reads
+  pub kept : aside ≡ kept_text asked lines pieces
+
+-- those of the pieces of a text's lines, with what was given of the names in them
+pub record FindsLines (told : Told) (asked : Asked) (bytes : List ℕ) (found : List Found) (aside : List ℕ) : Type 0 where
+  pub pieces : List PieceParts
+  pub are : ArePieces (shapes_of asked) None (lines_of bytes) pieces
+  pub given : List ℕ → Held
+  pub told_so : IsGiven told Path (names_in pieces) given
+  pub reads : List ReadParts
+  pub reads_are : Reads (lines_of bytes) pieces reads
+  pub finds : FindsPieces asked given (lines_of bytes) pieces reads found aside
+
+-- the reports of the JSON object among other lines, and what stands around it
+pub record FindsObject (how : ObjectForm) (told : Told) (asked : Asked) (bytes : List ℕ) (found : List Found) (aside : List ℕ) : Type 0 where
+  pub range : Range ℕ
+  pub there : IsJsonPart bytes range
+  pub parts : FoundParts
+  pub reads : ReadsPart how told (log_columns asked.columns) (part_of bytes range) parts
+  pub reports : found ≡ parts.found
+  pub aside_is : aside ≡ around bytes range
+
+-- an object by its marks: a log or a document, or a value as others
+abbrev pub FindsMarked : Bool → Told → Asked → List ℕ → List Found → List ℕ → Type 0
+FindsMarked true told asked bytes found aside = FindsObject (object_form asked.columns) told asked bytes found aside
+FindsMarked false told asked bytes found aside = FindsValues told asked bytes found aside
+
+pub record FindsBraced (told : Told) (asked : Asked) (bytes : List ℕ) (found : List Found) (aside : List ℕ) : Type 0 where
+  pub range : Range ℕ
+  pub there : IsJsonPart bytes range
+  pub finds : FindsMarked (is_report_object (part_of bytes range)) told asked bytes found aside
+
+abbrev pub FindsBegun : Begun → Told → Asked → List ℕ → List Found → List ℕ → Type 0
+FindsBegun Object told asked bytes found aside = FindsBraced told asked bytes found aside
+FindsBegun OtherJson told asked bytes found aside = FindsValues told asked bytes found aside
+FindsBegun Lines told asked bytes found aside = FindsLines told asked bytes found aside
+
+abbrev pub FindsAs : InputForm → Told → Asked → List ℕ → List Found → List ℕ → Type 0
+FindsAs form.Auto told asked bytes found aside = FindsBegun (begins_as bytes) told asked bytes found aside
+FindsAs form.Document told asked bytes found aside = FindsObject AsDocument told asked bytes found aside
+FindsAs form.Sarif told asked bytes found aside = FindsObject AsLog told asked bytes found aside
+FindsAs form.Json told asked bytes found aside = FindsValues told asked bytes found aside
+FindsAs form.Lines told asked bytes found aside = FindsLines told asked bytes found aside
+
+-- what is found in an input in the form that was asked for: the reports that it means, as a run finds them that reads it alone, and what is none of them
+abbrev pub IsFound : Told → Asked → List ℕ → List Found → List ℕ → Type 0
+IsFound told asked bytes found aside = FindsAs asked.from told asked bytes found aside
