@@ -4,27 +4,35 @@
 //! [`run`](girzohal_run::run) is the whole run over any source, store and sinks. `main` reads the
 //! arguments and calls it with the standard streams and the disk. The other modules:
 //!
+//! - `annotations`: those for GitHub, counted
 //! - `filters`: the files of filters
 //! - `help`: the help and the version
+//! - `shapes`: the user's own forms of JSON
 //! - `inputs`: several inputs
 //! - `outputs`: several outputs
 //! - `surroundings`: colors and width from the environment
 #![tactic(auto)]
 
+mod annotations;
 mod filters;
 mod help;
 mod inputs;
 mod outputs;
+mod shapes;
 mod surroundings;
 
+use annotations::print_annotations;
 use documents::{ReaderSource, Source, StderrSink, StdinSource, StdoutSink};
 use filters::{read_filters, why_closed};
-use girzohal_options::{Asked, Fault, Program, Refusal, Request, ThemeChoice, message, read_words};
+use girzohal_options::{
+    Asked, Fault, OutputForm, Program, Refusal, Request, ThemeChoice, message, read_words,
+};
 use girzohal_run::{Status, run};
 use harmless::{Kind, harmless};
 use help::{HELP, MORE, VERSION};
 use inputs::run_inputs;
 use outputs::{has_files, printed_form, write_outputs};
+use shapes::read_shapes;
 use source_store::DiskStore;
 use std::alloc::Global;
 use std::fs::Files;
@@ -68,6 +76,9 @@ fn obey(rt: &HostRuntime, alloc: Global, mut asked: Asked) -> ExitCode {
     let Some(root) = folder_at(rt, alloc, asked.root.as_str()) else {
         return refuse_root(rt, alloc, asked.root.as_str());
     };
+    if let Err(status) = read_shapes(rt, alloc, &mut asked) {
+        return ExitCode::from(status.code());
+    }
     if let Err(status) = read_filters(rt, alloc, &mut asked, root.as_str()) {
         return ExitCode::from(status.code());
     }
@@ -158,6 +169,9 @@ fn start<I: Source>(
     }
     if let Some(to) = printed_form(asked) {
         asked.to = to;
+    }
+    if asked.to == OutputForm::Github {
+        return print_annotations(rt, alloc, asked, input, store);
     }
     let mut out = StdoutSink::new(rt.stdout());
     let mut err = StderrSink::new(rt.stderr());

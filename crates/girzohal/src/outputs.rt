@@ -1,4 +1,5 @@
 // Several outputs.
+use crate::annotations::tell_annotations;
 use documents::{Source, StderrSink, StdoutSink};
 use girzohal_options::{Asked, Output, OutputForm, ThemeChoice};
 use girzohal_run::{Input, Made, Status, Wanted, run_each, run_several};
@@ -47,7 +48,7 @@ pub(crate) fn write_outputs<I: Source>(
     };
     let mut err = StderrSink::new(rt.stderr());
     match run_each(alloc, asked, &wanted, input, store, &mut err) {
-        Ok(made) => write_made(rt, alloc, asked, printed, &made),
+        Ok(made) => write_made(rt, alloc, asked, printed, &wanted, &made),
         Err(status) => ExitCode::from(status.code()),
     }
 }
@@ -68,7 +69,7 @@ pub(crate) fn write_several(
     };
     let mut err = StderrSink::new(rt.stderr());
     match run_several(alloc, asked, &wanted, inputs, store, &mut err) {
-        Ok(made) => write_made(rt, alloc, asked, printed, &made),
+        Ok(made) => write_made(rt, alloc, asked, printed, &wanted, &made),
         Err(status) => ExitCode::from(status.code()),
     }
 }
@@ -102,6 +103,7 @@ fn write_made(
     alloc: Global,
     asked: &Asked,
     printed: Option<OutputForm>,
+    wanted: &[Wanted],
     made: &[Made],
 ) -> ExitCode {
     let (first, others) = match (printed, made) {
@@ -122,6 +124,7 @@ fn write_made(
             return ExitCode::from(Status::SinkFault.code());
         }
     }
+    tell_annotations(rt, wanted, made);
     ExitCode::from(status_of(made).code())
 }
 

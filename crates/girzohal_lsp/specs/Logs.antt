@@ -53,10 +53,14 @@ IsFault text (Fault why) = string_bytes why ≡ text
 abbrev pub other_json : List ℕ
 other_json = codes "JSON of no known form; SARIF logs and lines are read"
 
--- what begins as an object is a SARIF log, and of other JSON none is read
+abbrev pub other_xml : List ℕ
+other_xml = codes "XML; SARIF logs and lines are read"
+
+-- what begins as an object is a SARIF log; other JSON and XML aren't read
 abbrev pub IsBegun : Begun → List ℕ → LogFile → Type 0
 IsBegun begun.Object text file = IsSarif text file
 IsBegun begun.OtherJson text file = IsFault other_json file
+IsBegun begun.Xml text file = IsFault other_xml file
 IsBegun begun.Lines text file = IsLines text file
 
 -- in the form that was asked for, behind one byte order mark

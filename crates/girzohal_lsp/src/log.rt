@@ -38,6 +38,10 @@ pub fn read_bytes(alloc: Global, form: Form, bytes: Vec<u8>) -> Result<LogFile, 
                 let why = "JSON of no known form; SARIF logs and lines are read";
                 Ok(LogFile::Fault(String::from_str(alloc, why)?))
             }
+            Begun::Xml => {
+                let why = "XML; SARIF logs and lines are read";
+                Ok(LogFile::Fault(String::from_str(alloc, why)?))
+            }
             Begun::Lines => lines_in(alloc, bytes),
         },
     }

@@ -52,10 +52,8 @@ fn why(alloc: Global, program: Program, fault: Fault<'_>) -> Result<String, Allo
         Fault::Uncounted => {
             String::from_str(alloc, "--columns: a SARIF log counts characters or utf16")
         }
-        Fault::WithoutDiff(setting) => {
-            let name = setting.name();
-            format!(in alloc; "{name} needs --changed")
-        }
+        Fault::WithoutDiff(setting) => named(alloc, setting, "needs --changed"),
+        Fault::NoJson(setting) => named(alloc, setting, "is for JSON: give --from json or auto"),
         Fault::WrittenTwice("-") => {
             String::from_str(alloc, "--output: two forms can't go to standard output")
         }
@@ -65,10 +63,16 @@ fn why(alloc: Global, program: Program, fault: Fault<'_>) -> Result<String, Allo
         Fault::ReadTwice => {
             String::from_str(
                 alloc,
-                "standard input is read once, as FILE, --changed or --baseline",
+                "standard input is read once, as FILE or by one option",
             )
         }
     }
+}
+
+/// What is wrong with an option, after its name.
+fn named(alloc: Global, setting: Setting, why: &str) -> Result<String, AllocError> {
+    let name = setting.name();
+    format!(in alloc; "{name} {why}")
 }
 
 /// What is wrong with the value of `--output`.

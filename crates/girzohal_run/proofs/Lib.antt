@@ -2,6 +2,8 @@ pub mod RunLemmas
 pub mod LiveLemmas
 pub mod ObjectLemmas
 pub mod EachLemmas
+pub mod ValuesLemmas
+pub mod XmlLemmas
 pub mod ListedLemmas
 pub mod OwnedLemmas
 pub mod SeveralLemmas

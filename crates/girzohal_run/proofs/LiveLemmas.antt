@@ -12,7 +12,7 @@ use Rattle.line_shapes.specs.Shape.{ShapeParts}
 use Rattle.tool_lines.specs.Lines.{ArePieces, PieceParts, begun, behind, below_at, head, name_behind, piece, piece_of}
 use Rattle.input_forms.specs.Begun.{begins_as}
 use Rattle.input_forms.specs.declared.begun.Begun.{Begun}
-use Rattle.input_forms.specs.declared.begun.Begun.TheVariants.{Object, OtherJson, Lines}
+use Rattle.input_forms.specs.declared.begun.Begun.TheVariants.{Object, OtherJson, Xml, Lines}
 use Rattle.drawn_lines.specs.Coming.{IsBegun, IsComing, IsDrawn, sources_of}
 use Rattle.drawn_lines.specs.Lines.{annotates, shapes_of, written}
 use Rattle.drawn_lines.specs.Text.{to_come}
@@ -326,6 +326,7 @@ auto_lines : (from : InputForm) (bytes : List ℕ) → is_auto from ≡ true →
 auto_lines form.Auto bytes is begins = ap begins_lines begins
 auto_lines form.Document bytes is begins = cc
 auto_lines form.Sarif bytes is begins = cc
+auto_lines form.Json bytes is begins = cc
 auto_lines form.Lines bytes is begins = cc
 
 comes_by : (asked : Asked) (bytes : List ℕ) → may_come asked ≡ true → reads_lines asked.from bytes ≡ true → comes asked bytes ≡ true
@@ -365,6 +366,7 @@ begun_made : (begun : Begun) (told : Told) (asked : Asked) (bytes text aside : L
     → MakesLines told asked bytes text aside reached → MakesBegun begun told asked bytes text aside reached
 begun_made Object told asked bytes text aside reached is made = cc
 begun_made OtherJson told asked bytes text aside reached is made = cc
+begun_made Xml told asked bytes text aside reached is made = cc
 begun_made Lines told asked bytes text aside reached is made = made
 
 as_made : (from : InputForm) (told : Told) (asked : Asked) (bytes text aside : List ℕ) (reached : Bool) → reads_lines from bytes ≡ true
@@ -372,6 +374,7 @@ as_made : (from : InputForm) (told : Told) (asked : Asked) (bytes text aside : L
 as_made form.Auto told asked bytes text aside reached is made = begun_made (begins_as bytes) told asked bytes text aside reached is made
 as_made form.Document told asked bytes text aside reached is made = cc
 as_made form.Sarif told asked bytes text aside reached is made = cc
+as_made form.Json told asked bytes text aside reached is made = cc
 as_made form.Lines told asked bytes text aside reached is made = made
 
 pub drawn_made : (told : Told) (asked : Asked) (bytes text aside : List ℕ) (reached : Bool) → comes asked bytes ≡ true → IsDrawn told asked bytes text aside reached

@@ -11,7 +11,8 @@ use Rattle.girzohal_run.specs.Each.{asked_with}
 use Rattle.girzohal_run.specs.Finds.{IsFound}
 use Rattle.girzohal_run.specs.Made.{HasCause, IsOfNoForm, Says}
 use Rattle.girzohal_run.specs.Run.{Device, Texts, texts_of}
-use Rattle.girzohal_run.specs.Several.{AreFound, AreWritten, FindsParts, IsFirstRefused, IsNamed, IsRefused, SeveralMean, WritesAll, WritesFound, have_lines}
+use Rattle.girzohal_run.specs.Joined.{FindsParts, WritesFound}
+use Rattle.girzohal_run.specs.Several.{AreFound, AreWritten, IsFirstRefused, IsNamed, IsRefused, SeveralMean, WritesAll, have_lines}
 use Rattle.girzohal_run.specs.declared.each.Wanted.{Wanted}
 use Rattle.girzohal_run.specs.declared.fault.Fault.{Fault}
 use Rattle.girzohal_run.specs.declared.fault.Fault.TheVariants.{NoForm, OutOfMemory}
@@ -75,14 +76,14 @@ first_refused told asked inputs rest its input OutOfMemory so refused = tt
 -- ---- one output more
 
 one_written : (asked : Asked) (notes : Bool) (its : List FindsParts) (ws : List Wanted) (ts : List Texts) (w : Wanted) (t : Texts) → AreWritten asked notes its ws ts
-    → WritesFound (asked_with asked w) notes its t → AreWritten asked notes its (ws ++ w ∷ []) (ts ++ t ∷ [])
+    → WritesFound (asked_with asked w) notes its t.out t.aside t.reached → AreWritten asked notes its (ws ++ w ∷ []) (ts ++ t ∷ [])
 one_written asked notes its [] [] w t are is = (is, tt)
 one_written asked notes its [] (x ∷ xs) w t are is = absurd are
 one_written asked notes its (v ∷ vs) [] w t are is = absurd are
 one_written asked notes its (v ∷ vs) (x ∷ xs) w t are is = (are.0, one_written asked notes its vs xs w t are.1 is)
 
 pub more_written : (asked : Asked) (notes : Bool) (its : List FindsParts) (wanted : List Wanted) (i : ℕ) (d : Wanted) (old new : List Made) (made : Made) → i < length wanted → new ≡ old ++ made ∷ []
-    → AreWritten asked notes its (take i wanted) (map texts_of old) → WritesFound (asked_with asked (get_or wanted i d)) notes its (texts_of made)
+    → AreWritten asked notes its (take i wanted) (map texts_of old) → WritesFound (asked_with asked (get_or wanted i d)) notes its (texts_of made).out (texts_of made).aside (texts_of made).reached
     → AreWritten asked notes its (take (i + 1) wanted) (map texts_of new)
 more_written asked notes its wanted i d old new made low is are one =
     let texts : map texts_of new ≡ map texts_of old ++ texts_of made ∷ [] = ap (map texts_of) is ∙ map_push texts_of old made in

@@ -7,7 +7,7 @@ use Rattle.documents.specs.declared.document.Document as code
 use Rattle.input_forms.specs.Begun.{begins_as}
 use Rattle.input_forms.specs.Object.{IsJsonPart, has_files}
 use Rattle.input_forms.specs.declared.begun.Begun.{Begun}
-use Rattle.input_forms.specs.declared.begun.Begun.TheVariants.{Object, OtherJson, Lines}
+use Rattle.input_forms.specs.declared.begun.Begun.TheVariants.{Object, OtherJson, Xml, Lines}
 use Rattle.found_reports.specs.Held.{Held, lacks}
 use Rattle.found_reports.specs.declared.sources.Lack.TheVariants.{Missing}
 use Rattle.shown_reports.specs.Given.{found_document}
@@ -60,6 +60,7 @@ pub record HasKeyFiles (bytes : List ℕ) (has : Bool) : Type 0 where
 abbrev pub SaysScopesAs : Begun → List ℕ → Bool → Type 0
 SaysScopesAs Object bytes says = HasKeyFiles bytes says
 SaysScopesAs OtherJson bytes says = says ≡ false
+SaysScopesAs Xml bytes says = says ≡ false
 SaysScopesAs Lines bytes says = says ≡ false
 
 -- a document says scopes; a log and lines don't

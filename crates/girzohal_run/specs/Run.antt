@@ -8,7 +8,7 @@ use Rattle.girzohal_options.specs.declared.InputForm.{InputForm}
 use Rattle.girzohal_options.specs.declared.InputForm.TheVariants as form
 use Rattle.input_forms.specs.Begun.{begins_as}
 use Rattle.input_forms.specs.declared.begun.Begun.{Begun}
-use Rattle.input_forms.specs.declared.begun.Begun.TheVariants.{Object, OtherJson, Lines}
+use Rattle.input_forms.specs.declared.begun.Begun.TheVariants.{Object, OtherJson, Xml, Lines}
 use Rattle.drawn_lines.specs.Coming.{IsBegun}
 use Rattle.drawn_lines.specs.Lines.{annotates}
 use Rattle.girzohal_run.specs.Told.{Told}
@@ -55,12 +55,14 @@ IsTold it bytes = Appends it.before it.now bytes ⊎ (AppendsPrefix it.before it
 abbrev pub begins_lines : Begun → Bool
 begins_lines Object = false
 begins_lines OtherJson = false
+begins_lines Xml = false
 begins_lines Lines = true
 
 abbrev pub reads_lines : InputForm → List ℕ → Bool
 reads_lines form.Auto bytes = begins_lines (begins_as bytes)
 reads_lines form.Document bytes = false
 reads_lines form.Sarif bytes = false
+reads_lines form.Json bytes = false
 reads_lines form.Lines bytes = true
 
 -- the input is lines, of which a drawing or annotations are written as they come; with filters it is read whole

@@ -97,7 +97,7 @@ fn says_scopes(alloc: Global, bytes: &[u8]) -> Result<bool, AllocError>
 {
     match begins_as(bytes) {
         Begun::Object => has_key_files(alloc, bytes),
-        Begun::OtherJson | Begun::Lines => Ok(false),
+        Begun::OtherJson | Begun::Xml | Begun::Lines => Ok(false),
     }
 }
 
@@ -115,6 +115,6 @@ fn is_lines(bytes: &[u8]) -> bool
 {
     match begins_as(bytes) {
         Begun::Lines => true,
-        Begun::Object | Begun::OtherJson => false,
+        Begun::Object | Begun::OtherJson | Begun::Xml => false,
     }
 }

@@ -1,5 +1,6 @@
 // What an input begins as.
 ghost use Rattle.std.specs.Prelude.{◌≡◌};
+ghost use Rattle.input_forms.specs.Begun.{begins_xml as begins_word, behind_angle};
 ghost use Rattle.input_forms.specs.Begun.{behind_bracket, behind_mark, begins_as as begins_so};
 ghost use Rattle.input_forms.specs.Begun.{begun_at, begun_with, first_from};
 ghost use Rattle.input_forms.specs.Begun.{is_blank as blank};
@@ -11,12 +12,15 @@ pub enum Begun {
     Object,
     /// Other JSON: an array that is empty, or whose first element is an object or a string.
     OtherJson,
+    /// XML: a declaration, or the element of a tool's report.
+    Xml,
     /// Anything else.
     Lines,
 }
 
 /// What an input begins as, after an optional byte order mark and blanks: a `{` begins an object,
-/// and a `[` with `{`, `"` or `]` as the next byte that isn't blank begins other JSON.
+/// a `[` with `{`, `"` or `]` as the next byte that isn't blank begins other JSON, and `<?xml`,
+/// `<checkstyle`, `<results`, `<pmd` or `<jslint` begins XML.
 #[tactic(auto, unfolding(crate::specs::Begun::begins_as))]
 pub fn begins_as(bytes: &[u8]) -> Begun
     ensures { result ≡ begins_so bytes.now }
@@ -42,9 +46,33 @@ fn begun_with(first: u8, rest: &[u8]) -> Begun
         Begun::Object
     } else if first == b'[' {
         in_bracket(first_from(rest))
+    } else if first == b'<' {
+        after_angle(rest)
     } else {
         Begun::Lines
     }
+}
+
+/// What a text begins as after a `<`.
+fn after_angle(rest: &[u8]) -> Begun
+    ensures { result ≡ behind_angle rest.now }
+{
+    if begins_xml(rest) {
+        Begun::Xml
+    } else {
+        Begun::Lines
+    }
+}
+
+/// Whether XML begins after a `<`.
+pub(crate) fn begins_xml(rest: &[u8]) -> bool
+    ensures { result ≡ begins_word rest.now }
+{
+    rest.starts_with(b"?xml")
+        || rest.starts_with(b"checkstyle")
+        || rest.starts_with(b"results")
+        || rest.starts_with(b"pmd")
+        || rest.starts_with(b"jslint")
 }
 
 /// What a text begins as after a `[`.

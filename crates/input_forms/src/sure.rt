@@ -2,9 +2,11 @@
 ghost use Rattle.std.specs.Prelude.{◌≡◌};
 ghost use Rattle.input_forms.specs.Sure.{Tells, told_by as told_so};
 ghost use Rattle.input_forms.specs.Sure.{may_become_mark as mark_to_come};
-ghost use Rattle.input_forms.specs.Sure.{told_in_bracket as bracket_so, told_with as with_so};
+ghost use Rattle.input_forms.specs.Sure.{may_begin_xml as xml_to_come};
+ghost use Rattle.input_forms.specs.Sure.{told_behind_angle, told_in_bracket as bracket_so};
+ghost use Rattle.input_forms.specs.Sure.{told_with as with_so};
 
-use crate::begun::{first_from, without_mark};
+use crate::begun::{begins_xml, first_from, without_mark};
 
 /// What the first bytes of an input tell.
 #[derive(Clone, Copy, PartialEq, Eq)]
@@ -59,9 +61,35 @@ fn told_with(first: u8, rest: &[u8]) -> FirstBytes
         FirstBytes::Other
     } else if first == b'[' {
         told_in_bracket(first_from(rest))
+    } else if first == b'<' {
+        told_after_angle(rest)
     } else {
         FirstBytes::SurelyLines
     }
+}
+
+/// The same after a `<`.
+fn told_after_angle(rest: &[u8]) -> FirstBytes
+    ensures { result ≡ told_behind_angle rest.now }
+{
+    if begins_xml(rest) {
+        FirstBytes::Other
+    } else if may_begin_xml(rest) {
+        FirstBytes::Open
+    } else {
+        FirstBytes::SurelyLines
+    }
+}
+
+/// Whether XML may still begin after a `<` and these bytes.
+fn may_begin_xml(rest: &[u8]) -> bool
+    ensures { result ≡ xml_to_come rest.now }
+{
+    b"?xml".starts_with(rest)
+        || b"checkstyle".starts_with(rest)
+        || b"results".starts_with(rest)
+        || b"pmd".starts_with(rest)
+        || b"jslint".starts_with(rest)
 }
 
 /// The same after a `[`.

@@ -6,7 +6,7 @@ use Rattle.std.specs.Str.{bytes_eq}
 use Rattle.json_spots.specs.Spot.{Spot}
 use Rattle.json_spots.specs.Said.{Said, nothing, words, figure, truth, other, says, said_at, word_of}
 use Rattle.json_forms.specs.declared.form.Ask.{Ask}
-use Rattle.json_forms.specs.declared.form.Ask.TheVariants.{There, Given, Missing, Is, Begins, Ends}
+use Rattle.json_forms.specs.declared.form.Ask.TheVariants.{There, Given, Missing, Is, Begins, Ends, BeginsOther}
 use Rattle.json_forms.specs.declared.form.Guard.{Guard}
 use Rattle.json_forms.specs.declared.form.Row.{Row}
 use Rattle.json_forms.specs.declared.form.Row.TheVariants.{Part, Only, Aside, Level, Constant}
@@ -19,6 +19,7 @@ fits Missing text word = false
 fits Is text word = bytes_eq text word
 fits Begins text word = starts_with nat_eq text word
 fits Ends text word = ends_with nat_eq text word
+fits BeginsOther text word = starts_with nat_eq text word
 
 abbrev pub any_fits : Ask → List ℕ → List (Bor (List ℕ)) → Bool
 any_fits ask text list = list_any (λ word. fits ask text word.now) list
@@ -41,6 +42,7 @@ asks guard Missing said = not (is_given said)
 asks guard Is said = word_fits guard (word_of said)
 asks guard Begins said = word_fits guard (word_of said)
 asks guard Ends said = word_fits guard (word_of said)
+asks guard BeginsOther said = not (word_fits guard (word_of said))
 
 unfoldable pub holds : Guard → Spot → Bool
 holds guard spot = asks guard guard.ask (said_at guard.path spot)

@@ -7,7 +7,7 @@ use Rattle.json_spots.specs.declared.step.Path.{Path}
 use Rattle.json_spots.specs.declared.mark.MarkRow.{MarkRow}
 use Rattle.json_spots.specs.Text.{name_text, path_text, steps_text, row_text as mark_row_text}
 use Rattle.json_forms.specs.declared.form.Ask.{Ask}
-use Rattle.json_forms.specs.declared.form.Ask.TheVariants.{There, Given, Missing, Is, Begins, Ends}
+use Rattle.json_forms.specs.declared.form.Ask.TheVariants.{There, Given, Missing, Is, Begins, Ends, BeginsOther}
 use Rattle.json_forms.specs.declared.form.Form.{Form}
 use Rattle.json_forms.specs.declared.form.Guard.{Guard}
 use Rattle.json_forms.specs.declared.form.List as code_list
@@ -47,6 +47,7 @@ ask_text Missing = codes "!"
 ask_text Is = codes ":"
 ask_text Begins = codes "~"
 ask_text Ends = codes "$"
+ask_text BeginsOther = codes "%"
 
 -- as `level:note|help`
 abbrev pub guard_text : Guard → List ℕ

@@ -32,6 +32,8 @@ pub enum Ask {
     Begins,
     /// It ends with one of these words.
     Ends,
+    /// It is missing, or begins with none of these words.
+    BeginsOther,
 }
 
 /// A condition on an element.

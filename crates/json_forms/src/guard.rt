@@ -3,11 +3,11 @@ ghost use Rattle.std.specs.Prelude.{◌≡◌, nat_eq};
 ghost use Rattle.std.specs.List.{ends_with, starts_with};
 ghost use Rattle.std.specs.Str.{bytes_eq};
 ghost use Rattle.json_spots.specs.Spot.{spot_view};
-ghost use Rattle.json_spots.specs.Said.{said_view};
+ghost use Rattle.json_spots.specs.Said.{said_view, word_of as word_in};
 ghost use Rattle.json_forms.specs.Guard.{all_hold as all_hold_at, any_holds as any_holds_at};
 ghost use Rattle.json_forms.specs.Guard.{any_fits, fits as fits_word, holds as holds_at};
 ghost use Rattle.json_forms.specs.Guard.{is_given as given, lets_through as through};
-ghost use Rattle.json_forms.specs.Guard.{stops as stops_at};
+ghost use Rattle.json_forms.specs.Guard.{stops as stops_at, word_fits as word_so};
 
 use crate::form::{Ask, Guard, Row};
 use json_spots::{Said, Spot, said_at, says, word_of};
@@ -36,7 +36,7 @@ fn fits(ask: Ask, text: &str, word: &str) -> bool
 {
     match ask {
         Ask::Is => is_word(text, word),
-        Ask::Begins => begins(text, word),
+        Ask::Begins | Ask::BeginsOther => begins(text, word),
         Ask::Ends => ends(text, word),
         Ask::There | Ask::Given | Ask::Missing => false,
     }
@@ -62,9 +62,18 @@ fn is_given(said: Said<'_>) -> bool
     }
 }
 
+fn word_fits(guard: &Guard<'_>, said: Said<'_>) -> bool
+    ensures { result ≡ word_so guard.now (word_in (said_view said.entry)) }
+{
+    match word_of(said) {
+        Some(text) => fits_any(guard.ask, text, &guard.words),
+        None => false,
+    }
+}
+
 /// Whether a guard holds at an element.
 #[tactic(auto, unfolding(crate::specs::Guard::holds))]
-fn holds(guard: &Guard<'_>, spot: &Spot<'_>) -> bool
+fn holds(guard: &Guard<'_>, spot: &Spot<'_, '_>) -> bool
     ensures { result ≡ holds_at guard.now (spot_view spot.now) }
 {
     let said = said_at(&guard.path, spot);
@@ -72,14 +81,12 @@ fn holds(guard: &Guard<'_>, spot: &Spot<'_>) -> bool
         Ask::There => says(said),
         Ask::Given => is_given(said),
         Ask::Missing => !is_given(said),
-        ask => match word_of(said) {
-            Some(text) => fits_any(ask, text, &guard.words),
-            None => false,
-        },
+        Ask::BeginsOther => !word_fits(guard, said),
+        _ => word_fits(guard, said),
     }
 }
 
-fn lets_through(row: &Row<'_>, spot: &Spot<'_>) -> bool
+fn lets_through(row: &Row<'_>, spot: &Spot<'_, '_>) -> bool
     ensures { result ≡ through (spot_view spot.now) row.now }
 {
     match row {
@@ -88,7 +95,7 @@ fn lets_through(row: &Row<'_>, spot: &Spot<'_>) -> bool
     }
 }
 
-fn stops(row: &Row<'_>, spot: &Spot<'_>) -> bool
+fn stops(row: &Row<'_>, spot: &Spot<'_, '_>) -> bool
     ensures { result ≡ stops_at (spot_view spot.now) row.now }
 {
     match row {
@@ -98,7 +105,7 @@ fn stops(row: &Row<'_>, spot: &Spot<'_>) -> bool
 }
 
 /// Whether an element meets each condition without which there is no finding.
-pub(crate) fn all_hold(rows: &[Row<'_>], spot: &Spot<'_>) -> bool
+pub(crate) fn all_hold(rows: &[Row<'_>], spot: &Spot<'_, '_>) -> bool
     ensures { result ≡ all_hold_at rows.now (spot_view spot.now) }
 {
     for row in rows {
@@ -110,7 +117,7 @@ pub(crate) fn all_hold(rows: &[Row<'_>], spot: &Spot<'_>) -> bool
 }
 
 /// Whether an element meets a condition with which it is reported and is no finding.
-pub(crate) fn any_holds(rows: &[Row<'_>], spot: &Spot<'_>) -> bool
+pub(crate) fn any_holds(rows: &[Row<'_>], spot: &Spot<'_, '_>) -> bool
     ensures { result ≡ any_holds_at rows.now (spot_view spot.now) }
 {
     for row in rows {

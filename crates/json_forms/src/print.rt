@@ -84,6 +84,7 @@ fn ask_word(ask: Ask) -> &'static str
         Ask::Is => ":",
         Ask::Begins => "~",
         Ask::Ends => "$",
+        Ask::BeginsOther => "%",
     }
 }
 

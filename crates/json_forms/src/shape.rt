@@ -210,6 +210,7 @@ fn ask_of(byte: u8) -> Option<Ask> {
         b':' => Some(Ask::Is),
         b'~' => Some(Ask::Begins),
         b'$' => Some(Ask::Ends),
+        b'%' => Some(Ask::BeginsOther),
         _ => None,
     }
 }

@@ -273,4 +273,30 @@ list={}[] scope=vale end=last file=^@ line=Line column=Span[0] end_line=Line \
 form=flake8-json mark=.:o mark={}[].physical_line:t0 mark={}[].line_number:n\n\
 list={}[] scope=flake8 as=letter file=filename|^@ line=line_number column=column_number \
     severity=code level=e:error,f:error,w:warning,c:advice,n:warning code=code message=text\n\
+form=checkstyle mark=.:o mark=checkstyle:o\n\
+list=checkstyle.file[].error[] unit=cells8utf16 default=error file=^^name line=line \
+    column=column end_line=endline severity=severity code=source message=message \
+    url=externalInfoUrl only=source~\"com.puppycrawl.\"\n\
+list=checkstyle.file[].error[] unit=utf16 default=error file=^^name line=line column=column \
+    end_line=endline severity=severity code=source message=message url=externalInfoUrl \
+    only=source~\"eslint.rules.\"\n\
+list=checkstyle.file[].error[] default=error file=^^name line=line column=column \
+    end_line=endline severity=severity code=source message=message url=externalInfoUrl \
+    only=source%\"com.puppycrawl.\"|\"eslint.rules.\"\n\
+list=checkstyle.file[].exception[] default=error file=^^name message=\"#text\"\n\
+list=checkstyle.exception[] default=error message=\"#text\"\n\
+form=cppcheck mark=.:o mark=results.errors:a\n\
+list=results.errors[].error[] scope=cppcheck unit=bytes file=file0 severity=severity code=id \
+    message=msg note=verbose\n\
+place=location[] unit=bytes file=file line=line column=column\n\
+labels=location[] unit=bytes file=file line=line column=column text=info\n\
+form=pmd mark=.:o mark=pmd:o\n\
+list=pmd.file[].violation[] scope=pmd end=last file=^^name line=beginline \
+    column=begincolumn end_line=endline end_column=endcolumn severity=priority \
+    level=1:error,2:error,3:warning,4:advice,5:advice code=rule message=\"#text\" \
+    url=externalInfoUrl\n\
+list=pmd.error[] default=error file=filename message=msg\n\
+form=jslint mark=.:o mark=jslint:o\n\
+list=jslint.file[].issue[] unit=utf16 default=warning file=^^name line=line column=char \
+    message=reason\n\
 ";

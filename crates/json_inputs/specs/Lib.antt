@@ -4,3 +4,4 @@ pub mod Values
 pub mod Told
 pub mod Input
 pub mod Forms
+pub mod Xml

@@ -1,3 +1,4 @@
 pub mod Marks
 pub mod Spans
 pub mod Reports
+pub mod Cells

@@ -5,6 +5,7 @@
 //! - [`names_of`]: the names whose texts it looks up, to be read before.
 #![tactic(auto)]
 
+mod cells;
 mod diagnostics;
 mod gathered;
 mod marks;

@@ -3,7 +3,8 @@ use Rattle.std.proofs.Common.{◌≡◌, ◌-◌, ◌++◌, ◌∷◌, [], List,
 use Rattle.std.proofs.lemmas.Bool.Decides.{nat_tests}
 use Rattle.std.proofs.lemmas.List.{map_push}
 use Rattle.girzohal_run.specs.Made.{Says}
-use Rattle.girzohal_run.specs.Several.{FindsParts, IsFirstRefused, finds_parts}
+use Rattle.girzohal_run.specs.Joined.{FindsParts, finds_parts}
+use Rattle.girzohal_run.specs.Several.{IsFirstRefused}
 use Rattle.girzohal_run.specs.declared.finds.Finds.{Finds}
 use Rattle.girzohal_run.specs.declared.several.Input.{Input}
 use Rattle.girzohal_run.proofs.ListedLemmas.{none_left, split_first}

@@ -1,7 +1,7 @@
 -- What was written of all findings is what the status says.
 use Rattle.std.proofs.Common.{map}
 use Rattle.girzohal_run.specs.Run.{device}
-use Rattle.girzohal_run.specs.Several.{finds_parts}
+use Rattle.girzohal_run.specs.Joined.{finds_parts}
 use Rattle.girzohal_run.proofs.SeveralLemmas.{written_mean}
 use Rattle.girzohal_run.proofs.several.run_several.Goals as goal
 

@@ -4,7 +4,7 @@ use Rattle.girzohal_options.specs.declared.Asked.{Asked}
 use Rattle.girzohal_options.specs.declared.OutputForm.TheVariants.{Drawing}
 use Rattle.girzohal_options.specs.declared.ThemeChoice.TheVariants.{Auto}
 use Rattle.girzohal_run.specs.Run.{texts_of}
-use Rattle.girzohal_run.specs.Several.{WritesFound, finds_parts}
+use Rattle.girzohal_run.specs.Joined.{WritesFound, finds_parts}
 use Rattle.girzohal_run.specs.declared.each.Wanted.{Wanted}
 use Rattle.girzohal_run.proofs.SeveralLemmas.{more_written}
 use Rattle.girzohal_run.proofs.several.write_each.Goals as goal
@@ -21,5 +21,5 @@ loop-it-preserved c =
       written =
           more_written c.args.asked.now c.args.notes its c.args.wanted.now c.loop-it.it-index d c.loop-it.all.items c.push.new.self.items made c.loop-it-test.true
           c.in-Ok.ensures.items c.loop-it.invariant.written
-          (subst (λ a. WritesFound a c.args.notes its (texts_of made)) next c.in_ok-made.ensures);
+          (subst (λ a. WritesFound a c.args.notes its (texts_of made).out (texts_of made).aside (texts_of made).reached) next c.in_ok-made.ensures.written);
     }

@@ -1,0 +1,4 @@
+pub mod Entries
+pub mod Findings
+pub mod Late
+pub mod Parts
