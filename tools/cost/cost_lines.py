@@ -4,13 +4,17 @@
 usage: cost_lines.py PROGRAM [MIB]       (crates/girzohal/out/girzohal after `rt run` there; 4 MiB by default)
        cost_lines.py --log MIB           (only writes such a build's output, the same bytes each time)
        cost_lines.py --sources PROGRAM   (only what findings in sources cost, below)
+       cost_lines.py --excerpts PROGRAM  (only what excerpts cost, below)
 
 PROGRAM is run under callgrind on the output of a build without a finding, and on some with findings in 400 files, twice as many
 each time: the whole process, with reading the input and writing what is found as lines of problems. The first is also drawn, all of
 its lines being kept, without colors and with.
 
 Then findings in sources that are there are drawn, and written as annotations: 1,000 in one file of 1.4 MB, and 10,000 in 1,000 files.
-Each is counted as findings alone, with an ordinary line between each two, and with such lines that come one at a time."""
+Each is counted as findings alone, with an ordinary line between each two, and with such lines that come one at a time.
+
+At last the 10,000 are drawn as three compilers print them, with the excerpts below them and without: with them they may take twice as
+much."""
 import os
 import random
 import re
@@ -126,11 +130,38 @@ def print_sources(program):
                       f" ({between / bare:.2f}); one line at a time {slow / 1e6:,.1f} ({slow / between:.2f})")
 
 
+SOURCE = "    int x = compute_it(1, 2, 3, 4, 5);\n"
+# What three compilers print of a finding in a row: its line, and what they draw below it.
+COMPILERS = {
+    "gcc": ("{0}:{1}:13: warning: unused value of 'compute_it' [-Wunused-value]\n",
+            " {1:4d} | {2}      |             ^~~~~~~~~~         ~\n      |             |                  |\n      |             int                char *\n"),
+    "clang": ("{0}:{1}:13: warning: unused value of 'compute_it' [-Wunused-value]\n", "{2}            ^~~~~~~~~~         ~\n            compute_all\n"),
+    "rustc": ("warning: unused value of `compute_it`\n  --> {0}:{1}:13\n",
+              "   |\n{1} | {2}   |             ^^^^^^^^^^         - this is a text\n   |             |\n   |             the value\n   |\n   = note: on by default\n\n"),
+}
+
+
+def print_excerpts(program, count=10_000, files=1000, rows=50):
+    with tempfile.TemporaryDirectory() as room:
+        for number in range(files):
+            with open(os.path.join(room, f"src_{number}.c"), "w", encoding="utf-8") as it:
+                it.write(SOURCE * rows)
+        for tool, (line, excerpt) in COMPILERS.items():
+            build, bare, drawn = Build(), [], []
+            for number in range(count):
+                it = (f"src_{number % files}.c", build.random.randint(10, rows), SOURCE)
+                bare.append(line.format(*it) + ("\n" if tool == "rustc" else ""))
+                drawn.append((line + excerpt).format(*it))
+            taken = [counted_as_it_comes(program, chunks("".join(lines)), room, ("--color", "never", "--tool", tool)) for lines in (bare, drawn)]
+            print(f"{count:,} findings of {tool}, drawn: {taken[0] / 1e6:,.1f} million instructions; with excerpts {taken[1] / 1e6:,.1f} ({taken[1] / taken[0]:.2f})"
+                  + ("" if taken[1] <= 2 * taken[0] else ", which is too much"))
+
+
 def main():
     if len(sys.argv) < 2:
         sys.exit(__doc__)
-    if sys.argv[1] == "--sources":
-        print_sources(sys.argv[2])
+    if sys.argv[1] in ("--sources", "--excerpts"):
+        (print_sources if sys.argv[1] == "--sources" else print_excerpts)(sys.argv[2])
         return
     if sys.argv[1] == "--log":
         sys.stdout.write(Build().clean(int(sys.argv[2]) << 20))
@@ -148,6 +179,7 @@ def main():
             count = counted(sys.argv[1], text, room)
             print(f"{findings:,} findings: {len(text):,} bytes, {count / 1e6:,.1f} million instructions, {count / findings:,.0f} a finding")
     print_sources(sys.argv[1])
+    print_excerpts(sys.argv[1])
 
 
 if __name__ == "__main__":

@@ -1,18 +1,24 @@
 #!/usr/bin/env python3
-"""Makes docs/GALLERY.md, and the drawings that tools/tries/quick_cases.py expects. usage: gallery.py PROGRAM
+"""Makes docs/GALLERY.md, and the drawings that tools/tries/quick_cases.py expects. usage: gallery.py PROGRAM [FOLDER]
 
 PROGRAM is crates/girzohal/out/girzohal after `rt run` there. Each output of examples/outputs is drawn with the sources beside it and
 the tool that its name begins with, and each log of examples/logs; read the changes in tools/quick before you commit them. The page
-shows three tools and a log, with pictures of what is drawn in colors (docs/gallery-*.svg)."""
+shows a tool and a log, and for each of six tools pictures in terminals of 80 and 120 columns, with what the tool printed on the left,
+and what is drawn on the right (docs/gallery-*.svg). With FOLDER only these pictures are made, in FOLDER."""
 import os
 import re
 import subprocess
 import sys
 
+sys.dont_write_bytecode = True
+import picture
+
 TOP = os.path.dirname(os.path.dirname(os.path.dirname(os.path.abspath(__file__))))
 OUTPUTS, LOGS = os.path.join(TOP, "examples", "outputs"), os.path.join(TOP, "examples", "logs")
-TOOLS = ("clang", "gcc", "rustc", "flake8", "shellcheck", "pylint", "mypy")
-SHOWN = ("clang", "gcc", "rustc")
+TOOLS = ("clang", "gcc", "rustc", "flake8", "shellcheck", "pylint", "mypy", "tsc")
+SHOWN = ("clang",)
+BESIDE = ("rustc-color", "gcc-color", "clang-color", "javac", "mypy-pretty-color", "tsc-color")
+WIDTHS = (80, 120)
 PRINTED, MOST = 12, 4
 HEAD = """# Gallery
 
@@ -38,12 +44,18 @@ class Gallery:
     def block(self, text):
         self.say("```text\n" + text.rstrip("\n") + "\n```")
 
-    def picture(self, name, what, text):
-        """A picture below docs/, and a line of the page that shows it."""
-        made = subprocess.run([sys.executable, os.path.join(TOP, "tools", "pages", "picture.py")], input=text.encode(), capture_output=True, check=True)
-        with open(os.path.join(TOP, "docs", f"{name}.svg"), "wb") as file:
-            file.write(made.stdout)
-        self.say(f"![{what}]({name}.svg)")
+    def picture(self, folder, name, text):
+        with open(os.path.join(folder, f"{name}.svg"), "w", encoding="utf-8") as file:
+            file.write(text)
+
+    def beside(self, folder):
+        """Pictures of what tools printed and what is drawn, in terminals of each width; they give the file's and the tool's name."""
+        for name in BESIDE:
+            tool = name.split("-")[0]
+            for width in WIDTHS:
+                drawn = self.run(OUTPUTS, "--color", "always", "--width", str(width), *tool_words(name), f"../{name}.txt")[0]
+                self.picture(folder, f"gallery-{tool}-{width}", picture.beside([read(OUTPUTS, f"{name}.txt"), drawn], width))
+            yield name, tool
 
     # ---- the page
 
@@ -59,16 +71,26 @@ class Gallery:
             self.block(self.text(OUTPUTS, *words))
 
     def colors(self):
-        self.say("## In colors\n\nWhat the tool printed, and below it what is drawn.")
-        for name in names(OUTPUTS, "-color.txt"):
-            words, tool = [*tool_words(name), f"../{name}"], name.split("-")[0]
-            self.say(f"{called(['--color', 'always', *words])}:")
-            drawn = self.run(OUTPUTS, "--color", "always", *words)[0]
-            self.picture(f"gallery-{tool}", f"{tool} in its colors, and drawn", read(OUTPUTS, name) + "\n\x1b[2m" + "─" * 60 + "\x1b[0m\n" + drawn)
+        self.say(f"## In colors\n\nOn the left what the tool printed, on the right what is drawn, in terminals with {WIDTHS[0]} columns and below with {WIDTHS[1]}.")
+        for name, tool in self.beside(os.path.join(TOP, "docs")):
+            self.say(f"{called([*tool_words(name), f'../{name}.txt'])}:")
+            self.say("\n".join(f"![{tool}, {width}](gallery-{tool}-{width}.svg)" for width in WIDTHS))
+        self.say("What differs from the tools' own drawings: the labels' colors go by their order, so none is red because it is the error's own; of "
+                 "two boxes the first label's comes first, though the finding is at another; a replacement of clang or gcc is drawn as an insertion "
+                 "(`help: %d`); what a suggestion adds isn't green; a mark within a range (`~~~^~~`) is drawn as the range alone; and the level is a sign, not a word.")
 
     def log(self):
         self.say("## A log\n\nA SARIF log whose findings have several labels:")
-        self.picture("gallery-log", "labels of a log in colors", self.run(LOGS, "--color", "always", "--max-findings", str(MOST), "../related.sarif")[0])
+        drawn = self.run(LOGS, "--color", "always", "--max-findings", str(MOST), "../related.sarif")[0]
+        self.picture(os.path.join(TOP, "docs"), "gallery-log", picture.single(drawn))
+        self.say("![labels of a log in colors](gallery-log.svg)")
+
+    def pages(self):
+        """Those that page_pictures.py made."""
+        made = names(os.path.join(TOP, "docs"), ".png")
+        if made:
+            self.say("## As pages\n\n`--to html` in light and dark, and `--to markdown` and `--to summary` (`tools/pages/page_pictures.py`):")
+            self.say("\n".join(f"![{name[:-4]}]({name})" for name in [*made, *(it for it in ("summary.svg",) if os.path.isfile(os.path.join(TOP, "docs", it)))]))
 
     # ---- what the cases expect
 
@@ -90,7 +112,11 @@ class Gallery:
         keep("logs", "refused.tsv", refused)
 
     def write(self):
-        for part in (self.expected, self.outputs, self.colors, self.log):
+        docs = os.path.join(TOP, "docs")
+        for name in names(docs, ".svg"):
+            if name.startswith("gallery-"):
+                os.remove(os.path.join(docs, name))
+        for part in (self.expected, self.outputs, self.colors, self.log, self.pages):
             part()
         with open(os.path.join(TOP, "docs", "GALLERY.md"), "w", encoding="utf-8") as file:
             file.write(self.page)
@@ -121,6 +147,10 @@ def called(words):
 
 
 if __name__ == "__main__":
-    if len(sys.argv) != 2:
+    if len(sys.argv) not in (2, 3):
         sys.exit(__doc__)
-    Gallery(os.path.abspath(sys.argv[1])).write()
+    gallery = Gallery(os.path.abspath(sys.argv[1]))
+    if sys.argv[2:]:
+        list(gallery.beside(sys.argv[2]))
+    else:
+        gallery.write()

@@ -170,6 +170,8 @@ def span_as_json(offset, length, line, column):
 
 
 RUNS += [
+    ("json-of-gcc", PLAIN, '[{"kind": "warning", "locations": [], "column-origin": 1, "children": [], "message": "format"}]\n', 0,
+     "\n  ! format\n1 warning\n"),
     ("rows-are-counted", ("--to", "json"), counted(ROWS, 239 * 88 + 2, 239 * 88 + 6), 1, span_as_json(239 * 88 + 2, 4, 240, 3)),
     ("characters-are-counted", ("--to", "problems"), counted(ROW, 240 * 88 - 5, 240 * 88 - 1), 1,
      f"long:1:{240 * 85 - 4}:1:{240 * 85}: error: m\n"),
@@ -184,7 +186,7 @@ WRONG_WORDS = [
     ("a-width", ("--width", "x"), "--width: expected auto or a number from 1, not 'x'"),
     ("tabs", ("--tabs", "17"), "--tabs: expected a number from 1 to 16, not '17'"),
     ("a-column", ("--first-column", "2"), "--first-column: expected 0 or 1, not '2'"),
-    ("a-form-that-is-read", ("--from", "yaml"), "--from: expected auto, document, sarif or lines, not 'yaml'"),
+    ("a-form-that-is-read", ("--from", "yaml"), "--from: expected auto, document, sarif, json or lines, not 'yaml'"),
     ("a-form-that-is-written", ("--to", "pdf"), f"--to: expected {WRITTEN}, not 'pdf'"),
     ("two-forms", ("--to", "json", "--to", "github"), "--to: 'github' is a second form; --output writes others"),
     ("an-output-of-no-form", ("-o", "pdf=a.pdf"), f"--output: expected {WRITTEN}, not 'pdf' in 'pdf=a.pdf'"),
@@ -195,9 +197,9 @@ WRONG_WORDS = [
     ("a-mode-without-a-diff", ("--filter-mode", "file"), "--filter-mode needs --changed"),
     ("a-mode", ("--filter-mode", "none"), "--filter-mode: expected added, diff_context, file or nofilter, not 'none'"),
     ("folders-without-a-diff", ("--strip", "1"), "--strip needs --changed"),
-    ("a-diff-that-is-the-input", ("--changed", "-"), "standard input is read once, as FILE, --changed or --baseline"),
-    ("a-baseline-that-is-the-input", ("a", "-", "--baseline=-"), "standard input is read once, as FILE, --changed or --baseline"),
-    ("an-input-twice", ("-", "a", "-"), "standard input is read once, as FILE, --changed or --baseline"),
+    ("a-diff-that-is-the-input", ("--changed", "-"), "standard input is read once, as FILE or by one option"),
+    ("a-baseline-that-is-the-input", ("a", "-", "--baseline=-"), "standard input is read once, as FILE or by one option"),
+    ("an-input-twice", ("-", "a", "-"), "standard input is read once, as FILE or by one option"),
     ("no-pattern", ("--include", ""), "--include: expected a pattern of files such as 'src/**', not ''"),
     ("a-severity", ("--severity", "never"), "--severity: expected error, warning or advice, not 'never'"),
     ("a-tool", ("--tool", "nobody"), "--tool: expected a tool that --help lists, such as gcc or sarif, not 'nobody'"),
@@ -211,14 +213,13 @@ WRONG_WORDS = [
     ("a-root", ("--root", "nowhere"), "--root: nowhere isn't a folder"),
     ("a-part", ("--shape", "{nothing}"), "--shape: a name in braces is unknown in '{nothing}'"),
 ]
-NO_FORM = "JSON of no known form; lines and SARIF are read, and documents"
+NO_FORM = "$: wanted JSON of a known form; its keys: a; the nearest form: eslint"
 FILES = '"files": [{"name": "a", "source": "ab"}]'
 # a name, arguments, standard input, status, and the error that is printed
 REFUSED = [
     ("json-of-no-form", (), '[{"a": 1}]\n', 3, NO_FORM),
-    ("json-of-gcc", (), '[{"kind": "warning", "locations": [], "column-origin": 1, "children": [], "message": "format"}]\n', 3, NO_FORM),
-    ("another-version", (), '{"version": "2.0"}\n', 3, "version: wanted 2.1.0"),
-    ("a-log-that-is-cut", (), '{"version": "2.1.0", "runs"', 3, "line 1, column 28: input is no JSON"),
+    ("another-version", (), '{"version": "2.0", "runs": []}\n', 3, "version: wanted 2.1.0"),
+    ("a-log-that-is-cut", (), '{"version": "2.1.0", "runs"', 3, "line 1, column 1: input ends in the JSON that begins here"),
     ("a-fault", (), '{"version": "2.1.0", "runs": [{"tool": {"driver": {"name": "t"}}, '
      '"results": [{"level": "grave", "message": {"text": "m"}}]}]}', 3,
      "runs[0].results[0].level: wanted none, note, warning or error"),

@@ -3,14 +3,14 @@ status, standard output and standard error; beside each run lie `FILES`."""
 
 FILES = {"a.c": "int x\n"}
 
-REFUSED = "girzohal: JSON of no known form; lines and SARIF are read, and documents\n"
+REFUSED = "girzohal: $: wanted JSON of a known form; the nearest form: eslint\n"
 FIRST = "::error file=a.c,line=1,endLine=1,col=5,endColumn=6::no semicolon\n"
 SECOND = "::warning file=b.c,line=1,col=5::gone\n"
 
 ROWS = [
     ("nothing", "drawing", "", 0, "", ""),
     ("JSON of no known form", "drawing", "[{}]", 3, "", REFUSED),
-    ("a log of another version", "drawing", '{"version": "2.0"}', 3, "", "girzohal: version: wanted 2.1.0\n"),
+    ("a log of another version", "drawing", '{"version": "2.0", "runs": []}', 3, "", "girzohal: version: wanted 2.1.0\n"),
     ("a kept line, drawn", "drawing", "make all\n", 0, "make all\n", ""),
     ("a kept line before an error", "github", "make all\na.c:1:5: error: no semicolon\n", 1, FIRST, "make all\n"),
     ("a warning without a source", "github", "b.c:1:5: warning: gone\n", 0, SECOND, ""),

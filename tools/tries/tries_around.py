@@ -22,7 +22,9 @@ def read(*path):
 OPTIONS = sorted(set(re.findall(r'"--([a-z-]+)"', read("crates", "girzohal_options", "src", "table.rt"))))
 VALUES = re.findall(r'"([a-z0-9_]+)" => Some\(\w+::', read("crates", "girzohal_options", "src", "values.rt"))
 SHAPES = read("crates", "line_shapes", "src", "tables.rt")
-TOOLS = sorted({"sarif", *re.findall(r'"([a-z0-9-]+)", Unit::', SHAPES), *re.findall(r'\(\n        "([a-z0-9-]+)",\n', SHAPES)})
+OWN_FORMS = re.search(r"JSON_TOOLS: .*?\];", read("crates", "girzohal_options", "src", "table.rt"), re.S)[0]
+TOOLS = sorted({"sarif", *re.findall(r'"([a-z0-9-]+)", Unit::', SHAPES), *re.findall(r'\(\n        "([a-z0-9-]+)",\n', SHAPES),
+                *re.findall(r'"([a-z0-9-]+)",\n', OWN_FORMS)})
 PARTS = re.findall(r'\(b"([a-z~]+)", Item::', read("crates", "line_shapes", "src", "parse.rt"))
 
 

@@ -52,7 +52,7 @@ class SeveralTries:
 
     def try_several_refused(self, line):
         """One that isn't read refuses all: its name stands in the line, and nothing is written."""
-        for names, status, why in ((("one.log", "bad.json"), 3, b"girzohal: bad.json: JSON of no known form"),
+        for names, status, why in ((("one.log", "bad.json"), 3, b"girzohal: bad.json: $: wanted JSON of a known form"),
                                    (("bad.json", "none.log"), 4, b"girzohal: none.log isn't there\n"),
                                    (("one.log", "sub", "two.log"), 4, b"girzohal: sub is a folder\n"),
                                    (("-", "one.log", "-"), 2, b"girzohal: standard input is read once")):

@@ -36,7 +36,7 @@ class Tries:
             print("FAILED", name, *told, sep="\n  ")
 
     def run(self, *words, at):
-        env = {**os.environ, "PATH": f"{self.bin}:{os.environ['PATH']}", "GIT_CONFIG_GLOBAL": "/dev/null", "GIT_CONFIG_SYSTEM": "/dev/null"}
+        env = {**os.environ, "PATH": f"{self.bin}:{os.environ['PATH']}", "GIT_CONFIG_GLOBAL": "/dev/null", "GIT_CONFIG_SYSTEM": "/dev/null", "GITHUB_STEP_SUMMARY": os.path.join(at, "summary.md")}
         ran = subprocess.run(words, cwd=at, env=env, capture_output=True, text=True, timeout=60)
         return ran.returncode, ran.stdout, ran.stderr
 
@@ -49,8 +49,9 @@ class Tries:
         shown = {}
         for page in PAGES[system]:
             with open(os.path.join(TOP, page), encoding="utf-8") as file:
-                lines = [line.lstrip("# ").removeprefix("- ").removeprefix("run: ") for line in file.read().split("\n")]
-            makes = [at for at, line in enumerate(lines) if line.startswith("make 2>&1 | ") and f"--to {system}" in line]
+                # (a line goes on after a backslash)
+                lines = [line.lstrip("# ").removeprefix("- ").removeprefix("run: ") for line in re.sub(r"\\\n[# ]*", "", file.read()).split("\n")]
+            makes = [at for at, line in enumerate(lines) if line.startswith("make 2>&1 | ") and re.search(f"--to {system}|-o {system}=", line)]
             shown[page] = [lines[at - 1:at + 1] if lines[at - 1].startswith("git diff") else [lines[at]] for at in makes]
         first = shown["README.md"][0]
         self.check(all(jobs == [first] for jobs in shown.values()), f"each page shows the same job for {system}", shown)
@@ -74,8 +75,13 @@ class Tries:
     def try_github(self):
         job = "\n".join(self.job("github"))
         for what, printed, wanted, rows in (("a new warning", FIRST + ADDED, 1, ["2"]), ("an old warning alone", FIRST, 0, []), ("no warning", "cc a.c\n", 0, [])):
-            status, out, err = self.run("bash", "-eo", "pipefail", "-c", job, at=self.project(printed))
-            self.check(status == wanted and re.findall(r"::warning file=a\.c,line=(\d+)", out) == rows, f"GitHub's job with {what}", status, out, err)
+            at = self.project(printed)
+            self.write(at, "summary.md", "")
+            status, out, err = self.run("bash", "-eo", "pipefail", "-c", job, at=at)
+            with open(os.path.join(at, "summary.md"), encoding="utf-8") as file:
+                summary = file.read()
+            is_right = status == wanted and re.findall(r"::warning file=a\.c,line=(\d+)", out) == rows and ("a.c" in summary) == bool(rows) and summary != ""
+            self.check(is_right, f"GitHub's job with {what}", status, out, err, summary)
 
     def try_gitlab(self):
         make = re.search(r"`(make [^`]*> old\.json)`", open(os.path.join(TOP, "ci", "README.md"), encoding="utf-8").read())[1]
@@ -90,7 +96,8 @@ class Tries:
             status, out, err = self.run("bash", "-c", job, at=at)
             with open(os.path.join(at, "gl-code-quality-report.json"), encoding="utf-8") as file:
                 found = [it["location"]["lines"]["begin"] for it in json.load(file)]
-            self.check(status == 0 and found == lines, f"GitLab's job with {what}", status, found, err)
+            drawn = [int(row) for row in re.findall(r"╭─\[a\.c:(\d+):5\]", out)]
+            self.check(status == 0 and found == drawn == lines, f"GitLab's job with {what}", status, found, out, err)
 
     def try_install(self):
         """What GitLab's template runs before a job: from a tarball, and from the web, which is a stub of curl here."""

@@ -1,11 +1,13 @@
 #!/usr/bin/env python3
 """Compares what `girzohal` reads of tools' JSON and XML with `value_reader.py`, a second reader: samples of each form of the table, with
-and without sources; rows worked out by hand; inputs that are refused; and samples with faults.
+and without sources; rows worked out by hand; inputs that are refused; and mutants of samples.
 
 usage: try_values.py PROGRAM [--open DIR] [--mutants N] [--seed S]      (crates/girzohal/out/girzohal after `rt run` there)
 
-`--open DIR` also tries each sample NAME of a folder, with what has to be read of it in NAME.expected. PROGRAM `-` tries the second
-reader alone. The last line is `N passed, M failed`; the status is 0 if M is 0."""
+There are N mutants of each kind, 60 by default: members in another order, wrong values, inputs that are cut, two inputs, and lines
+beside; of XML attributes in another order, wrong attributes, other pieces of text, inputs that are cut, and two inputs.
+`--open DIR` also tries each sample NAME of a folder, with what has to be read of it in NAME.expected, and makes mutants of these
+samples too. PROGRAM `-` tries the second reader alone. The last line is `N passed, M failed`; the status is 0 if M is 0."""
 import json
 import os
 import random
@@ -20,7 +22,7 @@ import value_reader as reader
 import value_rows
 from value_samples import NAMES, Sampler, text_of
 
-ROWS = ["int é = 1;", "\tint 𝕏y = total(é);", "", "  return 𝕏 + é;\t// end", "a\tb\tc"]
+ROWS = ["int é = 1;", "\tint 𝕏y = total(é);", "", "  return 𝕏 + é;\t// end", "a\tb\tc", "日本 x"]
 FIGURES = ("line", "column", "end_line", "end_column")
 
 
@@ -44,14 +46,15 @@ def texts_of(it, key):
 
 
 def place_line(place):
-    return "at " + ":".join([place["file"] or "", *(str(place[name]) for name in ("line", "column") if place["line"] and place[name])])
+    return "at " + ":".join([place["file"] or "", *(str(min(place[name], 2 ** 32 - 1)) for name in ("line", "column") if place["line"] and place[name])])
 
 
 class Tries:
     def __init__(self, program, mutants, seed, room):
         self.program, self.mutants, self.seed = None if program == "-" else os.path.abspath(program), mutants, seed
         self.room, self.empty, self.full = room, os.path.join(room, "empty"), os.path.join(room, "full")
-        self.forms, self.xml_forms = reader.known_forms(), reader.xml_forms()
+        self.forms, (self.xml_forms, self.reads_xml) = reader.known_forms(), reader.xml_forms()
+        self.given, self.given_xml = [], list(value_rows.XML)
         self.sources = {name: "\n".join(ROWS * 2) for name in NAMES}
         self.passed = self.failed = 0
         os.makedirs(self.empty)
@@ -76,6 +79,10 @@ class Tries:
         if reader.is_xml(text):
             return reader.read_xml(text, self.xml_forms)
         return reader.read_json(text, self.forms, reader.forms_of(own), tool)
+
+    def lacks(self, text):
+        """Whether the program reads no such input: XML, for as long as the table has no forms of it."""
+        return self.program is not None and reader.is_xml(text) and not self.reads_xml
 
     # ---- an input, read by both
 
@@ -173,6 +180,8 @@ class Tries:
     def try_rows(self):
         """Rows worked out by hand: the second reader and the program have to agree with them."""
         for what, words, text, status, out, err in value_rows.ROWS:
+            if self.lacks(text):
+                continue
             own, tool, words = [words[at + 1] for at, word in enumerate(words) if word == "--json-shape"], None, list(words)
             if "--tool" in words:
                 tool = words[words.index("--tool") + 1]
@@ -207,6 +216,8 @@ class Tries:
         given = self.run("{}", "--to", "problems", "--json-shape", "list=x fil=y message=z")
         self.check(given[0] in (2, 3) and given[1] == "" and "fil=y" in given[2], "a form that is none", given)
         for what, text, wanted in value_rows.SPANS:
+            if self.lacks(text):
+                continue
             status, out, err = self.run(text, "--to", "document", root=self.full)
             labels = [label for report in (json.loads(out)["reports"] if out else []) for label in report.get("labels", []) if label.get("primary")]
             source = self.sources["b.py"].encode()
@@ -235,6 +246,8 @@ class Tries:
                   '{"totals": {"fixable": 0}, "files": {"B": {"messages": [{"message": {}}]}}}', '{"totals": {"fixable": 0}, "files": {"B": {"messages": [null]}}}', '[{"B": 1} "B"]',
                   '<checkstyle><file name="\u009b\u202e"><error line="1" message="\u009b&#x202e;&#x9b;" source="\u202e"/><error line="\u009b" message="m"/></file></checkstyle>']
         for text in inputs:
+            if self.lacks(text):
+                continue
             for form in ("drawing", "json", "document", "sarif", "problems", "github", "gitlab", "checkstyle", "junit", "stylish", "summary", "markdown", "html"):
                 status, out, err = self.run(text.replace("B", bad), "--to", form)
                 drives = re.search("[\x00-\x08\x0b-\x1f\x7f-\x9f\u202a-\u202e\u2066-\u2069]", out + err)
@@ -266,29 +279,91 @@ class Tries:
             self.compare(f"nested {deep + 2} deep", value, ("--from", "json"))
 
     def try_mutants(self):
-        """Samples with a fault or two: read as by the second reader, or refused at the same place."""
+        """Mutants of samples of each form and of those of a folder: read as by the second reader, or refused at the same place."""
         sampler = Sampler(self.seed + 2)
         for at in range(self.mutants):
-            form = self.forms[at % len(self.forms)]
-            values = [sampler.mutant(it) for it in sampler.values(form, at % 3 == 0)]
-            if sampler.random.random() < 0.4:
-                values = [sampler.mutant(it) for it in values]
-            text = sampler.text(values)
+            name, values = self.sample(sampler, at)
+            name, before = f"{at} of {name}, seed {self.seed}", self.findings(self.text(values))
+            mixed = self.text([sampler.reordered(it) for it in values])
+            self.compare(f"reordered {name}", mixed, ("--from", "json"), sources=at % 8 == 0)
+            if before and not any(it["form"] in self.by_members() for it in before):
+                after = self.findings(mixed)
+                self.check(after is not None and list(map(problem, after)) == list(map(problem, before)), f"reordered {name}: the same is found", mixed)
+            wrong = [sampler.mutant(it) for it in values]
+            if at % 2:
+                wrong = [sampler.mutant(it) for it in wrong]
+            text = sampler.text(wrong)
             if text.lstrip()[:1] in ("{", "["):
-                self.compare(f"mutant {at} of {form.name}, seed {self.seed}", text, ("--from", "json"), sources=at % 4 == 0)
+                self.compare(f"wrong {name}", text, ("--from", "json"), sources=at % 4 == 0)
+            text = sampler.text(values)
+            self.compare(f"cut {name}", text[:sampler.random.randrange(len(text) + 1)], ("--from", "json"))
+            other, more = self.sample(sampler, sampler.random.randrange(10 ** 6))
+            both = self.text(values) + sampler.random.choice(["", "\n", "\n\n", "\nnothing here\n"]) + self.text(more)
+            self.compare(f"two inputs {name} and {other}", both, ("--from", "json"))
+            after, last = self.findings(both), self.findings(self.text(more))
+            if before is not None and last is not None:
+                self.check(after is not None and list(map(problem, after)) == list(map(problem, before + last)), f"two inputs {name} and {other}: what is in both", both)
+            lines = sampler.random.sample(["checking 3 files", "[1/3] done", "", "  all {done}", "]", "\u00e9 \"x"], 2)
+            self.compare(f"beside {name}", lines[0] + "\n" + self.text(values) + "\n" + lines[1] + "\n", ("--from", "json"))
+
+    def sample(self, sampler, at):
+        """A name and values: of a form, and of each third number of a sample of the folder."""
+        if self.given and at % 3 == 2:
+            return self.given[at // 3 % len(self.given)]
+        form = self.forms[at % len(self.forms)]
+        return form.name, sampler.values(form, at % 2 == 0)
+
+    def text(self, values):
+        return "\n".join(map(text_of, values)) + "\n"
+
+    def findings(self, text):
+        try:
+            return self.read(text)[0]
+        except reader.Refused:
+            return None
+
+    def by_members(self):
+        """The forms that go to members in their order."""
+        return {form.name for form in self.forms if any(("member",) in lines.steps for lines in form.lists)}
 
     def try_xml(self):
-        """Samples of XML, and the same with a fault."""
+        """Samples of XML, and mutants of them."""
+        if self.program and not self.reads_xml:
+            print("skipped: XML: the table of forms has none of it")
+            return
         chance = random.Random(self.seed)
         for name, text in value_rows.XML:
             self.compare(f"XML {name}", text, sources=True)
-            for at in range(max(self.mutants // 20, 3)):
-                start = chance.randrange(len(text))
-                changed = text[:start] + chance.choice(["", "<", ">", "/", '"', "&", "&lt;", "&#65;", "x", "=", "<!-- c -->", "]]>", " ", "1"]) + text[start + chance.randrange(3):]
-                if reader.is_xml(changed):
-                    self.compare(f"XML {name}, changed {at}", changed)
         for name, text in value_rows.XML_REFUSED:
             self.compare(f"XML {name}", text)
+        for at in range(self.mutants):
+            name, text = self.given_xml[at % len(self.given_xml)]
+            name, before = f"{at} of XML {name}, seed {self.seed}", self.findings(text)
+            mixed = re.sub(r"(<[A-Za-z][\w.-]*)((?:\s+[\w.-]+=(?:\"[^\"<]*\"|'[^'<]*'))+)", lambda it: it[1] + self.mixed(chance, it[2]), text)
+            self.compare(f"reordered {name}", mixed, sources=at % 8 == 0)
+            self.check(str(self.findings(mixed)) == str(before), f"reordered {name}: the same is found", mixed)
+            self.xml_mutants(chance, name, text)
+
+    def mixed(self, chance, attributes):
+        parts = re.findall(r"\s+[\w.-]+=(?:\"[^\"<]*\"|'[^'<]*')", attributes)
+        return "".join(chance.sample(parts, len(parts)))
+
+    def xml_mutants(self, chance, name, text):
+        attributes = list(re.finditer(r"\s([\w.-]+)=(\"[^\"<]*\"|'[^'<]*')", text))
+        if attributes:
+            it = chance.choice(attributes)
+            wrong = chance.choice(["", f' {it[1]}=""', f' {it[1]}="x"', f' {it[1]}="-3"', f' {it[1]}="4294967296"', f" {it[1]}='007'", ' x="y"', f" {it[1]}=\"&#233;&#x1d54f;\"",
+                                   f" {it[1]}={it[2]}" * 2, f' {it[1]}="eslint.rules.x"', f' {it[1]}="com.puppycrawl.X"'])
+            self.compare(f"wrong {name}", text[:it.start()] + wrong + text[it.end():], sources=chance.random() < 0.25)
+        changed = text
+        for _ in range(chance.randrange(1, 3)):
+            start = chance.randrange(len(changed))
+            changed = changed[:start] + chance.choice(["", "<", ">", "/", '"', "'", "&", ";", "&lt;", "&#65;", "&#0;", "&x;", "x", "=", "<a>", "</a>", "<a/>", "<!-- c -->", "<!--", "-->", "]]>",
+                                                        "<![CDATA[<b>]]>", "<?x y?>", "<!DOCTYPE x>", "\u00e9", "\x01", "\ufffe", " ", "\n", "\t", "1", ' b="1"']) + changed[start + chance.choice([0, 0, 1, 2, 5]):]
+        cut = text[:chance.randrange(len(text) + 1)]
+        for kind, it in (("changed", changed), ("cut", cut), ("two inputs", text + chance.choice(["", "\n"]) + value_rows.XML[0][1])):
+            if reader.is_xml(it):
+                self.compare(f"{kind} {name}", it)
 
     # ---- samples of a folder
 
@@ -300,13 +375,20 @@ class Tries:
                 text = file.read()
             with open(os.path.join(folder, name + ".expected"), encoding="utf-8") as file:
                 wanted = json.load(file)
+            is_xml = reader.is_xml(text)
             try:
                 found = self.read(text)[0]
             except reader.Refused as e:
                 self.check(isinstance(wanted, dict), f"{name}: read", e, wanted)
             else:
                 self.check(isinstance(wanted, list) and pairs_off(found, wanted), f"{name}: read as expected", [problem(it) for it in found], wanted)
-            self.compare(name, text)
+                if not is_xml:
+                    self.given.append((name, [reader.parse(body) for row, body in reader.cut(text) if row is not None]))
+                elif len(text) < 20000:
+                    self.given_xml.append((name, text))
+            if not self.lacks(text):
+                # (lines beside need the form said)
+                self.compare(name, text, () if is_xml or text.lstrip("\ufeff \t\r\n")[:1] in ("{", "[") else ("--from", "json"))
 
 
 def fits(it, wanted):
@@ -341,11 +423,11 @@ def main():
     if len(words) != 1:
         sys.exit(__doc__)
     with tempfile.TemporaryDirectory() as room:
-        tries = Tries(words[0], int(options.get("--mutants", 300)), int(options.get("--seed", 5)), room)
-        for name in ("samples", "rows", "cut", "mutants", "xml"):
-            getattr(tries, "try_" + name)()
+        tries = Tries(words[0], int(options.get("--mutants", 60)), int(options.get("--seed", 5)), room)
         if "--open" in options:
             tries.try_folder(options["--open"])
+        for name in ("samples", "rows", "cut", "mutants", "xml"):
+            getattr(tries, "try_" + name)()
     print(f"{tries.passed} passed, {tries.failed} failed")
     return int(tries.failed > 0)
 

@@ -1,7 +1,6 @@
 #!/usr/bin/env python3
 """A second reader of what tools print as JSON or XML, that `try_values.py` compares the program with. The forms are those of the table
 in crates/json_forms (and of the one for XML); how they are read is written here anew: slow and plain."""
-import glob
 import json
 import os
 import re
@@ -14,6 +13,7 @@ TEXTS = "file severity code message help note url text".split()
 SIDES = ("place", "labels", "edits", "notes")
 CONSTANTS = ("scope", "unit", "end", "default", "as")
 ROOTS = ("checkstyle", "results", "pmd", "jslint")
+XML_NAMES = ("checkstyle", "cppcheck", "pmd", "jslint")
 SEVERITY = {
     "error": "error err fatal failure failed ice critical blocker high e f 2 error:_internal_compiler_error",
     "warning": "warning warn major medium moderate w 1",
@@ -130,7 +130,7 @@ class Path:
 
 class Guard:
     def __init__(self, text):
-        path, self.ask, words = re.fullmatch(r'((?:"[^"]*"|[^"?+!:~$])*)([?+!:~$])(.*)', text).groups()
+        path, self.ask, words = re.fullmatch(r'((?:"[^"]*"|[^"?+!:~$%])*)([?+!:~$%])(.*)', text).groups()
         self.path, self.words = Path(path), [word.strip('"') for word in split(words, "|")]
 
 
@@ -197,12 +197,9 @@ def known_forms():
 
 
 def xml_forms():
-    """The forms of XML: those of the repository's table, or those above."""
-    for path in sorted(glob.glob(os.path.join(TOP, "crates", "*", "src", "*.rt"))):
-        with open(path, encoding="utf-8") as file:
-            if "form=checkstyle" in file.read():
-                return forms_of(table_text(path))
-    return forms_of(XML_TABLE)
+    """The forms of XML, and whether they are of the repository's table: those above otherwise."""
+    forms = [form for form in known_forms() if form.name in XML_NAMES]
+    return forms or forms_of(XML_TABLE), bool(forms)
 
 
 # ---- marks
@@ -305,8 +302,8 @@ def holds(guard, crumbs):
     if guard.ask in "?+!":
         return {"?": it is not ABSENT and it != "", "+": it is not ABSENT, "!": it is ABSENT}[guard.ask]
     text = str(it).lower() if isinstance(it, bool) else it
-    fits = {":": str.__eq__, "~": str.startswith, "$": str.endswith}[guard.ask]
-    return isinstance(text, str) and any(fits(str(text), word) for word in guard.words)
+    fits = {":": str.__eq__, "~": str.startswith, "$": str.endswith, "%": str.startswith}[guard.ask]
+    return (isinstance(text, str) and any(fits(str(text), word) for word in guard.words)) != (guard.ask == "%")
 
 
 def whole(value):
@@ -499,7 +496,7 @@ def read_json(text, forms, own=(), tool=None):
 
 
 def is_xml(text):
-    return re.match(r"\ufeff?[ \t\r\n]*<(\?xml[ \t\r\n]|(%s)[ \t\r\n/>])" % "|".join(ROOTS), text) is not None
+    return re.match(r"\ufeff?[ \t\r\n]*<(\?xml|%s)" % "|".join(ROOTS), text) is not None
 
 
 def xml_value(text):
@@ -507,7 +504,7 @@ def xml_value(text):
     root, open_elements = [], []
 
     def begin(name, attributes):
-        if len(open_elements) == 127:
+        if len(open_elements) == 127 or len(attributes) > 64 or not all(re.match("[A-Za-z_]", it) for it in (name, *attributes)):
             raise Refused("line", "XML")
         open_elements.append((name, dict(attributes), {}, []))
 
@@ -521,17 +518,24 @@ def xml_value(text):
         element = Members(pairs + ([("#text", own)] if own else []))
         if open_elements:
             open_elements[-1][2].setdefault(name, []).append(element)
+            if len(open_elements[-1][2]) > 64:
+                raise Refused("line", "XML")
         else:
             root.append(Members([(name, element)]))
 
     def no_doctype(*_):
         raise Refused("line", "XML")
 
-    parser = xml.parsers.expat.ParserCreate()
-    parser.StartElementHandler, parser.EndElementHandler, parser.CharacterDataHandler, parser.StartDoctypeDeclHandler = begin, end, text_in, no_doctype
-    declared = re.match(r"\ufeff?[ \t\r\n]*<\?xml[^>]*encoding\s*=\s*[\"']([^\"']*)", text)
-    if declared and declared[1].lower() not in ("utf-8", "us-ascii", "ascii"):
+    if re.search("[\x00-\x08\x0b\x0c\x0e-\x1f\ufffe\uffff]", text):
         raise Refused("line", "XML")
+    declared = re.match(r"\ufeff?[ \t\r\n]*<\?xml[ \t\r\n](.*?)\?>", text, re.S)
+    encoding = re.search(r"encoding[ \t\r\n]*=[ \t\r\n]*(?:\"([^\"<]*)\"|'([^'<]*)')", declared[1]) if declared else None
+    if encoding and (encoding[1] or encoding[2] or "").lower() not in ("utf-8", "us-ascii", "ascii"):
+        raise Refused("line", "XML")
+    # (of instructions, the declaration too, nothing counts but the encoding)
+    text = re.sub(r"<!--.*?-->|<!\[CDATA\[.*?\]\]>|<\?.*?\?>", lambda it: "<?x?>" if it[0].startswith("<?") else it[0], text.removeprefix("\ufeff").lstrip(" \t\r\n"), flags=re.S)
+    parser = xml.parsers.expat.ParserCreate("utf-8")
+    parser.StartElementHandler, parser.EndElementHandler, parser.CharacterDataHandler, parser.StartDoctypeDeclHandler = begin, end, text_in, no_doctype
     try:
         parser.Parse(text.encode("utf-8", "surrogatepass"), True)
     except xml.parsers.expat.ExpatError:
@@ -600,8 +604,8 @@ def span_of(place, text):
     row, start_of = rows[place["line"] - 1], sum(len(it.encode()) + 1 for it in rows[:place["line"] - 1])
     if place["column"] is None:
         inner = row.strip(" \t")
-        front = len(row) - len(row.lstrip(" \t")) if inner else len(row)
-        return start_of + front, start_of + max(front, len(row.rstrip(" \t")))
+        front = len(row.encode()) - (len(row.lstrip(" \t").encode()) if inner else 0)
+        return start_of + front, start_of + max(front, len(row.rstrip(" \t").encode()))
     start = spot_in(rows, place["line"], place["column"], place["unit"])
     if place["end_line"] is not None and place["end_line"] <= len(rows):
         end = spot_in(rows, place["end_line"], place["end_column"] or 2 ** 32, place["unit"])

@@ -73,12 +73,13 @@ ROWS = [
      ["girzohal: $.checkstyle.file[0].error[0].line: wanted a whole number below 2^32"]),
 ]
 
-# What columns count, over the source of `try_values.py`: what is marked. Row 2 is `\tint 𝕏y = total(é);`.
+# What columns count, over the source of `try_values.py`: what is marked. Row 2 is `\tint 𝕏y = total(é);`, row 6 `日本 x`.
 SPANS = [
     ("characters", '[{"file": "b.py", "line": 2, "column": 6, "level": "info", "code": "C", "message": "m"}]', ["𝕏y"]),
     ("UTF-16", '[{"filePath": "b.py", "messages": [{"line": 2, "column": 6, "endLine": 2, "endColumn": 9, "severity": 2, "ruleId": "r", "message": "m"}]}]', ["𝕏y"]),
     ("bytes from 0", '[{"type": "error", "path": "b.py", "line": 2, "column": 5, "endLine": 2, "endColumn": 10, "symbol": "s", "message-id": "E1", "message": "m"}]', ["𝕏y"]),
     ("cells of 8", '[{"file": "b.py", "line": 2, "endLine": 2, "column": 13, "endColumn": 15, "level": "info", "code": 1, "message": "m", "fix": null}]', ["𝕏y"]),
+    ("cells of 8 count a wide character once", '[{"file": "b.py", "line": 6, "endLine": 6, "column": 4, "endColumn": 5, "level": "info", "code": 1, "message": "m", "fix": null}]', ["x"]),
     ("cells of 4", '{"totals": {"fixable": 0}, "files": {"b.py": {"messages": [{"message": "m", "source": "S", "type": "ERROR", "line": 2, "column": 9}]}}}', ["𝕏y"]),
     ("offsets in bytes", '{"diagnostics": [{"filename": "b.py", "severity": "error", "message": "m", "labels": [{"span": {"offset": 4, "length": 2}}]}]}', ["é"]),
     ("Checkstyle's own columns", '<checkstyle><file name="b.py"><error line="2" column="13" severity="info" message="m" source="com.puppycrawl.tools.X"/></file></checkstyle>', ["𝕏y"]),

@@ -156,6 +156,16 @@ class Sampler:
         indent = self.random.choice([None, None, 0])
         return self.random.choice(["\n", "\n", "", "\n\n"] if len(values) > 1 else ["\n"]).join(text_of(it, indent) for it in values) + self.random.choice(["", "\n"])
 
+    def reordered(self, value):
+        """A value with the members of each object in another order; of a name twice the last stays the last."""
+        if isinstance(value, list):
+            return [self.reordered(it) for it in value]
+        if not isinstance(value, reader.Members):
+            return value
+        pairs = list(dict((name, self.reordered(it)) for name, it in value.pairs).items())
+        self.random.shuffle(pairs)
+        return reader.Members(pairs)
+
     def mutant(self, value):
         """A value with a member gone, another value somewhere, an element or a member more, or its members in another order."""
         value = copy(value)
