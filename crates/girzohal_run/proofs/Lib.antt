@@ -5,3 +5,4 @@ pub mod EachLemmas
 pub mod ListedLemmas
 pub mod OwnedLemmas
 pub mod SeveralLemmas
+pub mod NamedLemmas

@@ -9,13 +9,16 @@ use Rattle.drawn_lines.proofs.SeamLemmas.{all_bare}
 use Rattle.drawn_lines.proofs.ComingLemmas.{all_drawn}
 use Rattle.drawn_lines.proofs.coming.Coming.ended.Goals as goal
 
-pub draw-requires : goal.draw-requires
-draw-requires g c =
+pub draw_with-requires-clause-bare : goal.draw_with-requires-clause-bare
+draw_with-requires-clause-bare g c =
     let shapes = map shape_parts c.args.shapes.now in
     let lines = map (λ (line : Bor (List ℕ)). line.now) c.in_ok-lines.lines.items in
     let pieces = map piece_parts c.in_ok-pieces.pieces.items in
     let cut = rw c.deref-2.ensures.value at c.in_ok-pieces.ensures in
     rw c.deref-5.ensures.value (all_bare shapes None lines pieces [] (subst (ArePieces shapes None lines) (sym (append-nil pieces)) cut))
+
+pub draw_with-requires-clause-each : goal.draw_with-requires-clause-each
+draw_with-requires-clause-each g c = c.in_ok-named.ensures.each
 
 pub returns : goal.returns
 returns g c = λ taken text aside coming.
