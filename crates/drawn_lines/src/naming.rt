@@ -21,12 +21,12 @@ ghost use Rattle.drawn_lines.specs.Named.{tried_names, turned, turned_by};
 use crate::kept::{behind, front};
 use build_dirs::dirs::{BuildDirs, is_absolute};
 use escapes::behind as text_behind;
+use line_shapes::place::Placed;
 use shown_reports::ShownSources;
 use source_store::{Spelling, Store, gather_more, locate};
 use std::alloc::{AllocError, Global};
 use std::str;
 use tool_lines::lines::{Begun, Finding, Piece};
-use line_shapes::place::Placed;
 
 /// For each of these blocks, the name of its finding from the root, if it isn't the printed one.
 /// After a line that enters a directory, a relative name is sought below the open directories, the

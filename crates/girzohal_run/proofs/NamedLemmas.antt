@@ -3,10 +3,11 @@ use Rattle.std.proofs.Common.{◌≡◌, ℕ, Bool, true, ◌∷◌, List, [], �
 use Rattle.std.specs.List.{list_all}
 use Rattle.std.specs.Option.{is_none}
 use Rattle.std.proofs.lemmas.List.Elements.{All-nil, All-cons, All-head, All-tail}
+use Rattle.found_reports.specs.Found.{Found}
 use Rattle.found_reports.specs.Held.{Held}
 use Rattle.found_reports.specs.Listed.{held_in, listed}
 use Rattle.found_reports.specs.declared.sources.Source.{Source}
-use Rattle.source_store.specs.Given.{AddsAll, IsGiven, MeetsTold}
+use Rattle.source_store.specs.Given.{AddsAll, IsGiven, IsSaid, told_of}
 use Rattle.source_store.specs.declared.named.Spelling.TheVariants.{Path}
 use Rattle.source_store.proofs.GivenLemmas.{given_all}
 use Rattle.build_dirs.specs.Dirs.{DirsParts, no_dirs}
@@ -19,7 +20,8 @@ use Rattle.drawn_lines.specs.Lines.{shapes_of}
 use Rattle.drawn_lines.specs.Named.{Agrees, named_in, names_for, renamed_by, tried_in}
 use Rattle.drawn_lines.specs.Text.{lines_of}
 use Rattle.drawn_lines.proofs.NamedLemmas.{adds_both, agrees_added, all_left, all_right, named_same, names_length, renamed_none, tried_in_same}
-use Rattle.girzohal_run.specs.Lines.{AreSought, ListsLines, ListsNamed, WritesPieces}
+use Rattle.girzohal_run.specs.Finds.{FindsLines, FindsNamed, FindsPieces}
+use Rattle.girzohal_run.specs.Lines.{AreSought, ListsLines, ListsNamed, NamesLines, ReadsNamed, WritesPieces}
 use Rattle.girzohal_run.specs.Told.{Told}
 
 pub sought_all : (told : Told) (asked : Asked) (before now : List Source) (lines : List (List ℕ)) (pieces : List PieceParts) (names : List (Option (List ℕ))) (dirs : DirsParts)
@@ -35,43 +37,60 @@ sought_all told asked before now lines pieces names dirs none names_are adds =
       named_is = ap (λ ns. renamed_by ns pieces) (names_are given agrees ∙ ap (λ (d : DirsParts). names_for (root_of asked) given d lines pieces) none);
     }
 
-same_after : (told : Told) (before now : List Source) (names more : List (List ℕ)) → All (λ name. listed before name ≡ true) names → AddsAll told Path before now more
-    → Agrees before (held_in now) → All (λ name. held_in before name ≡ held_in now name) names
-same_after told before now names more all adds agrees = all_same names all
-  where
-    all_same : (names : List (List ℕ)) → All (λ name. listed before name ≡ true) names → All (λ name. held_in before name ≡ held_in now name) names
-    all_same [] all = All-nil (λ name. held_in before name ≡ held_in now name)
-    all_same (name ∷ rest) all =
-        All-cons (λ name. held_in before name ≡ held_in now name) name rest (sym (agrees name (All-head (λ name. listed before name ≡ true) name rest all)))
-        (all_same rest (All-tail (λ name. listed before name ≡ true) name rest all))
+same_after : (before : List Source) (given : List ℕ → Held) → Agrees before given → (names : List (List ℕ)) → All (λ name. listed before name ≡ true) names
+    → All (λ name. held_in before name ≡ given name) names
+same_after before given agrees [] all = All-nil (λ name. held_in before name ≡ given name)
+same_after before given agrees (name ∷ rest) all =
+    All-cons (λ name. held_in before name ≡ given name) name rest (sym (agrees name (All-head (λ name. listed before name ≡ true) name rest all)))
+    (same_after before given agrees rest (All-tail (λ name. listed before name ≡ true) name rest all))
 
 -- the names were sought, and then the sources of all were added
-pub lists_lines : (told : Told) (asked : Asked) (bytes text aside : List ℕ) (reached : Bool) (first middle : List Source) (lines : List (List ℕ)) (pieces named : List PieceParts)
-    → first ≡ [] → lines ≡ lines_of bytes → ArePieces (shapes_of asked) None lines pieces → AreSought told asked first middle lines pieces named 
-    → ListsNamed told asked middle lines named text aside reached → ListsLines told asked bytes text aside reached
-lists_lines told asked bytes text aside reached first middle lines pieces named none lines_are are sought lists =
-    let now : List Source = lists.now in
-    let adds : AddsAll told Path middle now (names_in named) = lists.adds in
+names_lines : (told : Told) (asked : Asked) (bytes : List ℕ) (first middle now : List Source) (lines : List (List ℕ)) (pieces named : List PieceParts) (reads : List ReadParts)
+    → first ≡ [] → lines ≡ lines_of bytes → ArePieces (shapes_of asked) None lines pieces → AreSought told asked first middle lines pieces named
+    → ReadsNamed told middle now lines named reads → NamesLines told asked bytes (held_in now) named reads
+names_lines told asked bytes first middle now lines pieces named reads none lines_are are sought read =
+    let adds : AddsAll told Path middle now (names_in named) = read.adds in
     let given : List ℕ → Held = held_in now in
     let agrees : Agrees now given = λ name here. refl in
     let agrees_middle : Agrees middle given = agrees_added told middle now (names_in named) given adds agrees in
     let tried_before : List (List ℕ) = tried_whole asked (held_in middle) lines pieces in
-    let same : All (λ name. held_in middle name ≡ given name) tried_before = same_after told middle now tried_before (names_in named) sought.tried.there adds agrees_middle in
+    let same : All (λ name. held_in middle name ≡ given name) tried_before = same_after middle given agrees_middle tried_before sought.tried.there in
     let tried_is : tried_before ≡ tried_whole asked given lines pieces = tried_in_same (root_of asked) (held_in middle) given no_dirs lines pieces same in
     let named_is : named ≡ named_whole asked given lines pieces = sought.named_is ∙ named_same (root_of asked) (held_in middle) given no_dirs lines pieces same in
     let all : AddsAll told Path first now (tried_before ++ names_in named) = adds_both told first middle now tried_before (names_in named) sought.tried adds in
     let said : IsGiven told Path (tried_before ++ names_in named) given = given_all told Path first now (tried_before ++ names_in named) none all in
+    let tried_so : IsGiven told Path tried_before given = all_left (λ name. IsSaid (told_of told Path name) (given name)) tried_before (names_in named) said in
     record {
       pieces = pieces;
       are = subst (λ ls. ArePieces (shapes_of asked) None ls pieces) lines_are are;
-      given = given;
-      tried_so = subst (λ ls. IsGiven told Path (tried_whole asked given ls pieces) given) lines_are (subst (λ names. IsGiven told Path names given) tried_is (all_left _ tried_before (names_in named) said));
-      named = named;
+      tried_so = subst (λ ls. IsGiven told Path (tried_whole asked given ls pieces) given) lines_are (subst (λ names. IsGiven told Path names given) tried_is tried_so);
       named_is = subst (λ ls. named ≡ named_whole asked given ls pieces) lines_are named_is;
-      told_so = all_right _ tried_before (names_in named) said;
+      told_so = all_right (λ name. IsSaid (told_of told Path name) (given name)) tried_before (names_in named) said;
+      reads_are = subst (λ ls. Reads ls named reads) lines_are read.reads_are;
+    }
+
+pub lists_lines : (told : Told) (asked : Asked) (bytes text aside : List ℕ) (reached : Bool) (first middle : List Source) (lines : List (List ℕ)) (pieces named : List PieceParts)
+    → first ≡ [] → lines ≡ lines_of bytes → ArePieces (shapes_of asked) None lines pieces → AreSought told asked first middle lines pieces named
+    → ListsNamed told asked middle lines named text aside reached → ListsLines told asked bytes text aside reached
+lists_lines told asked bytes text aside reached first middle lines pieces named none lines_are are sought lists =
+    record {
+      given = held_in lists.now;
+      named = named;
       reads = lists.reads;
-      reads_are = subst (λ ls. Reads ls named lists.reads) lines_are lists.reads_are;
-      writes = subst (λ ls. WritesPieces asked given ls named lists.reads text aside reached) lines_are lists.writes;
+      names = names_lines told asked bytes first middle lists.now lines pieces named lists.reads none lines_are are sought lists.named;
+      writes = subst (λ ls. WritesPieces asked (held_in lists.now) ls named lists.reads text aside reached) lines_are lists.writes;
+    }
+
+pub finds_lines : (told : Told) (asked : Asked) (bytes : List ℕ) (found : List Found) (aside : List ℕ) (first middle : List Source) (lines : List (List ℕ)) (pieces named : List PieceParts)
+    → first ≡ [] → lines ≡ lines_of bytes → ArePieces (shapes_of asked) None lines pieces → AreSought told asked first middle lines pieces named
+    → FindsNamed told asked middle lines named found aside → FindsLines told asked bytes found aside
+finds_lines told asked bytes found aside first middle lines pieces named none lines_are are sought finds =
+    record {
+      given = held_in finds.now;
+      named = named;
+      reads = finds.reads;
+      names = names_lines told asked bytes first middle finds.now lines pieces named finds.reads none lines_are are sought finds.named;
+      finds = subst (λ ls. FindsPieces asked (held_in finds.now) ls named finds.reads found aside) lines_are finds.finds;
     }
 
 pub sought_each : (asked : Asked) (now : List Source) (lines : List (List ℕ)) (pieces : List PieceParts) (names : List (Option (List ℕ))) (dirs : DirsParts)

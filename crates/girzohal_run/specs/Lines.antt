@@ -54,25 +54,33 @@ pub record AreSought (told : Told) (asked : Asked) (before now : List Source) (l
   pub tried : AddsAll told Path before now (tried_whole asked (held_in now) lines pieces)
   pub named_is : named ≡ named_whole asked (held_in now) lines pieces
 
--- the text and the level of the reports of pieces of lines, for whose names more sources of a store were added
+-- for the names in these pieces more sources of a store were added, and the bodies of the pieces were read
+pub record ReadsNamed (told : Told) (before now : List Source) (lines : List (List ℕ)) (pieces : List PieceParts) (reads : List ReadParts) : Type 0 where
+  pub adds : AddsAll told Path before now (names_in pieces)
+  pub reads_are : Reads lines pieces reads
+
+-- then the text and the level of their reports are these
 pub record ListsNamed (told : Told) (asked : Asked) (before : List Source) (lines : List (List ℕ)) (pieces : List PieceParts) (text aside : List ℕ) (reached : Bool) : Type 0 where
   pub now : List Source
-  pub adds : AddsAll told Path before now (names_in pieces)
   pub reads : List ReadParts
-  pub reads_are : Reads lines pieces reads
+  pub named : ReadsNamed told before now lines pieces reads
   pub writes : WritesPieces asked (held_in now) lines pieces reads text aside reached
 
--- those of the pieces of a text's lines, with what was given of the names in them; a finding has the name that it has from the root
-pub record ListsLines (told : Told) (asked : Asked) (bytes text aside : List ℕ) (reached : Bool) : Type 0 where
+-- pieces of a text's lines, with what was given of the names in them; a finding has the name that it has from the root
+pub record NamesLines (told : Told) (asked : Asked) (bytes : List ℕ) (given : List ℕ → Held) (named : List PieceParts) (reads : List ReadParts) : Type 0 where
   pub pieces : List PieceParts
   pub are : ArePieces (shapes_of asked) None (lines_of bytes) pieces
-  pub given : List ℕ → Held
   pub tried_so : IsGiven told Path (tried_whole asked given (lines_of bytes) pieces) given
-  pub named : List PieceParts
   pub named_is : named ≡ named_whole asked given (lines_of bytes) pieces
   pub told_so : IsGiven told Path (names_in named) given
-  pub reads : List ReadParts
   pub reads_are : Reads (lines_of bytes) named reads
+
+-- the text and the level of the reports of the pieces of a text's lines
+pub record ListsLines (told : Told) (asked : Asked) (bytes text aside : List ℕ) (reached : Bool) : Type 0 where
+  pub given : List ℕ → Held
+  pub named : List PieceParts
+  pub reads : List ReadParts
+  pub names : NamesLines told asked bytes given named reads
   pub writes : WritesPieces asked given (lines_of bytes) named reads text aside reached
 
 -- so are those of lines, unless there are filters: these read the whole input first

@@ -16,8 +16,10 @@ use crate::fault::Fault;
 use crate::filtering::{push_line, write_left};
 use crate::making::{Made, Written};
 use build_dirs::dirs::BuildDirs;
-use drawn_lines::{Come, Coming, Ended, annotates, are_kept, columns_of, kept_text};
-use drawn_lines::{names_between, renamed, shapes_of};
+use drawn_lines::{
+    Come, Coming, Ended, annotates, are_kept, columns_of, kept_text, names_between, renamed,
+    shapes_of,
+};
 use girzohal_options::{Asked, OutputForm};
 use indexed_sources::IndexedSources;
 use input_forms::without_mark;
@@ -163,7 +165,7 @@ fn list_named<S: Store>(
 
 /// The names of the findings of all blocks from the root, as [`names_between`] gives them.
 #[tactic(auto, using(crate::proofs::NamedLemmas::sought_all))]
-fn first_names<S: Store>(
+pub(crate) fn first_names<S: Store>(
     alloc: Global,
     asked: &Asked,
     store: &S,
