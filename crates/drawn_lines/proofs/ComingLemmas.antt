@@ -1,9 +1,9 @@
 -- What was drawn of the bytes so far, whatever comes behind them.
-use Rattle.std.proofs.Common.{◌≡◌, ℕ, ◌+◌, ◌≤◌, ◌||◌, Bool, true, false, cond, List, [], ◌∷◌, ◌++◌, length, map, take, drop, Option, None, Result, Ok, Err, Vec, Global, All, refl, sym, ap, ap₂, ◌∙◌, subst, append_assoc, append-nil, arith}
+use Rattle.std.proofs.Common.{◌≡◌, ℕ, ◌+◌, ◌≤◌, ◌||◌, true, List, [], ◌∷◌, ◌++◌, length, map, take, drop, Option, None, Result, Ok, Err, Vec, Global, All, refl, sym, ap, ap₂, ◌∙◌, subst, append_assoc, append-nil, arith}
 use Rattle.std.specs.Prelude.{IfOk, string_bytes}
 use Rattle.std.specs.List.{drop-map}
 use Rattle.std.specs.Str.Lossy.{utf8_lossy}
-use Rattle.std.proofs.lemmas.List.{drop-append-le, length-append, length-map, map-append, take-append-drop}
+use Rattle.std.proofs.lemmas.List.{drop-append-le, length-map, map-append, take-append-drop}
 use Rattle.std.proofs.lemmas.List.Elements.{All-nil, All-cons, All-head, All-tail, All-append, All-same}
 use Rattle.found_reports.specs.Held.{Held}
 use Rattle.found_reports.specs.Found.{Found}
@@ -11,12 +11,12 @@ use Rattle.found_reports.specs.Listed.{held_in, listed}
 use Rattle.found_reports.specs.declared.sources.Source.{Source}
 use Rattle.source_store.specs.Given.{IsGiven, IsSaid, MeetsTold, told_of}
 use Rattle.source_store.specs.declared.named.Spelling.TheVariants.{Path}
-use Rattle.source_store.proofs.GivenLemmas.{listed_said, still_held, still_listed}
+use Rattle.source_store.proofs.GivenLemmas.{listed_said}
 use Rattle.line_shapes.specs.Shape.{ShapeParts}
 use Rattle.tool_lines.specs.Lines.{ArePieces, PieceParts}
 use Rattle.std.proofs.lemmas.List.Folds.{list_any-append}
 use Rattle.build_dirs.specs.Again.{Seen, none_seen}
-use Rattle.report_counts.specs.Counted.{one_reaches, reaches, severity_of}
+use Rattle.report_counts.specs.Counted.{reaches, severity_of}
 use Rattle.line_reports.specs.Names.{names_in}
 use Rattle.line_reports.specs.Pieces.{AreRead, ReadParts}
 use Rattle.line_reports.specs.Reports.{reports_in}

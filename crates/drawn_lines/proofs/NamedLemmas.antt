@@ -5,11 +5,11 @@ use Rattle.std.specs.Option.{is_none}
 use Rattle.std.specs.Str.Lossy.{utf8_lossy}
 use Rattle.std.proofs.lemmas.List.{drop-append-le, take-append-le, take-map, take_rest, drop-drop, length-map, map-append, take-append-drop}
 use Rattle.std.proofs.lemmas.Option.{slice_get-map}
-use Rattle.std.proofs.lemmas.List.Elements.{All-nil, All-cons, All-head, All-tail, All-append, All-same}
+use Rattle.std.proofs.lemmas.List.Elements.{All-nil, All-cons, All-head, All-tail, All-append}
 use Rattle.found_reports.specs.Held.{Held}
 use Rattle.found_reports.specs.Listed.{held_in, listed}
 use Rattle.found_reports.specs.declared.sources.Source.{Source}
-use Rattle.source_store.specs.Given.{AddsAll, IsGiven, MeetsTold}
+use Rattle.source_store.specs.Given.{AddsAll, MeetsTold}
 use Rattle.source_store.specs.declared.named.Spelling.TheVariants.{Path}
 use Rattle.source_store.proofs.GivenLemmas.{still_held, still_listed}
 use Rattle.build_dirs.specs.Changes.{change_of}
@@ -542,10 +542,14 @@ renamed_none (n ∷ names) [] same none = absurd (omega arith)
 renamed_none (None ∷ names) (p ∷ ps) same none = ap (λ qs. p ∷ qs) (renamed_none names ps (omega arith) none)
 renamed_none (Some n ∷ names) (p ∷ ps) same none = cc
 
-pub kept_seeks : (told : Told) (asked : Asked) (before middle : Tally) (lines : List (List ℕ)) (pieces : List PieceParts) (names : List (Option (List ℕ)))
-    → Seeks told asked before middle lines pieces (renamed_by names pieces) → length names ≡ length pieces → true ≡ list_all is_none names
-    → Seeks told asked before middle lines pieces pieces
-kept_seeks told asked before middle lines pieces names seeks each none = subst (Seeks told asked before middle lines pieces) (renamed_none names pieces each (sym none)) seeks
+pub draws_kept : (told : Told) (asked : Asked) (before now : Tally) (lines came : List (List ℕ)) (pieces : List PieceParts) (names : List (Option (List ℕ))) (text aside : List ℕ)
+    → length names ≡ length pieces → list_all is_none names ≡ true → Draws told asked before now lines came pieces text aside
+    → Draws told asked before now lines came (renamed_by names pieces) text aside
+draws_kept told asked before now lines came pieces names text aside each none draws =
+    subst (λ ps. Draws told asked before now lines came ps text aside) (sym (renamed_none names pieces each none)) draws
+
+pub bare_named : (pieces named : List PieceParts) (names : List (Option (List ℕ))) → named ≡ renamed_by names pieces → BarePieces pieces → BarePieces named
+bare_named pieces named names is bare = subst BarePieces (sym is) (renamed_bare names pieces bare)
 
 pub named_draws : (told : Told) (asked : Asked) (before middle now : Tally) (lines came : List (List ℕ)) (pieces named : List PieceParts) (text aside : List ℕ)
     → Seeks told asked before middle lines pieces named → Draws told asked middle now lines came named text aside → DrawsNamed told asked before now lines came pieces text aside

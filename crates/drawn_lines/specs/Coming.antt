@@ -1,5 +1,5 @@
 -- Lines that are drawn as they come.
-use Rattle.std.specs.Prelude.{◌≡◌, ℕ, ◌+◌, ◌-◌, ◌||◌, List, [], ◌++◌, length, take, map, Option, None, Bool, true, false, if◌then◌else◌, All, string_bytes}
+use Rattle.std.specs.Prelude.{◌≡◌, ℕ, ◌+◌, List, [], ◌++◌, take, map, Option, None, Bool, true, false, All, string_bytes}
 use Rattle.found_reports.specs.Held.{Held}
 use Rattle.found_reports.specs.Found.{Found}
 use Rattle.found_reports.specs.Listed.{held_in, listed}

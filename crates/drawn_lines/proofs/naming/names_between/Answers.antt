@@ -2,7 +2,6 @@
 use Rattle.std.proofs.Common.{◌∙◌, Bor, ℕ, List, map, refl, sym, arith}
 use Rattle.std.proofs.lemmas.Bool.Decides.{nat_tests}
 use Rattle.build_dirs.specs.Dirs.{dirs_parts}
-use Rattle.tool_lines.specs.Lines.{piece_parts}
 use Rattle.drawn_lines.proofs.NamedLemmas.{agrees_added, dirs_step, dirs_there, names_begun, names_done, names_step, tried_all, tried_begun, tried_no_more, tried_step}
 use Rattle.drawn_lines.proofs.naming.names_between.Goals as goal
 
