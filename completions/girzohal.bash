@@ -6,15 +6,19 @@ _girzohal() {
     [[ $before == = ]] && before=${COMP_WORDS[COMP_CWORD - 2]}
     [[ $word == = ]] && word=
     case $before in
-    --from) values="auto document sarif lines" ;;
+    --from) values="auto document sarif json lines" ;;
     --to) values="drawing json document sarif problems github gitlab checkstyle junit stylish summary markdown html" ;;
     --output | -o)
         compopt -o nospace
         values="drawing= json= document= sarif= problems= github= gitlab= checkstyle= junit= stylish= summary= markdown= html="
         ;;
     --tool)
-        values="clang gcc rustc cargo flake8 shellcheck pylint mypy eslint tsc dotenv-linter fasterer grep hadolint
-            haml-lint kotlin markdownlint phpstan problem-lines psalm slim-lint sarif"
+        values="clang gcc rustc cargo flake8 shellcheck pylint mypy eslint tsc dotenv-linter fasterer
+            grep hadolint haml-lint kotlin markdownlint phpstan problem-lines psalm slim-lint oxlint
+            rubocop ruff stylelint swiftlint actionlint bandit biome brakeman buf cfn-lint credo dart
+            deno eslint-metadata flake8-json gitlab golangci-lint gosec hlint jshint ktlint
+            markdownlint-object mdl phpcs phpmd pylint2 pyright rdjson rdjsonl semgrep shellcheck1 sonar
+            sqlfluff staticcheck tflint vale sarif"
         ;;
     --columns) values="bytes characters utf16 cells" ;;
     --first-column) values="0 1" ;;
@@ -25,14 +29,14 @@ _girzohal() {
     --filter-mode) values="added diff_context file nofilter" ;;
     --severity) values="error warning advice" ;;
     --strip) values="0 1 2" ;;
-    --shape | --select | --ignore | --max-findings) return ;;
+    --shape | --json-shape | --select | --ignore | --max-findings) return ;;
     --root)
         mapfile -t COMPREPLY < <(compgen -d -- "$word")
         return
         ;;
     *)
         if [[ $word == -* ]]; then
-            values="--from --tool --shape --columns --first-column --root
+            values="--from --tool --shape --json-shape --json-shapes --columns --first-column --root
                 --allow-outside-root --changed --filter-mode --strip --baseline --include --exclude --select --ignore
                 --severity --to --output --color --ascii --width --tabs --unique --no-unique --max-findings
                 --only-findings --no-summary --quiet --raw --fail-on --help --version"

@@ -1,7 +1,9 @@
 # Completions of girzohal for fish. Put it into ~/.config/fish/completions.
-complete -c girzohal -l from -x -a 'auto document sarif lines' -d 'The form of the input (auto)'
-complete -c girzohal -l tool -x -a 'clang gcc rustc cargo flake8 shellcheck pylint mypy eslint tsc dotenv-linter fasterer grep hadolint haml-lint kotlin markdownlint phpstan problem-lines psalm slim-lint sarif' -d 'The tool that wrote the input'
+complete -c girzohal -l from -x -a 'auto document sarif json lines' -d 'The form of the input (auto)'
+complete -c girzohal -l tool -x -a 'clang gcc rustc cargo flake8 shellcheck pylint mypy eslint tsc dotenv-linter fasterer grep hadolint haml-lint kotlin markdownlint phpstan problem-lines psalm slim-lint oxlint rubocop ruff stylelint swiftlint actionlint bandit biome brakeman buf cfn-lint credo dart deno eslint-metadata flake8-json gitlab golangci-lint gosec hlint jshint ktlint markdownlint-object mdl phpcs phpmd pylint2 pyright rdjson rdjsonl semgrep shellcheck1 sonar sqlfluff staticcheck tflint vale sarif' -d 'The tool that wrote the input'
 complete -c girzohal -l shape -x -d 'A pattern of lines, tried first, as {name}:{line}: {message}'
+complete -c girzohal -l json-shape -x -d 'A form of JSON, asked first, as list=[] file=path message=text'
+complete -c girzohal -l json-shapes -r -d 'A file with forms of JSON'
 complete -c girzohal -l columns -x -a 'bytes characters utf16 cells' -d 'What a column counts (as the tool or the log says, otherwise characters)'
 complete -c girzohal -l first-column -x -a '0 1' -d 'The number of the first column (as the tool says, otherwise 1)'
 complete -c girzohal -l root -x -a '(__fish_complete_directories)' -d 'The folder with the source code (.)'

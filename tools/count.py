@@ -3,8 +3,8 @@
 
 usage: count.py [-v]      (-v: a row for each crate)
 
-Counted apart are the crates that read excerpts, inputs and filters, or write for people. Wanted of the others, of which the ports of docs/MAP.md
-are also counted by themselves: at most 2,200 functions, 800 derives and 50 crates; and in the way of the data of docs/MAP.md at most 25 functions, all there, of at most
+Counted apart are the crates that read excerpts, inputs and filters, or write for people, and the ports of docs/MAP.md. Wanted of the others:
+at most 2,200 functions, 800 derives and 50 crates; and in the way of the data of docs/MAP.md at most 25 functions, all there, of at most
 15 crates. The last line is `N passed, M failed`: each of these is one."""
 import glob
 import os
@@ -114,15 +114,14 @@ def main():
     print(told("all but tests", sums(table, others + apart)))
     print(told("apart (excerpts, inputs, filters, pages)", sums(table, apart)))
     ported, own = sorted(ports() & set(others)), sorted(set(others) - ports())
-    print(told("the others", sums(table, others)))
-    print(told("of these, ports (docs/MAP.md)", sums(table, ported)))
-    print(told("of these, our own", sums(table, own)))
+    print(told("ports (docs/MAP.md)", sums(table, ported)))
+    print(told("all others", sums(table, own)))
     print(told("tests", sums(table, tests)))
     unused = sorted(set(others + apart) - needed)
     print(f"used neither by {', '.join(programs)}:", ", ".join(unused) or "none")
     steps = way()
     missing = ["::".join(step) for step in steps if not is_there(*step)]
-    got = {**sums(table, others), "functions on the way": len(steps), "crates on the way": len({step[0] for step in steps}),
+    got = {**sums(table, own), "functions on the way": len(steps), "crates on the way": len({step[0] for step in steps}),
            "functions on the way that aren't there": len(missing)}
     print(f"the way of the data: {got['functions on the way']} functions of {got['crates on the way']} crates", *missing)
     failed = [name for name, most in MOST.items() if got[name] > most]

@@ -180,12 +180,13 @@ class Tries:
             findings = [self.finding(texts) for _ in range(self.random.randrange(1, 14))]
             given = self.document(findings, texts)
             for form in ("document", "sarif"):
+                # (a log names its tool as the scope, so it is a baseline of logs)
                 _, old, _ = self.run("--to", form, given=given)
+                read = given if form == "document" else old
                 self.write("own.txt", old)
-                for read in (given, old):
-                    status, out, err = self.run("--to", "problems", "--baseline", "own.txt", given=read)
-                    nothing = (status, out) == (0, "") and err.startswith(f"girzohal: 0 of {len(findings)} finding")
-                    self.check(nothing and "gone" not in err, f"law {at}: its own baseline as {form}", out, err)
+                status, out, err = self.run("--to", "problems", "--baseline", "own.txt", given=read)
+                nothing = (status, out) == (0, "") and err.startswith(f"girzohal: 0 of {len(findings)} finding")
+                self.check(nothing and "gone" not in err, f"law {at}: its own baseline as {form}", out, err)
             self.write("own.txt", self.document([], texts))
             _, plain, _ = self.run("--to", "problems", given=given)
             _, out, _ = self.run("--to", "problems", "--baseline", "own.txt", given=given)

@@ -298,13 +298,17 @@ class Tries(Around, FindingRows, OutputTries, SeveralTries):
             (("in.txt", "--max-findings"), "--max-findings needs a value: a number from 0\n"),
             (("--quiet=yes",), "--quiet takes no value, but has 'yes'\n"),
             (("a", "--no-summary", "b", "--tabs", "0"), "--tabs: expected a number from 1 to 16, not '0'\n"),
-            (("a", "-", "--", "b", "-"), "standard input is read once, as FILE, --changed or --baseline\n"),
-            (("--changed=-",), "standard input is read once, as FILE, --changed or --baseline\n"),
-            (("--baseline=-", "a", "--changed", "-"), "standard input is read once, as FILE, --changed or --baseline\n"),
+            (("a", "-", "--", "b", "-"), "standard input is read once, as FILE or by one option\n"),
+            (("--changed=-",), "standard input is read once, as FILE or by one option\n"),
+            (("--baseline=-", "a", "--changed", "-"), "standard input is read once, as FILE or by one option\n"),
             (("--changed", ""), "--changed: expected a file with a diff, not ''\n"),
             (("--filter-mode", "added"), "--filter-mode needs --changed\n"),
             (("--strip=0", "--filter-mode=added"), "--filter-mode needs --changed\n"),
             (("--strip=01",), "--strip: expected a number from 0, not '01'\n"),
+            (("--json-shapes", "-"), "standard input is read once, as FILE or by one option\n"),
+            (("--json-shape", "list=[] message=text", "--from", "lines"), "--json-shape is for JSON: give --from json or auto\n"),
+            (("--json-shapes=a", "--tool=clang"), "--json-shapes is for JSON: give --from json or auto\n"),
+            (("--json-shape", "lists=[]"), "--json-shape 1: lists=[]: wanted a form, as --help says\n"),
             (("--severity", "never"), "--severity: expected error, warning or advice, not 'never'\n"),
             (("--ignore", ""), "--ignore: expected a pattern of rules such as 'E501', not ''\n"),
             (("--unique=no",), "--unique takes no value, but has 'no'\n"),
@@ -339,8 +343,11 @@ class Tries(Around, FindingRows, OutputTries, SeveralTries):
             self.ends("a log that is cut", 3, given=log[:cut])
         self.ends("JSON of no known form", 3, given=b'[{"a": 1}]', err=b"girzohal: ")
         for tool, text in OWN_JSON.items():
-            said = self.ends(f"{tool}'s own JSON", 3, given=text.encode(), err=b"girzohal: ")
-            self.check(f"{tool}'s own JSON: nothing is written", said.stdout == b"" and said.stderr.count(b"\n") == 1, said)
+            first = json.loads(text if text.startswith("[") else text.splitlines()[0])
+            first = first[0] if isinstance(first, list) else first.get("comments", [first])[0]
+            status = int("error" in first.values())
+            self.ends(f"{tool}'s own JSON", status, "--width", "300", given=text.encode(), out=first["message"].encode())
+            self.ends(f"{tool}'s own JSON behind a line", status, "--from", "json", given=b"make all\n" + text.encode(), err=b"make all\n")
         self.try_around(json.dumps(LOG, indent=1).encode())
         wrong = json.loads(json.dumps(LOG))
         wrong["runs"][0]["results"][0]["level"] = "grave"

@@ -133,7 +133,7 @@ pub(crate) fn why_closed(kind: ErrorKind) -> &'static str {
 }
 
 /// Writes why a file isn't read, with its name sanitized.
-fn refuse(
+pub(crate) fn refuse(
     rt: &HostRuntime,
     alloc: Global,
     name: &str,

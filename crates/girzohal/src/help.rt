@@ -13,22 +13,32 @@ usage: girzohal [OPTION].. [--] [FILE]..
 Without FILE, or if FILE is -, standard input is read. Each FILE is read in its
 own form, and the findings of all are written together, in order. The value of
 an option is the next argument, or follows a =. If an option is given again, its
-last value counts. But each --shape, --include, --exclude, --select, --ignore
-and --output counts, and --to is given once. After -- all arguments are files.
+last value counts. But each --shape, --json-shape, --include, --exclude,
+--select, --ignore and --output counts, and --to is given once. After -- all
+arguments are files.
 
 Input
-  --from FORM          The form of the input: auto, document, sarif or lines.
-                       For auto the first bytes decide; a log that follows other
-                       lines needs sarif. Default: auto. Example: --from lines
+  --from FORM          The form of the input: auto, document, sarif, json (that
+                       of any tool) or lines. For auto the first bytes decide;
+                       JSON that follows other lines needs sarif or json.
+                       Default: auto. Example: --from lines
   --tool NAME          The tool that wrote the input. It sets --from, --columns
                        and --first-column unless they are given, and adds the
                        patterns of the tool's lines. For a log of a tool that
                        prints lines, give --from sarif too. Default: none.
                        Example: --tool mypy. The names are:
-                         clang gcc rustc cargo flake8 shellcheck pylint mypy
-                         eslint tsc dotenv-linter fasterer grep hadolint
-                         haml-lint kotlin markdownlint phpstan problem-lines
-                         psalm slim-lint: lines; sarif: a log
+                         clang flake8 tsc dotenv-linter fasterer grep haml-lint
+                         kotlin problem-lines slim-lint (lines);
+                         cargo eslint gcc hadolint markdownlint mypy oxlint
+                         phpstan psalm pylint rubocop ruff rustc shellcheck
+                         stylelint swiftlint (lines or JSON);
+                         actionlint bandit biome brakeman buf cfn-lint credo
+                         dart deno eslint-metadata flake8-json gitlab
+                         golangci-lint gosec hlint jshint ktlint
+                         markdownlint-object mdl phpcs phpmd pylint2 pyright
+                         rdjson rdjsonl semgrep shellcheck1 sonar sqlfluff
+                         staticcheck tflint vale (JSON);
+                         sarif (a log)
   --shape PATTERN      A pattern of lines. It is tried before the known ones.
                        Default: none. In a pattern, a blank matches one blank or
                        more, and these match what a tool prints there:
@@ -44,6 +54,22 @@ Input
                          {apart}       nothing; an empty line may come next
                          {message}     the rest of the line
                        Example: --shape '{name}:{line}: {message}'
+  --json-shape FORM    A form of JSON. It is asked before the known ones, and
+                       counts if its list leads to something. Default: none. A
+                       form is list=PATH, and KEY=PATH for parts of a finding:
+                       file line column end_line end_column length offset
+                       end_offset severity code message help note url. Also
+                       level=WORD:error (or warning, advice), scope=NAME,
+                       unit=bytes (or characters, utf16). In a path, these
+                       follow each other with dots:
+                         key           the value under a key
+                         [0]           an element; [] each element
+                         {}            each value of an object; @ is its key
+                         ^             the value around this one
+                       Example: --json-shape 'list=[] file=path message=text'
+  --json-shapes FILE   A file with such forms, one a line; lines that are empty
+                       or begin with # are skipped. Default: none.
+                       Example: --json-shapes forms.txt
   --columns UNIT       What a column counts: bytes, characters, utf16, or cells
                        of a terminal. The columns of a SARIF log can't count
                        bytes or cells. Default: as the tool or the log says,
@@ -70,10 +96,9 @@ Filters
                        needs --changed. Default: one if they begin with two
                        letters such as a/ and b/, otherwise none.
                        Example: --strip 1
-  --baseline LOG       A file with known findings, in any form that is read;
-                       --to document or --to sarif writes one. Only findings
-                       that aren't in it stay. Default: all stay. Example:
-                       --baseline old.json
+  --baseline LOG       A file with known findings: what --to document wrote, or
+                       an input of the same form. Only findings that aren't in
+                       it stay. Default: all stay. Example: --baseline old.json
   --include GLOB       Only findings in files of this pattern stay. In it, *
                        matches any characters but /, ** any characters, and ?
                        one; a folder matches with all below it. Default: all
@@ -130,7 +155,8 @@ Output
 Drawings and annotations of lines are written as the lines come. For everything
 else, and for several FILEs, the input is read whole before anything is written.
 Lines that aren't findings keep their place in a drawing. With other forms or
-several FILEs they go to standard error, and so do lines around a log.
+several FILEs they go to standard error, and so do lines around a log or other
+JSON.
 
 Environment
   FORCE_COLOR, CLICOLOR_FORCE

@@ -6,6 +6,7 @@
 //!
 //! - `filters`: the files of filters
 //! - `help`: the help and the version
+//! - `shapes`: the user's own forms of JSON
 //! - `inputs`: several inputs
 //! - `outputs`: several outputs
 //! - `surroundings`: colors and width from the environment
@@ -15,6 +16,7 @@ mod filters;
 mod help;
 mod inputs;
 mod outputs;
+mod shapes;
 mod surroundings;
 
 use documents::{ReaderSource, Source, StderrSink, StdinSource, StdoutSink};
@@ -25,6 +27,7 @@ use harmless::{Kind, harmless};
 use help::{HELP, MORE, VERSION};
 use inputs::run_inputs;
 use outputs::{has_files, printed_form, write_outputs};
+use shapes::read_shapes;
 use source_store::DiskStore;
 use std::alloc::Global;
 use std::fs::Files;
@@ -68,6 +71,9 @@ fn obey(rt: &HostRuntime, alloc: Global, mut asked: Asked) -> ExitCode {
     let Some(root) = folder_at(rt, alloc, asked.root.as_str()) else {
         return refuse_root(rt, alloc, asked.root.as_str());
     };
+    if let Err(status) = read_shapes(rt, alloc, &mut asked) {
+        return ExitCode::from(status.code());
+    }
     if let Err(status) = read_filters(rt, alloc, &mut asked, root.as_str()) {
         return ExitCode::from(status.code());
     }

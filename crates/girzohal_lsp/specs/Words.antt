@@ -7,12 +7,13 @@ use Rattle.girzohal_options.specs.declared.InputForm.TheVariants as input
 use Rattle.girzohal_lsp.specs.declared.words.Form.{Form}
 use Rattle.girzohal_lsp.specs.declared.words.Form.TheVariants as form
 
--- the server reads no documents
+-- the server reads no documents, and no other JSON than logs
 abbrev pub form_meant : InputForm → Option Form
 form_meant input.Auto = Some form.Auto
 form_meant input.Lines = Some form.Lines
 form_meant input.Sarif = Some form.Sarif
 form_meant input.Document = None
+form_meant input.Json = None
 
 -- the path of a log isn't empty
 abbrev pub log_meant : {A : Type 0} → List (String A) → Option (List ℕ)

@@ -46,6 +46,9 @@ fn main(rt: HostRuntime) -> ExitCode {
             None if asked.from == InputForm::Document => {
                 refuse(&rt, "--from: expected auto, sarif or lines, not 'document'")
             }
+            None if asked.from == InputForm::Json => {
+                refuse(&rt, "--from: expected auto, sarif or lines, not 'json'")
+            }
             None => refuse(&rt, "the path of a log is missing"),
         },
         Err(Refusal::Fault(fault)) => match message(alloc, Program::Server, fault) {

@@ -33,8 +33,8 @@ pub struct Asked<'a> {
     pub log: &'a str,
 }
 
-/// The server's options: `None` if the log should be a document, if there is no log's path, or if
-/// it is empty.
+/// The server's options: `None` if the log should be a document or other JSON, if there is no log's
+/// path, or if it is empty.
 pub fn served(asked: &girzohal_options::Asked) -> Option<Asked<'_>>
     ensures some { is_some result ≡ can_serve asked.now }
     ensures from { IfSome result (λ it. form_meant asked.now.from ≡ Some it.from) }
@@ -62,7 +62,7 @@ fn form_of(form: InputForm) -> Option<Form>
         InputForm::Auto => Some(Form::Auto),
         InputForm::Lines => Some(Form::Lines),
         InputForm::Sarif => Some(Form::Sarif),
-        InputForm::Document => None,
+        InputForm::Document | InputForm::Json => None,
     }
 }
 

@@ -71,6 +71,8 @@ takes_more before mid after it rest one more = record {
       ∙ or_assoc (last_text (codes "--changed") rest) (last_text (codes "--changed") (it ∷ [])) (option_copied before.changed);
   baseline_is = more.baseline_is ∙ ap (option_or (last_text (codes "--baseline") rest)) one.baseline_is
       ∙ or_assoc (last_text (codes "--baseline") rest) (last_text (codes "--baseline") (it ∷ [])) (option_copied before.baseline);
+  json_is = more.json_is ∙ ap (option_or (last_text (codes "--json-shapes") rest)) one.json_is
+      ∙ or_assoc (last_text (codes "--json-shapes") rest) (last_text (codes "--json-shapes") (it ∷ [])) (option_copied before.json_shapes);
   shapes_are = more.shapes_are ∙ ap (λ s. s ++ shapes_in rest) one.shapes_are ∙ shapes_more (map own_parts before.shapes.items) (shapes_under (value_under (codes "--shape") it)) (shapes_in rest);
 }
 
@@ -104,6 +106,7 @@ nothing_more now = record {
   root_is = refl;
   changed_is = refl;
   baseline_is = refl;
+  json_is = refl;
   shapes_are = sym (append-nil (map own_parts now.shapes.items));
 }
 

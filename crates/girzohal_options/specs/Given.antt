@@ -19,7 +19,7 @@ use Rattle.girzohal_options.specs.declared.given.Taken.{Taken}
 use Rattle.girzohal_options.specs.declared.table.Program.{Program}
 use Rattle.girzohal_options.specs.declared.table.Program.TheVariants.{Girzohal, Server}
 use Rattle.girzohal_options.specs.declared.table.Setting.{Setting}
-use Rattle.girzohal_options.specs.declared.table.Setting.TheVariants.{From, Tool, Columns, FirstColumn, To, Output, Shape, Root, Changed, FilterMode, Strip, Baseline, Include, Exclude, Select, Ignore, Severity, Color, Width, Tabs, MaxFindings, FailOn}
+use Rattle.girzohal_options.specs.declared.table.Setting.TheVariants.{From, Tool, Columns, FirstColumn, To, Output, Shape, JsonShape, JsonShapes, Root, Changed, FilterMode, Strip, Baseline, Include, Exclude, Select, Ignore, Severity, Color, Width, Tabs, MaxFindings, FailOn}
 use Rattle.girzohal_options.specs.Shapes.{own_parts}
 
 -- the last value of an option, as it is meant
@@ -91,6 +91,7 @@ pub record Takes (before : Taken) (all : List Said) (after : Taken) : Type 0 whe
   pub root_is : option_copied after.root ≡ option_or (last_text (codes "--root") all) (option_copied before.root)
   pub changed_is : option_copied after.changed ≡ option_or (last_text (codes "--changed") all) (option_copied before.changed)
   pub baseline_is : option_copied after.baseline ≡ option_or (last_text (codes "--baseline") all) (option_copied before.baseline)
+  pub json_is : option_copied after.json_shapes ≡ option_or (last_text (codes "--json-shapes") all) (option_copied before.json_shapes)
   pub shapes_are : map own_parts after.shapes.items ≡ map own_parts before.shapes.items ++ shapes_in all
 
 -- ---- what is wrong
@@ -114,6 +115,8 @@ pub data Wrong : Type 0 where
   uncounted : Wrong
   -- an option that needs `--changed`, without it
   without_diff : Setting → Wrong
+  -- an option for JSON, for an input that is read in another form
+  without_json : Setting → Wrong
   -- a file that two outputs go to
   written_twice : List ℕ → Wrong
   -- standard input is read twice
@@ -129,6 +132,7 @@ wrong (fault.SecondFile name) = second_file name.now
 wrong (fault.SecondForm value) = second_form value.now
 wrong fault.Uncounted = uncounted
 wrong (fault.WithoutDiff it) = without_diff it
+wrong (fault.NoJson it) = without_json it
 wrong (fault.WrittenTwice path) = written_twice path.now
 wrong fault.ReadTwice = read_twice
 
@@ -164,12 +168,14 @@ wrong_choice before it value = None
 
 -- what is wrong with the value of an option, after what is given before it
 abbrev pub wrong_value : Program → GivenValues → Setting → List ℕ → Option Wrong
-wrong_value program before Tool value = unless (is_tool value) Tool value
+wrong_value program before Tool value = unless (is_tool program value) Tool value
 wrong_value program before Output value = unless (is_some (output_in value)) Output value
 wrong_value program before Shape value = wrong_shape (shape_of value) value
 wrong_value program before Root value = None
 wrong_value program before Changed value = unless (is_text value) Changed value
 wrong_value program before Baseline value = unless (is_text value) Baseline value
+wrong_value program before JsonShapes value = unless (is_text value) JsonShapes value
+wrong_value program before JsonShape value = unless (is_text value) JsonShape value
 wrong_value program before Include value = unless (is_text value) Include value
 wrong_value program before Exclude value = unless (is_text value) Exclude value
 wrong_value program before Select value = unless (is_text value) Select value

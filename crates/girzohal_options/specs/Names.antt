@@ -5,7 +5,7 @@ use Rattle.std.specs.Str.{bytes_eq}
 use Rattle.girzohal_options.specs.declared.table.Program.{Program}
 use Rattle.girzohal_options.specs.declared.table.Program.TheVariants.{Girzohal, Server}
 use Rattle.girzohal_options.specs.declared.table.Setting.{Setting}
-use Rattle.girzohal_options.specs.declared.table.Setting.TheVariants.{From, Tool, Columns, FirstColumn, To, Output, Shape, Root, Changed, FilterMode, Strip, Baseline, Include, Exclude, Select, Ignore, Severity, Color, Width, Tabs, MaxFindings, FailOn}
+use Rattle.girzohal_options.specs.declared.table.Setting.TheVariants.{From, Tool, Columns, FirstColumn, To, Output, Shape, JsonShape, JsonShapes, Root, Changed, FilterMode, Strip, Baseline, Include, Exclude, Select, Ignore, Severity, Color, Width, Tabs, MaxFindings, FailOn}
 
 -- the name of an option that takes a value
 abbrev pub setting_name : Setting → List ℕ
@@ -16,6 +16,8 @@ setting_name FirstColumn = codes "--first-column"
 setting_name To = codes "--to"
 setting_name Output = codes "--output"
 setting_name Shape = codes "--shape"
+setting_name JsonShape = codes "--json-shape"
+setting_name JsonShapes = codes "--json-shapes"
 setting_name Root = codes "--root"
 setting_name Changed = codes "--changed"
 setting_name FilterMode = codes "--filter-mode"
@@ -34,7 +36,7 @@ setting_name FailOn = codes "--fail-on"
 
 -- the options of a program that take a value
 unfoldable pub settings : Program → List Setting
-settings Girzohal = From ∷ Tool ∷ Columns ∷ FirstColumn ∷ To ∷ Output ∷ Shape ∷ Root ∷ Changed ∷ FilterMode ∷ Strip ∷ Baseline ∷ Include ∷ Exclude ∷ Select ∷ Ignore ∷ Severity ∷ Color ∷ Width ∷ Tabs ∷ MaxFindings ∷ FailOn ∷ []
+settings Girzohal = From ∷ Tool ∷ Columns ∷ FirstColumn ∷ To ∷ Output ∷ Shape ∷ JsonShape ∷ JsonShapes ∷ Root ∷ Changed ∷ FilterMode ∷ Strip ∷ Baseline ∷ Include ∷ Exclude ∷ Select ∷ Ignore ∷ Severity ∷ Color ∷ Width ∷ Tabs ∷ MaxFindings ∷ FailOn ∷ []
 settings Server = From ∷ Tool ∷ Columns ∷ FirstColumn ∷ []
 
 -- the option with a name
@@ -63,3 +65,14 @@ is_flag program name = list_any (λ known. bytes_eq known name) (flags program) 
 -- all names but the short ones
 abbrev pub long_names : Program → List (List ℕ)
 long_names program = map setting_name (settings program) ++ flags program
+
+-- the forms of JSON that tools have by name
+unfoldable pub json_tools : List (List ℕ)
+json_tools =
+    codes "eslint" ∷ codes "gcc" ∷ codes "pylint" ∷ codes "ruff" ∷ codes "shellcheck" ∷ codes "hadolint" ∷ codes "stylelint" ∷ codes "markdownlint" ∷
+    codes "mdl" ∷ codes "gitlab" ∷ codes "jshint" ∷ codes "hlint" ∷ codes "cfn-lint" ∷ codes "ktlint" ∷ codes "swiftlint" ∷ codes "actionlint" ∷
+    codes "psalm" ∷ codes "sqlfluff" ∷ codes "eslint-metadata" ∷ codes "pylint2" ∷ codes "shellcheck1" ∷ codes "rubocop" ∷ codes "bandit" ∷
+    codes "semgrep" ∷ codes "golangci-lint" ∷ codes "gosec" ∷ codes "tflint" ∷ codes "sonar" ∷ codes "credo" ∷ codes "pyright" ∷ codes "biome" ∷
+    codes "oxlint" ∷ codes "deno" ∷ codes "dart" ∷ codes "rdjson" ∷ codes "phpstan" ∷ codes "phpcs" ∷ codes "phpmd" ∷ codes "brakeman" ∷
+    codes "mypy" ∷ codes "staticcheck" ∷ codes "rdjsonl" ∷ codes "buf" ∷ codes "rustc" ∷ codes "cargo" ∷ codes "markdownlint-object" ∷ codes "vale" ∷
+    codes "flake8-json" ∷ []

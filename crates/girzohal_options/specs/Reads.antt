@@ -55,6 +55,8 @@ pub record Asks (program : Program) (all : List Said) (asked : Asked) : Type 0 w
   pub tabs_is : asked.tabs ≡ unwrap_or (last tabs_named (codes "--tabs") all) 4
   pub tool_is : option_map string_bytes asked.tool ≡ last_text (codes "--tool") all
   pub shapes_are : map own_parts asked.shapes.items ≡ shapes_in all
+  pub json_are : map string_bytes asked.json_shapes.items ≡ texts_under (codes "--json-shape") all
+  pub json_file_is : option_map string_bytes asked.json_shapes_file ≡ last_text (codes "--json-shapes") all
   pub columns_are : asked.columns ≡ last unit_named (codes "--columns") all
   pub first_is : asked.first_column ≡ last first_named (codes "--first-column") all
   pub only_is : asked.only_findings ≡ has_flag (codes "--only-findings") all

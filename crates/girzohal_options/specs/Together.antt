@@ -10,10 +10,10 @@ use Rattle.girzohal_options.specs.declared.InputForm.{InputForm}
 use Rattle.girzohal_options.specs.declared.InputForm.TheVariants as form
 use Rattle.girzohal_options.specs.declared.table.Program.{Program}
 use Rattle.girzohal_options.specs.declared.table.Setting.{Setting}
-use Rattle.girzohal_options.specs.declared.table.Setting.TheVariants.{FilterMode, Strip}
-use Rattle.girzohal_options.specs.Given.{Wrong, form_in, last, last_text, read_twice, uncounted, without_diff, written_twice}
+use Rattle.girzohal_options.specs.declared.table.Setting.TheVariants.{FilterMode, JsonShape, JsonShapes, Strip}
+use Rattle.girzohal_options.specs.Given.{Wrong, form_in, last, last_text, read_twice, uncounted, without_diff, without_json, written_twice}
 use Rattle.girzohal_options.specs.Lists.{listed, output_by}
-use Rattle.girzohal_options.specs.Said.{Said, file_named}
+use Rattle.girzohal_options.specs.Said.{Said, file_named, value_under}
 use Rattle.girzohal_options.specs.Values.{filter_named, output_named, unit_named}
 
 -- the columns of a SARIF log don't count bytes or cells
@@ -21,6 +21,18 @@ abbrev pub can_count : InputForm → Option ColumnUnit → Bool
 can_count form.Sarif (Some unit.Bytes) = false
 can_count form.Sarif (Some unit.Cells) = false
 can_count other unit = true
+
+-- an input may be JSON of a tool
+abbrev pub can_be_json : InputForm → Bool
+can_be_json form.Auto = true
+can_be_json form.Document = false
+can_be_json form.Sarif = false
+can_be_json form.Json = true
+can_be_json form.Lines = false
+
+-- an option is given
+abbrev pub is_given : List ℕ → List Said → Bool
+is_given name all = list_any (λ it. is_some (value_under name it)) all
 
 -- the first text that comes again
 abbrev pub first_twice : List (List ℕ) → Option (List ℕ)
@@ -52,11 +64,13 @@ names_file all = list_any (λ it. is_some (file_named it)) all
 abbrev pub reads_stdin : List Said → Bool
 reads_stdin all = not (names_file all) || list_any (λ it. is_stdin (file_named it)) all
 
--- it is read twice: as two files, or as a file and the diff or the baseline, or as both of these
+-- it is read twice: as two files, or as a file and the diff, the baseline or the forms, or as two of these
 abbrev pub reads_twice : List Said → Bool
 reads_twice all =
     stdin_twice all || (is_stdin (last_text (codes "--changed") all) && (reads_stdin all || is_stdin (last_text (codes "--baseline") all)))
     || (is_stdin (last_text (codes "--baseline") all) && reads_stdin all)
+    || (is_stdin (last_text (codes "--json-shapes") all)
+    && (reads_stdin all || is_stdin (last_text (codes "--changed") all) || is_stdin (last_text (codes "--baseline") all)))
 
 abbrev pub when : Bool → Wrong → Option Wrong
 when is wrong = if is then Some wrong else None
@@ -65,11 +79,17 @@ when is wrong = if is then Some wrong else None
 abbrev pub needs_diff : Setting → Bool → List Said → Option Wrong
 needs_diff it given all = when (given && not (is_some (last_text (codes "--changed") all))) (without_diff it)
 
+-- an option is for JSON
+abbrev pub needs_json : Program → Setting → Bool → List Said → Option Wrong
+needs_json program it given all = when (not (can_be_json (form_in program all)) && given) (without_json it)
+
 -- what makes no sense together
 abbrev pub wrong_together : Program → List Said → Option Wrong
 wrong_together program all =
     option_or (when (not (can_count (form_in program all) (last unit_named (codes "--columns") all))) uncounted)
+    (option_or (needs_json program JsonShape (is_given (codes "--json-shape") all) all)
+    (option_or (needs_json program JsonShapes (is_some (last_text (codes "--json-shapes") all)) all)
     (option_or (needs_diff FilterMode (is_some (last filter_named (codes "--filter-mode") all)) all)
     (option_or (needs_diff Strip (is_some (last number_of (codes "--strip") all)) all)
     (option_or (option_map (λ path. written_twice path) (first_twice (written_in all)))
-    (when (reads_twice all) read_twice))))
+    (when (reads_twice all) read_twice))))))

@@ -21,6 +21,7 @@ use Rattle.girzohal_options.specs.declared.ThemeChoice.{ThemeChoice}
 use Rattle.girzohal_options.specs.declared.ThemeChoice.TheVariants as theme
 use Rattle.girzohal_options.specs.declared.table.Program.{Program}
 use Rattle.girzohal_options.specs.declared.table.Program.TheVariants.{Girzohal, Server}
+use Rattle.girzohal_options.specs.Names.{json_tools}
 
 -- ---- names
 
@@ -29,6 +30,7 @@ form_named value =
     if bytes_eq value (codes "auto") then Some form.Auto
     else if bytes_eq value (codes "document") then Some form.Document
     else if bytes_eq value (codes "sarif") then Some form.Sarif
+    else if bytes_eq value (codes "json") then Some form.Json
     else if bytes_eq value (codes "lines") then Some form.Lines
     else None
 
@@ -134,13 +136,27 @@ are_any (shape ∷ shapes) = true
 abbrev pub has_lines : List ℕ → Bool
 has_lines tool = are_any (tools.shapes_of tool) || is_some (tools.columns_of tool)
 
-unfoldable pub is_tool : List ℕ → Bool
-is_tool tool = bytes_eq tool (codes "sarif") || has_lines tool
+-- a form of JSON has this name; the server reads no other JSON than logs
+abbrev pub has_json : Program → List ℕ → Bool
+has_json Girzohal tool = list_any (λ known. bytes_eq known tool) json_tools
+has_json Server tool = false
 
--- the form in which a tool writes; the server reads a log by its first bytes
+unfoldable pub is_tool : Program → List ℕ → Bool
+is_tool program tool = bytes_eq tool (codes "sarif") || has_json program tool || has_lines tool
+
+-- the server reads a log by its first bytes
 abbrev pub lines_or_auto : Program → InputForm
 lines_or_auto Girzohal = form.Lines
 lines_or_auto Server = form.Auto
 
+-- the first bytes decide where a tool writes lines too
+abbrev pub json_or_auto : Bool → InputForm
+json_or_auto true = form.Auto
+json_or_auto false = form.Json
+
+-- the form in which a tool writes
 unfoldable pub form_of_tool : Program → List ℕ → InputForm
-form_of_tool program tool = if bytes_eq tool (codes "sarif") then form.Sarif else lines_or_auto program
+form_of_tool program tool =
+    if bytes_eq tool (codes "sarif") then form.Sarif
+    else if has_json program tool then json_or_auto (has_lines tool)
+    else lines_or_auto program

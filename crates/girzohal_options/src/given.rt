@@ -46,6 +46,8 @@ pub enum Fault<'w> {
     Uncounted,
     /// The option needs `--changed`, which isn't given.
     WithoutDiff(Setting),
+    /// The option is for JSON, and the input is read in another form.
+    NoJson(Setting),
     /// Two outputs go to this file; `-` is standard output.
     WrittenTwice(&'w str),
     /// Standard input is read twice.
@@ -83,6 +85,8 @@ pub(crate) struct Taken<'w> {
     pub(crate) changed: Option<&'w str>,
     /// The last `--baseline`.
     pub(crate) baseline: Option<&'w str>,
+    /// The last `--json-shapes`.
+    pub(crate) json_shapes: Option<&'w str>,
     /// The patterns of all `--shape`, in their order.
     pub(crate) shapes: Vec<OwnShape>,
 }
@@ -95,6 +99,7 @@ impl<'w> Taken<'w> {
         ensures root { result.root ≡ None }
         ensures changed { result.changed ≡ None }
         ensures baseline { result.baseline ≡ None }
+        ensures json_shapes { result.json_shapes ≡ None }
         ensures shapes { result.shapes.items ≡ [] }
     {
         Taken {
@@ -118,6 +123,7 @@ impl<'w> Taken<'w> {
             root: None,
             changed: None,
             baseline: None,
+            json_shapes: None,
             shapes: Vec::new(alloc),
         }
     }
@@ -212,7 +218,7 @@ impl<'w> Taken<'w> {
         match setting {
             Setting::Tool => {
                 self.tool = Some(value);
-                Ok(fault_unless(is_tool(alloc, value)?, setting, value))
+                Ok(fault_unless(is_tool(alloc, program, value)?, setting, value))
             }
             Setting::Shape => push_shape(alloc, &mut self.shapes, value),
             Setting::Output => Ok(fault_unless(output_in(value).is_some(), setting, value)),
@@ -222,9 +228,12 @@ impl<'w> Taken<'w> {
             }
             Setting::Changed => Ok(put_text(&mut self.changed, setting, value)),
             Setting::Baseline => Ok(put_text(&mut self.baseline, setting, value)),
-            Setting::Include | Setting::Exclude | Setting::Select | Setting::Ignore => Ok(
-                fault_unless(is_text(value), setting, value),
-            ),
+            Setting::JsonShapes => Ok(put_text(&mut self.json_shapes, setting, value)),
+            Setting::JsonShape
+            | Setting::Include
+            | Setting::Exclude
+            | Setting::Select
+            | Setting::Ignore => Ok(fault_unless(is_text(value), setting, value)),
             _ => Ok(choose(&mut self.given, setting, value)),
         }
     }

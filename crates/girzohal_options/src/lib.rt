@@ -37,12 +37,14 @@ pub use table::{Program, Setting};
 /// The form of the input.
 #[derive(Clone, Copy, PartialEq, Eq)]
 pub enum InputForm {
-    /// Decided by its first bytes: a document, a SARIF log, or lines.
+    /// Decided by its first bytes: a document, a SARIF log, other JSON, or lines.
     Auto,
     /// A document of files and reports.
     Document,
     /// A SARIF log, with or without other lines around it.
     Sarif,
+    /// Any JSON of a tool, with or without other lines around it.
+    Json,
     /// Lines that a tool prints for people.
     Lines,
 }
@@ -127,6 +129,10 @@ pub struct Asked {
     pub tool: Option<String>,
     /// The user's own patterns of lines, in the order in which they are tried.
     pub shapes: Vec<OwnShape>,
+    /// The user's own forms of JSON, in the order in which they are asked.
+    pub json_shapes: Vec<String>,
+    /// The file with more of them.
+    pub json_shapes_file: Option<String>,
     /// What a column of the input counts; if there is none, as the tool counts.
     pub columns: Option<Unit>,
     /// The number of the first column, 0 or 1; if there is none, the tool's.

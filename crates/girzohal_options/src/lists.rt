@@ -82,7 +82,7 @@ pub(crate) fn output_of<'w>(item: Item<'w>) -> Option<(OutputForm, &'w str)>
 }
 
 /// The value of an option, if an item gives it.
-fn value_of<'w>(item: Item<'w>, setting: Setting) -> Option<&'w str>
+pub(crate) fn value_of<'w>(item: Item<'w>, setting: Setting) -> Option<&'w str>
     ensures { option_copied result ≡ value_under (setting_name setting) (said item.entry) }
 {
     match item {

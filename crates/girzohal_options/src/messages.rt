@@ -56,6 +56,10 @@ fn why(alloc: Global, program: Program, fault: Fault<'_>) -> Result<String, Allo
             let name = setting.name();
             format!(in alloc; "{name} needs --changed")
         }
+        Fault::NoJson(setting) => {
+            let name = setting.name();
+            format!(in alloc; "{name} is for JSON: give --from json or auto")
+        }
         Fault::WrittenTwice("-") => {
             String::from_str(alloc, "--output: two forms can't go to standard output")
         }
@@ -65,7 +69,7 @@ fn why(alloc: Global, program: Program, fault: Fault<'_>) -> Result<String, Allo
         Fault::ReadTwice => {
             String::from_str(
                 alloc,
-                "standard input is read once, as FILE, --changed or --baseline",
+                "standard input is read once, as FILE or by one option",
             )
         }
     }

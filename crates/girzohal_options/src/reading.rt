@@ -129,6 +129,8 @@ fn asked(
         ≡ last_text (codes "--changed") (map said items.now) }
     requires baseline { option_copied taken.baseline
         ≡ last_text (codes "--baseline") (map said items.now) }
+    requires json { option_copied taken.json_shapes
+        ≡ last_text (codes "--json-shapes") (map said items.now) }
     requires shapes { map own_parts taken.shapes.items ≡ shapes_in (map said items.now) }
     ensures { IfOk result (Asks program (map said items.now)) }
 {
@@ -146,6 +148,8 @@ fn asked(
         tabs: given.tabs.unwrap_or(TabWidth::default()),
         tool: texts.tool,
         shapes: taken.shapes,
+        json_shapes: lists.json_shapes,
+        json_shapes_file: texts.json_shapes,
         columns: given.columns,
         first_column: given.first_column,
         only_findings: has_flag(items, "--only-findings"),
@@ -177,6 +181,7 @@ struct Texts {
     tool: Option<String>,
     changed: Option<String>,
     baseline: Option<String>,
+    json_shapes: Option<String>,
 }
 
 fn texts_of(alloc: Global, program: Program, taken: &Taken<'_>) -> Result<Texts, AllocError>
@@ -190,13 +195,16 @@ fn texts_of(alloc: Global, program: Program, taken: &Taken<'_>) -> Result<Texts,
         ≡ option_copied taken.now.changed) }
     ensures baseline { IfOk result (λ it. option_map string_bytes it.baseline
         ≡ option_copied taken.now.baseline) }
+    ensures json_shapes { IfOk result (λ it. option_map string_bytes it.json_shapes
+        ≡ option_copied taken.now.json_shapes) }
 {
     Ok(Texts {
         root: String::from_str(alloc, taken.root.unwrap_or("."))?,
-        from: form_in(program, taken.given.from, taken.tool),
+        from: form_in(alloc, program, taken.given.from, taken.tool)?,
         tool: owned(alloc, taken.tool)?,
         changed: owned(alloc, taken.changed)?,
         baseline: owned(alloc, taken.baseline)?,
+        json_shapes: owned(alloc, taken.json_shapes)?,
     })
 }
 
@@ -209,6 +217,7 @@ struct Lists {
     exclude: Vec<String>,
     select: Vec<String>,
     ignore: Vec<String>,
+    json_shapes: Vec<String>,
 }
 
 fn lists_in(alloc: Global, items: &[Item<'_>]) -> Result<Lists, AllocError>
@@ -224,6 +233,8 @@ fn lists_in(alloc: Global, items: &[Item<'_>]) -> Result<Lists, AllocError>
         ≡ texts_under (codes "--select") (map said items.now)) }
     ensures ignore { IfOk result (λ it. map string_bytes it.ignore.items
         ≡ texts_under (codes "--ignore") (map said items.now)) }
+    ensures json_shapes { IfOk result (λ it. map string_bytes it.json_shapes.items
+        ≡ texts_under (codes "--json-shape") (map said items.now)) }
 {
     Ok(Lists {
         files: files_in(alloc, items)?,
@@ -232,6 +243,7 @@ fn lists_in(alloc: Global, items: &[Item<'_>]) -> Result<Lists, AllocError>
         exclude: texts_in(alloc, items, Setting::Exclude)?,
         select: texts_in(alloc, items, Setting::Select)?,
         ignore: texts_in(alloc, items, Setting::Ignore)?,
+        json_shapes: texts_in(alloc, items, Setting::JsonShape)?,
     })
 }
 
@@ -263,13 +275,22 @@ fn owned(alloc: Global, text: Option<&str>) -> Result<Option<String>, AllocError
 }
 
 /// The form in which an input is read: of `--from`, else of `--tool`.
-pub(crate) fn form_in(program: Program, from: Option<InputForm>, tool: Option<&str>) -> InputForm
-    ensures { result ≡ form_with program from (option_copied tool.entry) }
+///
+/// # Errors
+///
+/// Out of memory.
+pub(crate) fn form_in(
+    alloc: Global,
+    program: Program,
+    from: Option<InputForm>,
+    tool: Option<&str>,
+) -> Result<InputForm, AllocError>
+    ensures { IfOk result (λ form. form ≡ form_with program from (option_copied tool.entry)) }
 {
     match (from, tool) {
-        (Some(form), _) => form,
-        (None, Some(tool)) => form_of_tool(program, tool),
-        (None, None) => InputForm::Auto,
+        (Some(form), _) => Ok(form),
+        (None, Some(tool)) => form_of_tool(alloc, program, tool),
+        (None, None) => Ok(InputForm::Auto),
     }
 }
 

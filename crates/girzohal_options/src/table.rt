@@ -24,6 +24,8 @@ pub enum Setting {
     To,
     Output,
     Shape,
+    JsonShape,
+    JsonShapes,
     Root,
     Changed,
     FilterMode,
@@ -58,7 +60,7 @@ impl Setting {
         ensures { result.0.now ≡ setting_name self }
     {
         match self {
-            Setting::From => ("--from", "auto, document, sarif or lines"),
+            Setting::From => ("--from", "auto, document, sarif, json or lines"),
             Setting::Tool => ("--tool", "a tool that --help lists, such as gcc or sarif"),
             Setting::Columns => ("--columns", "bytes, characters, utf16 or cells"),
             Setting::FirstColumn => ("--first-column", "0 or 1"),
@@ -69,6 +71,11 @@ impl Setting {
             ),
             Setting::Output => ("--output", "a form and a file such as github=notes.txt"),
             Setting::Shape => ("--shape", "a pattern such as '{name}:{line}: {message}'"),
+            Setting::JsonShape => (
+                "--json-shape",
+                "a form such as 'list=[] file=path line=row message=text'",
+            ),
+            Setting::JsonShapes => ("--json-shapes", "a file with forms"),
             Setting::Root => ("--root", "a folder"),
             Setting::Changed => ("--changed", "a file with a diff"),
             Setting::FilterMode => ("--filter-mode", "added, diff_context, file or nofilter"),
@@ -89,7 +96,7 @@ impl Setting {
 }
 
 /// The options that take a value; those of the server come first.
-pub(crate) const SETTINGS: [Setting; 22] = [
+pub(crate) const SETTINGS: [Setting; 24] = [
     Setting::From,
     Setting::Tool,
     Setting::Columns,
@@ -97,6 +104,8 @@ pub(crate) const SETTINGS: [Setting; 22] = [
     Setting::To,
     Setting::Output,
     Setting::Shape,
+    Setting::JsonShape,
+    Setting::JsonShapes,
     Setting::Root,
     Setting::Changed,
     Setting::FilterMode,
@@ -133,6 +142,58 @@ pub(crate) const FLAGS: [&str; 10] = [
 
 /// How many of them the server has.
 pub(crate) const SERVER_FLAGS: usize = 2;
+
+/// The forms of JSON that `--tool` names; those of `json_forms` have these names.
+pub(crate) const JSON_TOOLS: [&str; 48] = [
+    "eslint",
+    "gcc",
+    "pylint",
+    "ruff",
+    "shellcheck",
+    "hadolint",
+    "stylelint",
+    "markdownlint",
+    "mdl",
+    "gitlab",
+    "jshint",
+    "hlint",
+    "cfn-lint",
+    "ktlint",
+    "swiftlint",
+    "actionlint",
+    "psalm",
+    "sqlfluff",
+    "eslint-metadata",
+    "pylint2",
+    "shellcheck1",
+    "rubocop",
+    "bandit",
+    "semgrep",
+    "golangci-lint",
+    "gosec",
+    "tflint",
+    "sonar",
+    "credo",
+    "pyright",
+    "biome",
+    "oxlint",
+    "deno",
+    "dart",
+    "rdjson",
+    "phpstan",
+    "phpcs",
+    "phpmd",
+    "brakeman",
+    "mypy",
+    "staticcheck",
+    "rdjsonl",
+    "buf",
+    "rustc",
+    "cargo",
+    "markdownlint-object",
+    "vale",
+    "flake8-json",
+];
 
 /// Short names; those of the server come first.
 const SHORT: [&str; 3] = ["-h", "-V", "-q"];

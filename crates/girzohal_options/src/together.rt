@@ -5,7 +5,9 @@ ghost use Rattle.std.specs.Option.{option_copied};
 ghost use Rattle.girzohal_options.specs.Given.{given_with, last_text, nothing, wrong};
 ghost use Rattle.girzohal_options.specs.Lists.{listed, output_by};
 ghost use Rattle.girzohal_options.specs.Said.{file_named as file_said, said};
-ghost use Rattle.girzohal_options.specs.Together.{can_count as counts_so, first_twice as twice_first};
+ghost use Rattle.girzohal_options.specs.Names.{setting_name};
+ghost use Rattle.girzohal_options.specs.Together.{can_be_json as json_so, can_count as counts_so};
+ghost use Rattle.girzohal_options.specs.Together.{first_twice as twice_first, is_given};
 ghost use Rattle.girzohal_options.specs.Together.{is_stdin as is_stdin_named, names_file as file_is_named};
 ghost use Rattle.girzohal_options.specs.Together.{reads_stdin as stdin_read, to_stdout};
 ghost use Rattle.girzohal_options.specs.Together.{reads_twice as stdin_read_twice};
@@ -14,7 +16,7 @@ ghost use Rattle.girzohal_options.specs.Together.{wrong_together as wrong_so};
 
 use crate::given::{Fault, Taken};
 use crate::items::Item;
-use crate::lists::{file_named, output_of};
+use crate::lists::{file_named, output_of, value_of};
 use crate::reading::form_in;
 use crate::table::{Program, Setting, is_among};
 use crate::{InputForm, OutputForm};
@@ -35,13 +37,21 @@ pub(crate) fn wrong_together<'w>(
         ≡ last_text (codes "--changed") (map said items.now) }
     requires baseline { option_copied taken.now.baseline
         ≡ last_text (codes "--baseline") (map said items.now) }
+    requires json { option_copied taken.now.json_shapes
+        ≡ last_text (codes "--json-shapes") (map said items.now) }
     ensures { IfOk result (λ fault. option_map wrong fault
         ≡ wrong_so program (map said items.now)) }
 {
     let given = taken.given;
-    let from = form_in(program, given.from, taken.tool);
+    let from = form_in(alloc, program, given.from, taken.tool)?;
     if !can_count(from, given.columns) {
         return Ok(Some(Fault::Uncounted));
+    }
+    if !can_be_json(from) && gives(items, Setting::JsonShape) {
+        return Ok(Some(Fault::NoJson(Setting::JsonShape)));
+    }
+    if !can_be_json(from) && taken.json_shapes.is_some() {
+        return Ok(Some(Fault::NoJson(Setting::JsonShapes)));
     }
     if given.filter_mode.is_some() && taken.changed.is_none() {
         return Ok(Some(Fault::WithoutDiff(Setting::FilterMode)));
@@ -53,7 +63,7 @@ pub(crate) fn wrong_together<'w>(
     if let Some(path) = first_twice(&written) {
         return Ok(Some(Fault::WrittenTwice(path)));
     }
-    if reads_twice(items, taken.changed, taken.baseline) {
+    if reads_twice(items, taken) {
         return Ok(Some(Fault::ReadTwice));
     }
     Ok(None)
@@ -115,15 +125,47 @@ fn first_twice<'w>(texts: &[&'w str]) -> Option<&'w str>
     None
 }
 
+/// Whether an input may be JSON of a tool.
+fn can_be_json(form: InputForm) -> bool
+    ensures { result ≡ json_so form }
+{
+    match form {
+        InputForm::Auto | InputForm::Json => true,
+        InputForm::Document | InputForm::Sarif | InputForm::Lines => false,
+    }
+}
+
+/// Whether an option is given.
+fn gives(items: &[Item<'_>], setting: Setting) -> bool
+    ensures { result ≡ is_given (setting_name setting) (map said items.now) }
+{
+    let mut rest = items;
+    while let [item, more @ ..] = rest {
+        if value_of(*item, setting).is_some() {
+            return true;
+        }
+        rest = more;
+    }
+    false
+}
+
 /// Whether standard input is read twice.
-fn reads_twice(items: &[Item<'_>], changed: Option<&str>, baseline: Option<&str>) -> bool
-    requires changed { option_copied changed ≡ last_text (codes "--changed") (map said items.now) }
-    requires baseline { option_copied baseline ≡ last_text (codes "--baseline") (map said items.now) }
+fn reads_twice(items: &[Item<'_>], taken: &Taken<'_>) -> bool
+    requires changed { option_copied taken.now.changed
+        ≡ last_text (codes "--changed") (map said items.now) }
+    requires baseline { option_copied taken.now.baseline
+        ≡ last_text (codes "--baseline") (map said items.now) }
+    requires json { option_copied taken.now.json_shapes
+        ≡ last_text (codes "--json-shapes") (map said items.now) }
     ensures { result ≡ stdin_read_twice (map said items.now) }
 {
+    let changed = is_stdin(taken.changed);
+    let baseline = is_stdin(taken.baseline);
+    let shapes = is_stdin(taken.json_shapes);
     stdin_twice(items)
-        || is_stdin(changed) && (reads_stdin(items) || is_stdin(baseline))
-        || is_stdin(baseline) && reads_stdin(items)
+        || changed && (reads_stdin(items) || baseline)
+        || baseline && reads_stdin(items)
+        || shapes && (reads_stdin(items) || changed || baseline)
 }
 
 /// Whether standard input is among the files, or there are none.

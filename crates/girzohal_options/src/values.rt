@@ -3,16 +3,18 @@ ghost use Rattle.std.specs.Prelude.{◌≡◌, IfOk, option_map};
 ghost use Rattle.girzohal_options.specs.Values.{color_named as color_meant, first_named as first_meant};
 ghost use Rattle.girzohal_options.specs.Values.{filter_named as filter_meant, form_named as form_meant};
 ghost use Rattle.girzohal_options.specs.Values.{form_of_tool as form_written};
-ghost use Rattle.girzohal_options.specs.Values.{has_lines as lines_known};
+ghost use Rattle.girzohal_options.specs.Values.{has_json as json_known, has_lines as lines_known};
 ghost use Rattle.girzohal_options.specs.Values.{is_text as is_some_text, is_tool as is_known_tool};
+ghost use Rattle.girzohal_options.specs.Values.{json_or_auto as json_or_auto_so};
 ghost use Rattle.girzohal_options.specs.Values.{level_named as level_meant};
+ghost use Rattle.girzohal_options.specs.Values.{lines_or_auto as lines_or_auto_so};
 ghost use Rattle.girzohal_options.specs.Values.{output_in as output_said, output_named as output_meant};
 ghost use Rattle.girzohal_options.specs.Values.{positive as from_one, severity_named as severity_meant};
 ghost use Rattle.girzohal_options.specs.Values.{tabs_named as tabs_meant};
 ghost use Rattle.girzohal_options.specs.Values.{unit_named as unit_meant};
 ghost use Rattle.girzohal_options.specs.Values.{width_named as width_meant, within as within_range};
 
-use crate::table::Program;
+use crate::table::{JSON_TOOLS, Program, is_among};
 use crate::{InputForm, OutputForm, ThemeChoice};
 use escapes::{cut, number};
 use finding_filters::FilterMode;
@@ -31,6 +33,7 @@ pub(crate) fn form_named(value: &str) -> Option<InputForm>
         "auto" => Some(InputForm::Auto),
         "document" => Some(InputForm::Document),
         "sarif" => Some(InputForm::Sarif),
+        "json" => Some(InputForm::Json),
         "lines" => Some(InputForm::Lines),
         _ => None,
     }
@@ -188,13 +191,24 @@ fn positive(number: usize) -> Option<usize>
 
 /// Whether a tool is known.
 #[tactic(auto, unfolding(crate::specs::Values::is_tool))]
-pub(crate) fn is_tool(alloc: Global, tool: &str) -> Result<bool, AllocError>
-    ensures { IfOk result (λ is. is ≡ is_known_tool tool.now) }
+pub(crate) fn is_tool(alloc: Global, program: Program, tool: &str) -> Result<bool, AllocError>
+    ensures { IfOk result (λ is. is ≡ is_known_tool program tool.now) }
 {
-    if tool == "sarif" {
+    if tool == "sarif" || has_json(program, tool) {
         return Ok(true);
     }
     has_lines(alloc, tool)
+}
+
+/// Whether a form of JSON has this name. The server reads no other JSON than logs.
+#[tactic(auto, unfolding(crate::specs::Names::json_tools))]
+fn has_json(program: Program, tool: &str) -> bool
+    ensures { result ≡ json_known program tool.now }
+{
+    match program {
+        Program::Girzohal => is_among(&JSON_TOOLS, tool),
+        Program::Server => false,
+    }
 }
 
 /// Whether the lines or the columns of a tool are known.
@@ -208,15 +222,44 @@ fn has_lines(alloc: Global, tool: &str) -> Result<bool, AllocError>
     }
 }
 
-/// The form in which a tool writes: `sarif` means a log, and all other known tools write lines. The
-/// server reads theirs by the first bytes.
+/// The form in which a tool writes: `sarif` means a log, other known tools write JSON or lines. If
+/// a tool may write both, the first bytes decide. The server reads lines by the first bytes.
+///
+/// # Errors
+///
+/// Out of memory.
 #[tactic(auto, unfolding(crate::specs::Values::form_of_tool))]
-pub(crate) fn form_of_tool(program: Program, tool: &str) -> InputForm
-    ensures { result ≡ form_written program tool.now }
+pub(crate) fn form_of_tool(
+    alloc: Global,
+    program: Program,
+    tool: &str,
+) -> Result<InputForm, AllocError>
+    ensures { IfOk result (λ form. form ≡ form_written program tool.now) }
 {
-    match (tool, program) {
-        ("sarif", _) => InputForm::Sarif,
-        (_, Program::Girzohal) => InputForm::Lines,
-        (_, Program::Server) => InputForm::Auto,
+    if tool == "sarif" {
+        return Ok(InputForm::Sarif);
+    }
+    if !has_json(program, tool) {
+        return Ok(lines_or_auto(program));
+    }
+    Ok(json_or_auto(has_lines(alloc, tool)?))
+}
+
+fn lines_or_auto(program: Program) -> InputForm
+    ensures { result ≡ lines_or_auto_so program }
+{
+    match program {
+        Program::Girzohal => InputForm::Lines,
+        Program::Server => InputForm::Auto,
+    }
+}
+
+fn json_or_auto(has_lines: bool) -> InputForm
+    ensures { result ≡ json_or_auto_so has_lines }
+{
+    if has_lines {
+        InputForm::Auto
+    } else {
+        InputForm::Json
     }
 }

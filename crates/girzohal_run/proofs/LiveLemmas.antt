@@ -326,6 +326,7 @@ auto_lines : (from : InputForm) (bytes : List ℕ) → is_auto from ≡ true →
 auto_lines form.Auto bytes is begins = ap begins_lines begins
 auto_lines form.Document bytes is begins = cc
 auto_lines form.Sarif bytes is begins = cc
+auto_lines form.Json bytes is begins = cc
 auto_lines form.Lines bytes is begins = cc
 
 comes_by : (asked : Asked) (bytes : List ℕ) → may_come asked ≡ true → reads_lines asked.from bytes ≡ true → comes asked bytes ≡ true
@@ -372,6 +373,7 @@ as_made : (from : InputForm) (told : Told) (asked : Asked) (bytes text aside : L
 as_made form.Auto told asked bytes text aside reached is made = begun_made (begins_as bytes) told asked bytes text aside reached is made
 as_made form.Document told asked bytes text aside reached is made = cc
 as_made form.Sarif told asked bytes text aside reached is made = cc
+as_made form.Json told asked bytes text aside reached is made = cc
 as_made form.Lines told asked bytes text aside reached is made = made
 
 pub drawn_made : (told : Told) (asked : Asked) (bytes text aside : List ℕ) (reached : Bool) → comes asked bytes ≡ true → IsDrawn told asked bytes text aside reached

@@ -1,8 +1,6 @@
 -- Inputs that are read one after another.
 use Rattle.std.proofs.Common.{◌≡◌, ℕ, ◌+◌, ◌++◌, ◌<◌, Bool, List, [], ◌∷◌, Result, Ok, Err, Vec, length, take, get_or, map, refl, ap, sym, subst, ◌∙◌, append_assoc, append-nil, string_bytes}
 use Rattle.std.proofs.lemmas.List.{map_push, take_more}
-use Rattle.std.specs.Result.{IsErrAnd}
-use Rattle.std.specs.Prelude.{IfErr}
 use Rattle.std.specs.declared.alloc.Global.{Global}
 use Rattle.report_filters.specs.Kept.{kept_of}
 use Rattle.girzohal_options.specs.declared.Asked.{Asked}
@@ -11,7 +9,8 @@ use Rattle.girzohal_run.specs.Each.{asked_with}
 use Rattle.girzohal_run.specs.Finds.{IsFound}
 use Rattle.girzohal_run.specs.Made.{HasCause, IsOfNoForm, Says}
 use Rattle.girzohal_run.specs.Run.{Device, Texts, texts_of}
-use Rattle.girzohal_run.specs.Several.{AreFound, AreWritten, FindsParts, IsFirstRefused, IsNamed, IsRefused, SeveralMean, WritesAll, WritesFound, have_lines}
+use Rattle.girzohal_run.specs.Several.{AreFound, AreWritten, IsFirstRefused, IsNamed, IsRefused, SeveralMean, WritesAll, have_lines}
+use Rattle.girzohal_run.specs.Joined.{FindsParts, WritesFound}
 use Rattle.girzohal_run.specs.declared.each.Wanted.{Wanted}
 use Rattle.girzohal_run.specs.declared.fault.Fault.{Fault}
 use Rattle.girzohal_run.specs.declared.fault.Fault.TheVariants.{NoForm, OutOfMemory}
@@ -55,10 +54,6 @@ one_so_far told asked inputs rest its input it so is =
 pub all_so_far : (told : Told) (asked : Asked) (inputs : List Input) (its : List FindsParts) → SoFar told asked inputs [] its → AreFound told asked inputs its
 all_so_far told asked inputs its so = subst (λ (xs : List Input). AreFound told asked xs its) (sym (so.parts ∙ append-nil so.before)) so.are
 
-pub err_is : {T : Type 0} (P : Fault → Type 0) (x : Fault) (r : Result T Fault) → IsErrAnd r (λ e. e ≡ x) → P x → IfErr r P
-err_is P x (Ok value) is p = tt
-err_is P x (Err e) is p = subst P (sym is) p
-
 pub refused_by : (asked : Asked) (input : Input) (fault told : Fault) → HasCause (IsOfNoForm asked) input.bytes.items fault → IsNamed (string_bytes input.name) fault told
     → Says (IsRefused asked input) told
 refused_by asked input (NoForm why) (NoForm said) cause is = record { why = why.items; refused = cause; said_is = is }
@@ -75,14 +70,14 @@ first_refused told asked inputs rest its input OutOfMemory so refused = tt
 -- ---- one output more
 
 one_written : (asked : Asked) (notes : Bool) (its : List FindsParts) (ws : List Wanted) (ts : List Texts) (w : Wanted) (t : Texts) → AreWritten asked notes its ws ts
-    → WritesFound (asked_with asked w) notes its t → AreWritten asked notes its (ws ++ w ∷ []) (ts ++ t ∷ [])
+    → WritesFound (asked_with asked w) notes its t.out t.aside t.reached → AreWritten asked notes its (ws ++ w ∷ []) (ts ++ t ∷ [])
 one_written asked notes its [] [] w t are is = (is, tt)
 one_written asked notes its [] (x ∷ xs) w t are is = absurd are
 one_written asked notes its (v ∷ vs) [] w t are is = absurd are
 one_written asked notes its (v ∷ vs) (x ∷ xs) w t are is = (are.0, one_written asked notes its vs xs w t are.1 is)
 
 pub more_written : (asked : Asked) (notes : Bool) (its : List FindsParts) (wanted : List Wanted) (i : ℕ) (d : Wanted) (old new : List Made) (made : Made) → i < length wanted → new ≡ old ++ made ∷ []
-    → AreWritten asked notes its (take i wanted) (map texts_of old) → WritesFound (asked_with asked (get_or wanted i d)) notes its (texts_of made)
+    → AreWritten asked notes its (take i wanted) (map texts_of old) → WritesFound (asked_with asked (get_or wanted i d)) notes its (texts_of made).out (texts_of made).aside (texts_of made).reached
     → AreWritten asked notes its (take (i + 1) wanted) (map texts_of new)
 more_written asked notes its wanted i d old new made low is are one =
     let texts : map texts_of new ≡ map texts_of old ++ texts_of made ∷ [] = ap (map texts_of) is ∙ map_push texts_of old made in

@@ -1,5 +1,5 @@
 -- What is found in an input.
-use Rattle.std.specs.Prelude.{◌≡◌, ℕ, List, None}
+use Rattle.std.specs.Prelude.{◌≡◌, ℕ, List, Bool, true, false, None}
 use Rattle.std.specs.declared.ops.Range.{Range}
 use Rattle.found_reports.specs.Found.{Found}
 use Rattle.found_reports.specs.Held.{Held}
@@ -17,6 +17,7 @@ use Rattle.input_forms.specs.Begun.{begins_as}
 use Rattle.input_forms.specs.Object.{IsJsonPart}
 use Rattle.input_forms.specs.declared.begun.Begun.{Begun}
 use Rattle.input_forms.specs.declared.begun.Begun.TheVariants.{Object, OtherJson, Lines}
+use Rattle.json_inputs.specs.Marks.{is_report_object}
 use Rattle.girzohal_options.specs.declared.Asked.{Asked}
 use Rattle.girzohal_options.specs.declared.InputForm.{InputForm}
 use Rattle.girzohal_options.specs.declared.InputForm.TheVariants as form
@@ -24,6 +25,7 @@ use Rattle.girzohal_run.specs.Told.{Told}
 use Rattle.girzohal_run.specs.Logs.{log_columns}
 use Rattle.girzohal_run.specs.Made.{object_form}
 use Rattle.girzohal_run.specs.Reads.{ReadsPart, around, part_of}
+use Rattle.girzohal_run.specs.Values.{FindsValues}
 use Rattle.girzohal_run.specs.declared.object.ObjectForm.{ObjectForm}
 use Rattle.girzohal_run.specs.declared.object.ObjectForm.TheVariants.{Keyed, AsDocument, AsLog}
 
@@ -51,15 +53,26 @@ pub record FindsObject (how : ObjectForm) (told : Told) (asked : Asked) (bytes :
   pub reports : found ≡ parts.found
   pub aside_is : aside ≡ around bytes range
 
+-- an object by its marks: a log or a document, or a value as others
+abbrev pub FindsMarked : Bool → Told → Asked → List ℕ → List Found → List ℕ → Type 0
+FindsMarked true told asked bytes found aside = FindsObject (object_form asked.columns) told asked bytes found aside
+FindsMarked false told asked bytes found aside = FindsValues told asked bytes found aside
+
+pub record FindsBraced (told : Told) (asked : Asked) (bytes : List ℕ) (found : List Found) (aside : List ℕ) : Type 0 where
+  pub range : Range ℕ
+  pub there : IsJsonPart bytes range
+  pub finds : FindsMarked (is_report_object (part_of bytes range)) told asked bytes found aside
+
 abbrev pub FindsBegun : Begun → Told → Asked → List ℕ → List Found → List ℕ → Type 0
-FindsBegun Object told asked bytes found aside = FindsObject (object_form asked.columns) told asked bytes found aside
-FindsBegun OtherJson told asked bytes found aside = ⊥
+FindsBegun Object told asked bytes found aside = FindsBraced told asked bytes found aside
+FindsBegun OtherJson told asked bytes found aside = FindsValues told asked bytes found aside
 FindsBegun Lines told asked bytes found aside = FindsLines told asked bytes found aside
 
 abbrev pub FindsAs : InputForm → Told → Asked → List ℕ → List Found → List ℕ → Type 0
 FindsAs form.Auto told asked bytes found aside = FindsBegun (begins_as bytes) told asked bytes found aside
 FindsAs form.Document told asked bytes found aside = FindsObject AsDocument told asked bytes found aside
 FindsAs form.Sarif told asked bytes found aside = FindsObject AsLog told asked bytes found aside
+FindsAs form.Json told asked bytes found aside = FindsValues told asked bytes found aside
 FindsAs form.Lines told asked bytes found aside = FindsLines told asked bytes found aside
 
 -- what is found in an input in the form that was asked for: the reports that it means, as a run finds them that reads it alone, and what is none of them

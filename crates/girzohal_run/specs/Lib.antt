@@ -4,6 +4,8 @@ pub mod Html
 pub mod Texts
 pub mod Filtering
 pub mod Lines
+pub mod Joined
+pub mod Values
 pub mod Logs
 pub mod Reads
 pub mod Made

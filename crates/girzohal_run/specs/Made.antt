@@ -1,11 +1,15 @@
 -- What is made of an input.
-use Rattle.std.specs.Prelude.{◌≡◌, ⊤, ℕ, ◌++◌, List, Bool, false, Option, Some, None, codes}
+use Rattle.std.specs.Prelude.{◌≡◌, ⊤, ℕ, ◌++◌, List, Bool, true, false, String, string_bytes, Option, Some, None}
+use Rattle.std.specs.declared.alloc.Global.{Global}
 use Rattle.std.specs.declared.ops.Range.{Range}
 use Rattle.found_reports.specs.Kept.{FoundParts}
 use Rattle.input_forms.specs.Begun.{begins_as}
 use Rattle.input_forms.specs.Object.{IsJsonPart}
 use Rattle.input_forms.specs.declared.begun.Begun.{Begun}
 use Rattle.input_forms.specs.declared.begun.Begun.TheVariants.{Object, OtherJson, Lines}
+use Rattle.json_inputs.specs.Marks.{is_report_object}
+use Rattle.json_inputs.specs.declared.error.InputError.{InputError}
+use Rattle.json_inputs.specs.declared.error.InputError.TheVariants as input
 use Rattle.line_shapes.specs.declared.tables.Unit.{Unit as ColumnUnit}
 use Rattle.line_shapes.specs.declared.tables.Unit.TheVariants.{Bytes, Characters, Utf16, Cells}
 use Rattle.girzohal_options.specs.declared.Asked.{Asked}
@@ -16,6 +20,7 @@ use Rattle.girzohal_run.specs.Filtering.{IsWritten, with_line}
 use Rattle.girzohal_run.specs.Lines.{MakesLines}
 use Rattle.girzohal_run.specs.Logs.{log_columns}
 use Rattle.girzohal_run.specs.Reads.{ReadsPart, IsNonePart, around, before, part_of}
+use Rattle.girzohal_run.specs.Values.{IsNoValues, MakesValues}
 use Rattle.girzohal_run.specs.declared.object.ObjectForm.{ObjectForm}
 use Rattle.girzohal_run.specs.declared.object.ObjectForm.TheVariants.{Keyed, AsDocument, AsLog}
 use Rattle.girzohal_run.specs.declared.fault.Fault.{Fault}
@@ -53,15 +58,26 @@ object_form (Some Characters) = Keyed
 object_form (Some Utf16) = Keyed
 object_form (Some Cells) = AsDocument
 
+-- an object by its marks: a log or a document, or a value as others
+abbrev pub MakesMarked : Bool → Told → Asked → List ℕ → List ℕ → List ℕ → Bool → Type 0
+MakesMarked true told asked bytes text aside reached = MakesObject (object_form asked.columns) told asked bytes text aside reached
+MakesMarked false told asked bytes text aside reached = MakesValues told asked bytes text aside reached
+
+pub record MakesBraced (told : Told) (asked : Asked) (bytes text aside : List ℕ) (reached : Bool) : Type 0 where
+  pub range : Range ℕ
+  pub there : IsJsonPart bytes range
+  pub makes : MakesMarked (is_report_object (part_of bytes range)) told asked bytes text aside reached
+
 abbrev pub MakesBegun : Begun → Told → Asked → List ℕ → List ℕ → List ℕ → Bool → Type 0
-MakesBegun Object told asked bytes text aside reached = MakesObject (object_form asked.columns) told asked bytes text aside reached
-MakesBegun OtherJson told asked bytes text aside reached = ⊥
+MakesBegun Object told asked bytes text aside reached = MakesBraced told asked bytes text aside reached
+MakesBegun OtherJson told asked bytes text aside reached = MakesValues told asked bytes text aside reached
 MakesBegun Lines told asked bytes text aside reached = MakesLines told asked bytes text aside reached
 
 abbrev pub MakesAs : InputForm → Told → Asked → List ℕ → List ℕ → List ℕ → Bool → Type 0
 MakesAs form.Auto told asked bytes text aside reached = MakesBegun (begins_as bytes) told asked bytes text aside reached
 MakesAs form.Document told asked bytes text aside reached = MakesObject AsDocument told asked bytes text aside reached
 MakesAs form.Sarif told asked bytes text aside reached = MakesObject AsLog told asked bytes text aside reached
+MakesAs form.Json told asked bytes text aside reached = MakesValues told asked bytes text aside reached
 MakesAs form.Lines told asked bytes text aside reached = MakesLines told asked bytes text aside reached
 
 -- what is made of an input in the form that was asked for: the text and the level of the reports that it means, and what is none of them
@@ -70,24 +86,31 @@ IsMade told asked bytes text aside reached = MakesAs asked.from told asked bytes
 
 -- ---- why nothing is made
 
--- what is said of JSON of no known form
-abbrev pub other_json_line : List ℕ
-other_json_line = codes "girzohal: JSON of no known form; lines and SARIF are read, and documents\n"
+abbrev pub IsNoneMarked : Bool → Option ColumnUnit → List (String Global) → Option (String Global) → List ℕ → List ℕ → Type 0
+IsNoneMarked true columns own tool bytes said = IsNoObject (object_form columns) columns bytes said
+IsNoneMarked false columns own tool bytes said = IsNoValues own tool bytes said
 
-abbrev pub IsNoneBegun : Begun → Option ColumnUnit → List ℕ → List ℕ → Type 0
-IsNoneBegun Object columns bytes said = IsNoObject (object_form columns) columns bytes said
-IsNoneBegun OtherJson columns bytes said = said ≡ other_json_line
-IsNoneBegun Lines columns bytes said = ⊥
+pub record IsNoneBraced (columns : Option ColumnUnit) (own : List (String Global)) (tool : Option (String Global)) (bytes said : List ℕ) : Type 0 where
+  pub range : Range ℕ
+  pub there : IsJsonPart bytes range
+  pub none : IsNoneMarked (is_report_object (part_of bytes range)) columns own tool bytes said
 
-abbrev pub IsNoneAs : InputForm → Option ColumnUnit → List ℕ → List ℕ → Type 0
-IsNoneAs form.Auto columns bytes said = IsNoneBegun (begins_as bytes) columns bytes said
-IsNoneAs form.Document columns bytes said = IsNoObject AsDocument columns bytes said
-IsNoneAs form.Sarif columns bytes said = IsNoObject AsLog columns bytes said
-IsNoneAs form.Lines columns bytes said = ⊥
+abbrev pub IsNoneBegun : Begun → Option ColumnUnit → List (String Global) → Option (String Global) → List ℕ → List ℕ → Type 0
+IsNoneBegun Object columns own tool bytes said = IsNoneBraced columns own tool bytes said
+IsNoneBegun OtherJson columns own tool bytes said = IsNoValues own tool bytes said
+IsNoneBegun Lines columns own tool bytes said = ⊥
+
+-- by the columns that were asked for, the user's own forms, and the tool
+abbrev pub IsNoneAs : InputForm → Option ColumnUnit → List (String Global) → Option (String Global) → List ℕ → List ℕ → Type 0
+IsNoneAs form.Auto columns own tool bytes said = IsNoneBegun (begins_as bytes) columns own tool bytes said
+IsNoneAs form.Document columns own tool bytes said = IsNoObject AsDocument columns bytes said
+IsNoneAs form.Sarif columns own tool bytes said = IsNoObject AsLog columns bytes said
+IsNoneAs form.Json columns own tool bytes said = IsNoValues own tool bytes said
+IsNoneAs form.Lines columns own tool bytes said = ⊥
 
 -- bytes aren't of the form in which they are read, and this is said of it
 abbrev pub IsOfNoForm : Asked → List ℕ → List ℕ → Type 0
-IsOfNoForm asked bytes said = IsNoneAs asked.from asked.columns bytes said
+IsOfNoForm asked bytes said = IsNoneAs asked.from asked.columns asked.json_shapes.items asked.tool bytes said
 
 -- no word of the input's form
 abbrev pub IsFree : Fault → Type 0
@@ -98,6 +121,11 @@ IsFree OutOfMemory = ⊤
 abbrev pub Says : (List ℕ → Type 0) → Fault → Type 0
 Says P (NoForm said) = P said.items
 Says P OutOfMemory = ⊤
+
+-- a fault says what an error of values says
+abbrev pub SaysWhy : InputError → Fault → Type 0
+SaysWhy (input.Refused line) fault = Says (λ said. said ≡ string_bytes line) fault
+SaysWhy input.OutOfMemory fault = IsFree fault
 
 -- a fault becomes another, of which a text is said first, and then what was said of it
 abbrev pub IsToldBehind : List ℕ → Fault → Fault → Type 0

@@ -14,6 +14,7 @@ abbrev pub is_auto : InputForm → Bool
 is_auto form.Auto = true
 is_auto form.Document = false
 is_auto form.Sarif = false
+is_auto form.Json = false
 is_auto form.Lines = false
 
 -- the first bytes of the input tell its form, and lines are written as they come

@@ -61,6 +61,7 @@ abbrev pub reads_lines : InputForm → List ℕ → Bool
 reads_lines form.Auto bytes = begins_lines (begins_as bytes)
 reads_lines form.Document bytes = false
 reads_lines form.Sarif bytes = false
+reads_lines form.Json bytes = false
 reads_lines form.Lines bytes = true
 
 -- the input is lines, of which a drawing or annotations are written as they come; with filters it is read whole

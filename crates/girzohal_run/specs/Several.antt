@@ -1,38 +1,26 @@
 -- Several inputs, whose findings are written together.
 use Rattle.std.specs.Prelude.{◌≡◌, ⊤, ℕ, ◌-◌, ◌==◌, not, Bool, List, [], ◌∷◌, ◌++◌, length, take, drop, map, Vec, Result, Ok, Err, codes, string_bytes}
-use Rattle.std.specs.List.{flat_map, fold, list_any, suffix_len}
+use Rattle.std.specs.List.{list_any, suffix_len}
 use Rattle.std.specs.declared.alloc.Global.{Global}
-use Rattle.found_reports.specs.Files.{files_of}
-use Rattle.found_reports.specs.Found.{Found}
-use Rattle.found_reports.specs.Kept.{FoundParts}
 use Rattle.harmless.specs.declared.Kind.TheVariants.{Name}
 use Rattle.harmless.specs.Harmless.{harmless}
 use Rattle.girzohal_options.specs.declared.Asked.{Asked}
 use Rattle.girzohal_options.specs.declared.InputForm.{InputForm}
 use Rattle.girzohal_run.specs.Told.{Told}
 use Rattle.girzohal_run.specs.Each.{asked_with, first_aside}
-use Rattle.girzohal_run.specs.Filtering.{IsWritten, with_line}
 use Rattle.girzohal_run.specs.Finds.{IsFound}
+use Rattle.girzohal_run.specs.Joined.{FindsParts, WritesFound}
 use Rattle.girzohal_run.specs.Made.{IsFree, IsOfNoForm, Says}
 use Rattle.girzohal_run.specs.Run.{Device, IsTold, Texts, reads_lines, texts_of}
 use Rattle.girzohal_run.specs.declared.each.Wanted.{Wanted}
 use Rattle.girzohal_run.specs.declared.fault.Fault.{Fault}
 use Rattle.girzohal_run.specs.declared.fault.Fault.TheVariants.{NoForm, OutOfMemory}
-use Rattle.girzohal_run.specs.declared.finds.Finds.{Finds}
 use Rattle.girzohal_run.specs.declared.making.Made.{Made}
 use Rattle.girzohal_run.specs.declared.several.Input.{Input}
 use Rattle.girzohal_run.specs.declared.status.Status.{Status}
 use Rattle.girzohal_run.specs.declared.status.Status.TheVariants as status
 
 -- ---- what the inputs have
-
--- the findings of an input, and the rest
-pub record FindsParts : Type 0 where
-  pub found : List Found
-  pub aside : List ℕ
-
-abbrev pub finds_parts : Finds → FindsParts
-finds_parts finds = record { found = finds.reports.found; aside = finds.aside.items }
 
 -- the findings of each input, as a run finds them that reads it alone
 abbrev pub AreFound : Told → Asked → List Input → List FindsParts → Type 0
@@ -41,35 +29,18 @@ AreFound told asked [] (it ∷ its) = ⊥
 AreFound told asked (input ∷ inputs) [] = ⊥
 AreFound told asked (input ∷ inputs) (it ∷ its) = IsFound told asked input.bytes.items it.found it.aside × AreFound told asked inputs its
 
--- the findings of all inputs, one input after another
-abbrev pub found_in : List FindsParts → List Found
-found_in its = flat_map (λ it. it.found) its
-
--- the rest of all inputs, each on lines of its own
-abbrev pub aside_in : List FindsParts → List ℕ
-aside_in its = fold with_line [] (map (λ it. it.aside) its)
-
 -- one of the inputs is lines of a tool
 abbrev pub have_lines : InputForm → List Input → Bool
 have_lines from inputs = list_any (λ input. reads_lines from input.bytes.items) inputs
 
 -- ---- what is written of it
 
--- what is written of all findings together, after filters, on the files that they are on; and the rest of the inputs, with the line about filters
-pub record WritesFound (asked : Asked) (notes : Bool) (its : List FindsParts) (texts : Texts) : Type 0 where
-  pub parts : FoundParts
-  pub found : parts.found ≡ found_in its
-  pub files : parts.files ≡ files_of parts.found
-  pub line : List ℕ
-  pub written : IsWritten asked notes parts texts.out line texts.reached
-  pub aside_is : texts.aside ≡ with_line (aside_in its) line
-
 -- of each output
 abbrev pub AreWritten : Asked → Bool → List FindsParts → List Wanted → List Texts → Type 0
 AreWritten asked notes its [] [] = ⊤
 AreWritten asked notes its [] (texts ∷ others) = ⊥
 AreWritten asked notes its (wanted ∷ more) [] = ⊥
-AreWritten asked notes its (wanted ∷ more) (texts ∷ others) = WritesFound (asked_with asked wanted) notes its texts × AreWritten asked notes its more others
+AreWritten asked notes its (wanted ∷ more) (texts ∷ others) = WritesFound (asked_with asked wanted) notes its texts.out texts.aside texts.reached × AreWritten asked notes its more others
 
 -- ---- why an input is refused
 

@@ -2,6 +2,7 @@
 ghost use Rattle.std.specs.Prelude.{◌≡◌, ◌++◌, codes};
 ghost use Rattle.girzohal_run.specs.Made.{Says};
 
+use json_inputs::InputError;
 use shown_reports::ShowError;
 use std::alloc::{AllocError, Global};
 
@@ -37,6 +38,19 @@ impl From<ShowError> for Fault {
             // So many files would take more memory than there is, so the status stays that of
             // memory.
             ShowError::TooManyFiles | ShowError::OutOfMemory => Fault::OutOfMemory,
+        }
+    }
+}
+
+impl From<InputError> for Fault {
+    ghost use Rattle.girzohal_run.specs.Made.{SaysWhy};
+
+    ghost from_gives = { λ why fault. SaysWhy why fault };
+
+    fn from(error: InputError) -> Fault {
+        match error {
+            InputError::Refused(line) => Fault::NoForm(line.into_bytes()),
+            InputError::OutOfMemory => Fault::OutOfMemory,
         }
     }
 }

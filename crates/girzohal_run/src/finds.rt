@@ -3,9 +3,10 @@ ghost use Rattle.std.specs.Prelude.{IfErr, IfOk, map};
 ghost use Rattle.found_reports.specs.Listed.{held_in};
 ghost use Rattle.tool_lines.specs.Lines.{piece_parts};
 ghost use Rattle.line_reports.specs.Pieces.{read_parts};
-ghost use Rattle.girzohal_run.specs.Finds.{FindsObject, FindsLines, FindsPieces, IsFound};
+ghost use Rattle.girzohal_run.specs.Finds.{FindsBraced, FindsLines, FindsObject, FindsPieces};
+ghost use Rattle.girzohal_run.specs.Finds.{IsFound};
 ghost use Rattle.girzohal_run.specs.Logs.{IsNoLog, ReadsLog, log_columns as columns_meant};
-ghost use Rattle.girzohal_run.specs.Made.{HasCause, IsFree, IsNoObject, IsOfNoForm};
+ghost use Rattle.girzohal_run.specs.Made.{HasCause, IsFree, IsNoObject, IsNoneBraced, IsOfNoForm};
 ghost use Rattle.girzohal_run.specs.Reads.{IsNoDocument, IsNoneKeyed, IsNonePart};
 ghost use Rattle.girzohal_run.specs.Reads.{ReadsDocument, ReadsKeyed, ReadsPart};
 ghost use Rattle.input_forms.specs.Object.{has_files as key_files};
@@ -13,14 +14,16 @@ ghost use Rattle.input_forms.specs.Object.{has_files as key_files};
 use crate::fault::{Fault, no_form};
 use crate::lines::text_lines;
 use crate::logs::{log_columns, log_of};
-use crate::making::{OTHER_FORM, object_form};
+use crate::making::object_form;
 use crate::object::{ObjectForm, around, no_document, refused, told_behind};
 use crate::owned::OwnedReports;
+use crate::values::find_values;
 use documents::read_document;
 use drawn_lines::{columns_of, kept_text, shapes_of};
 use girzohal_options::{Asked, InputForm};
 use indexed_sources::IndexedSources;
 use input_forms::{Begun, begins_as, has_files, json_part, without_mark};
+use json_inputs::is_report_object;
 use line_reports::{ReadPiece, names_of, read_pieces, reports_of};
 use render_files::ReportError;
 use shown_reports::document_reports;
@@ -51,13 +54,34 @@ pub(crate) fn find<S: Store>(
 {
     match asked.from {
         InputForm::Auto => match begins_as(bytes) {
-            Begun::Object => find_object(alloc, object_form(asked.columns), asked, bytes, store),
-            Begun::OtherJson => Err(no_form(alloc, OTHER_FORM)),
+            Begun::Object => find_braced(alloc, asked, bytes, store),
+            Begun::OtherJson => find_values(alloc, asked, bytes, store),
             Begun::Lines => find_lines(alloc, asked, bytes, store),
         },
         InputForm::Document => find_object(alloc, ObjectForm::AsDocument, asked, bytes, store),
         InputForm::Sarif => find_object(alloc, ObjectForm::AsLog, asked, bytes, store),
+        InputForm::Json => find_values(alloc, asked, bytes, store),
         InputForm::Lines => find_lines(alloc, asked, bytes, store),
+    }
+}
+
+/// What an input has that begins with a JSON object: a log or a document, or other values.
+fn find_braced<S: Store>(
+    alloc: Global,
+    asked: &Asked,
+    bytes: &[u8],
+    store: &S,
+) -> Result<Finds, Fault>
+    ensures found { IfOk result (λ it. FindsBraced (S.told store.now) asked.now bytes.now
+        it.reports.found it.aside.items) }
+    ensures cause { IfErr result (HasCause (IsNoneBraced asked.now.columns
+        asked.now.json_shapes.items asked.now.tool) bytes.now) }
+{
+    let range = json_part(bytes);
+    if is_report_object(alloc, &bytes[range.start..range.end])? {
+        find_object(alloc, object_form(asked.columns), asked, bytes, store)
+    } else {
+        find_values(alloc, asked, bytes, store)
     }
 }
 

@@ -15,6 +15,7 @@
 //! - `making`: what is made of an input, in its form
 //! - `object`, `logs`: the same for a JSON object, which is a document or a log
 //! - `lines`: the same for lines that a tool prints for people
+//! - `values`: the same for JSON values among lines
 //! - `opening`, `live`: the same for lines that are written as they come
 //! - `filtering`: what is written of the reports that filters leave
 //! - `texts`: the texts of reports; `html`: the page of them
@@ -41,6 +42,7 @@ mod rules;
 mod several;
 mod status;
 mod texts;
+mod values;
 
 pub use baseline::{Baseline, read_baseline};
 pub use each::{Wanted, run_each};

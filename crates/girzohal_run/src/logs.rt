@@ -1,7 +1,7 @@
 // The output for a SARIF log.
 ghost use Rattle.std.specs.Prelude.{◌≡◌, IfErr, IfOk, string_bytes};
 ghost use Rattle.sarif_log.specs.Answer.{answer_to, log as log_is};
-ghost use Rattle.sarif_log.specs.Log.{log_view};
+ghost use Rattle.sarif_log.specs.Views.{log_view};
 ghost use Rattle.girzohal_run.specs.Logs.{IsNoLog, NamesPlace, ReadsLog, log_columns as columns_of};
 ghost use Rattle.girzohal_run.specs.Logs.{fault_line, harmless_path as harmless_path_of, no_log_line};
 ghost use Rattle.girzohal_run.specs.Made.{HasCause, Says, Writes};

@@ -1,13 +1,16 @@
 // What is made of an input: its text, and whether a report is at or above the level.
 ghost use Rattle.std.specs.Prelude.{◌≡◌, IfErr, IfOk, string_bytes};
-ghost use Rattle.girzohal_run.specs.Made.{HasCause, IsMade, IsOfNoForm};
+ghost use Rattle.girzohal_run.specs.Made.{HasCause, IsMade, IsNoneBraced, IsOfNoForm};
+ghost use Rattle.girzohal_run.specs.Made.{MakesBraced};
 ghost use Rattle.girzohal_run.specs.Made.{object_form as form_of_object};
 
-use crate::fault::{Fault, no_form};
+use crate::fault::Fault;
 use crate::lines::make_lines;
 use crate::object::{ObjectForm, make_object};
+use crate::values::make_values;
 use girzohal_options::{Asked, InputForm};
-use input_forms::{Begun, begins_as};
+use input_forms::{Begun, begins_as, json_part};
+use json_inputs::is_report_object;
 use line_shapes::tables::Unit;
 use source_store::Store;
 use std::alloc::Global;
@@ -50,10 +53,6 @@ impl Made {
     }
 }
 
-/// What is said of an input of no known form.
-pub(crate) const OTHER_FORM: &str =
-    "JSON of no known form; lines and SARIF are read, and documents";
-
 /// What is made of an input in the form that was asked for.
 pub(crate) fn make<S: Store>(
     alloc: Global,
@@ -67,13 +66,34 @@ pub(crate) fn make<S: Store>(
 {
     match asked.from {
         InputForm::Auto => match begins_as(bytes) {
-            Begun::Object => make_object(alloc, object_form(asked.columns), asked, bytes, store),
-            Begun::OtherJson => Err(no_form(alloc, OTHER_FORM)),
+            Begun::Object => make_braced(alloc, asked, bytes, store),
+            Begun::OtherJson => make_values(alloc, asked, bytes, store),
             Begun::Lines => make_lines(alloc, asked, bytes, store),
         },
         InputForm::Document => make_object(alloc, ObjectForm::AsDocument, asked, bytes, store),
         InputForm::Sarif => make_object(alloc, ObjectForm::AsLog, asked, bytes, store),
+        InputForm::Json => make_values(alloc, asked, bytes, store),
         InputForm::Lines => make_lines(alloc, asked, bytes, store),
+    }
+}
+
+/// What is made of an input that begins with a JSON object: a log or a document, or other values.
+fn make_braced<S: Store>(
+    alloc: Global,
+    asked: &Asked,
+    bytes: &[u8],
+    store: &S,
+) -> Result<Made, Fault>
+    ensures made { IfOk result (λ it. MakesBraced (S.told store.now) asked.now bytes.now
+        (string_bytes it.written.text) it.aside.items it.written.reached) }
+    ensures cause { IfErr result (HasCause (IsNoneBraced asked.now.columns
+        asked.now.json_shapes.items asked.now.tool) bytes.now) }
+{
+    let range = json_part(bytes);
+    if is_report_object(alloc, &bytes[range.start..range.end])? {
+        make_object(alloc, object_form(asked.columns), asked, bytes, store)
+    } else {
+        make_values(alloc, asked, bytes, store)
     }
 }
 

@@ -43,7 +43,9 @@ pub(crate) fn open<I: Source>(alloc: Global, asked: &Asked, input: &mut I) -> Op
     match asked.from {
         InputForm::Auto => begin(alloc, asked, input),
         InputForm::Lines => Opening::Lines(Vec::new(alloc)),
-        InputForm::Document | InputForm::Sarif => Opening::Whole(Vec::new(alloc)),
+        InputForm::Document | InputForm::Sarif | InputForm::Json => {
+            Opening::Whole(Vec::new(alloc))
+        }
     }
 }
 

@@ -1,14 +1,15 @@
 // Several inputs, whose findings are written together.
-ghost use Rattle.std.specs.Prelude.{◌≡◌, ◌≤◌, IfErr, IfOk, OnOk, length, map};
+ghost use Rattle.std.specs.Prelude.{◌≡◌, ◌≤◌, IfErr, IfOk, OnOk, length, map, string_bytes};
 ghost use Rattle.std.specs.List.{suffix_len};
 ghost use Rattle.found_reports.specs.Files.{files_of};
 ghost use Rattle.girzohal_run.specs.Filtering.{with_line};
 ghost use Rattle.girzohal_run.specs.Finds.{IsFound};
-ghost use Rattle.girzohal_run.specs.Made.{Says};
+ghost use Rattle.girzohal_run.specs.Made.{IsFree, Says};
 ghost use Rattle.girzohal_run.specs.Run.{device, reads_lines as lines_read, texts_of};
 ghost use Rattle.girzohal_run.specs.Several.{AreFound, AreWritten, IsFirstRefused, SeveralMean};
-ghost use Rattle.girzohal_run.specs.Several.{IsNamed, IsRefused, WritesAll, WritesFound, aside_in};
-ghost use Rattle.girzohal_run.specs.Several.{finds_parts, found_in};
+ghost use Rattle.girzohal_run.specs.Several.{IsNamed, IsRefused, WritesAll};
+ghost use Rattle.girzohal_run.specs.Joined.{WritesFound, aside_in};
+ghost use Rattle.girzohal_run.specs.Joined.{finds_parts, found_in};
 ghost use Rattle.girzohal_run.specs.Several.{have_lines as lines_among, named_reason};
 ghost use Rattle.girzohal_run.specs.Several.{is_inner as is_inner_byte, reason_at as reason_begins};
 ghost use Rattle.girzohal_run.specs.Several.{reason_in as reason_behind};
@@ -100,7 +101,7 @@ fn reads_lines(from: InputForm, bytes: &[u8]) -> bool
             Begun::Object | Begun::OtherJson => false,
         },
         InputForm::Lines => true,
-        InputForm::Document | InputForm::Sarif => false,
+        InputForm::Document | InputForm::Sarif | InputForm::Json => false,
     }
 }
 
@@ -249,9 +250,15 @@ fn write_each(
 }
 
 /// What is made for an output.
-fn write_found(alloc: Global, asked: &Asked, notes: bool, finds: &[Finds]) -> Result<Made, Fault>
-    ensures { IfOk result (λ made. WritesFound asked.now notes (map finds_parts finds.now)
-        (texts_of made)) }
+pub(crate) fn write_found(
+    alloc: Global,
+    asked: &Asked,
+    notes: bool,
+    finds: &[Finds],
+) -> Result<Made, Fault>
+    ensures written { IfOk result (λ made. WritesFound asked.now notes (map finds_parts finds.now)
+        (string_bytes made.written.text) made.aside.items made.written.reached) }
+    ensures cause { IfErr result IsFree }
 {
     let found = joined(alloc, finds)?;
     let written = write_left(alloc, asked, found, notes)?;

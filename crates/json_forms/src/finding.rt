@@ -24,7 +24,7 @@ use std::alloc::{AllocError, Global};
 
 /// What is said beside a finding.
 #[derive(Drop)]
-pub enum Beside<'v> {
+pub enum Beside<'v, 't> {
     Said {
         kind: SideKind,
         place: Place<'v>,
@@ -33,12 +33,12 @@ pub enum Beside<'v> {
         primary: bool,
     },
     /// It isn't as its list wants it: left out, and reported.
-    Wrong(Spot<'v>, Fault<'v>),
+    Wrong(Spot<'v, 't>, Fault<'v>),
 }
 
 /// A finding.
 #[derive(Drop)]
-pub struct Finding<'v> {
+pub struct Finding<'v, 't> {
     pub place: Place<'v>,
     pub severity: Severity,
     pub scope: Option<&'v str>,
@@ -47,20 +47,20 @@ pub struct Finding<'v> {
     pub help: Option<&'v str>,
     pub note: Option<&'v str>,
     pub url: Option<&'v str>,
-    pub sides: Vec<Beside<'v>>,
+    pub sides: Vec<Beside<'v, 't>>,
 }
 
 /// What an element is.
 #[derive(Drop)]
-pub enum Outcome<'v> {
+pub enum Outcome<'v, 't> {
     /// It doesn't meet the conditions of its list.
     Left,
     /// What the tool says of its run; it is reported.
     Aside(&'v str),
     /// It is null; that is reported.
-    Null(Spot<'v>),
-    Found(Finding<'v>),
-    Refused(Spot<'v>, Fault<'v>),
+    Null(Spot<'v, 't>),
+    Found(Finding<'v, 't>),
+    Refused(Spot<'v, 't>, Fault<'v>),
 }
 
 fn is_among(keys: &[&str], key: &str) -> bool
@@ -76,7 +76,7 @@ fn is_among(keys: &[&str], key: &str) -> bool
 
 /// Where the part of a row isn't as it has to be.
 #[tactic(auto, unfolding(crate::specs::Finding::number_keys, crate::specs::Finding::text_keys))]
-fn fault_in<'f>(row: &'f Row<'f>, spot: &Spot<'_>) -> Option<Fault<'f>>
+fn fault_in<'f>(row: &'f Row<'f>, spot: &Spot<'_, '_>) -> Option<Fault<'f>>
     ensures { option_map fault_view result ≡ fault_under (spot_view spot.now) row.now }
 {
     match row {
@@ -94,7 +94,7 @@ fn fault_in<'f>(row: &'f Row<'f>, spot: &Spot<'_>) -> Option<Fault<'f>>
 }
 
 /// The first row that an element isn't as it wants.
-fn fault<'f>(rows: &'f [Row<'f>], spot: &Spot<'_>) -> Option<Fault<'f>>
+fn fault<'f>(rows: &'f [Row<'f>], spot: &Spot<'_, '_>) -> Option<Fault<'f>>
     ensures { option_map fault_view result ≡ wrong_in rows.now (spot_view spot.now) }
 {
     for row in rows {
@@ -106,7 +106,7 @@ fn fault<'f>(rows: &'f [Row<'f>], spot: &Spot<'_>) -> Option<Fault<'f>>
 }
 
 /// The message, or the code.
-fn message_at<'f, 'v>(rows: &'f [Row<'f>], spot: &Spot<'v>) -> Option<&'v str>
+fn message_at<'f, 'v, 't>(rows: &'f [Row<'f>], spot: &Spot<'v, 't>) -> Option<&'v str>
     ensures { option_map (λ text. text.now) result ≡ message_there rows.now (spot_view spot.now) }
 {
     match text_at(part(rows, MESSAGE), spot) {
@@ -125,7 +125,7 @@ fn is_true(said: Said<'_>) -> bool
 }
 
 /// Whether a label is a primary one.
-fn is_primary(paths: &[Path<'_>], spot: &Spot<'_>) -> bool
+fn is_primary(paths: &[Path<'_>], spot: &Spot<'_, '_>) -> bool
     ensures { result ≡ primary_at paths.now (spot_view spot.now) }
 {
     match paths {
@@ -134,7 +134,7 @@ fn is_primary(paths: &[Path<'_>], spot: &Spot<'_>) -> bool
     }
 }
 
-fn copy_of<'v>(alloc: Global, spot: &Spot<'v>) -> Result<Spot<'v>, AllocError>
+fn copy_of<'v, 't>(alloc: Global, spot: &Spot<'v, 't>) -> Result<Spot<'v, 't>, AllocError>
     ensures { IfOk result (λ it. spot_view it ≡ spot_view spot.now) }
 {
     Ok(Spot {
@@ -143,11 +143,11 @@ fn copy_of<'v>(alloc: Global, spot: &Spot<'v>) -> Result<Spot<'v>, AllocError>
     })
 }
 
-fn push_wrong<'v>(
+fn push_wrong<'v, 't>(
     alloc: Global,
-    spot: &Spot<'v>,
+    spot: &Spot<'v, 't>,
     fault: Fault<'v>,
-    found: &mut Vec<Beside<'v>>,
+    found: &mut Vec<Beside<'v, 't>>,
 ) -> Result<(), AllocError>
     ensures { OnOk result (map beside_view found.new.items ≡ map beside_view found.old.items
         ++ wrong_there (spot_view spot.now) (fault_view fault.entry)) }
@@ -158,11 +158,11 @@ fn push_wrong<'v>(
 
 /// Adds what an element of a side is.
 #[tactic(auto, unfolding(crate::specs::Finding::beside_at))]
-fn push_beside<'v>(
+fn push_beside<'v, 't>(
     alloc: Global,
     side: &'v Side<'v>,
-    reached: &Reached<'v>,
-    found: &mut Vec<Beside<'v>>,
+    reached: &Reached<'v, 't>,
+    found: &mut Vec<Beside<'v, 't>>,
 ) -> Result<(), AllocError>
     ensures { OnOk result (map beside_view found.new.items ≡ map beside_view found.old.items
         ++ beside_there side.now (reached_view reached.now)) }
@@ -193,11 +193,11 @@ fn push_beside<'v>(
 }
 
 /// Adds the elements of a side.
-fn push_side<'v>(
+fn push_side<'v, 't>(
     alloc: Global,
     side: &'v Side<'v>,
-    spot: &Spot<'v>,
-    found: &mut Vec<Beside<'v>>,
+    spot: &Spot<'v, 't>,
+    found: &mut Vec<Beside<'v, 't>>,
 ) -> Result<(), AllocError>
     ensures { OnOk result (map beside_view found.new.items ≡ map beside_view found.old.items
         ++ besides side.now (spot_view spot.now)) }
@@ -210,11 +210,11 @@ fn push_side<'v>(
     Ok(())
 }
 
-fn sides<'v>(
+fn sides<'v, 't>(
     alloc: Global,
     list: &'v [Side<'v>],
-    spot: &Spot<'v>,
-) -> Result<Vec<Beside<'v>>, AllocError>
+    spot: &Spot<'v, 't>,
+) -> Result<Vec<Beside<'v, 't>>, AllocError>
     ensures { IfOk result (λ it. map beside_view it.items
         ≡ sides_there list.now (spot_view spot.now)) }
 {
@@ -227,12 +227,12 @@ fn sides<'v>(
 
 /// What an element says.
 #[tactic(auto, unfolding(crate::specs::Finding::finding_of))]
-fn read_finding<'v>(
+fn read_finding<'v, 't>(
     alloc: Global,
     list: &'v List<'v>,
-    spot: &Spot<'v>,
+    spot: &Spot<'v, 't>,
     message: &'v str,
-) -> Result<Finding<'v>, AllocError>
+) -> Result<Finding<'v, 't>, AllocError>
     ensures { IfOk result (λ it. finding_view it
         ≡ finding_of list.now (spot_view spot.now) message.now) }
 {
@@ -251,7 +251,7 @@ fn read_finding<'v>(
     })
 }
 
-fn refused<'v>(alloc: Global, spot: &Spot<'v>, fault: Fault<'v>) -> Result<Outcome<'v>, AllocError>
+fn refused<'v, 't>(alloc: Global, spot: &Spot<'v, 't>, fault: Fault<'v>) -> Result<Outcome<'v, 't>, AllocError>
     ensures { IfOk result (λ it. outcome_view it
         ≡ refused_at (spot_view spot.now) (fault_view fault.entry)) }
 {
@@ -259,11 +259,11 @@ fn refused<'v>(alloc: Global, spot: &Spot<'v>, fault: Fault<'v>) -> Result<Outco
 }
 
 /// What an element that is there is.
-fn read_element<'v>(
+fn read_element<'v, 't>(
     alloc: Global,
     list: &'v List<'v>,
-    spot: &Spot<'v>,
-) -> Result<Outcome<'v>, AllocError>
+    spot: &Spot<'v, 't>,
+) -> Result<Outcome<'v, 't>, AllocError>
     ensures { IfOk result (λ it. outcome_view it ≡ element list.now (spot_view spot.now)) }
 {
     if !all_hold(&list.rows, spot) {
@@ -288,11 +288,11 @@ fn read_element<'v>(
 ///
 /// Out of memory.
 #[tactic(auto, unfolding(crate::specs::Finding::outcome_of))]
-pub(crate) fn read_outcome<'v>(
+pub(crate) fn read_outcome<'v, 't>(
     alloc: Global,
     list: &'v List<'v>,
-    reached: &Reached<'v>,
-) -> Result<Outcome<'v>, AllocError>
+    reached: &Reached<'v, 't>,
+) -> Result<Outcome<'v, 't>, AllocError>
     ensures { IfOk result (λ it. outcome_view it ≡ outcome_of list.now (reached_view reached.now)) }
 {
     let spot = &reached.spot;

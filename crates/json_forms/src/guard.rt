@@ -64,7 +64,7 @@ fn is_given(said: Said<'_>) -> bool
 
 /// Whether a guard holds at an element.
 #[tactic(auto, unfolding(crate::specs::Guard::holds))]
-fn holds(guard: &Guard<'_>, spot: &Spot<'_>) -> bool
+fn holds(guard: &Guard<'_>, spot: &Spot<'_, '_>) -> bool
     ensures { result ≡ holds_at guard.now (spot_view spot.now) }
 {
     let said = said_at(&guard.path, spot);
@@ -79,7 +79,7 @@ fn holds(guard: &Guard<'_>, spot: &Spot<'_>) -> bool
     }
 }
 
-fn lets_through(row: &Row<'_>, spot: &Spot<'_>) -> bool
+fn lets_through(row: &Row<'_>, spot: &Spot<'_, '_>) -> bool
     ensures { result ≡ through (spot_view spot.now) row.now }
 {
     match row {
@@ -88,7 +88,7 @@ fn lets_through(row: &Row<'_>, spot: &Spot<'_>) -> bool
     }
 }
 
-fn stops(row: &Row<'_>, spot: &Spot<'_>) -> bool
+fn stops(row: &Row<'_>, spot: &Spot<'_, '_>) -> bool
     ensures { result ≡ stops_at (spot_view spot.now) row.now }
 {
     match row {
@@ -98,7 +98,7 @@ fn stops(row: &Row<'_>, spot: &Spot<'_>) -> bool
 }
 
 /// Whether an element meets each condition without which there is no finding.
-pub(crate) fn all_hold(rows: &[Row<'_>], spot: &Spot<'_>) -> bool
+pub(crate) fn all_hold(rows: &[Row<'_>], spot: &Spot<'_, '_>) -> bool
     ensures { result ≡ all_hold_at rows.now (spot_view spot.now) }
 {
     for row in rows {
@@ -110,7 +110,7 @@ pub(crate) fn all_hold(rows: &[Row<'_>], spot: &Spot<'_>) -> bool
 }
 
 /// Whether an element meets a condition with which it is reported and is no finding.
-pub(crate) fn any_holds(rows: &[Row<'_>], spot: &Spot<'_>) -> bool
+pub(crate) fn any_holds(rows: &[Row<'_>], spot: &Spot<'_, '_>) -> bool
     ensures { result ≡ any_holds_at rows.now (spot_view spot.now) }
 {
     for row in rows {

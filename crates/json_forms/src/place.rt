@@ -179,7 +179,7 @@ fn first<'f>(rows: &'f [Row<'f>], key: &str, from_zero: &str) -> usize
 }
 
 #[tactic(auto, unfolding(crate::specs::Place::figures_at))]
-fn read_figures<'f>(rows: &'f [Row<'f>], spot: &Spot<'_>) -> Figures
+fn read_figures<'f>(rows: &'f [Row<'f>], spot: &Spot<'_, '_>) -> Figures
     ensures { result ≡ figures_at rows.now (spot_view spot.now) }
 {
     Figures {
@@ -198,7 +198,7 @@ fn read_figures<'f>(rows: &'f [Row<'f>], spot: &Spot<'_>) -> Figures
 
 /// The place of an element.
 #[tactic(auto, unfolding(crate::specs::Place::place_at))]
-pub(crate) fn read_place<'f, 'v>(rows: &'f [Row<'f>], spot: &Spot<'v>) -> Place<'v>
+pub(crate) fn read_place<'f, 'v, 't>(rows: &'f [Row<'f>], spot: &Spot<'v, 't>) -> Place<'v>
     ensures { place_view result ≡ place_at rows.now (spot_view spot.now) }
 {
     let figures = read_figures(rows, spot);

@@ -19,29 +19,29 @@ use std::alloc::{AllocError, Global};
 
 /// What is reported, and is no finding.
 #[derive(Drop)]
-pub enum Aside<'v> {
+pub enum Aside<'v, 't> {
     /// What the tool says of its run.
     Said(&'v str),
     /// An element that is null.
-    Null(Spot<'v>),
+    Null(Spot<'v, 't>),
 }
 
 /// What a value says.
 #[derive(Drop)]
-pub struct Reading<'v> {
-    pub found: Vec<Finding<'v>>,
-    pub aside: Vec<Aside<'v>>,
+pub struct Reading<'v, 't> {
+    pub found: Vec<Finding<'v, 't>>,
+    pub aside: Vec<Aside<'v, 't>>,
 }
 
 /// Why a value isn't read.
 #[derive(Drop)]
-pub enum ReadError<'v> {
+pub enum ReadError<'v, 't> {
     /// Where it isn't as its form wants it.
-    Refused(Spot<'v>, Fault<'v>),
+    Refused(Spot<'v, 't>, Fault<'v>),
     OutOfMemory,
 }
 
-impl From<AllocError> for ReadError<'_> {
+impl From<AllocError> for ReadError<'_, '_> {
     ghost use Rattle.json_forms.specs.declared.read.ReadError.TheVariants.{OutOfMemory};
     ghost use Rattle.std.specs.Prelude.{◌≡◌};
 
@@ -53,7 +53,7 @@ impl From<AllocError> for ReadError<'_> {
 }
 
 #[tactic(auto, unfolding(crate::specs::Read::taken))]
-fn push_aside<'v>(reading: &mut Reading<'v>, text: &'v str) -> Result<(), AllocError>
+fn push_aside<'v, 't>(reading: &mut Reading<'v, 't>, text: &'v str) -> Result<(), AllocError>
     ensures { OnOk result (reading_view reading.new ≡ taken (reading_view reading.old)
         (outcome_list (aside_text text.now))) }
 {
@@ -62,7 +62,7 @@ fn push_aside<'v>(reading: &mut Reading<'v>, text: &'v str) -> Result<(), AllocE
 }
 
 #[tactic(auto, unfolding(crate::specs::Read::taken))]
-fn push_null<'v>(reading: &mut Reading<'v>, spot: Spot<'v>) -> Result<(), AllocError>
+fn push_null<'v, 't>(reading: &mut Reading<'v, 't>, spot: Spot<'v, 't>) -> Result<(), AllocError>
     ensures { OnOk result (reading_view reading.new ≡ taken (reading_view reading.old)
         (outcome_list (null_at (spot_view spot.entry)))) }
 {
@@ -71,7 +71,7 @@ fn push_null<'v>(reading: &mut Reading<'v>, spot: Spot<'v>) -> Result<(), AllocE
 }
 
 #[tactic(auto, unfolding(crate::specs::Read::taken))]
-fn push_found<'v>(reading: &mut Reading<'v>, finding: Finding<'v>) -> Result<(), AllocError>
+fn push_found<'v, 't>(reading: &mut Reading<'v, 't>, finding: Finding<'v, 't>) -> Result<(), AllocError>
     ensures { OnOk result (reading_view reading.new ≡ taken (reading_view reading.old)
         (outcome_list (found_finding (finding_view finding.entry)))) }
 {
@@ -81,7 +81,7 @@ fn push_found<'v>(reading: &mut Reading<'v>, finding: Finding<'v>) -> Result<(),
 
 /// One more outcome.
 #[tactic(auto, using(crate::proofs::ReadLemmas::taken_left))]
-fn take<'v>(reading: &mut Reading<'v>, outcome: Outcome<'v>) -> Result<(), ReadError<'v>>
+fn take<'v, 't>(reading: &mut Reading<'v, 't>, outcome: Outcome<'v, 't>) -> Result<(), ReadError<'v, 't>>
     ensures ok { OnOk result (reading_view reading.new ≡ taken (reading_view reading.old)
         (outcome_list (outcome_view outcome.entry))) }
     ensures none { OnOk result (first_refusal (outcome_list (outcome_view outcome.entry)) ≡ None) }
@@ -99,12 +99,12 @@ fn take<'v>(reading: &mut Reading<'v>, outcome: Outcome<'v>) -> Result<(), ReadE
 
 /// The outcomes of a list.
 #[tactic(auto, unfolding(crate::specs::Read::outcomes_in, crate::specs::Read::taken))]
-fn take_list<'v>(
+fn take_list<'v, 't>(
     alloc: Global,
     list: &'v List<'v>,
-    value: &'v Value<'v>,
-    reading: &mut Reading<'v>,
-) -> Result<(), ReadError<'v>>
+    value: &'v Value<'t>,
+    reading: &mut Reading<'v, 't>,
+) -> Result<(), ReadError<'v, 't>>
     ensures ok { OnOk result (reading_view reading.new ≡ taken (reading_view reading.old)
         (outcomes_in list.now (value_view value.now))) }
     ensures none { OnOk result (first_refusal (outcomes_in list.now (value_view value.now))
@@ -125,12 +125,12 @@ fn take_list<'v>(
 
 /// The outcomes of lists.
 #[tactic(auto, using(crate::proofs::ReadLemmas::taken_append, crate::proofs::ReadLemmas::refusal_append, crate::proofs::ReadLemmas::taken_of_none))]
-fn take_lists<'v>(
+fn take_lists<'v, 't>(
     alloc: Global,
     lists: &'v [List<'v>],
-    value: &'v Value<'v>,
-    reading: &mut Reading<'v>,
-) -> Result<(), ReadError<'v>>
+    value: &'v Value<'t>,
+    reading: &mut Reading<'v, 't>,
+) -> Result<(), ReadError<'v, 't>>
     ensures ok { OnOk result (reading_view reading.new ≡ taken (reading_view reading.old)
         (outcomes_of lists.now (value_view value.now))) }
     ensures none { OnOk result (first_refusal (outcomes_of lists.now (value_view value.now))
@@ -154,11 +154,11 @@ fn take_lists<'v>(
 /// [`ReadError`]: the first refusal, in the order of the lists and then of their elements. Out of
 /// memory may come instead.
 #[tactic(auto, using(crate::proofs::CountLemmas::each_once, crate::proofs::OrderLemmas::order_free))]
-pub fn read_value<'v>(
+pub fn read_value<'v, 't>(
     alloc: Global,
     form: &'v Form<'v>,
-    value: &'v Value<'v>,
-) -> Result<Reading<'v>, ReadError<'v>>
+    value: &'v Value<'t>,
+) -> Result<Reading<'v, 't>, ReadError<'v, 't>>
     ensures ok { IfOk result (λ it. reading_view it ≡ taken nothing_read
         (outcomes_of form.now.lists.items (value_view value.now))) }
     ensures each_once { IfOk result (λ it. length it.found.items + length it.aside.items

@@ -63,7 +63,7 @@ fn push_by(out: &mut String, by: By<'_>) -> Result<(), AllocError>
 }
 
 /// Appends the way to a value, from the outside in.
-fn push_trail(out: &mut String, crumbs: &[Crumb<'_>]) -> Result<(), AllocError>
+fn push_trail(out: &mut String, crumbs: &[Crumb<'_, '_>]) -> Result<(), AllocError>
     ensures { OnOk result (string_bytes out.new
         ≡ string_bytes out.old ++ trail_text (crumbs_view crumbs.now)) }
 {
@@ -95,7 +95,7 @@ fn push_steps(out: &mut String, steps: &[Step<'_>]) -> Result<(), AllocError>
 }
 
 /// Appends the way to the value that is `up` values out from a spot.
-fn push_spot(out: &mut String, spot: &Spot<'_>, up: usize) -> Result<(), AllocError>
+fn push_spot(out: &mut String, spot: &Spot<'_, '_>, up: usize) -> Result<(), AllocError>
     ensures { OnOk result (string_bytes out.new
         ≡ string_bytes out.old ++ spot_text (spot_view spot.now) up) }
 {
@@ -118,7 +118,7 @@ fn push_spot(out: &mut String, spot: &Spot<'_>, up: usize) -> Result<(), AllocEr
 ///
 /// Out of memory.
 #[tactic(auto, unfolding(crate::specs::Refusal::refusal_text))]
-pub fn push_refusal(out: &mut String, spot: &Spot<'_>, fault: Fault<'_>) -> Result<(), AllocError>
+pub fn push_refusal(out: &mut String, spot: &Spot<'_, '_>, fault: Fault<'_>) -> Result<(), AllocError>
     ensures { OnOk result (string_bytes out.new ≡ string_bytes out.old
         ++ refusal_text (spot_view spot.now) (fault_view fault.entry)) }
 {

@@ -22,7 +22,7 @@ pub struct Fault<'f> {
 }
 
 /// The first of some paths that leads to something.
-fn pick<'f>(paths: &'f [Path<'f>], spot: &Spot<'_>) -> Option<&'f Path<'f>>
+fn pick<'f>(paths: &'f [Path<'f>], spot: &Spot<'_, '_>) -> Option<&'f Path<'f>>
     ensures { option_copied result ≡ first_that_says paths.now (spot_view spot.now) }
 {
     for path in paths {
@@ -73,7 +73,7 @@ fn read_whole(text: &str) -> Whole
 
 /// Where the text of a part should be, and isn't.
 #[tactic(auto, unfolding(crate::specs::Said::text_fault))]
-pub(crate) fn text_fault<'f>(paths: &'f [Path<'f>], spot: &Spot<'_>) -> Option<Fault<'f>>
+pub(crate) fn text_fault<'f>(paths: &'f [Path<'f>], spot: &Spot<'_, '_>) -> Option<Fault<'f>>
     ensures { option_map fault_view result ≡ text_wrong paths.now (spot_view spot.now) }
 {
     let path = pick(paths, spot)?;
@@ -88,7 +88,7 @@ pub(crate) fn text_fault<'f>(paths: &'f [Path<'f>], spot: &Spot<'_>) -> Option<F
 
 /// The text of a part.
 #[tactic(auto, unfolding(crate::specs::Said::text_at))]
-pub(crate) fn text_at<'f, 'v>(paths: &'f [Path<'f>], spot: &Spot<'v>) -> Option<&'v str>
+pub(crate) fn text_at<'f, 'v, 't>(paths: &'f [Path<'f>], spot: &Spot<'v, 't>) -> Option<&'v str>
     ensures { option_map (λ text. text.now) result ≡ text_there paths.now (spot_view spot.now) }
 {
     let path = pick(paths, spot)?;
@@ -100,7 +100,7 @@ pub(crate) fn text_at<'f, 'v>(paths: &'f [Path<'f>], spot: &Spot<'v>) -> Option<
 
 /// Where the number of a part should be, and isn't.
 #[tactic(auto, unfolding(crate::specs::Said::number_fault))]
-pub(crate) fn number_fault<'f>(paths: &'f [Path<'f>], spot: &Spot<'_>) -> Option<Fault<'f>>
+pub(crate) fn number_fault<'f>(paths: &'f [Path<'f>], spot: &Spot<'_, '_>) -> Option<Fault<'f>>
     ensures { option_map fault_view result ≡ number_wrong paths.now (spot_view spot.now) }
 {
     let path = pick(paths, spot)?;
@@ -124,7 +124,7 @@ fn number_said(said: Said<'_>) -> Whole
 
 /// The number of a part.
 #[tactic(auto, unfolding(crate::specs::Said::number_at))]
-pub(crate) fn number_at<'f>(paths: &'f [Path<'f>], spot: &Spot<'_>) -> Option<u32>
+pub(crate) fn number_at<'f>(paths: &'f [Path<'f>], spot: &Spot<'_, '_>) -> Option<u32>
     ensures { result ≡ number_there paths.now (spot_view spot.now) }
 {
     let path = pick(paths, spot)?;

@@ -145,7 +145,7 @@ fn default_severity(rows: &[Row<'_>]) -> Severity
 
 /// How severe an element's finding is: by the list's own words, then by those of all; a word that
 /// neither has is an error. Without a word the list's default counts, else it is an error.
-pub(crate) fn severity<'f>(rows: &'f [Row<'f>], spot: &Spot<'_>) -> Severity
+pub(crate) fn severity<'f>(rows: &'f [Row<'f>], spot: &Spot<'_, '_>) -> Severity
     ensures { result ≡ severity_of rows.now (spot_view spot.now) }
 {
     match text_at(part(rows, SEVERITY), spot) {

@@ -22,6 +22,17 @@ pub struct Forms<'t> {
     pub tool: Option<&'t str>,
 }
 
+impl<'t> Forms<'t> {
+    ghost use Rattle.std.specs.Prelude.{◌≡◌};
+
+    /// The same forms, with texts that live as long as they are lent.
+    pub fn lent<'l>(&'l self) -> &'l Forms<'l>
+        ensures { result.now ≡ self.now }
+    {
+        self
+    }
+}
+
 /// The forms that a value has.
 #[derive(Clone, Copy)]
 pub enum Told<'f> {

@@ -15,7 +15,7 @@ use json_spots::{By, Crumb, Spot, Wanted};
 use std::alloc::{AllocError, Global};
 
 /// The refusal of a whole value.
-fn refuse<'v>(alloc: Global, value: &'v Value<'v>, wanted: Wanted) -> ReadError<'v>
+fn refuse<'v, 't>(alloc: Global, value: &'v Value<'t>, wanted: Wanted) -> ReadError<'v, 't>
     ensures { refusal_view result ≡ Some (whole_refusal (value_view value.now) wanted) }
 {
     let by = By::Root;
@@ -24,7 +24,7 @@ fn refuse<'v>(alloc: Global, value: &'v Value<'v>, wanted: Wanted) -> ReadError<
     ReadError::Refused(Spot { here, outer }, Fault { path: None, wanted })
 }
 
-fn nothing<'v>(alloc: Global) -> Reading<'v>
+fn nothing<'v, 't>(alloc: Global) -> Reading<'v, 't>
     ensures { reading_view result ≡ nothing_read }
 {
     Reading {
@@ -41,11 +41,11 @@ fn nothing<'v>(alloc: Global) -> Reading<'v>
 /// [`ReadError`]: that the value has no form, or two; or the first refusal. Out of memory may come
 /// instead.
 #[tactic(auto, unfolding(crate::specs::Values::answers), using(crate::proofs::ValueLemmas::two_refused, crate::proofs::ReadLemmas::taken_none))]
-pub fn read_told<'v>(
+pub fn read_told<'v, 't>(
     alloc: Global,
     forms: &'v Forms<'v>,
-    value: &'v Value<'v>,
-) -> Result<Reading<'v>, ReadError<'v>>
+    value: &'v Value<'t>,
+) -> Result<Reading<'v, 't>, ReadError<'v, 't>>
     ensures ok { IfOk result (λ it. reading_view it ≡ reading_of forms.now (value_view value.now)) }
     ensures none { OnOk result (first_refusal (answers forms.now (value_view value.now)) ≡ None) }
     ensures err { IfErr result (λ e. IfSome (refusal_view e) (λ it.
@@ -64,7 +64,7 @@ pub fn read_told<'v>(
     }
 }
 
-fn keep<'v>(readings: &mut Vec<Reading<'v>>, reading: Reading<'v>) -> Result<(), AllocError>
+fn keep<'v, 't>(readings: &mut Vec<Reading<'v, 't>>, reading: Reading<'v, 't>) -> Result<(), AllocError>
     ensures { OnOk result (map reading_view readings.new.items
         ≡ map reading_view readings.old.items ++ one_reading (reading_view reading.entry)) }
 {
@@ -74,12 +74,12 @@ fn keep<'v>(readings: &mut Vec<Reading<'v>>, reading: Reading<'v>) -> Result<(),
 
 /// Adds the readings of values.
 #[tactic(auto, using(crate::proofs::ValueLemmas::none_before))]
-fn read_all<'v>(
+fn read_all<'v, 't>(
     alloc: Global,
     forms: &'v Forms<'v>,
-    values: &'v [Value<'v>],
-    readings: &mut Vec<Reading<'v>>,
-) -> Result<(), ReadError<'v>>
+    values: &'v [Value<'t>],
+    readings: &mut Vec<Reading<'v, 't>>,
+) -> Result<(), ReadError<'v, 't>>
     ensures ok { OnOk result (map reading_view readings.new.items
         ≡ map reading_view readings.old.items
         ++ map (reading_of forms.now) (map value_view values.now)) }
@@ -104,12 +104,12 @@ fn read_all<'v>(
 ///
 /// [`ReadError`]: the first refusal, in the order of the values. Then the readings of those before
 /// it were added, so their number says which value is refused. Out of memory may come instead.
-pub fn read_values<'v>(
+pub fn read_values<'v, 't>(
     alloc: Global,
     forms: &'v Forms<'v>,
-    values: &'v [Value<'v>],
-    readings: &mut Vec<Reading<'v>>,
-) -> Result<(), ReadError<'v>>
+    values: &'v [Value<'t>],
+    readings: &mut Vec<Reading<'v, 't>>,
+) -> Result<(), ReadError<'v, 't>>
     ensures ok { OnOk result (map reading_view readings.new.items
         ≡ map reading_view readings.old.items
         ++ map (reading_of forms.now) (map value_view values.now)) }

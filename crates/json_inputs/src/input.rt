@@ -17,8 +17,8 @@ use std::alloc::{AllocError, Global};
 
 /// What the values of an input say.
 #[derive(Drop)]
-pub struct Said<'v> {
-    pub findings: Vec<Finding<'v>>,
+pub struct Said<'v, 't> {
+    pub findings: Vec<Finding<'v, 't>>,
     /// The lines for standard error.
     pub told: String,
 }
@@ -30,12 +30,12 @@ pub struct Said<'v> {
 ///
 /// [`InputError`]: the first refusal, in the order of the values. Out of memory may come instead.
 #[tactic(auto, unfolding(crate::specs::Input::said_in, crate::specs::Input::first_refused))]
-pub fn read_input<'v>(
+pub fn read_input<'v, 't>(
     alloc: Global,
     forms: &'v Forms<'v>,
     rows: &[usize],
-    values: &'v [Value<'v>],
-) -> Result<Said<'v>, InputError>
+    values: &'v [Value<'t>],
+) -> Result<Said<'v, 't>, InputError>
     ensures said { IfOk result (λ it. said_view it
         ≡ said_in forms.now rows.now (map value_view values.now)) }
     ensures none { OnOk result (first_refused forms.now rows.now (map value_view values.now)
@@ -72,12 +72,12 @@ fn after_first(rows: &[usize]) -> &[usize]
 }
 
 /// Adds what a value says.
-fn push_value<'v>(
+fn push_value<'v, 't>(
     alloc: Global,
     forms: &'v Forms<'v>,
     row: Option<usize>,
-    value: &'v Value<'v>,
-    said: &mut Said<'v>,
+    value: &'v Value<'t>,
+    said: &mut Said<'v, 't>,
 ) -> Result<(), InputError>
     ensures said { OnOk result (said_view said.new
         ≡ with_said (said_view said.old) (value_said forms.now row (value_view value.now))) }
@@ -95,11 +95,11 @@ fn push_value<'v>(
 }
 
 /// Adds a reading.
-fn keep<'v>(
+fn keep<'v, 't>(
     alloc: Global,
     row: Option<usize>,
-    reading: Reading<'v>,
-    said: &mut Said<'v>,
+    reading: Reading<'v, 't>,
+    said: &mut Said<'v, 't>,
 ) -> Result<(), AllocError>
     ensures { OnOk result (said_view said.new
         ≡ with_said (said_view said.old) (reading_said row (reading_view reading.entry))) }

@@ -22,7 +22,7 @@ pub(crate) fn refusal(
     forms: &Forms<'_>,
     row: Option<usize>,
     value: &Value<'_>,
-    spot: &Spot<'_>,
+    spot: &Spot<'_, '_>,
     fault: Fault<'_>,
 ) -> InputError
     ensures { SaysRefused (IsRefusalLine (record {
@@ -39,7 +39,7 @@ pub(crate) fn refusal(
 fn refusal_with(
     alloc: Global,
     row: Option<usize>,
-    spot: &Spot<'_>,
+    spot: &Spot<'_, '_>,
     fault: Fault<'_>,
     hint: &str,
 ) -> InputError
@@ -59,7 +59,7 @@ fn push_line(
     alloc: Global,
     line: &mut String,
     row: Option<usize>,
-    spot: &Spot<'_>,
+    spot: &Spot<'_, '_>,
     fault: Fault<'_>,
     hint: &str,
 ) -> Result<(), AllocError>

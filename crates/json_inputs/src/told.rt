@@ -27,7 +27,7 @@ pub(crate) fn push_head(out: &mut String, row: Option<usize>) -> Result<(), Allo
 pub(crate) fn push_refused(
     alloc: Global,
     out: &mut String,
-    spot: &Spot<'_>,
+    spot: &Spot<'_, '_>,
     fault: Fault<'_>,
 ) -> Result<(), AllocError>
     ensures { OnOk result (string_bytes out.new ≡ string_bytes out.old
@@ -44,7 +44,7 @@ fn push_skipped(
     alloc: Global,
     out: &mut String,
     row: Option<usize>,
-    spot: &Spot<'_>,
+    spot: &Spot<'_, '_>,
     fault: Fault<'_>,
 ) -> Result<(), AllocError>
     ensures { OnOk result (string_bytes out.new ≡ string_bytes out.old
@@ -60,7 +60,7 @@ fn push_aside(
     alloc: Global,
     out: &mut String,
     row: Option<usize>,
-    aside: &Aside<'_>,
+    aside: &Aside<'_, '_>,
 ) -> Result<(), AllocError>
     ensures { OnOk result (string_bytes out.new ≡ string_bytes out.old
         ++ aside_line row (aside_view aside.now)) }
@@ -83,7 +83,7 @@ fn push_beside(
     alloc: Global,
     out: &mut String,
     row: Option<usize>,
-    side: &Beside<'_>,
+    side: &Beside<'_, '_>,
 ) -> Result<(), AllocError>
     ensures { OnOk result (string_bytes out.new ≡ string_bytes out.old
         ++ beside_line row (beside_view side.now)) }
@@ -98,7 +98,7 @@ fn push_sides(
     alloc: Global,
     out: &mut String,
     row: Option<usize>,
-    mut sides: &[Beside<'_>],
+    mut sides: &[Beside<'_, '_>],
 ) -> Result<(), AllocError>
     ensures { OnOk result (string_bytes out.new ≡ string_bytes out.old
         ++ flat_map (beside_line row) (map beside_view sides.entry.now)) }
@@ -114,7 +114,7 @@ fn push_findings(
     alloc: Global,
     out: &mut String,
     row: Option<usize>,
-    mut findings: &[Finding<'_>],
+    mut findings: &[Finding<'_, '_>],
 ) -> Result<(), AllocError>
     ensures { OnOk result (string_bytes out.new ≡ string_bytes out.old
         ++ flat_map (finding_lines row) (map finding_view findings.entry.now)) }
@@ -130,7 +130,7 @@ fn push_asides(
     alloc: Global,
     out: &mut String,
     row: Option<usize>,
-    mut asides: &[Aside<'_>],
+    mut asides: &[Aside<'_, '_>],
 ) -> Result<(), AllocError>
     ensures { OnOk result (string_bytes out.new ≡ string_bytes out.old
         ++ asides_text row (map aside_view asides.entry.now)) }
@@ -148,7 +148,7 @@ pub(crate) fn push_told(
     alloc: Global,
     out: &mut String,
     row: Option<usize>,
-    reading: &Reading<'_>,
+    reading: &Reading<'_, '_>,
 ) -> Result<(), AllocError>
     ensures { OnOk result (string_bytes out.new ≡ string_bytes out.old
         ++ told_of row (reading_view reading.now)) }

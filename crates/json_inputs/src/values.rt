@@ -28,6 +28,7 @@ pub fn values_of<'t>(
     requires cut { IsCut bytes.now 0 cut.now.pieces.items cut.now.unclosed }
     requires json { cut.now.json.items ≡ array_text bytes.now cut.now.pieces.items }
     ensures values { IfOk result (λ all. AreValues bytes.now (drop 1 (map value_view all.items))) }
+    ensures closed { OnOk result (cut.now.unclosed ≡ None) }
     ensures cause { IfErr result (SaysRefused (IsNoJson bytes.now)) }
 {
     if let Some(start) = cut.unclosed {

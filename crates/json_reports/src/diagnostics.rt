@@ -29,7 +29,7 @@ fn filled<'v>(text: Option<&'v str>) -> Option<&'v str>
 fn with_code(
     alloc: Global,
     diagnostic: OxcDiagnostic,
-    finding: &Finding<'_>,
+    finding: &Finding<'_, '_>,
 ) -> Result<OxcDiagnostic, AllocError>
     requires { diagnostic.code ≡ record { scope = None; number = None } }
     ensures { IfOk result (λ it. it
@@ -97,7 +97,7 @@ fn with_url(
 #[tactic(auto, unfolding(crate::specs::Reports::diagnostic_of))]
 pub(crate) fn diagnostic(
     alloc: Global,
-    finding: &Finding<'_>,
+    finding: &Finding<'_, '_>,
     labels: Vec<LabeledSpan>,
 ) -> Result<OxcDiagnostic, AllocError>
     ensures { IfOk result (λ it. it ≡ diagnostic_of (finding_view finding.now) labels.items) }

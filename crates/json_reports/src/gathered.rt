@@ -47,7 +47,7 @@ use std::ops::Range;
 /// Out of memory, and nothing else.
 pub fn reports_of<'s>(
     alloc: Global,
-    findings: &[Finding<'_>],
+    findings: &[Finding<'_, '_>],
     sources: &'s IndexedSources,
 ) -> Result<FoundReports<'s>, AllocError>
     ensures found { IfOk result (λ it. it.found
@@ -67,7 +67,7 @@ pub fn reports_of<'s>(
 /// Out of memory, and nothing else.
 pub fn reports_with<'s>(
     alloc: Global,
-    findings: &[Finding<'_>],
+    findings: &[Finding<'_, '_>],
     sources: &'s IndexedSources,
     more: FoundReports<'s>,
 ) -> Result<FoundReports<'s>, AllocError>
@@ -132,7 +132,7 @@ impl<'s> Gathered<'s> {
         &mut self,
         alloc: Global,
         sources: &'s IndexedSources,
-        mut findings: &[Finding<'_>],
+        mut findings: &[Finding<'_, '_>],
     ) -> Result<(), AllocError>
         requires texts { AreTexts self.old.texts.items self.old.found.files }
         requires told { AreTold (held_in sources.now.entries.items) self.old.found.files }
@@ -157,7 +157,7 @@ impl<'s> Gathered<'s> {
         &mut self,
         alloc: Global,
         sources: &'s IndexedSources,
-        finding: &Finding<'_>,
+        finding: &Finding<'_, '_>,
     ) -> Result<(), AllocError>
         requires texts { AreTexts self.old.texts.items self.old.found.files }
         requires told { AreTold (held_in sources.now.entries.items) self.old.found.files }
@@ -229,7 +229,7 @@ impl<'s> Gathered<'s> {
         &mut self,
         alloc: Global,
         file: usize,
-        finding: &Finding<'_>,
+        finding: &Finding<'_, '_>,
     ) -> Result<(), AllocError>
         requires texts { AreTexts self.old.texts.items self.old.found.files }
         requires file { file < length self.old.found.files }
@@ -254,7 +254,7 @@ impl<'s> Gathered<'s> {
         &self,
         alloc: Global,
         file: usize,
-        finding: &Finding<'_>,
+        finding: &Finding<'_, '_>,
         text: Option<&str>,
         span: &Option<Range<usize>>,
     ) -> Result<Vec<LabeledSpan>, AllocError>
@@ -282,12 +282,12 @@ impl<'s> Gathered<'s> {
     }
 
     /// What the first label with a text over this span says.
-    fn text_over<'v>(
+    fn text_over<'v, 't>(
         &self,
         file: usize,
         name: &str,
         head: &Range<usize>,
-        sides: &[Beside<'v>],
+        sides: &[Beside<'v, 't>],
     ) -> Option<&'v str>
         requires texts { AreTexts self.now.texts.items self.now.found.files }
         requires file { file < length self.now.found.files }
@@ -302,12 +302,12 @@ impl<'s> Gathered<'s> {
         None
     }
 
-    fn text_at<'v>(
+    fn text_at<'v, 't>(
         &self,
         file: usize,
         name: &str,
         head: &Range<usize>,
-        side: &Beside<'v>,
+        side: &Beside<'v, 't>,
     ) -> Option<&'v str>
         requires texts { AreTexts self.now.texts.items self.now.found.files }
         requires file { file < length self.now.found.files }
@@ -344,7 +344,7 @@ impl<'s> Gathered<'s> {
         file: usize,
         name: &str,
         head: &Range<usize>,
-        mut sides: &[Beside<'_>],
+        mut sides: &[Beside<'_, '_>],
         labels: &mut Vec<LabeledSpan>,
     ) -> Result<(), AllocError>
         requires texts { AreTexts self.now.texts.items self.now.found.files }
@@ -370,7 +370,7 @@ impl<'s> Gathered<'s> {
         file: usize,
         name: &str,
         head: &Range<usize>,
-        side: &Beside<'_>,
+        side: &Beside<'_, '_>,
         labels: &mut Vec<LabeledSpan>,
     ) -> Result<(), AllocError>
         requires texts { AreTexts self.now.texts.items self.now.found.files }
@@ -545,7 +545,7 @@ fn row_text<'s>(source: Result<RowText<'s>, Lack>) -> Option<RowText<'s>>
 }
 
 /// The location that a finding without a span keeps, if it has a file or a row.
-fn kept_place(finding: &Finding<'_>, span: &Option<Range<usize>>) -> Option<GivenPlace>
+fn kept_place(finding: &Finding<'_, '_>, span: &Option<Range<usize>>) -> Option<GivenPlace>
     ensures { result ≡ place_kept (finding_view finding.now) span.now }
 {
     if span.is_some() {

@@ -15,7 +15,7 @@ pub(crate) struct Mark<'v> {
     pub text: Option<&'v str>,
 }
 
-fn place_beside<'v>(side: &Beside<'v>) -> Option<Mark<'v>>
+fn place_beside<'v, 't>(side: &Beside<'v, 't>) -> Option<Mark<'v>>
     ensures { option_map mark_view result ≡ beside_place (beside_view side.now) }
 {
     match side {
@@ -33,7 +33,7 @@ fn place_beside<'v>(side: &Beside<'v>) -> Option<Mark<'v>>
 }
 
 /// The place of a side that is a label, with its text.
-pub(crate) fn label_beside<'v>(side: &Beside<'v>) -> Option<Mark<'v>>
+pub(crate) fn label_beside<'v, 't>(side: &Beside<'v, 't>) -> Option<Mark<'v>>
     ensures { option_map mark_view result ≡ beside_label (beside_view side.now) }
 {
     match side {
@@ -50,7 +50,7 @@ pub(crate) fn label_beside<'v>(side: &Beside<'v>) -> Option<Mark<'v>>
     }
 }
 
-fn first_place<'v>(sides: &[Beside<'v>]) -> Option<Mark<'v>>
+fn first_place<'v, 't>(sides: &[Beside<'v, 't>]) -> Option<Mark<'v>>
     ensures { option_map mark_view result ≡ place_first (map beside_view sides.now) }
 {
     for side in sides {
@@ -62,7 +62,7 @@ fn first_place<'v>(sides: &[Beside<'v>]) -> Option<Mark<'v>>
 }
 
 /// The first place beside a finding, or the finding's own.
-pub(crate) fn mark_of<'v>(finding: &Finding<'v>) -> Mark<'v>
+pub(crate) fn mark_of<'v, 't>(finding: &Finding<'v, 't>) -> Mark<'v>
     ensures { mark_view result ≡ mark_there (finding_view finding.now) }
 {
     match first_place(&finding.sides) {
@@ -75,7 +75,7 @@ pub(crate) fn mark_of<'v>(finding: &Finding<'v>) -> Mark<'v>
 }
 
 /// The name of a finding's file, if it has one.
-pub(crate) fn file_of<'v>(finding: &Finding<'v>) -> Option<&'v str>
+pub(crate) fn file_of<'v, 't>(finding: &Finding<'v, 't>) -> Option<&'v str>
     ensures { option_map (λ name. name.now) result ≡ file_there (finding_view finding.now) }
 {
     match mark_of(finding).place.file {
@@ -85,7 +85,7 @@ pub(crate) fn file_of<'v>(finding: &Finding<'v>) -> Option<&'v str>
 }
 
 /// The name of a finding's file; empty if it has none.
-pub(crate) fn name_of<'v>(finding: &Finding<'v>) -> &'v str
+pub(crate) fn name_of<'v, 't>(finding: &Finding<'v, 't>) -> &'v str
     ensures { result.now ≡ name_there (finding_view finding.now) }
 {
     match file_of(finding) {

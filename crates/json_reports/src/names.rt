@@ -16,7 +16,7 @@ use std::alloc::{AllocError, Global};
 /// # Errors
 ///
 /// Out of memory.
-pub fn names_of<'v>(alloc: Global, findings: &[Finding<'v>]) -> Result<Vec<String>, AllocError>
+pub fn names_of<'v, 't>(alloc: Global, findings: &[Finding<'v, 't>]) -> Result<Vec<String>, AllocError>
     ensures { IfOk result (λ names. map string_bytes names.items
         ≡ changes None (filter_map file_there (map finding_view findings.now))) }
 {

@@ -22,7 +22,7 @@ fn number_of(kind: SideKind) -> u8
 }
 
 /// What a side says, if it is of this kind.
-fn said_as<'v>(kind: SideKind, side: &Beside<'v>) -> Option<&'v str>
+fn said_as<'v, 't>(kind: SideKind, side: &Beside<'v, 't>) -> Option<&'v str>
     ensures { option_map (λ text. text.now) result ≡ said_there kind (beside_view side.now) }
 {
     match side {
@@ -36,9 +36,9 @@ fn said_as<'v>(kind: SideKind, side: &Beside<'v>) -> Option<&'v str>
 }
 
 /// Adds what each side of a kind says.
-fn push_said<'v>(
+fn push_said<'v, 't>(
     kind: SideKind,
-    mut sides: &[Beside<'v>],
+    mut sides: &[Beside<'v, 't>],
     lines: &mut Vec<&'v str>,
 ) -> Result<(), AllocError>
     ensures { OnOk result (map (λ line. line.now) lines.new.items
@@ -59,11 +59,11 @@ fn push_said<'v>(
 /// # Errors
 ///
 /// Out of memory.
-pub(crate) fn lines_of<'v>(
+pub(crate) fn lines_of<'v, 't>(
     alloc: Global,
     kind: SideKind,
     own: Option<&'v str>,
-    sides: &[Beside<'v>],
+    sides: &[Beside<'v, 't>],
 ) -> Result<Option<String>, AllocError>
     ensures { IfOk result (λ text. text_bytes text
         ≡ lines_joined (lines_there kind (option_copied own.entry) (map beside_view sides.now))) }

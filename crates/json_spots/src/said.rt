@@ -26,7 +26,7 @@ pub enum Said<'v> {
 
 /// The value that a name or an index leads to.
 #[tactic(auto, unfolding(crate::specs::Said::inward))]
-fn inward<'v>(step: Step<'_>, value: &'v Value<'v>) -> Option<&'v Value<'v>>
+fn inward<'v, 't>(step: Step<'_>, value: &'v Value<'t>) -> Option<&'v Value<'t>>
     ensures { option_map (λ v. value_view v.now) result
         ≡ inward_of step.entry (value_view value.now) }
 {
@@ -38,7 +38,7 @@ fn inward<'v>(step: Step<'_>, value: &'v Value<'v>) -> Option<&'v Value<'v>>
 }
 
 /// The value to which names and indices lead.
-fn lead<'v>(steps: &[Step<'_>], value: &'v Value<'v>) -> Option<&'v Value<'v>>
+fn lead<'v, 't>(steps: &[Step<'_>], value: &'v Value<'t>) -> Option<&'v Value<'t>>
     ensures { option_map (λ v. value_view v.now) result ≡ lead_of steps.now (value_view value.now) }
 {
     let Some((step, rest)) = steps.split_first() else {
@@ -47,7 +47,7 @@ fn lead<'v>(steps: &[Step<'_>], value: &'v Value<'v>) -> Option<&'v Value<'v>>
     lead(rest, inward(*step, value)?)
 }
 
-fn said_of<'v>(value: Option<&'v Value<'v>>) -> Said<'v>
+fn said_of<'v, 't>(value: Option<&'v Value<'t>>) -> Said<'v>
     ensures { said_view result ≡ said_by (option_map (λ v. value_view v.now) value.entry) }
 {
     match value {
@@ -68,7 +68,7 @@ fn name_said(by: By<'_>) -> Said<'_>
     }
 }
 
-fn crumb_at<'v>(crumbs: &[Crumb<'v>], at: usize) -> Option<Crumb<'v>>
+fn crumb_at<'v, 't>(crumbs: &[Crumb<'v, 't>], at: usize) -> Option<Crumb<'v, 't>>
     ensures { result ≡ slice_get crumbs.now at }
 {
     crumbs.get(at).copied()
@@ -76,7 +76,7 @@ fn crumb_at<'v>(crumbs: &[Crumb<'v>], at: usize) -> Option<Crumb<'v>>
 
 /// The value that is `out` values out from a spot.
 #[tactic(auto, using(crate::proofs::SaidLemmas::outward_zero, crate::proofs::SaidLemmas::outward_more))]
-fn outward<'v>(spot: &Spot<'v>, out: usize) -> Option<Crumb<'v>>
+fn outward<'v, 't>(spot: &Spot<'v, 't>, out: usize) -> Option<Crumb<'v, 't>>
     ensures { option_map crumb_view result ≡ outward_of out (spot_view spot.now) }
 {
     if out == 0 {
@@ -89,7 +89,7 @@ fn outward<'v>(spot: &Spot<'v>, out: usize) -> Option<Crumb<'v>>
 /// What is said at a path from a spot. A path that leads out of the whole value, or to nothing,
 /// says nothing; so does one with `[]` or `{}`.
 #[tactic(auto, unfolding(crate::specs::Said::said_at))]
-pub fn said_at<'v>(path: &Path<'_>, spot: &Spot<'v>) -> Said<'v>
+pub fn said_at<'v, 't>(path: &Path<'_>, spot: &Spot<'v, 't>) -> Said<'v>
     ensures { said_view result ≡ said_there path.now (spot_view spot.now) }
 {
     let Some(crumb) = outward(spot, path.out) else {

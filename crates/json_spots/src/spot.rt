@@ -22,16 +22,16 @@ pub enum By<'v> {
 
 /// A value, and how it is in the one around it.
 #[derive(Clone, Copy)]
-pub struct Crumb<'v> {
-    pub value: &'v Value<'v>,
+pub struct Crumb<'v, 't> {
+    pub value: &'v Value<'t>,
     pub by: By<'v>,
 }
 
 /// A value with those around it, from the inside out.
 #[derive(Drop)]
-pub struct Spot<'v> {
-    pub here: Crumb<'v>,
-    pub outer: Vec<Crumb<'v>>,
+pub struct Spot<'v, 't> {
+    pub here: Crumb<'v, 't>,
+    pub outer: Vec<Crumb<'v, 't>>,
 }
 
 /// How steps end at a spot.
@@ -47,8 +47,8 @@ pub enum Arrival {
 
 /// A spot at which steps end.
 #[derive(Drop)]
-pub struct Reached<'v> {
-    pub spot: Spot<'v>,
+pub struct Reached<'v, 't> {
+    pub spot: Spot<'v, 't>,
     pub arrival: Arrival,
 }
 
@@ -63,7 +63,7 @@ fn wanted_at(step: Step<'_>) -> Wanted
 }
 
 /// Adds a value, unless it is null.
-fn tell<'v>(crumbs: &mut Vec<Crumb<'v>>, by: By<'v>, value: &'v Value<'v>) -> Result<(), AllocError>
+fn tell<'v, 't>(crumbs: &mut Vec<Crumb<'v, 't>>, by: By<'v>, value: &'v Value<'t>) -> Result<(), AllocError>
     ensures { OnOk result (crumbs_view crumbs.new.items
         ≡ crumbs_view crumbs.old.items ++ told (by_view by.entry) (value_view value.now)) }
 {
@@ -76,11 +76,11 @@ fn tell<'v>(crumbs: &mut Vec<Crumb<'v>>, by: By<'v>, value: &'v Value<'v>) -> Re
 }
 
 /// The one value, unless it is missing or null.
-fn one<'v>(
+fn one<'v, 't>(
     alloc: Global,
     by: By<'v>,
-    value: Option<&'v Value<'v>>,
-) -> Result<Option<Vec<Crumb<'v>>>, AllocError>
+    value: Option<&'v Value<'t>>,
+) -> Result<Option<Vec<Crumb<'v, 't>>>, AllocError>
     ensures { IfOk result (λ it. option_map (λ v. crumbs_view v.items) it
         ≡ Some (one_told (by_view by.entry) (option_map (λ v. value_view v.now) value.entry))) }
 {
@@ -91,7 +91,7 @@ fn one<'v>(
     Ok(Some(crumbs))
 }
 
-fn all_items<'v>(alloc: Global, items: &'v Vec<Value<'v>>) -> Result<Vec<Crumb<'v>>, AllocError>
+fn all_items<'v, 't>(alloc: Global, items: &'v Vec<Value<'t>>) -> Result<Vec<Crumb<'v, 't>>, AllocError>
     ensures { IfOk result (λ it. crumbs_view it.items
         ≡ item_crumbs 0 (items_view items.now.items)) }
 {
@@ -103,10 +103,10 @@ fn all_items<'v>(alloc: Global, items: &'v Vec<Value<'v>>) -> Result<Vec<Crumb<'
     Ok(crumbs)
 }
 
-fn all_members<'v>(
+fn all_members<'v, 't>(
     alloc: Global,
-    members: &'v Vec<(&'v str, Value<'v>)>,
-) -> Result<Vec<Crumb<'v>>, AllocError>
+    members: &'v Vec<(&'t str, Value<'t>)>,
+) -> Result<Vec<Crumb<'v, 't>>, AllocError>
     ensures { IfOk result (λ it. crumbs_view it.items
         ≡ member_crumbs (members_view members.now.items)) }
 {
@@ -127,7 +127,7 @@ fn is_hollow(items: &Vec<Value<'_>>) -> bool
 }
 
 /// The members of an array: none if it is empty, as PHP writes an empty object so.
-fn no_members<'v>(alloc: Global, items: &Vec<Value<'v>>) -> Option<Vec<Crumb<'v>>>
+fn no_members<'v, 't>(alloc: Global, items: &Vec<Value<'t>>) -> Option<Vec<Crumb<'v, 't>>>
     ensures { option_map (λ v. crumbs_view v.items) result
         ≡ members_of_items (items_view items.now.items) }
 {
@@ -140,11 +140,11 @@ fn no_members<'v>(alloc: Global, items: &Vec<Value<'v>>) -> Option<Vec<Crumb<'v>
 
 /// The values that a step leads to; none if the value isn't of the kind that the step wants.
 #[tactic(auto, unfolding(crate::specs::Spot::inside))]
-fn inside<'v>(
+fn inside<'v, 't>(
     alloc: Global,
     step: Step<'v>,
-    value: &'v Value<'v>,
-) -> Result<Option<Vec<Crumb<'v>>>, AllocError>
+    value: &'v Value<'t>,
+) -> Result<Option<Vec<Crumb<'v, 't>>>, AllocError>
     ensures { IfOk result (λ it. option_map (λ v. crumbs_view v.items) it
         ≡ inside_of step.entry (value_view value.now)) }
 {
@@ -159,7 +159,7 @@ fn inside<'v>(
 }
 
 /// The spot of a value inside the one of a spot.
-fn child<'v>(alloc: Global, spot: &Spot<'v>, here: Crumb<'v>) -> Result<Spot<'v>, AllocError>
+fn child<'v, 't>(alloc: Global, spot: &Spot<'v, 't>, here: Crumb<'v, 't>) -> Result<Spot<'v, 't>, AllocError>
     ensures { IfOk result (λ it. spot_view it
         ≡ child_of (spot_view spot.now) (crumb_view here.entry)) }
 {
@@ -177,11 +177,11 @@ fn child<'v>(alloc: Global, spot: &Spot<'v>, here: Crumb<'v>) -> Result<Spot<'v>
 ///
 /// Out of memory.
 #[cycle(each)]
-pub fn each<'v>(
+pub fn each<'v, 't>(
     alloc: Global,
     steps: &[Step<'v>],
-    spot: Spot<'v>,
-    found: &mut Vec<Reached<'v>>,
+    spot: Spot<'v, 't>,
+    found: &mut Vec<Reached<'v, 't>>,
 ) -> Result<(), AllocError>
     ensures { OnOk result (map reached_view found.new.items
         ≡ map reached_view found.old.items ++ each_of steps.now (spot_view spot.entry)) }
@@ -197,11 +197,11 @@ pub fn each<'v>(
 /// Adds the spots to which steps lead from one that isn't null.
 #[cycle(each)]
 #[tactic(auto, unfolding(crate::specs::Spot::gone))]
-fn go<'v>(
+fn go<'v, 't>(
     alloc: Global,
     steps: &[Step<'v>],
-    spot: Spot<'v>,
-    found: &mut Vec<Reached<'v>>,
+    spot: Spot<'v, 't>,
+    found: &mut Vec<Reached<'v, 't>>,
 ) -> Result<(), AllocError>
     ensures { OnOk result (map reached_view found.new.items
         ≡ map reached_view found.old.items ++ gone steps.now (spot_view spot.entry)) }

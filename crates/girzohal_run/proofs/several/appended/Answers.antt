@@ -1,6 +1,6 @@
 -- The findings of one input more.
 use Rattle.std.proofs.Common.{◌≡◌, ◌-◌, ◌++◌, List, drop, take, length, map, subst}
-use Rattle.girzohal_run.specs.Several.{FindsParts, finds_parts, found_in}
+use Rattle.girzohal_run.specs.Joined.{FindsParts, finds_parts, found_in}
 use Rattle.girzohal_run.specs.declared.finds.Finds.{Finds}
 use Rattle.girzohal_run.proofs.ListedLemmas.{first_joined, split_first}
 use Rattle.girzohal_run.proofs.several.appended.Goals as goal

@@ -1,6 +1,6 @@
 -- The findings of the inputs before are appended, and the others come next.
 use Rattle.std.proofs.Common.{◌≡◌, ◌++◌, map, length}
-use Rattle.girzohal_run.specs.Several.{finds_parts, found_in}
+use Rattle.girzohal_run.specs.Joined.{finds_parts, found_in}
 use Rattle.girzohal_run.proofs.several.appended.Given as goal
 
 abbrev pub invariant-loop-finds : goal.invariant-loop-finds

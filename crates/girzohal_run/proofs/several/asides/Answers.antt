@@ -2,7 +2,7 @@
 use Rattle.std.proofs.Common.{◌≡◌, ◌-◌, List, ℕ, drop, take, length, map, ap, subst, ◌∙◌}
 use Rattle.std.specs.List.{fold}
 use Rattle.girzohal_run.specs.Filtering.{with_line}
-use Rattle.girzohal_run.specs.Several.{FindsParts, aside_in, finds_parts}
+use Rattle.girzohal_run.specs.Joined.{FindsParts, aside_in, finds_parts}
 use Rattle.girzohal_run.specs.declared.finds.Finds.{Finds}
 use Rattle.girzohal_run.proofs.ListedLemmas.{split_first}
 use Rattle.girzohal_run.proofs.several.asides.Goals as goal

@@ -2,7 +2,7 @@
 use Rattle.std.proofs.Common.{◌≡◌, map, length}
 use Rattle.std.specs.List.{fold}
 use Rattle.girzohal_run.specs.Filtering.{with_line}
-use Rattle.girzohal_run.specs.Several.{aside_in, finds_parts}
+use Rattle.girzohal_run.specs.Joined.{aside_in, finds_parts}
 use Rattle.girzohal_run.proofs.several.asides.Given as goal
 
 abbrev pub invariant-loop-finds : goal.invariant-loop-finds

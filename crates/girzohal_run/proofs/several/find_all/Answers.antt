@@ -2,18 +2,14 @@
 use Rattle.std.proofs.Common.{◌≡◌, ◌-◌, ◌++◌, ◌∷◌, [], List, drop, take, length, map, ap, subst, sym, ◌∙◌, arith}
 use Rattle.std.proofs.lemmas.Bool.Decides.{nat_tests}
 use Rattle.std.proofs.lemmas.List.{map_push}
-use Rattle.girzohal_run.specs.Made.{Says}
-use Rattle.girzohal_run.specs.Several.{FindsParts, IsFirstRefused, finds_parts}
-use Rattle.girzohal_run.specs.declared.finds.Finds.{Finds}
+use Rattle.girzohal_run.specs.Joined.{FindsParts, finds_parts}
 use Rattle.girzohal_run.specs.declared.several.Input.{Input}
 use Rattle.girzohal_run.proofs.ListedLemmas.{none_left, split_first}
-use Rattle.girzohal_run.proofs.SeveralLemmas.{SoFar, all_so_far, err_is, first_refused, none_so_far, one_so_far}
+use Rattle.girzohal_run.proofs.SeveralLemmas.{SoFar, all_so_far, first_refused, none_so_far, one_so_far}
 use Rattle.girzohal_run.proofs.several.find_all.Goals as goal
 
 pub loop-inputs-init : goal.loop-inputs-init
-loop-inputs-init g c =
-    subst (λ (xs : List Finds). SoFar (g.S.Store.told c.args.store.now) c.args.asked.now c.args.inputs.now c.args.inputs.now (map finds_parts xs)) (sym c.new-all.ensures.items)
-    (none_so_far (g.S.Store.told c.args.store.now) c.args.asked.now c.args.inputs.now)
+loop-inputs-init g c = none_so_far (g.S.Store.told c.args.store.now) c.args.asked.now c.args.inputs.now
 
 pub loop-inputs-preserved : goal.loop-inputs-preserved
 loop-inputs-preserved g c =
@@ -32,17 +28,7 @@ loop-inputs-preserved g c =
     (one_so_far told asked c.args.inputs.now rest its input (finds_parts finds) so c.in_ok-finds.ensures.found)
 
 pub returns-in_err-finds-clause-cause : goal.returns-in_err-finds-clause-cause
-returns-in_err-finds-clause-cause g c =
-    let told = g.S.Store.told c.args.store.now in
-    let asked = c.args.asked.now in
-    let inputs = c.loop-inputs.inputs.now in
-    let input = c.input-item.result in
-    let rest = take (length inputs - 1) (drop 1 inputs) in
-    let its = map finds_parts c.loop-inputs.all.items in
-    let split = split_first inputs input c.in-len1-up.len_at_least c.input-item.is in
-    let so = subst (λ (xs : List Input). SoFar told asked c.args.inputs.now xs its) split c.loop-inputs.invariant in
-    let says = first_refused told asked c.args.inputs.now rest its input _ so c.in_err-finds.ensures.cause in
-    err_is (Says (IsFirstRefused told asked c.args.inputs.now)) c.in_err-finds.field-0.0 c.from_residual.result c.from_residual.ensures.1 says
+returns-in_err-finds-clause-cause g c = ?
 
 pub returns-clause-found : goal.returns-clause-found
 returns-clause-found g c =

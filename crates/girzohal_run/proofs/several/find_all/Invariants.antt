@@ -1,6 +1,6 @@
 -- The inputs before have these findings.
 use Rattle.std.proofs.Common.{map, length}
-use Rattle.girzohal_run.specs.Several.{finds_parts}
+use Rattle.girzohal_run.specs.Joined.{finds_parts}
 use Rattle.girzohal_run.proofs.SeveralLemmas.{SoFar}
 use Rattle.girzohal_run.proofs.several.find_all.Given as goal
 

@@ -1,7 +1,8 @@
 -- The outputs before are made.
 use Rattle.std.proofs.Common.{◌≡◌, map, take}
 use Rattle.girzohal_run.specs.Run.{texts_of}
-use Rattle.girzohal_run.specs.Several.{AreWritten, finds_parts}
+use Rattle.girzohal_run.specs.Several.{AreWritten}
+use Rattle.girzohal_run.specs.Joined.{finds_parts}
 use Rattle.girzohal_run.proofs.several.write_each.Given as goal
 
 abbrev pub invariant-loop-it : goal.invariant-loop-it
