@@ -281,7 +281,7 @@ class Tries(Around, FindingRows, OutputTries, SeveralTries):
             (("--colour=always",), "unknown option --colour; did you mean --color?\n"),
             (("-color", "never"), "unknown option -color; did you mean --color?\n"),
             (("--max-f", "1"), "unknown option --max-f; did you mean --max-findings?\n"),
-            (("--max", "1"), "unknown option --max; did you mean --max-findings?\n"),
+            (("--max", "1"), "unknown option --max\n"),
             (("--fail", "error"), "unknown option --fail; did you mean --fail-on?\n"),
             (("--json-shap", "x"), "unknown option --json-shap\n"),
             (("-oo", "x"), "unknown option -oo; did you mean --to?\n"),

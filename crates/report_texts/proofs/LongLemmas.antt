@@ -1,0 +1,111 @@
+-- Rows that are too long.
+use Rattle.std.proofs.Common.{◌≡◌, ℕ, suc, ◌+◌, ◌-◌, ◌<◌, ◌≤◌, nat_lt, min, if◌then◌else◌, List, [], ◌∷◌, All, length, Option, Some, None, refl, sym, ap, subst, ◌∙◌, IfSome, arith}
+use Rattle.std.specs.Option.{option_map_or, option_or}
+use Rattle.std.specs.Str.{IsUtf8}
+use Rattle.std.specs.declared.ops.Range.{Range}
+use Rattle.std.proofs.lemmas.List.Elements.{All-nil, All-cons}
+use Rattle.oxc_span.specs.Label.{Label, label_end}
+use Rattle.oxc_span.specs.declared.span.Span.{Span}
+use Rattle.oxc_windows.specs.Breaks.{breaks_of}
+use Rattle.oxc_windows.specs.declared.breaks.LineBreak.{LineBreak}
+use Rattle.oxc_windows.specs.Scan.{Scan, IsSameReader}
+use Rattle.oxc_plan.specs.Groups.{AreGroups, group_end, group_window, groups_from, groups_of, largest_end, window_round}
+use Rattle.oxc_plan.specs.Order.{inserted, label_order, ordered, span_of, spans_in_order}
+use Rattle.oxc_plan.proofs.GroupsLemmas.{largest_end_one}
+use Rattle.oxc_windows.specs.Window.{window_at}
+use Rattle.oxc_plan.specs.Scanned.{CanGroup, CanPlan, ReadsRound}
+use Rattle.oxc_handlers.specs.Scanners.{CanDraw}
+use Rattle.oxc_protocol.specs.Parts.{Parts}
+use Rattle.report_texts.specs.LongRows.{fitted, long_among, long_from, long_in, long_row, start_of, without_rows}
+
+-- ---- scanners that read on
+
+pub same_then : (a b c : Scan) → IsSameReader a b → IsSameReader b c → IsSameReader a c
+same_then a b c one two = record { input = two.input ∙ one.input; before = two.before ∙ one.before; after = two.after ∙ one.after }
+
+pub round_still : (a b : Scan) → IsSameReader a b → ReadsRound a → ReadsRound b
+round_still a b same round = record { before = same.before ∙ round.before; after = same.after ∙ round.after }
+
+pub can_group : (scan : Scan) (labels : List Label) → CanPlan scan labels → CanGroup scan labels
+can_group scan labels can = record { round = can.reads.round; within = can.within }
+
+pub can_still : (a b : Scan) (parts : Parts) → IsSameReader a b → CanDraw a parts → CanDraw b parts
+can_still a b parts same can = record {
+  source = subst (λ s. IfSome parts.source (λ source. source.bytes ≡ s)) (sym same.input) can.source;
+  labels = record {
+    reads = record { round = round_still a b same can.labels.reads.round; text = subst IsUtf8 (sym same.input) can.labels.reads.text };
+    within = subst (λ (s : List ℕ). All (λ label. label_end label ≤ length s) parts.labels) (sym same.input) can.labels.within;
+  };
+}
+
+-- what has no labels can be drawn too
+pub can_bare : (scan : Scan) (parts : Parts) (note : Option (List ℕ)) → CanDraw scan parts → CanDraw scan (record parts { labels = []; note = note })
+can_bare scan parts note can = record {
+  source = can.source;
+  labels = record { reads = can.labels.reads; within = All-nil (λ (label : Label). label_end label ≤ length scan.input) };
+}
+
+-- ---- groups
+
+-- a group has a span, and all its spans are there
+pub record Stands (spans : List Span) (group : Range ℕ) : Type 0 where
+  pub some : group.start < group.end
+  pub upto : group.end ≤ length spans
+
+groups_stand : (len : ℕ) (breaks : List LineBreak) (spans : List Span) (from : ℕ) (groups : List (Range ℕ)) → AreGroups len breaks spans from groups → All (Stands spans) groups
+groups_stand len breaks spans from [] are = All-nil (Stands spans)
+groups_stand len breaks spans from (group ∷ groups) are =
+    All-cons (Stands spans) group groups (record { some = are.1.some; upto = are.1.within }) (groups_stand len breaks spans group.end groups are.2)
+
+pub all_stand : (len : ℕ) (breaks : List LineBreak) (spans : List Span) (groups : List (Range ℕ)) → AreGroups len breaks spans 0 groups → All (Stands spans) groups
+all_stand len breaks spans groups are = groups_stand len breaks spans 0 groups are
+
+-- the first group has a long row, or those after it
+pub here_long : (most : ℕ) (source : List ℕ) (spans : List Span) (group : Range ℕ) (groups : List (Range ℕ)) (row : ℕ)
+    → Some row ≡ long_in most source (group_window (length source) (breaks_of source) spans group) → Some row ≡ long_among most source spans (group ∷ groups)
+unfolding long_among
+here_long most source spans group groups row is = ap (λ r. option_or r (long_among most source spans groups)) is
+
+pub later_long : (most : ℕ) (source : List ℕ) (spans : List Span) (group : Range ℕ) (groups : List (Range ℕ))
+    → None ≡ long_in most source (group_window (length source) (breaks_of source) spans group) → long_among most source spans groups ≡ long_among most source spans (group ∷ groups)
+unfolding long_among
+later_long most source spans group groups none = ap (λ r. option_or r (long_among most source spans groups)) none
+
+last_or : {A : Type 0} (o : Option A) → option_or o None ≡ o
+last_or None = refl
+last_or (Some x) = refl
+
+-- one label is a group
+pub one_label : (most : ℕ) (source : List ℕ) (label : Label) → long_row most source (label ∷ []) ≡ long_in most source (window_round source (span_of label))
+unfolding long_row long_among groups_of groups_from group_end spans_in_order label_order ordered inserted
+one_label most source label =
+    let span = span_of label in
+    let end : largest_end (span ∷ []) 0 1 ≡ span.end = largest_end_one (span ∷ []) 0 (omega arith) in
+    last_or (long_in most source (group_window (length source) (breaks_of source) (span ∷ []) (record { start = 0; end = 1 })))
+    ∙ ap (λ e. long_in most source (window_at (length source) (breaks_of source) 1 1 span.start e)) end
+
+-- ---- rows
+
+-- the first row is long, or those after it
+pub long_step : (most : ℕ) (source : List ℕ) (end row last : ℕ) → row ≤ last → long_from most source end row (last + 1 - row)
+    ≡ (if nat_lt most (min (start_of source (row + 1)) end - start_of source row) then Some row else long_from most source end (row + 1) (last + 1 - (row + 1)))
+unfolding long_from
+long_step most source end row last upto =
+    let one : last + 1 - row ≡ suc (last + 1 - (row + 1)) = omega (arith, upto) in
+    ap (long_from most source end row) one
+
+pub long_end : (most : ℕ) (source : List ℕ) (end row last : ℕ) → last < row → long_from most source end row (last + 1 - row) ≡ None
+unfolding long_from
+long_end most source end row last past =
+    let none : last + 1 - row ≡ 0 = omega (arith, past) in
+    ap (long_from most source end row) none
+
+-- ---- what is drawn
+
+pub fitted_long : (most : ℕ) (name source : List ℕ) (parts : Parts) (row : ℕ) → Some row ≡ long_row most source parts.labels → fitted (Some most) name source parts ≡ without_rows name source parts row
+unfolding fitted
+fitted_long most name source parts row is = ap (λ r. option_map_or (without_rows name source parts) r parts) (sym is)
+
+pub fitted_short : (most : ℕ) (name source : List ℕ) (parts : Parts) → None ≡ long_row most source parts.labels → fitted (Some most) name source parts ≡ parts
+unfolding fitted
+fitted_short most name source parts none = ap (λ r. option_map_or (without_rows name source parts) r parts) (sym none)

@@ -1,0 +1,250 @@
+// Rows that are too long to be drawn.
+ghost use Rattle.std.specs.Prelude.{◌≡◌, ◌++◌, ◌+◌, ◌-◌, ◌<◌, ◌≤◌, IfOk, IfSome, OnOk};
+ghost use Rattle.std.specs.Prelude.{fold, length, map, max, string_bytes};
+ghost use Rattle.std.specs.List.{flat_map};
+ghost use Rattle.oxc_handlers.specs.Report.{view_parts};
+ghost use Rattle.oxc_plan.specs.Groups.{largest_end as end_of, span_at as span_in, window_round};
+ghost use Rattle.oxc_plan.specs.Order.{label_at, span_of, spans_in_order as spans_of};
+ghost use Rattle.oxc_plan.specs.Scanned.{CanGroup, ReadsRound};
+ghost use Rattle.oxc_windows.specs.Scan.{IsNumbered, IsSameReader};
+ghost use Rattle.found_reports.specs.Place.{number_text};
+ghost use Rattle.report_texts.specs.LongRows.{label_line, long_from, long_in as long_window};
+ghost use Rattle.report_texts.specs.LongRows.{long_note as note_said, long_row as long_of, row_line};
+
+use itoa::Buffer;
+use oxc_handlers::DiagnosticView;
+use oxc_plan::{groups, label_order};
+use oxc_protocol::LabeledSpan;
+use oxc_span::Span;
+use oxc_windows::{SpanContents, SpanScanner};
+use shown_reports::ShownText;
+use std::alloc::{AllocError, Global};
+use std::ops::Range;
+
+/// The first row that a drawing of labels shows and that has more bytes than `most`, from 0. Rows
+/// are counted with their breaks. Row starts are looked up; no row is read.
+///
+/// # Errors
+///
+/// Out of memory.
+#[tactic(auto, unfolding(crate::specs::LongRows::long_row))]
+pub(crate) fn long_row(
+    alloc: Global,
+    source: &ShownText<'_>,
+    scanner: &mut SpanScanner<'_>,
+    labels: &[LabeledSpan],
+    most: usize,
+) -> Result<Option<usize>, AllocError>
+    requires source { scanner.old.input ≡ source.now }
+    requires group { CanGroup scanner.old labels.now }
+    ensures row { IfOk result (λ row. row ≡ long_of most source.now labels.now) }
+    ensures few { IfOk result (λ row. IfSome row (λ row. row < 4294967295)) }
+    ensures same { IsSameReader scanner.old scanner.new }
+{
+    if let [label] = labels {
+        return long_round(source, scanner, label.span(), most);
+    }
+    let spans = spans_in_order(alloc, labels)?;
+    let groups = groups(alloc, scanner, labels)?;
+    let mut rest = groups.as_slice();
+    while let [group, more @ ..] = rest {
+        if let Some(row) = long_round(source, scanner, joint_span(&spans, group), most)? {
+            return Ok(Some(row));
+        }
+        rest = more;
+    }
+    Ok(None)
+}
+
+/// The spans of labels in label order.
+#[tactic(auto, unfolding(oxc_plan::specs::Order::spans_in_order))]
+fn spans_in_order(alloc: Global, labels: &[LabeledSpan]) -> Result<Vec<Span>, AllocError>
+    ensures { IfOk result (λ spans. spans.items ≡ spans_of labels.now) }
+{
+    let order = label_order(alloc, labels)?;
+    spans_at(alloc, labels, &order)
+}
+
+/// The spans of the labels at these indices.
+fn spans_at(alloc: Global, labels: &[LabeledSpan], order: &[usize]) -> Result<Vec<Span>, AllocError>
+    ensures { IfOk result (λ spans. spans.items
+        ≡ map (λ at. span_of (label_at labels.now at)) order.now) }
+{
+    let spans = order.iter().map(|at| span_at(labels, *at)).collect(alloc)?;
+    Ok(spans)
+}
+
+/// The span of the label at an index; past the last, an empty span at 0.
+fn span_at(labels: &[LabeledSpan], at: usize) -> Span
+    ensures { result ≡ span_of (label_at labels.now at) }
+{
+    match labels.get(at) {
+        Some(label) => label.span(),
+        None => Span::new(0, 0),
+    }
+}
+
+/// From the first start of a group of spans to the largest end.
+fn joint_span(spans: &[Span], group: &Range<usize>) -> Span
+    requires some { group.now.start < group.now.end }
+    requires upto { group.now.end ≤ length spans.now }
+    ensures start { result.start ≡ (span_in spans.now group.now.start).start }
+    ensures end { result.end ≡ end_of spans.now group.now.start group.now.end }
+{
+    Span::new(
+        spans[group.start].start,
+        largest_end(&spans[group.start..group.end]),
+    )
+}
+
+/// The largest end of spans, or 0.
+fn largest_end(spans: &[Span]) -> u32
+    ensures { result ≡ fold (λ most span. max most span.end) 0 spans.now }
+{
+    let mut most: u32 = 0;
+    let mut rest = spans;
+    while let [span, more @ ..] = rest {
+        most = most.max(span.end);
+        rest = more;
+    }
+    most
+}
+
+/// The first row round a span that has more bytes than `most`.
+fn long_round(
+    source: &ShownText<'_>,
+    scanner: &mut SpanScanner<'_>,
+    span: Span,
+    most: usize,
+) -> Result<Option<usize>, AllocError>
+    requires source { scanner.old.input ≡ source.now }
+    requires round { ReadsRound scanner.old }
+    requires ordered { span.start ≤ span.end }
+    requires within { span.end ≤ length source.now }
+    ensures row { IfOk result (λ row. row
+        ≡ long_window most source.now (window_round source.now span)) }
+    ensures few { IfOk result (λ row. IfSome row (λ row. row < 4294967295)) }
+    ensures same { IsSameReader scanner.old scanner.new }
+{
+    match scanner.read_span(span)? {
+        Some(contents) => Ok(long_in(source, &contents, most)),
+        None => unreachable!(),
+    }
+}
+
+/// The first row of what was read that has more bytes than `most`.
+fn long_in(source: &ShownText<'_>, contents: &SpanContents<'_>, most: usize) -> Option<usize>
+    requires { IsNumbered contents.now }
+    ensures row { result ≡ long_from most source.now contents.now.span.end contents.now.line
+        (contents.now.line_count + 1 - contents.now.line) }
+    ensures few { IfSome result (λ row. row < 4294967295) }
+{
+    let end = contents.span().end as usize;
+    let last = contents.line_count();
+    let mut row = contents.line();
+    while row <= last {
+        let past = source.row_start(row + 1).min(end);
+        if past.saturating_sub(source.row_start(row)) > most {
+            return Some(row);
+        }
+        row += 1;
+    }
+    None
+}
+
+/// The note of a report that is drawn without its labels, since this row is too long: its own note,
+/// where each label starts, and how long the row is.
+///
+/// # Errors
+///
+/// Out of memory.
+#[tactic(auto, unfolding(crate::specs::LongRows::long_note))]
+pub(crate) fn long_note(
+    alloc: Global,
+    source: &ShownText<'_>,
+    name: &str,
+    view: &DiagnosticView<'_>,
+    row: usize,
+) -> Result<String, AllocError>
+    requires { row < 4294967295 }
+    ensures { IfOk result (λ text. string_bytes text
+        ≡ note_said name.now source.now (view_parts view.now) row) }
+{
+    let mut text = String::new(alloc);
+    if let Some(note) = view.note {
+        text.push_str(note)?;
+        text.push_str("\n")?;
+    }
+    push_labels(&mut text, source, name, view.labels)?;
+    push_row(&mut text, source, row)?;
+    Ok(text)
+}
+
+/// Appends the lines of labels.
+fn push_labels(
+    out: &mut String,
+    source: &ShownText<'_>,
+    name: &str,
+    labels: &[LabeledSpan],
+) -> Result<(), AllocError>
+    ensures { OnOk result (string_bytes out.new ≡ string_bytes out.old
+        ++ flat_map (label_line name.now source.now) labels.now) }
+{
+    let mut rest = labels;
+    while let [label, more @ ..] = rest {
+        push_label(out, source, name, label)?;
+        rest = more;
+    }
+    Ok(())
+}
+
+/// Appends the line of a label.
+#[tactic(auto, unfolding(crate::specs::LongRows::label_line))]
+fn push_label(
+    out: &mut String,
+    source: &ShownText<'_>,
+    name: &str,
+    label: &LabeledSpan,
+) -> Result<(), AllocError>
+    ensures { OnOk result (string_bytes out.new
+        ≡ string_bytes out.old ++ label_line name.now source.now label.now) }
+{
+    let start = label.offset();
+    let row = source.row_at(start);
+    let column = (start as usize).saturating_sub(source.row_start(row));
+    out.push_str("at ")?;
+    out.push_str(name)?;
+    push_number(out, row + 1)?;
+    push_number(out, column + 1)?;
+    if let Some(text) = label.label() {
+        out.push_str(": ")?;
+        out.push_str(text)?;
+    }
+    out.push_str("\n")
+}
+
+/// Appends a colon and a number.
+#[tactic(auto, unfolding(found_reports::specs::Place::number_text))]
+fn push_number(out: &mut String, number: usize) -> Result<(), AllocError>
+    ensures { OnOk result (string_bytes out.new ≡ string_bytes out.old ++ number_text number) }
+{
+    out.push_str(":")?;
+    out.push_str(Buffer::new().format(number))
+}
+
+/// Appends how long a row is.
+#[tactic(auto, unfolding(crate::specs::LongRows::row_line))]
+fn push_row(out: &mut String, source: &ShownText<'_>, row: usize) -> Result<(), AllocError>
+    requires { row < 4294967295 }
+    ensures { OnOk result (string_bytes out.new
+        ≡ string_bytes out.old ++ row_line source.now row) }
+{
+    let len = source
+        .row_start(row + 1)
+        .saturating_sub(source.row_start(row));
+    out.push_str("row ")?;
+    out.push_str(Buffer::new().format(row + 1))?;
+    out.push_str(" has ")?;
+    out.push_str(Buffer::new().format(len))?;
+    out.push_str(" bytes; --max-row 0 draws it")
+}
