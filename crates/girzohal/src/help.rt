@@ -140,7 +140,7 @@ Output
   --max-findings N     Draw at most N findings, and print how many more there
                        are. Default: all are drawn. Example: --max-findings 10
   --max-row N          Draw a finding without its rows if one of them has more
-                       than N bytes, as minified files do; 0 draws all rows.
+                       than N columns, as in minified files; 0 draws all rows.
                        Default: 1000. Example: --max-row 4000
   --only-findings      Leave out lines that aren't findings. Default: they are
                        printed.

@@ -1,5 +1,5 @@
 -- Rows that are too long.
-use Rattle.std.proofs.Common.{◌≡◌, ℕ, suc, ◌+◌, ◌-◌, ◌<◌, ◌≤◌, nat_lt, min, if◌then◌else◌, List, [], ◌∷◌, All, length, Option, Some, None, refl, sym, ap, subst, ◌∙◌, IfSome, arith}
+use Rattle.std.proofs.Common.{◌≡◌, ℕ, suc, ◌+◌, ◌-◌, ◌<◌, ◌≤◌, ◌&&◌, nat_lt, if◌then◌else◌, List, [], ◌∷◌, All, length, Option, Some, None, refl, sym, ap, subst, ◌∙◌, IfSome, arith}
 use Rattle.std.specs.Option.{option_map_or, option_or}
 use Rattle.std.specs.Str.{IsUtf8}
 use Rattle.std.specs.declared.ops.Range.{Range}
@@ -16,7 +16,7 @@ use Rattle.oxc_windows.specs.Window.{window_at}
 use Rattle.oxc_plan.specs.Scanned.{CanGroup, CanPlan, ReadsRound}
 use Rattle.oxc_handlers.specs.Scanners.{CanDraw}
 use Rattle.oxc_protocol.specs.Parts.{Parts}
-use Rattle.report_texts.specs.LongRows.{fitted, long_among, long_from, long_in, long_row, start_of, without_rows}
+use Rattle.report_texts.specs.LongRows.{columns_in, fitted, long_among, long_from, long_in, long_row, start_of, without_rows}
 
 -- ---- scanners that read on
 
@@ -88,7 +88,7 @@ one_label most source label =
 
 -- the first row is long, or those after it
 pub long_step : (most : ℕ) (source : List ℕ) (end row last : ℕ) → row ≤ last → long_from most source end row (last + 1 - row)
-    ≡ (if nat_lt most (min (start_of source (row + 1)) end - start_of source row) then Some row else long_from most source end (row + 1) (last + 1 - (row + 1)))
+    ≡ (if nat_lt (start_of source row) end && nat_lt most (columns_in source row) then Some row else long_from most source end (row + 1) (last + 1 - (row + 1)))
 unfolding long_from
 long_step most source end row last upto =
     let one : last + 1 - row ≡ suc (last + 1 - (row + 1)) = omega (arith, upto) in
@@ -102,10 +102,10 @@ long_end most source end row last past =
 
 -- ---- what is drawn
 
-pub fitted_long : (most : ℕ) (name source : List ℕ) (parts : Parts) (row : ℕ) → Some row ≡ long_row most source parts.labels → fitted (Some most) name source parts ≡ without_rows name source parts row
+pub fitted_long : (most : ℕ) (name source : List ℕ) (parts : Parts) (row : ℕ) → Some row ≡ long_row most source parts.labels → fitted (Some most) name source parts ≡ without_rows name source parts most row
 unfolding fitted
-fitted_long most name source parts row is = ap (λ r. option_map_or (without_rows name source parts) r parts) (sym is)
+fitted_long most name source parts row is = ap (λ r. option_map_or (without_rows name source parts most) r parts) (sym is)
 
 pub fitted_short : (most : ℕ) (name source : List ℕ) (parts : Parts) → None ≡ long_row most source parts.labels → fitted (Some most) name source parts ≡ parts
 unfolding fitted
-fitted_short most name source parts none = ap (λ r. option_map_or (without_rows name source parts) r parts) (sym none)
+fitted_short most name source parts none = ap (λ r. option_map_or (without_rows name source parts most) r parts) (sym none)

@@ -75,8 +75,8 @@ unfolding fitted long_note
 fitted_bare None name source parts = refl
 fitted_bare (Some most) name source parts = go (long_row most source parts.labels)
   where
-    go : (row : Option ℕ) → option_map_or (without_rows name source (record parts { url = None })) row (record parts { url = None })
-        ≡ record (option_map_or (without_rows name source parts) row parts) { url = None }
+    go : (row : Option ℕ) → option_map_or (without_rows name source (record parts { url = None }) most) row (record parts { url = None })
+        ≡ record (option_map_or (without_rows name source parts most) row parts) { url = None }
     go None = refl
     go (Some row) = refl
 

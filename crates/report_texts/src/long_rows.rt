@@ -2,17 +2,18 @@
 ghost use Rattle.std.specs.Prelude.{◌≡◌, ◌++◌, ◌+◌, ◌-◌, ◌<◌, ◌≤◌, IfOk, IfSome, OnOk};
 ghost use Rattle.std.specs.Prelude.{fold, length, map, max, string_bytes};
 ghost use Rattle.std.specs.List.{flat_map};
-ghost use Rattle.oxc_handlers.specs.Report.{view_parts};
+ghost use Rattle.std.specs.Option.{option_copied};
 ghost use Rattle.oxc_plan.specs.Groups.{largest_end as end_of, span_at as span_in, window_round};
 ghost use Rattle.oxc_plan.specs.Order.{label_at, span_of, spans_in_order as spans_of};
 ghost use Rattle.oxc_plan.specs.Scanned.{CanGroup, ReadsRound};
 ghost use Rattle.oxc_windows.specs.Scan.{IsNumbered, IsSameReader};
 ghost use Rattle.found_reports.specs.Place.{number_text};
+ghost use Rattle.oxc_plan.specs.Rows.{ends_at as ends_so};
+ghost use Rattle.report_texts.specs.LongRows.{break_len as break_before, columns_in};
 ghost use Rattle.report_texts.specs.LongRows.{label_line, long_from, long_in as long_window};
 ghost use Rattle.report_texts.specs.LongRows.{long_note as note_said, long_row as long_of, row_line};
 
 use itoa::Buffer;
-use oxc_handlers::DiagnosticView;
 use oxc_plan::{groups, label_order};
 use oxc_protocol::LabeledSpan;
 use oxc_span::Span;
@@ -21,8 +22,8 @@ use shown_reports::ShownText;
 use std::alloc::{AllocError, Global};
 use std::ops::Range;
 
-/// The first row that a drawing of labels shows and that has more bytes than `most`, from 0. Rows
-/// are counted with their breaks. Row starts are looked up; no row is read.
+/// The first row that a drawing of labels shows and that has more columns than `most`, from 0. Row
+/// starts are looked up, and no row is read but for the break at its end.
 ///
 /// # Errors
 ///
@@ -110,7 +111,7 @@ fn largest_end(spans: &[Span]) -> u32
     most
 }
 
-/// The first row round a span that has more bytes than `most`.
+/// The first row round a span that has more columns than `most`.
 fn long_round(
     source: &ShownText<'_>,
     scanner: &mut SpanScanner<'_>,
@@ -132,7 +133,7 @@ fn long_round(
     }
 }
 
-/// The first row of what was read that has more bytes than `most`.
+/// The first row of what was read that has more columns than `most`.
 fn long_in(source: &ShownText<'_>, contents: &SpanContents<'_>, most: usize) -> Option<usize>
     requires { IsNumbered contents.now }
     ensures row { result ≡ long_from most source.now contents.now.span.end contents.now.line
@@ -143,8 +144,7 @@ fn long_in(source: &ShownText<'_>, contents: &SpanContents<'_>, most: usize) -> 
     let last = contents.line_count();
     let mut row = contents.line();
     while row <= last {
-        let past = source.row_start(row + 1).min(end);
-        if past.saturating_sub(source.row_start(row)) > most {
+        if source.row_start(row) < end && columns(source, row) > most {
             return Some(row);
         }
         row += 1;
@@ -152,8 +152,42 @@ fn long_in(source: &ShownText<'_>, contents: &SpanContents<'_>, most: usize) -> 
     None
 }
 
-/// The note of a report that is drawn without its labels, since this row is too long: its own note,
-/// where each label starts, and how long the row is.
+/// How many columns a row has: its bytes, without its break.
+fn columns(source: &ShownText<'_>, row: usize) -> usize
+    requires { row < 4294967295 }
+    ensures { result ≡ columns_in source.now row }
+{
+    let past = source.row_start(row + 1);
+    past.saturating_sub(source.row_start(row))
+        .saturating_sub(break_len(source.text().as_bytes(), past))
+}
+
+/// How many bytes the break has that ends before a place.
+fn break_len(bytes: &[u8], past: usize) -> usize
+    ensures { result ≡ break_before bytes.now past }
+{
+    if ends_at(bytes, past, b'\n') {
+        if ends_at(bytes, past.saturating_sub(1), b'\r') {
+            2
+        } else {
+            1
+        }
+    } else if ends_at(bytes, past, b'\r') {
+        1
+    } else {
+        0
+    }
+}
+
+/// Whether the byte before a place is this one.
+fn ends_at(bytes: &[u8], place: usize, byte: u8) -> bool
+    ensures { result ≡ ends_so bytes.now place byte }
+{
+    bytes.get(place.saturating_sub(1)).copied().unwrap_or(0) == byte
+}
+
+/// The note of a report that is drawn without these labels, since this row has more columns than
+/// `most`: its own note, where each label starts, and how long the row is.
 ///
 /// # Errors
 ///
@@ -163,20 +197,22 @@ pub(crate) fn long_note(
     alloc: Global,
     source: &ShownText<'_>,
     name: &str,
-    view: &DiagnosticView<'_>,
+    note: Option<&str>,
+    labels: &[LabeledSpan],
+    most: usize,
     row: usize,
 ) -> Result<String, AllocError>
     requires { row < 4294967295 }
     ensures { IfOk result (λ text. string_bytes text
-        ≡ note_said name.now source.now (view_parts view.now) row) }
+        ≡ note_said name.now source.now (option_copied note) labels.now most row) }
 {
     let mut text = String::new(alloc);
-    if let Some(note) = view.note {
+    if let Some(note) = note {
         text.push_str(note)?;
         text.push_str("\n")?;
     }
-    push_labels(&mut text, source, name, view.labels)?;
-    push_row(&mut text, source, row)?;
+    push_labels(&mut text, source, name, labels)?;
+    push_row(&mut text, source, most, row)?;
     Ok(text)
 }
 
@@ -232,19 +268,23 @@ fn push_number(out: &mut String, number: usize) -> Result<(), AllocError>
     out.push_str(Buffer::new().format(number))
 }
 
-/// Appends how long a row is.
+/// Appends how long a row is that has more columns than `most`.
 #[tactic(auto, unfolding(crate::specs::LongRows::row_line))]
-fn push_row(out: &mut String, source: &ShownText<'_>, row: usize) -> Result<(), AllocError>
+fn push_row(
+    out: &mut String,
+    source: &ShownText<'_>,
+    most: usize,
+    row: usize,
+) -> Result<(), AllocError>
     requires { row < 4294967295 }
     ensures { OnOk result (string_bytes out.new
-        ≡ string_bytes out.old ++ row_line source.now row) }
+        ≡ string_bytes out.old ++ row_line source.now most row) }
 {
-    let len = source
-        .row_start(row + 1)
-        .saturating_sub(source.row_start(row));
     out.push_str("row ")?;
     out.push_str(Buffer::new().format(row + 1))?;
     out.push_str(" has ")?;
-    out.push_str(Buffer::new().format(len))?;
-    out.push_str(" bytes; --max-row 0 draws it")
+    out.push_str(Buffer::new().format(columns(source, row)))?;
+    out.push_str(" columns, which is more than ")?;
+    out.push_str(Buffer::new().format(most))?;
+    out.push_str(" (--max-row)")
 }

@@ -23,7 +23,7 @@ const WIDTH: usize = 80;
 pub struct Look {
     /// What draws them.
     pub handler: GraphicalReportHandler,
-    /// The most bytes of a row that is drawn, with its break; if there is none, all rows are.
+    /// The most columns of a row that is drawn; if there is none, all rows are.
     pub max_row: Option<usize>,
 }
 
@@ -77,7 +77,7 @@ impl Look {
         };
         match long_row(alloc, source, scanner, view.labels, most)? {
             Some(row) => {
-                let note = long_note(alloc, source, name, view, row)?;
+                let note = long_note(alloc, source, name, view.note, view.labels, most, row)?;
                 let short = DiagnosticView {
                     note: Some(note.as_str()),
                     labels: &[],

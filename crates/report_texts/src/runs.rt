@@ -163,7 +163,15 @@ impl<'s> Drawings<'s> {
         let shown = shown_diagnostic(alloc, file, report, raw)?;
         let name = shown_text(alloc, raw, Kind::Name, file.name.as_str())?;
         let code = shown.code(alloc)?;
-        self.push_shown(text, file, place, report, &shown, code.as_deref(), name.as_str())
+        self.push_shown(
+            text,
+            file,
+            place,
+            report,
+            &shown,
+            code.as_deref(),
+            name.as_str(),
+        )
     }
 
     /// Appends the drawing of a report that is shown as this diagnostic, with its code and its
