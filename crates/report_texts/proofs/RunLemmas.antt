@@ -177,7 +177,7 @@ fitted_none : (most : Option ℕ) (name source : List ℕ) (parts : Parts) → p
 unfolding fitted
 fitted_none None name source parts none = refl
 fitted_none (Some most) name source parts none =
-    ap (λ row. option_map_or (without_rows name source parts) row parts) (ap (long_row most source) none ∙ no_long_row most source)
+    ap (λ row. option_map_or (without_rows name source parts most) row parts) (ap (long_row most source) none ∙ no_long_row most source)
 
 pub bare_drawn : (look : Look) (raw : Bool) (it : Found) (shown : OxcParts) (name : List ℕ) (parts : Parts) → parts ≡ viewed shown name [] → shown ≡ shown_diagnostic raw it
     → name ≡ shown_text raw Name it.name → it.held ≡ lacks Missing → parts.labels ≡ [] → report_of look.handler parts ≡ drawing_of look raw it

@@ -1,5 +1,5 @@
 -- Rows that are too long to be drawn, and what is drawn of a report that has one.
-use Rattle.std.specs.Prelude.{ℕ, zero, suc, ◌+◌, ◌-◌, ◌&&◌, nat_lt, List, [], ◌∷◌, ◌++◌, length, Option, Some, None, codes, decimal, if◌then◌else◌}
+use Rattle.std.specs.Prelude.{ℕ, zero, suc, ◌<◌, ◌≤◌, ◌+◌, ◌-◌, ◌&&◌, nat_lt, Bool, List, [], ◌∷◌, ◌++◌, length, Option, Some, None, codes, decimal, if◌then◌else◌}
 use Rattle.std.specs.List.{flat_map}
 use Rattle.std.specs.Option.{option_map_or, option_or}
 use Rattle.std.specs.declared.ops.Range.{Range}
@@ -29,15 +29,24 @@ break_len source past =
 abbrev pub columns_in : List ℕ → ℕ → ℕ
 columns_in source row = start_of source (row + 1) - start_of source row - break_len source (start_of source (row + 1))
 
--- the first of so many rows, from one on, that starts before an end and has more columns than the most
+-- a row starts before an end, and has more columns than the most
+abbrev pub is_long : ℕ → List ℕ → ℕ → ℕ → Bool
+is_long most source end row = nat_lt (start_of source row) end && nat_lt most (columns_in source row)
+
+-- the first such row of so many, from one on
 unfoldable pub long_from : ℕ → List ℕ → ℕ → ℕ → ℕ → Option ℕ
 long_from most source end row zero = None
 long_from most source end row (suc count) =
-    if nat_lt (start_of source row) end && nat_lt most (columns_in source row) then Some row else long_from most source end (row + 1) count
+    if is_long most source end row then Some row else long_from most source end (row + 1) count
 
 -- the first long row of a window
 abbrev pub long_in : ℕ → List ℕ → Window → Option ℕ
 long_in most source window = long_from most source window.end window.line (window.line_count + 1 - window.line)
+
+-- a group has a span, and all its spans are there
+pub record IsAmong (spans : List Span) (group : Range ℕ) : Type 0 where
+  pub some : group.start < group.end
+  pub upto : group.end ≤ length spans
 
 -- the first long row of groups of spans
 unfoldable pub long_among : ℕ → List ℕ → List Span → List (Range ℕ) → Option ℕ

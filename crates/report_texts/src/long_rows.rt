@@ -1,15 +1,19 @@
 // Rows that are too long to be drawn.
 ghost use Rattle.std.specs.Prelude.{◌≡◌, ◌++◌, ◌+◌, ◌-◌, ◌<◌, ◌≤◌, IfOk, IfSome, OnOk};
-ghost use Rattle.std.specs.Prelude.{fold, length, map, max, string_bytes};
+ghost use Rattle.std.specs.Prelude.{All, fold, length, map, max, string_bytes};
 ghost use Rattle.std.specs.List.{flat_map};
 ghost use Rattle.std.specs.Option.{option_copied};
-ghost use Rattle.oxc_plan.specs.Groups.{largest_end as end_of, span_at as span_in, window_round};
-ghost use Rattle.oxc_plan.specs.Order.{label_at, span_of, spans_in_order as spans_of};
+ghost use Rattle.oxc_windows.specs.Breaks.{breaks_of};
+ghost use Rattle.oxc_plan.specs.Groups.{group_window, largest_end as end_of};
+ghost use Rattle.oxc_plan.specs.Groups.{span_at as span_in, window_round};
+ghost use Rattle.oxc_plan.specs.Order.{LieWithin, label_at, span_of, spans_in_order as spans_of};
 ghost use Rattle.oxc_plan.specs.Scanned.{CanGroup, ReadsRound};
 ghost use Rattle.oxc_windows.specs.Scan.{IsNumbered, IsSameReader};
 ghost use Rattle.found_reports.specs.Place.{number_text};
 ghost use Rattle.oxc_plan.specs.Rows.{ends_at as ends_so};
-ghost use Rattle.report_texts.specs.LongRows.{break_len as break_before, columns_in};
+ghost use Rattle.report_texts.specs.LongRows.{IsAmong, break_len as break_before, columns_in};
+ghost use Rattle.report_texts.specs.LongRows.{is_long as is_so_long};
+ghost use Rattle.report_texts.specs.LongRows.{long_among as long_of_groups};
 ghost use Rattle.report_texts.specs.LongRows.{label_line, long_from, long_in as long_window};
 ghost use Rattle.report_texts.specs.LongRows.{long_note as note_said, long_row as long_of, row_line};
 
@@ -28,7 +32,7 @@ use std::ops::Range;
 /// # Errors
 ///
 /// Out of memory.
-#[tactic(auto, unfolding(crate::specs::LongRows::long_row))]
+#[tactic(auto, using(crate::proofs::LongLemmas::one_label, crate::proofs::LongLemmas::one_within))]
 pub(crate) fn long_row(
     alloc: Global,
     source: &ShownText<'_>,
@@ -42,19 +46,79 @@ pub(crate) fn long_row(
     ensures few { IfOk result (λ row. IfSome row (λ row. row < 4294967295)) }
     ensures same { IsSameReader scanner.old scanner.new }
 {
-    if let [label] = labels {
-        return long_round(source, scanner, label.span(), most);
+    match labels {
+        [label] => long_round(source, scanner, label.span(), most),
+        _ => long_of_many(alloc, source, scanner, labels, most),
     }
+}
+
+/// The same for any number of labels.
+#[tactic(auto, using(crate::proofs::LongLemmas::many_within, crate::proofs::LongLemmas::many_among, crate::proofs::LongLemmas::many_long, crate::proofs::LongLemmas::round_still, crate::proofs::LongLemmas::same_then))]
+fn long_of_many(
+    alloc: Global,
+    source: &ShownText<'_>,
+    scanner: &mut SpanScanner<'_>,
+    labels: &[LabeledSpan],
+    most: usize,
+) -> Result<Option<usize>, AllocError>
+    requires source { scanner.old.input ≡ source.now }
+    requires group { CanGroup scanner.old labels.now }
+    ensures row { IfOk result (λ row. row ≡ long_of most source.now labels.now) }
+    ensures few { IfOk result (λ row. IfSome row (λ row. row < 4294967295)) }
+    ensures same { IsSameReader scanner.old scanner.new }
+{
     let spans = spans_in_order(alloc, labels)?;
     let groups = groups(alloc, scanner, labels)?;
-    let mut rest = groups.as_slice();
+    long_among(source, scanner, &spans, &groups, most)
+}
+
+/// The first row of groups of spans that has more columns than `most`.
+#[tactic(auto, using(crate::proofs::LongLemmas::here_long, crate::proofs::LongLemmas::later_long, crate::proofs::LongLemmas::round_still, crate::proofs::LongLemmas::same_then))]
+fn long_among(
+    source: &ShownText<'_>,
+    scanner: &mut SpanScanner<'_>,
+    spans: &[Span],
+    groups: &[Range<usize>],
+    most: usize,
+) -> Result<Option<usize>, AllocError>
+    requires source { scanner.old.input ≡ source.now }
+    requires round { ReadsRound scanner.old }
+    requires within { LieWithin (length source.now) spans.now }
+    requires among { All (IsAmong spans.now) groups.now }
+    ensures row { IfOk result (λ row. row
+        ≡ long_of_groups most source.now spans.now groups.now) }
+    ensures few { IfOk result (λ row. IfSome row (λ row. row < 4294967295)) }
+    ensures same { IsSameReader scanner.old scanner.new }
+{
+    let mut rest = groups;
     while let [group, more @ ..] = rest {
-        if let Some(row) = long_round(source, scanner, joint_span(&spans, group), most)? {
+        if let Some(row) = long_group(source, scanner, spans, group, most)? {
             return Ok(Some(row));
         }
         rest = more;
     }
     Ok(None)
+}
+
+/// The first row of a group of spans that has more columns than `most`.
+#[tactic(auto, using(crate::proofs::LongLemmas::joint_ordered, crate::proofs::LongLemmas::joint_within))]
+fn long_group(
+    source: &ShownText<'_>,
+    scanner: &mut SpanScanner<'_>,
+    spans: &[Span],
+    group: &Range<usize>,
+    most: usize,
+) -> Result<Option<usize>, AllocError>
+    requires source { scanner.old.input ≡ source.now }
+    requires round { ReadsRound scanner.old }
+    requires within { LieWithin (length source.now) spans.now }
+    requires among { IsAmong spans.now group.now }
+    ensures row { IfOk result (λ row. row ≡ long_window most source.now
+        (group_window (length source.now) (breaks_of source.now) spans.now group.now)) }
+    ensures few { IfOk result (λ row. IfSome row (λ row. row < 4294967295)) }
+    ensures same { IsSameReader scanner.old scanner.new }
+{
+    long_round(source, scanner, joint_span(spans, group), most)
 }
 
 /// The spans of labels in label order.
@@ -87,8 +151,7 @@ fn span_at(labels: &[LabeledSpan], at: usize) -> Span
 
 /// From the first start of a group of spans to the largest end.
 fn joint_span(spans: &[Span], group: &Range<usize>) -> Span
-    requires some { group.now.start < group.now.end }
-    requires upto { group.now.end ≤ length spans.now }
+    requires { IsAmong spans.now group.now }
     ensures start { result.start ≡ (span_in spans.now group.now.start).start }
     ensures end { result.end ≡ end_of spans.now group.now.start group.now.end }
 {
@@ -134,6 +197,7 @@ fn long_round(
 }
 
 /// The first row of what was read that has more columns than `most`.
+#[tactic(auto, using(crate::proofs::LongLemmas::long_here, crate::proofs::LongLemmas::long_next, crate::proofs::LongLemmas::long_end))]
 fn long_in(source: &ShownText<'_>, contents: &SpanContents<'_>, most: usize) -> Option<usize>
     requires { IsNumbered contents.now }
     ensures row { result ≡ long_from most source.now contents.now.span.end contents.now.line
@@ -144,12 +208,20 @@ fn long_in(source: &ShownText<'_>, contents: &SpanContents<'_>, most: usize) -> 
     let last = contents.line_count();
     let mut row = contents.line();
     while row <= last {
-        if source.row_start(row) < end && columns(source, row) > most {
+        if is_long(source, row, end, most) {
             return Some(row);
         }
         row += 1;
     }
     None
+}
+
+/// Whether a row starts before an end, and has more columns than `most`.
+fn is_long(source: &ShownText<'_>, row: usize, end: usize, most: usize) -> bool
+    requires { row < 4294967295 }
+    ensures { result ≡ is_so_long most source.now end row }
+{
+    source.row_start(row) < end && columns(source, row) > most
 }
 
 /// How many columns a row has: its bytes, without its break.

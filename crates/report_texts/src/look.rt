@@ -1,11 +1,11 @@
 // How reports are drawn.
-ghost use Rattle.std.specs.Prelude.{◌≡◌, ◌++◌, OnOk, string_bytes};
+ghost use Rattle.std.specs.Prelude.{◌≡◌, ◌++◌, ◌<◌, OnOk, string_bytes};
 ghost use Rattle.oxc_handlers.specs.Report.{report_of, view_parts};
 ghost use Rattle.oxc_handlers.specs.Scanners.{CanDraw};
 ghost use Rattle.oxc_windows.specs.Scan.{IsSameReader};
 ghost use Rattle.report_texts.specs.Each.{page_handler as handler_of_pages, page_look};
 ghost use Rattle.report_texts.specs.Each.{page_theme};
-ghost use Rattle.report_texts.specs.LongRows.{fitted};
+ghost use Rattle.report_texts.specs.LongRows.{fitted, without_rows};
 ghost use Rattle.report_texts.specs.Texts.{handler_of, look_of, theme_of};
 
 use crate::long_rows::{long_note, long_row};
@@ -53,7 +53,7 @@ impl Look {
     /// # Errors
     ///
     /// Out of memory.
-    #[tactic(auto, unfolding(crate::specs::LongRows::fitted))]
+    #[tactic(auto, using(crate::proofs::LongLemmas::can_group, crate::proofs::LongLemmas::can_still, crate::proofs::LongLemmas::fitted_all, crate::proofs::LongLemmas::fitted_long, crate::proofs::LongLemmas::fitted_short, crate::proofs::LongLemmas::same_then))]
     pub fn push(
         &self,
         alloc: Global,
@@ -76,20 +76,42 @@ impl Look {
                 .push_view_with_scanner(alloc, out, view, scanner);
         };
         match long_row(alloc, source, scanner, view.labels, most)? {
-            Some(row) => {
-                let note = long_note(alloc, source, name, view.note, view.labels, most, row)?;
-                let short = DiagnosticView {
-                    note: Some(note.as_str()),
-                    labels: &[],
-                    ..*view
-                };
-                self.handler
-                    .push_view_with_scanner(alloc, out, &short, scanner)
-            }
+            Some(row) => self.push_short(alloc, out, name, source, view, scanner, most, row),
             None => self
                 .handler
                 .push_view_with_scanner(alloc, out, view, scanner),
         }
+    }
+
+    /// Appends the drawing of a view without its labels, since this row has more columns than
+    /// `most`.
+    #[tactic(auto, using(crate::proofs::LongLemmas::can_bare))]
+    fn push_short(
+        &self,
+        alloc: Global,
+        out: &mut String,
+        name: &str,
+        source: &ShownText<'_>,
+        view: &DiagnosticView<'_>,
+        scanner: &mut SpanScanner<'_>,
+        most: usize,
+        row: usize,
+    ) -> Result<(), AllocError>
+        requires draw { CanDraw scanner.old (view_parts view.now) }
+        requires few { row < 4294967295 }
+        ensures text { OnOk result (string_bytes out.new ≡ string_bytes out.old
+            ++ report_of self.now.handler
+            (without_rows name.now source.now (view_parts view.now) most row)) }
+        ensures same { IsSameReader scanner.old scanner.new }
+    {
+        let note = long_note(alloc, source, name, view.note, view.labels, most, row)?;
+        let short = DiagnosticView {
+            note: Some(note.as_str()),
+            labels: &[],
+            ..*view
+        };
+        self.handler
+            .push_view_with_scanner(alloc, out, &short, scanner)
     }
 }
 
