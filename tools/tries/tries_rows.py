@@ -33,7 +33,7 @@ class LongRowTries:
     def is_drawn(self, *words, given):
         """Whether the rows of the one finding are drawn."""
         said = self.drawn(*words, given=given)
-        drawn, told = b"\n 1 | " in said.stdout or b" 1 | " in said.stdout, b"(--max-row)" in said.stdout
+        drawn, told = b" | " in said.stdout, b"(--max-row)" in said.stdout
         self.check(f"rows are drawn, or it is told why not: {' '.join(words)}", drawn != told, said)
         return drawn
 
@@ -103,7 +103,8 @@ class LongRowTries:
         self.check("a report without labels has no row", b"(--max-row)" not in self.drawn(given=unlabelled).stdout)
 
     def try_long_rows(self):
-        for words, why in ((("--max-row", "x"), b"--max-row: 'x'"), (("--max-row", "-1"), b"--max-row"), (("--max-row=",), b"--max-row"), (("--max-row",), b"--max-row")):
+        for words, why in ((("--max-row", "x"), b"--max-row: expected a number from 0, not 'x'"), (("--max-row", "-1"), b"a number from 0"),
+                           (("--max-row=",), b"a number from 0"), (("--max-row",), b"--max-row needs a value: a number from 0")):
             self.ends("a limit of rows that is none", 2, *words, err=why)
         for each in (self.try_minified, self.try_row_lengths, self.try_rows_around, self.try_undrawn_parts):
             each()
