@@ -100,12 +100,12 @@ all_looked_at asked log uris at old new before after past so_far =
 
 -- ---- whether a session runs
 
-pub none_looked_up : (asked : Asked) (runs : Bool) (uris : Option (List (List ℕ))) (server : Server) (before after : List Answer) → runs ≡ false
-    → after ≡ before → IsLookedUp asked (if runs then uris else None) server server before after
-none_looked_up asked runs uris server before after is same =
-    subst (λ (b : Bool). IsLookedUp asked (if b then uris else None) server server before after) (sym is) (refl, same)
+pub none_looked_up : (asked : Asked) (bytes : Option (List ℕ)) (runs : Bool) (uris : Option (List (List ℕ))) (server : Server) (before after : List Answer) → runs ≡ false
+    → after ≡ before → IsLookedUp asked bytes (if runs then uris else None) server server before after
+none_looked_up asked bytes runs uris server before after is same =
+    subst (λ (b : Bool). IsLookedUp asked bytes (if b then uris else None) server server before after) (sym is) (refl, same)
 
-pub those_looked_up : (asked : Asked) (runs : Bool) (uris : Option (List (List ℕ))) (old new : Server) (before after : List Answer) → runs ≡ true
-    → IsLookedUp asked uris old new before after → IsLookedUp asked (if runs then uris else None) old new before after
-those_looked_up asked runs uris old new before after is looks =
-    subst (λ (b : Bool). IsLookedUp asked (if b then uris else None) old new before after) (sym is) looks
+pub those_looked_up : (asked : Asked) (bytes : Option (List ℕ)) (runs : Bool) (uris : Option (List (List ℕ))) (old new : Server) (before after : List Answer) → runs ≡ true
+    → IsLookedUp asked bytes uris old new before after → IsLookedUp asked bytes (if runs then uris else None) old new before after
+those_looked_up asked bytes runs uris old new before after is looks =
+    subst (λ (b : Bool). IsLookedUp asked bytes (if b then uris else None) old new before after) (sym is) looks

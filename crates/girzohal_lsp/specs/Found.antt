@@ -101,7 +101,7 @@ pub record ShowsLines (asked : Asked) (bytes path text : List ℕ) (shown : List
 
 abbrev pub Shows : Asked → LogFile → List ℕ → List ℕ → List OxcParts → Type 0
 Shows asked (Sarif log) path text shown = ShowsLog asked (log_view log) path text shown
-Shows asked (Lines bytes) path text shown = ShowsLines asked bytes.items path text shown
+Shows asked (Lines bytes) path text shown = ShowsLines asked bytes.now path text shown
 Shows asked (Fault why) path text shown = shown ≡ []
 
 -- what is shown in a file whose URI says this path; nothing where it says none

@@ -1,4 +1,5 @@
 pub mod Words
 pub mod Logs
 pub mod Found
+pub mod Kept
 pub mod Served

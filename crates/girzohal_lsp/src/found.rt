@@ -1,5 +1,5 @@
 // The findings that a log has for an open file.
-ghost use Rattle.std.specs.Prelude.{◌≡◌, ◌++◌, ◌<◌, All, IfOk, OnOk, length, map};
+ghost use Rattle.std.specs.Prelude.{◌≡◌, ◌++◌, ◌<◌, All, IfOk, OnOk, length, map, string_bytes};
 ghost use Rattle.std.specs.List.{filter_map};
 ghost use Rattle.std.specs.Option.{option_to_list};
 ghost use Rattle.found_reports.specs.Kept.{file_view, report_view};
@@ -11,20 +11,21 @@ ghost use Rattle.source_store.specs.declared.named.Spelling.TheVariants.{Uri};
 ghost use Rattle.girzohal_lsp.specs.Found.{AreFitted, AreShown, IsFitted, IsPicked, ShowsAt, ShowsLines};
 ghost use Rattle.girzohal_lsp.specs.Found.{ShowsLog, columns_of as columns_meant};
 ghost use Rattle.girzohal_lsp.specs.Found.{log_columns as columns_of_log, pick, tool_name as name_of};
+ghost use Rattle.girzohal_lsp.specs.Kept.{IsKept, KeepsLines};
+ghost use Rattle.sarif.specs.Asked.{names_in};
 
+use crate::kept::KeptLog;
 use crate::log::LogFile;
 use crate::words::Asked;
 use found_reports::{FoundFile, FoundReport, FoundReports, Lack, stand_in};
 use line_shapes::tables::Unit;
-use line_shapes::tools::{Columns, columns_of_tool, tool_shapes};
+use line_shapes::tools::{Columns, columns_of_tool};
 use oxc_protocol::{Diagnostic, OxcDiagnostic};
 use sarif::{ColumnKind, Log};
 use source_store::{
     Fetched, Spelling, Store, gather, gather_indexed, is_named, means_file, path_in,
 };
 use std::alloc::{AllocError, Global};
-use tool_lines::lines::{lines_of, pieces_of};
-use tool_lines::paint::without_paint;
 
 /// The findings of a log in a file with this URI and text. A finding whose labels don't all fit the
 /// text is given without labels.
@@ -34,21 +35,22 @@ use tool_lines::paint::without_paint;
 /// Out of memory.
 pub fn found_in(
     alloc: Global,
-    asked: Asked<'_>,
-    log: &LogFile,
+    kept: KeptLog<'_>,
     uri: &str,
     text: &str,
 ) -> Result<Vec<OxcDiagnostic>, AllocError>
-    ensures shown { IfOk result (λ shown.
-        ShowsAt asked.entry log.now (path_meant Uri uri.now) text.now shown.items) }
+    requires { IsKept kept.entry }
+    ensures shown { IfOk result (λ shown. ShowsAt kept.entry.asked kept.entry.log.now
+        (path_meant Uri uri.now) text.now shown.items) }
     ensures stand { IfOk result (λ shown. All (StandIn text.now) shown.items) }
 {
     let Some(path) = path_in(alloc, Spelling::Uri, uri)? else {
         return Ok(Vec::new(alloc));
     };
-    match log {
-        LogFile::Sarif(log) => found_in_log(alloc, asked, log, path.as_str(), text),
-        LogFile::Lines(bytes) => found_in_lines(alloc, asked, bytes, path.as_str(), text),
+    let path = path.as_str();
+    match kept.log {
+        LogFile::Sarif(log) => found_in_log(alloc, kept.asked, log, kept.names, path, text),
+        LogFile::Lines(_) => found_in_lines(alloc, kept, path, text),
         LogFile::Fault(_) => Ok(Vec::new(alloc)),
     }
 }
@@ -57,16 +59,17 @@ fn found_in_log(
     alloc: Global,
     asked: Asked<'_>,
     log: &Log,
+    names: &[String],
     path: &str,
     text: &str,
 ) -> Result<Vec<OxcDiagnostic>, AllocError>
+    requires { map string_bytes names.now ≡ names_in (log_view log.now) }
     ensures shown { IfOk result (λ shown.
         ShowsLog asked.entry (log_view log.now) path.now text.now shown.items) }
     ensures stand { IfOk result (λ shown. All (StandIn text.now) shown.items) }
 {
     let file = OpenFile { path, text };
-    let names = sarif::names_of(alloc, log)?;
-    let sources = gather(alloc, &file, Spelling::Uri, &names)?;
+    let sources = gather(alloc, &file, Spelling::Uri, names)?;
     let found = sarif::reports_of(alloc, log, &sources, log_columns(asked.columns))?;
     let shown = shown_of(alloc, Spelling::Uri, &found, path, text)?;
     Ok(shown)
@@ -74,30 +77,24 @@ fn found_in_log(
 
 fn found_in_lines(
     alloc: Global,
-    asked: Asked<'_>,
-    bytes: &[u8],
+    kept: KeptLog<'_>,
     path: &str,
     text: &str,
 ) -> Result<Vec<OxcDiagnostic>, AllocError>
-    ensures shown { IfOk result (λ shown.
-        ShowsLines asked.entry bytes.now path.now text.now shown.items) }
+    ensures shown { (bytes : List ℕ) → KeepsLines bytes kept.entry → IfOk result (λ shown.
+        ShowsLines kept.entry.asked bytes path.now text.now shown.items) }
     ensures stand { IfOk result (λ shown. All (StandIn text.now) shown.items) }
 {
     let file = OpenFile { path, text };
-    let plain = without_paint(alloc, bytes)?;
-    let lines = lines_of(alloc, &plain)?;
-    let shapes = tool_shapes(alloc, tool_name(asked))?;
-    let pieces = pieces_of(alloc, &lines, &shapes)?;
-    let names = line_reports::names_of(alloc, &pieces)?;
-    let sources = gather_indexed(alloc, &file, Spelling::Path, &names)?;
-    let reads = line_reports::read_pieces(alloc, &lines, &pieces)?;
-    let found = line_reports::reports_of(alloc, &lines, &reads, &sources, columns_of(asked))?;
+    let sources = gather_indexed(alloc, &file, Spelling::Path, kept.names)?;
+    let columns = columns_of(kept.asked);
+    let found = line_reports::reports_of(alloc, kept.lines, kept.reads, &sources, columns)?;
     let shown = shown_of(alloc, Spelling::Path, &found, path, text)?;
     Ok(shown)
 }
 
 /// The name of the tool; empty if none is named.
-fn tool_name(asked: Asked<'_>) -> &str
+pub(crate) fn tool_name(asked: Asked<'_>) -> &str
     ensures { result.now ≡ name_of asked.entry.tool }
 {
     match asked.tool {

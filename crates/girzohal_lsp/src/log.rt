@@ -10,13 +10,19 @@ use input_forms::{Begun, begins_as, without_mark};
 use sarif::{Log, LogError, log_in, read_log};
 use std::alloc::{AllocError, Global};
 
+/// The bytes of a log's file; none if it can't be read.
+#[derive(Drop)]
+pub struct LogBytes {
+    pub bytes: Option<Vec<u8>>,
+}
+
 /// A log.
 #[derive(Drop)]
-pub enum LogFile {
+pub enum LogFile<'b> {
     /// A SARIF log.
     Sarif(Log),
     /// What a tool printed for people.
-    Lines(Vec<u8>),
+    Lines(&'b [u8]),
     /// Why there is no log.
     Fault(String),
 }
@@ -26,36 +32,25 @@ pub enum LogFile {
 /// # Errors
 ///
 /// Out of memory.
-pub fn read_bytes(alloc: Global, form: Form, bytes: Vec<u8>) -> Result<LogFile, AllocError>
-    ensures { IfOk result (IsRead form bytes.items) }
+pub fn read_bytes(alloc: Global, form: Form, bytes: &[u8]) -> Result<LogFile<'_>, AllocError>
+    ensures { IfOk result (IsRead form bytes.now) }
 {
     match form {
-        Form::Lines => lines_in(alloc, bytes),
-        Form::Sarif => sarif_in(alloc, without_mark(&bytes)),
-        Form::Auto => match begins_as(&bytes) {
-            Begun::Object => sarif_in(alloc, without_mark(&bytes)),
+        Form::Lines => Ok(LogFile::Lines(without_mark(bytes))),
+        Form::Sarif => sarif_in(alloc, without_mark(bytes)),
+        Form::Auto => match begins_as(bytes) {
+            Begun::Object => sarif_in(alloc, without_mark(bytes)),
             Begun::OtherJson => {
                 let why = "JSON of no known form; SARIF logs and lines are read";
                 Ok(LogFile::Fault(String::from_str(alloc, why)?))
             }
-            Begun::Lines => lines_in(alloc, bytes),
+            Begun::Lines => Ok(LogFile::Lines(without_mark(bytes))),
         },
     }
 }
 
-/// The lines of a log. The bytes are copied if they begin with a byte order mark.
-fn lines_in(alloc: Global, bytes: Vec<u8>) -> Result<LogFile, AllocError>
-    ensures { IfOk result (IsLines (behind_mark bytes.items)) }
-{
-    if !bytes.starts_with(&[0xEF, 0xBB, 0xBF]) {
-        return Ok(LogFile::Lines(bytes));
-    }
-    let rest = Vec::from_slice(alloc, without_mark(&bytes))?;
-    Ok(LogFile::Lines(rest))
-}
-
 /// The SARIF log in the bytes, or why there is none.
-fn sarif_in(alloc: Global, bytes: &[u8]) -> Result<LogFile, AllocError>
+fn sarif_in<'b>(alloc: Global, bytes: &[u8]) -> Result<LogFile<'b>, AllocError>
     ensures { IfOk result (IsSarif bytes.now) }
 {
     let Some(range) = log_in(bytes) else {

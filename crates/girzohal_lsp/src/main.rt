@@ -6,18 +6,21 @@
 //!
 //! - `words`: the options, as the server uses them
 //! - `log`: reads a log
+//! - `kept`: what is read of it, once for all documents
 //! - `found`: the findings of a log for an open file
 //! - `serve`: messages in, answers out
 #![tactic(auto)]
 
 mod found;
+mod kept;
 mod log;
 mod serve;
 mod words;
 
 pub use found::found_in;
 use girzohal_options::{InputForm, Program, Refusal, Request, message, read_words};
-pub use log::{LogFile, read_bytes};
+pub use kept::{KeptLog, log_of};
+pub use log::{LogBytes, LogFile, read_bytes};
 pub use serve::{refresh, serve};
 use std::alloc::Global;
 use std::env;

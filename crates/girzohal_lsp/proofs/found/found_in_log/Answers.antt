@@ -1,11 +1,10 @@
 -- The log's findings with what the one open file gives of its names.
-use Rattle.std.proofs.Common.{rules, ◌≡◌, ℕ, List, map, string_bytes, subst}
+use Rattle.std.proofs.Common.{rules, ◌≡◌, ℕ, List, subst}
 use Rattle.found_reports.specs.Found.{Found}
 use Rattle.found_reports.specs.Listed.{held_in}
 use Rattle.source_store.specs.Given.{IsGiven}
 use Rattle.source_store.specs.declared.named.Spelling.TheVariants.{Uri}
 use Rattle.sarif_log.specs.Log.{log_view}
-use Rattle.sarif.specs.Asked.{names_in}
 use Rattle.sarif.specs.Meaning.{reports_in}
 use Rattle.girzohal_lsp.specs.Found.{AreShown, log_columns, told_open}
 use Rattle.girzohal_lsp.proofs.found.found_in_log.Goals as goal
@@ -16,10 +15,9 @@ returns-clause-shown c =
     let text = c.args.text.now in
     let log = log_view c.args.log.now in
     let given = held_in c.in_ok-sources.sources.entries.items in
-    let names : map string_bytes c.deref.result.now ≡ names_in log = search rules in
     let found : c.in_ok-found.found.found ≡ reports_in given (log_columns c.args.asked.columns) log = search rules in
     record {
       given = given;
-      told_so = subst (λ (l : List (List ℕ)). IsGiven (told_open path text) Uri l given) names c.in_ok-sources.ensures;
+      told_so = subst (λ (l : List (List ℕ)). IsGiven (told_open path text) Uri l given) c.requires c.in_ok-sources.ensures;
       are = subst (λ (l : List Found). AreShown Uri path text l c.in_ok-shown.shown.items) found c.in_ok-shown.ensures.shown;
     }

@@ -6,15 +6,15 @@ use Rattle.girzohal_lsp.proofs.serve.refresh_all.Goals as goal
 
 pub loop-uri-init : goal.loop-uri-init
 loop-uri-init c = record {
-  so_far = none_yet c.args.asked c.args.log.now c.args.uris.now c.args.server.now c.args.answers.now.items;
+  so_far = none_yet c.args.kept.asked c.args.kept.log.now c.args.uris.now c.args.server.now c.args.answers.now.items;
   none = refl;
   phase = refl;
 }
 
 pub loop-uri-preserved : goal.loop-uri-preserved
 loop-uri-preserved c =
-    let asked = c.args.asked in
-    let log = c.args.log.now in
+    let asked = c.args.kept.asked in
+    let log = c.args.kept.log.now in
     let uri = c.uri-item.result in
     let mid = c.loop-uri.server in
     let new = c.refresh.new.server in
@@ -34,5 +34,5 @@ loop-uri-preserved c =
 
 pub returns-clause-shows : goal.returns-clause-shows
 returns-clause-shows c =
-    all_looked_at c.args.asked c.args.log.now c.args.uris.now c.loop-uri.uri-index c.args.server.now c.loop-uri.server c.args.answers.now.items c.loop-uri.answers.items c.loop-uri-test.false
+    all_looked_at c.args.kept.asked c.args.kept.log.now c.args.uris.now c.loop-uri.uri-index c.args.server.now c.loop-uri.server c.args.answers.now.items c.loop-uri.answers.items c.loop-uri-test.false
     c.loop-uri.invariant.so_far
