@@ -1,2 +1,3 @@
+pub mod BlockLemmas
 pub mod FoundLemmas
 pub mod ServedLemmas

@@ -15,6 +15,7 @@ ghost use Rattle.girzohal_lsp.specs.Kept.{IsKept, KeepsLines};
 ghost use Rattle.sarif.specs.Asked.{names_in};
 
 use crate::kept::KeptLog;
+use crate::lines::shown_in_lines;
 use crate::log::LogFile;
 use crate::words::Asked;
 use found_reports::{FoundFile, FoundReport, FoundReports, Lack, stand_in};
@@ -88,9 +89,7 @@ fn found_in_lines(
     let file = OpenFile { path, text };
     let sources = gather_indexed(alloc, &file, Spelling::Path, kept.names)?;
     let columns = columns_of(kept.asked);
-    let found = line_reports::reports_of(alloc, kept.lines, kept.reads, &sources, columns)?;
-    let shown = shown_of(alloc, Spelling::Path, &found, path, text)?;
-    Ok(shown)
+    shown_in_lines(alloc, kept.lines, kept.reads, &sources, columns, path, text)
 }
 
 /// The name of the tool; empty if none is named.
@@ -155,7 +154,7 @@ impl<'a> Store for OpenFile<'a> {
 }
 
 /// The diagnostics of the reports on the file, each without labels if they don't fit the text.
-fn shown_of(
+pub(crate) fn shown_of(
     alloc: Global,
     spelling: Spelling,
     found: &FoundReports<'_>,

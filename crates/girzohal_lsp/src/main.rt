@@ -8,11 +8,13 @@
 //! - `log`: reads a log
 //! - `kept`: what is read of it, once for all documents
 //! - `found`: the findings of a log for an open file
+//! - `lines`: the findings of a tool's lines for an open file
 //! - `serve`: messages in, answers out
 #![tactic(auto)]
 
 mod found;
 mod kept;
+mod lines;
 mod log;
 mod serve;
 mod words;

@@ -17,7 +17,6 @@ returns-clause-shown c = λ bytes keeps.
     let reads = map read_parts kept.reads.now in
     let lines : List (List ℕ) = map (λ line. line.now) kept.lines.now in
     let given = held_in c.in_ok-sources.sources.entries.items in
-    let found : c.in_ok-found.found.found ≡ reports_in (columns_of kept.asked) given lines reads = search rules in
     record {
       pieces = map (λ (it : ReadParts). it.piece) reads;
       those = keeps.pieces;
@@ -26,6 +25,5 @@ returns-clause-shown c = λ bytes keeps.
       reads = reads;
       of_them = refl;
       read = keeps.read;
-      are = subst (λ (l : List Found). AreShown Path path text l c.in_ok-shown.shown.items)
-          (found ∙ ap (λ (l : List (List ℕ)). reports_in (columns_of kept.asked) given l reads) keeps.lines) c.in_ok-shown.ensures.shown;
+      are = subst (λ (l : List (List ℕ)). AreShown Path path text (reports_in (columns_of kept.asked) given l reads) c.shown_in_lines.result.value.items) keeps.lines c.in_ok-shown_in_lines.ensures;
     }
