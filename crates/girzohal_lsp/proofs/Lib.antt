@@ -1,3 +1,4 @@
 pub mod BlockLemmas
 pub mod FoundLemmas
+pub mod LogLemmas
 pub mod ServedLemmas

@@ -1,11 +1,13 @@
 // The findings that a log has for an open file.
-ghost use Rattle.std.specs.Prelude.{◌≡◌, ◌++◌, ◌<◌, All, IfOk, OnOk, length, map, string_bytes};
+ghost use Rattle.std.specs.Prelude.{◌≡◌, ◌++◌, ◌<◌, [], ℕ, List, All, IfOk, OnOk, false, length};
+ghost use Rattle.std.specs.Prelude.{map, string_bytes};
 ghost use Rattle.std.specs.List.{filter_map};
 ghost use Rattle.std.specs.Option.{option_to_list};
 ghost use Rattle.found_reports.specs.Kept.{file_view, report_view};
 ghost use Rattle.line_shapes.specs.Shape.{shape_parts};
 ghost use Rattle.lsp_diagnostics.specs.Seen.{StandIn};
 ghost use Rattle.sarif_log.specs.Log.{log_view};
+ghost use Rattle.source_store.specs.Matching.{means_file as file_meant};
 ghost use Rattle.source_store.specs.Named.{path_in as path_meant};
 ghost use Rattle.source_store.specs.declared.named.Spelling.TheVariants.{Uri};
 ghost use Rattle.girzohal_lsp.specs.Found.{AreFitted, AreShown, IsFitted, IsPicked, ShowsAt, ShowsLines};
@@ -69,11 +71,31 @@ fn found_in_log(
         ShowsLog asked.entry (log_view log.now) path.now text.now shown.items) }
     ensures stand { IfOk result (λ shown. All (StandIn text.now) shown.items) }
 {
+    if !is_one_meant(alloc, names, path)? {
+        return Ok(Vec::new(alloc));
+    }
     let file = OpenFile { path, text };
     let sources = gather(alloc, &file, Spelling::Uri, names)?;
     let found = sarif::reports_of(alloc, log, &sources, log_columns(asked.columns))?;
     let shown = shown_of(alloc, Spelling::Uri, &found, path, text)?;
     Ok(shown)
+}
+
+/// Whether one of these URIs means the file, or the empty one of what is found on no file.
+fn is_one_meant(alloc: Global, names: &[String], path: &str) -> Result<bool, AllocError>
+    ensures bare { IfOk result (λ is. is ≡ false → file_meant Uri path.now [] ≡ false) }
+    ensures names { IfOk result (λ is. is ≡ false
+        → All (λ name. file_meant Uri path.now name ≡ false) (map string_bytes names.now)) }
+{
+    if means_file(alloc, Spelling::Uri, path, "")? {
+        return Ok(true);
+    }
+    for name in names {
+        if means_file(alloc, Spelling::Uri, path, name.as_str())? {
+            return Ok(true);
+        }
+    }
+    Ok(false)
 }
 
 fn found_in_lines(

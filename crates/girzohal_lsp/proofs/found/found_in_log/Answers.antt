@@ -1,5 +1,6 @@
 -- The log's findings with what the one open file gives of its names.
-use Rattle.std.proofs.Common.{rules, ◌≡◌, ℕ, List, subst}
+use Rattle.std.proofs.Common.{rules, ◌≡◌, ℕ, false, List, All, subst}
+use Rattle.source_store.specs.Matching.{means_file}
 use Rattle.found_reports.specs.Found.{Found}
 use Rattle.found_reports.specs.Listed.{held_in}
 use Rattle.source_store.specs.Given.{IsGiven}
@@ -7,7 +8,15 @@ use Rattle.source_store.specs.declared.named.Spelling.TheVariants.{Uri}
 use Rattle.sarif_log.specs.Log.{log_view}
 use Rattle.sarif.specs.Meaning.{reports_in}
 use Rattle.girzohal_lsp.specs.Found.{AreShown, log_columns, told_open}
+use Rattle.girzohal_lsp.proofs.LogLemmas.{nothing_shown}
 use Rattle.girzohal_lsp.proofs.found.found_in_log.Goals as goal
+
+pub returns-then-not-is_one_meant-clause-shown : goal.returns-then-not-is_one_meant-clause-shown
+returns-then-not-is_one_meant-clause-shown c =
+    let path = c.args.path.now in
+    let is = c.if-not-is_one_meant.true in
+    nothing_shown c.args.asked (log_view c.args.log.now) path c.args.text.now c.new.result.items (c.in_ok-is_one_meant.ensures.bare is)
+    (subst (λ (names : List (List ℕ)). All (λ name. means_file Uri path name ≡ false) names) c.requires (c.in_ok-is_one_meant.ensures.names is)) c.new.ensures.items
 
 pub returns-clause-shown : goal.returns-clause-shown
 returns-clause-shown c =
