@@ -1,4 +1,5 @@
 pub mod BlockLemmas
 pub mod FoundLemmas
+pub mod KeptLemmas
 pub mod LogLemmas
 pub mod ServedLemmas

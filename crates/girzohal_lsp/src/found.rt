@@ -36,6 +36,7 @@ use std::alloc::{AllocError, Global};
 /// # Errors
 ///
 /// Out of memory.
+#[tactic(auto, using(crate::proofs::KeptLemmas::kept_lines, crate::proofs::KeptLemmas::kept_names))]
 pub fn found_in(
     alloc: Global,
     kept: KeptLog<'_>,

@@ -78,6 +78,7 @@ pub fn serve<F: Files + Alloc, R: Read, W: Write>(
 }
 
 /// Serves while the log's file has these bytes. The log is read here, once.
+#[tactic(auto, using(crate::proofs::KeptLemmas::sarif_kept, crate::proofs::KeptLemmas::fault_kept))]
 fn serve_log<F: Files + Alloc, R: Read, W: Write>(
     rt: &F,
     session: &mut Session,
@@ -110,6 +111,7 @@ fn serve_log<F: Files + Alloc, R: Read, W: Write>(
 }
 
 /// The same with a log of these lines.
+#[tactic(auto, using(crate::proofs::KeptLemmas::lines_kept))]
 fn serve_lines<F: Files + Alloc, R: Read, W: Write>(
     rt: &F,
     session: &mut Session,
