@@ -1,12 +1,18 @@
 // What is read of a log, once for all documents.
-ghost use Rattle.std.specs.Prelude.{IfOk};
+ghost use Rattle.std.specs.Prelude.{◌≡◌, IfOk, None, map, string_bytes};
 ghost use Rattle.std.specs.Option.{option_copied};
+ghost use Rattle.line_reports.specs.Names.{names_in};
+ghost use Rattle.line_reports.specs.Pieces.{AreRead, read_parts};
+ghost use Rattle.line_shapes.specs.Tools.{shapes_of};
+ghost use Rattle.tool_lines.specs.Lines.{ArePieces};
 ghost use Rattle.girzohal_lsp.specs.Kept.{IsLogOf};
 
 use crate::log::{LogFile, read_bytes};
 use crate::words::Asked;
-use line_reports::ReadPiece;
+use line_reports::{ReadPiece, names_of, read_pieces};
+use line_shapes::tools::tool_shapes;
 use std::alloc::{AllocError, Global};
+use tool_lines::lines::pieces_of;
 
 /// A log, with what its reports are made from. That is read once, while the log's file stays the
 /// same; only the texts of documents aren't in it.
@@ -45,4 +51,32 @@ pub fn log_of<'b>(
             Ok(LogFile::Fault(text))
         }
     }
+}
+
+/// The blocks of a tool's lines, and the names in them.
+#[derive(Drop)]
+pub(crate) struct ReadLines<'a> {
+    pub names: Vec<String>,
+    pub reads: Vec<ReadPiece<'a>>,
+}
+
+/// Reads the blocks of these lines, which a tool wrote.
+pub(crate) fn read_lines<'a>(
+    alloc: Global,
+    tool: &str,
+    lines: &[&'a [u8]],
+) -> Result<ReadLines<'a>, AllocError>
+    ensures pieces { IfOk result (λ it. ArePieces (shapes_of tool.now) None
+        (map (λ line. line.now) lines.now)
+        (map (λ read. read.piece) (map read_parts it.reads.items))) }
+    ensures read { IfOk result (λ it.
+        AreRead (map (λ line. line.now) lines.now) (map read_parts it.reads.items)) }
+    ensures names { IfOk result (λ it. map string_bytes it.names.items
+        ≡ names_in (map (λ read. read.piece) (map read_parts it.reads.items))) }
+{
+    let shapes = tool_shapes(alloc, tool)?;
+    let pieces = pieces_of(alloc, lines, &shapes)?;
+    let names = names_of(alloc, &pieces)?;
+    let reads = read_pieces(alloc, lines, &pieces)?;
+    Ok(ReadLines { names, reads })
 }

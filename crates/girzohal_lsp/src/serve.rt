@@ -12,18 +12,16 @@ ghost use Rattle.girzohal_lsp.specs.Served.{IsRefreshed, LooksUp, TellsFault, ur
 ghost use Rattle.girzohal_lsp.specs.Served.{wanted_uris};
 
 use crate::found::{found_in, tool_name};
-use crate::kept::{KeptLog, log_of};
+use crate::kept::{KeptLog, log_of, read_lines};
 use crate::log::{LogBytes, LogFile};
 use crate::words::Asked;
-use line_reports::read_pieces;
-use line_shapes::tools::tool_shapes;
 use lsp_frames::{End, Frames, write_frame};
 use lsp_server::{Answer, Message, Notice, Server, add_told, answer_text, message_in};
 use std::alloc::{Alloc, AllocError, Global};
 use std::io::{self, ErrorKind, Read, Write};
 use std::rt::Files;
 use std::{fs, mem};
-use tool_lines::lines::{lines_of, pieces_of};
+use tool_lines::lines::lines_of;
 use tool_lines::paint::without_paint;
 
 /// A session: the server, and its input that waits until the log is read anew.
@@ -126,14 +124,11 @@ fn serve_lines<F: Files + Alloc, R: Read, W: Write>(
     let alloc = session.alloc;
     let plain = without_paint(alloc, text)?;
     let lines = lines_of(alloc, &plain)?;
-    let shapes = tool_shapes(alloc, tool_name(bare.asked))?;
-    let pieces = pieces_of(alloc, &lines, &shapes)?;
-    let names = line_reports::names_of(alloc, &pieces)?;
-    let reads = read_pieces(alloc, &lines, &pieces)?;
+    let read = read_lines(alloc, tool_name(bare.asked), &lines)?;
     let kept = KeptLog {
-        names: &names,
+        names: &read.names,
         lines: &lines,
-        reads: &reads,
+        reads: &read.reads,
         ..bare
     };
     serve_kept(rt, session, kept, input, out)
