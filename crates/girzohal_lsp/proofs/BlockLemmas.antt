@@ -229,6 +229,10 @@ drop_next n xs x rest e = ap (drop 1) e ∙ drop-drop 1 n xs
 pub begins_at : (n : ℕ) (xs : List ReadParts) (x : ReadParts) (rest : List ReadParts) → x ∷ rest ≡ drop n xs → stands_alone x ≡ true → BeginsAlone (drop n xs)
 begins_at n xs x rest e is = subst BeginsAlone e is
 
+pub later_begin : (n : ℕ) (reads rest : List ReadPiece) → rest ≡ drop 1 reads → BeginsAlone (drop n (map read_parts rest)) → BeginsAlone (drop (1 + n) (map read_parts reads))
+later_begin n reads rest e begins =
+    subst BeginsAlone (ap (drop n) (ap (map read_parts) e ∙ sym (drop-map read_parts 1 reads)) ∙ drop-drop n 1 (map read_parts reads)) begins
+
 -- all pieces are cut into some and the others
 pub cut_parts : (n : ℕ) (reads block others : List ReadPiece) → block ≡ take n reads → others ≡ drop n reads → map read_parts reads ≡ map read_parts block ++ map read_parts others
 cut_parts n reads block others front back =

@@ -63,13 +63,14 @@ fn push_all(shown: &mut Vec<OxcDiagnostic>, found: Vec<OxcDiagnostic>) -> Result
 }
 
 /// How many of these pieces stand together: the first, and the notes behind it.
+#[tactic(auto, using(crate::proofs::BlockLemmas::later_begin))]
 fn together(reads: &[ReadPiece<'_>]) -> usize
     requires { 0 < length reads.now }
     ensures first { 0 < result }
     ensures within { result ≤ length reads.now }
     ensures others { BeginsAlone (drop result (map read_parts reads.now)) }
 {
-    1 + notes(&reads[1..])
+    1 + notes(reads.split_at(1).1)
 }
 
 /// How many notes of the finding before them these pieces begin with.
