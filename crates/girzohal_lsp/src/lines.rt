@@ -1,7 +1,7 @@
 // The findings of a tool's lines in an open file. Reports are made only of what stands together
 // with a finding on the file.
 ghost use Rattle.std.specs.Prelude.{◌≡◌, ◌++◌, ◌<◌, ◌≤◌, false, IfOk, IfSome, OnOk, drop, length};
-ghost use Rattle.std.specs.Prelude.{map};
+ghost use Rattle.std.specs.Prelude.{map, take};
 ghost use Rattle.found_reports.specs.Listed.{held_in};
 ghost use Rattle.line_reports.specs.Names.{name_in};
 ghost use Rattle.line_reports.specs.Pieces.{read_parts};
@@ -43,13 +43,30 @@ pub(crate) fn shown_in_lines(
     let mut left = lines;
     let mut rest = reads;
     while !rest.is_empty() {
-        let (block, others) = rest.split_at(together(rest));
+        let count = together(rest);
+        let block = first_reads(rest, count);
         let found = shown_in_block(alloc, left, block, sources, columns, path, text)?;
         push_all(&mut shown, found)?;
         left = lines_behind(left, block);
-        rest = others;
+        rest = other_reads(rest, count);
     }
     Ok(shown)
+}
+
+/// The first `count` pieces.
+fn first_reads<'r, 'a>(reads: &'r [ReadPiece<'a>], count: usize) -> &'r [ReadPiece<'a>]
+    requires { count ≤ length reads.now }
+    ensures { result.now ≡ take count reads.now }
+{
+    reads.split_at(count).0
+}
+
+/// The pieces after the first `count`.
+fn other_reads<'r, 'a>(reads: &'r [ReadPiece<'a>], count: usize) -> &'r [ReadPiece<'a>]
+    requires { count ≤ length reads.now }
+    ensures { result.now ≡ drop count reads.now }
+{
+    reads.split_at(count).1
 }
 
 /// Appends findings.
@@ -70,7 +87,7 @@ fn together(reads: &[ReadPiece<'_>]) -> usize
     ensures within { result ≤ length reads.now }
     ensures others { BeginsAlone (drop result (map read_parts reads.now)) }
 {
-    1 + notes(reads.split_at(1).1)
+    1 + notes(other_reads(reads, 1))
 }
 
 /// How many notes of the finding before them these pieces begin with.
@@ -109,10 +126,17 @@ fn lines_behind<'l, 'a>(lines: &'l [&'a [u8]], reads: &[ReadPiece<'_>]) -> &'l [
     let mut left = lines;
     let mut rest = reads;
     while let [read, more @ ..] = rest {
-        left = left.split_at(read.piece.lines.min(left.len())).1;
+        left = lines_after(left, read.piece.lines);
         rest = more;
     }
     left
+}
+
+/// The lines after the first `count`, if there are so many.
+fn lines_after<'l, 'a>(lines: &'l [&'a [u8]], count: usize) -> &'l [&'a [u8]]
+    ensures { map (λ line. line.now) result.now ≡ drop count (map (λ line. line.now) lines.now) }
+{
+    lines.split_at(count.min(lines.len())).1
 }
 
 /// What is shown in a file of the reports of pieces that stand together.

@@ -12,13 +12,13 @@ loop-rest-preserved c =
     let told = held_in c.args.sources.now.entries.items in
     let all = reports_in c.args.columns told (map (λ line. line.now) c.args.lines.now) (map read_parts c.args.reads.now) in
     let later = map (λ line. line.now) c.lines_behind-left.result.now in
-    let count = c.together.result in
+    let count = c.together-count.result in
     let rest = c.loop-rest.rest.now in
-    let block = c.split_at.result.0.now in
-    let others = c.split_at.result.1.now in
+    let block = c.first_reads-block.result.now in
+    let others = c.other_reads-rest.result.now in
     subst (ShownSoFar c.args.path.now c.args.text.now c.args.columns told all later (map read_parts others)) (sym c.in_ok-push_all.ensures)
     (block_more c.args.path.now c.args.text.now c.args.columns told all (map (λ line. line.now) c.loop-rest.left.now) later (map read_parts rest) (map read_parts block) (map read_parts others) c.loop-rest.shown.items c.in_ok-found.found.items
-    (cut_parts count rest block others c.split_at.ensures.front c.split_at.ensures.back) (others_begin count rest others c.split_at.ensures.back c.together.ensures.others) c.lines_behind-left.ensures c.in_ok-found.ensures
+    (cut_parts count rest block others c.first_reads-block.ensures c.other_reads-rest.ensures) (others_begin count rest others c.other_reads-rest.ensures c.together-count.ensures.others) c.lines_behind-left.ensures c.in_ok-found.ensures
     c.loop-rest.invariant)
 
 pub returns : goal.returns
