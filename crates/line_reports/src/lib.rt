@@ -6,6 +6,7 @@
 //! - [`span_at`]: the span of a [`Spot`] in a text with the index of its rows.
 #![tactic(auto)]
 
+mod asides;
 mod drawings;
 mod gathered;
 mod groups;
@@ -19,6 +20,7 @@ mod spans;
 mod texts;
 mod told;
 
+pub use asides::Aside;
 pub use gathered::reports_of;
 pub use groups::{Group, joined};
 pub use names::names_of;
