@@ -34,7 +34,7 @@ use std::alloc::{AllocError, Global};
 
 /// The labels of a drawing of another file.
 #[derive(Drop)]
-pub struct Aside {
+pub(crate) struct Aside {
     /// The name of the file.
     pub name: String,
     /// The labels, in its text.

@@ -1,6 +1,6 @@
 //! The reports of blocks, with their files.
 ghost use Rattle.std.specs.Prelude.{◌≡◌, ◌++◌, ◌∷◌, [], ◌<◌, IfOk, IfSome, OnOk, None, Some, map};
-ghost use Rattle.std.specs.Prelude.{length, option_map, string_bytes};
+ghost use Rattle.std.specs.Prelude.{length, option_map, string_bytes, true};
 ghost use Rattle.std.specs.Str.Lossy.{utf8_lossy};
 ghost use Rattle.found_reports.specs.Files.{files_of, with_file};
 ghost use Rattle.found_reports.specs.Found.{LabelsStand, file_at, found_on};

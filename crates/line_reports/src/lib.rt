@@ -20,7 +20,6 @@ mod spans;
 mod texts;
 mod told;
 
-pub use asides::Aside;
 pub use gathered::reports_of;
 pub use groups::{Group, joined};
 pub use names::names_of;
