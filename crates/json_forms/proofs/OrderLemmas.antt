@@ -2,6 +2,7 @@
 use Rattle.std.proofs.Common.{◌≡◌, ℕ, List, [], ◌∷◌, true, false, if◌then◌else◌, Option, Some, None, map, flat_map, find, refl, ap, subst}
 use Rattle.std.specs.Option.{option_or, option_and_then}
 use Rattle.std.specs.List.{list_all, list_any}
+use Rattle.std.specs.Str.{bytes_eq}
 use Rattle.json.specs.Json.{Json}
 use Rattle.json_spots.specs.declared.step.Path.{Path}
 use Rattle.json_spots.specs.declared.spot.Arrival.{Arrival}
@@ -16,11 +17,11 @@ use Rattle.json_forms.specs.declared.form.Row.{Row}
 use Rattle.json_forms.specs.declared.form.Row.TheVariants.{Part, Only, Aside, Level, Constant}
 use Rattle.json_forms.specs.declared.form.Side.{Side}
 use Rattle.json_forms.specs.declared.keys.TheConstants as keys
-use Rattle.json_forms.specs.Rows.{constant, is_said, part, unit_of}
+use Rattle.json_forms.specs.Rows.{constant, is_said, part}
 use Rattle.json_forms.specs.Said.{Fault, number_at, number_fault, number_of, number_said, number_wanted, text_at, text_fault, text_of, text_wanted}
 use Rattle.json_forms.specs.Guard.{all_hold, any_holds, asks, holds, lets_through, stops}
 use Rattle.json_forms.specs.Severity.{severity_of, severity_said}
-use Rattle.json_forms.specs.Place.{either, figures_at, first_of, offsets_of, place_at, span_of}
+use Rattle.json_forms.specs.Place.{either, figures_at, first_of, place_at, place_by, posn_at, posn_fault, posn_in, posn_wanted}
 use Rattle.json_forms.specs.Finding.{left, aside, found, arrived, beside_at, beside_if, beside_or, besides, element, fault_in, fault_of, finding_of, is_among, is_true, message_at, number_keys, outcome_of, primary_at, read, said_in, sides_of, text_keys, told}
 use Rattle.json_forms.specs.Order.{IsOrderFree, SameBeside, SameFinding, SameOutcome, list_placed, side_placed}
 use Rattle.json_forms.specs.Read.{outcomes_in, outcomes_of, root_spot}
@@ -49,6 +50,10 @@ number_faults_same : (a b : Spot) → SameSpot a b → (paths : List Path) → n
 unfolding number_fault
 number_faults_same a b h paths = λ i. option_and_then (λ path. number_wanted path (number_said (same_said a b h path i))) (find (λ path. says (same_said a b h path i)) paths)
 
+posn_faults_same : (a b : Spot) → SameSpot a b → (paths : List Path) → posn_fault paths a ≡ posn_fault paths b
+unfolding posn_fault
+posn_faults_same a b h paths = λ i. option_and_then (λ path. posn_wanted path (same_said a b h path i)) (find (λ path. says (same_said a b h path i)) paths)
+
 holds_same : (a b : Spot) → SameSpot a b → (guard : Guard) → holds guard a ≡ holds guard b
 unfolding holds
 holds_same a b h guard = ap (asks guard guard.ask) (same_said a b h guard.path)
@@ -74,7 +79,7 @@ any_same : (a b : Spot) → SameSpot a b → (rows : List Row) → any_holds row
 any_same a b h rows = λ i. list_any (λ row. stops_same a b h row i) rows
 
 row_fault_same : (a b : Spot) → SameSpot a b → (row : Row) → fault_in a row ≡ fault_in b row
-row_fault_same a b h (Part key paths) = λ i. if is_among number_keys key.now then number_faults_same a b h paths.items i else if is_among text_keys key.now then text_faults_same a b h paths.items i else None
+row_fault_same a b h (Part key paths) = λ i. if is_among number_keys key.now then number_faults_same a b h paths.items i else if is_among text_keys key.now then text_faults_same a b h paths.items i else if bytes_eq key.now keys.POSN.now then posn_faults_same a b h paths.items i else None
 row_fault_same a b h (Only guard) = refl
 row_fault_same a b h (Aside guard) = refl
 row_fault_same a b h (Level levels) = refl
@@ -102,14 +107,13 @@ figures_same a b h rows = λ i. record {
   is_last = is_said rows keys.END.now keys.LAST.now;
 }
 
+posn_same : (a b : Spot) → SameSpot a b → (paths : List Path) → posn_at paths a ≡ posn_at paths b
+unfolding posn_at
+posn_same a b h paths = λ i. option_and_then posn_in (texts_same a b h i paths)
+
 place_same : (a b : Spot) → SameSpot a b → (rows : List Row) → place_at rows a ≡ place_at rows b
 unfolding place_at
-place_same a b h rows = λ i. record {
-  file = texts_same a b h i (part rows keys.FILE.now);
-  span = span_of (figures_same a b h rows i);
-  offsets = offsets_of (figures_same a b h rows i);
-  unit = unit_of rows;
-}
+place_same a b h rows = λ i. place_by rows (posn_same a b h (part rows keys.POSN.now) i) (texts_same a b h i (part rows keys.FILE.now)) (figures_same a b h rows i)
 
 message_same : (a b : Spot) → SameSpot a b → (rows : List Row) → message_at rows a ≡ message_at rows b
 message_same a b h rows = λ i. option_or (texts_same a b h i (part rows keys.MESSAGE.now)) (texts_same a b h i (part rows keys.CODE.now))

@@ -24,7 +24,7 @@ use Rattle.json_forms.specs.declared.keys.TheConstants as keys
 use Rattle.json_forms.specs.Rows.{part, constant}
 use Rattle.json_forms.specs.Said.{Fault, fault_view, text_at, text_fault, number_fault}
 use Rattle.json_forms.specs.Severity.{severity_of}
-use Rattle.json_forms.specs.Place.{Place, place_at, place_view}
+use Rattle.json_forms.specs.Place.{Place, place_at, place_view, posn_fault}
 use Rattle.json_forms.specs.Guard.{all_hold, any_holds}
 
 -- ---- faults
@@ -38,9 +38,11 @@ text_keys = map (λ key. key.now) keys.TEXTS
 abbrev pub is_among : List (List ℕ) → List ℕ → Bool
 is_among names key = list_any (λ own. bytes_eq own key) names
 
--- where a part that is a number or a text is something else
+-- where a part that is a number, a text or a place in one text is something else
 abbrev pub part_fault : List ℕ → List Path → Spot → Option Fault
-part_fault key paths spot = if is_among number_keys key then number_fault paths spot else if is_among text_keys key then text_fault paths spot else None
+part_fault key paths spot =
+    if is_among number_keys key then number_fault paths spot else if is_among text_keys key then text_fault paths spot
+    else if bytes_eq key keys.POSN.now then posn_fault paths spot else None
 
 abbrev pub fault_in : Spot → Row → Option Fault
 fault_in spot (Part key paths) = part_fault key.now paths.items spot

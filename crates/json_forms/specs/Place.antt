@@ -1,6 +1,13 @@
 -- Where a finding is.
 use Rattle.std.specs.Prelude.{ℕ, ◌+◌, ◌-◌, ◌==◌, ◌&&◌, List, length, Bool, true, false, not, if◌then◌else◌, nat_lt, nat_le, max, Option, Some, None, option_map, option_and_then, unwrap_or}
+use Rattle.std.specs.Borrow.{Bor}
+use Rattle.std.specs.Char.{is_ascii_digit}
+use Rattle.std.specs.List.{list_all}
+use Rattle.std.specs.Path.{rsplit_once}
+use Rattle.numerals.specs.Numerals.{number_in}
 use Rattle.json_spots.specs.declared.step.Path.{Path}
+use Rattle.json_spots.specs.declared.step.Wanted.TheVariants as wanted
+use Rattle.json_spots.specs.Said.{Said, nothing, words, figure as figure_said, truth, other, said_at}
 use Rattle.json_spots.specs.Spot.{Spot}
 use Rattle.json_forms.specs.declared.form.Row.{Row}
 use Rattle.json_forms.specs.declared.form.Unit as code_unit
@@ -8,9 +15,10 @@ use Rattle.json_forms.specs.declared.place.Figures.{Figures}
 use Rattle.json_forms.specs.declared.place.End.{End}
 use Rattle.json_forms.specs.declared.place.Span.{Span}
 use Rattle.json_forms.specs.declared.place.Place as code_place
+use Rattle.json_forms.specs.declared.posn.Posn as code_posn
 use Rattle.json_forms.specs.declared.keys.TheConstants as keys
 use Rattle.json_forms.specs.Rows.{part, is_said, unit_of}
-use Rattle.json_forms.specs.Said.{number_at, text_at}
+use Rattle.json_forms.specs.Said.{Fault, at_path, bounded, number_at, number_of, pick, text_at}
 
 -- the number from 1 of one from `first`, or of the one before it
 abbrev pub above_number : ℕ → ℕ → Option ℕ
@@ -86,20 +94,96 @@ figures_at rows spot =
       is_last = is_said rows keys.END.now keys.LAST.now;
     }
 
+-- ---- a place in one text, as `a.go:26:2` or `a.go:26`
+
+pub record Posn : Type 0 where
+  pub file : Option (List ℕ)
+  pub line : ℕ
+  pub column : Option ℕ
+
+abbrev pub is_figures : List ℕ → Bool
+is_figures text = not (length text == 0) && list_all is_ascii_digit text
+
+abbrev pub if_figures : List ℕ × List ℕ → Option (List ℕ × List ℕ)
+if_figures cut = if is_figures cut.1 then Some cut else None
+
+-- what stands before the last `:`, and the digits behind it
+abbrev pub figure_behind : List ℕ → Option (List ℕ × List ℕ)
+figure_behind text = option_and_then if_figures (rsplit_once 0x3A text)
+
+-- the number of digits, if it is below 2^32
+abbrev pub figure : List ℕ → Option ℕ
+figure digits = number_of (bounded (number_in digits))
+
+abbrev pub named : List ℕ → Option (List ℕ)
+named file = if length file == 0 then None else Some file
+
+abbrev pub posn_row : List ℕ → List ℕ → Option Posn
+posn_row file line = option_map (λ l. record { file = named file; line = l; column = None }) (figure line)
+
+abbrev pub posn_both : List ℕ → List ℕ → List ℕ → Option Posn
+posn_both file line column = option_and_then (λ l. option_map (λ c. record { file = named file; line = l; column = Some c }) (figure column)) (figure line)
+
+abbrev pub posn_by : List ℕ × List ℕ → Option (List ℕ × List ℕ) → Option Posn
+posn_by last None = posn_row last.0 last.1
+posn_by last (Some row) = posn_both row.0 row.1 last.1
+
+-- the text up to the last two `:` with digits, or to the last one, is the file
+unfoldable pub posn_in : List ℕ → Option Posn
+posn_in text = option_and_then (λ last. posn_by last (figure_behind last.0)) (figure_behind text)
+
+unfoldable pub posn_at : List Path → Spot → Option Posn
+posn_at paths spot = option_and_then posn_in (text_at paths spot)
+
+abbrev pub unlike_posn : Path → Option Posn → Option Fault
+unlike_posn path None = at_path path wanted.Number
+unlike_posn path (Some posn) = None
+
+abbrev pub posn_wanted : Path → Said → Option Fault
+posn_wanted path nothing = None
+posn_wanted path (words text) = unlike_posn path (posn_in text)
+posn_wanted path (figure_said text) = unlike_posn path (posn_in text)
+posn_wanted path (truth b) = at_path path wanted.Text
+posn_wanted path other = at_path path wanted.Text
+
+-- where a text should say a place, and doesn't: it has no number where one should be, or it is no text
+unfoldable pub posn_fault : List Path → Spot → Option Fault
+posn_fault paths spot = option_and_then (λ path. posn_wanted path (said_at path spot)) (pick paths spot)
+
+-- such a place counts from 1, and before the rows of its parts
+abbrev pub with_posn : Option Posn → Figures → Figures
+with_posn None figures = figures
+with_posn (Some posn) figures = record figures { line = Some posn.line; column = posn.column; first_line = 1; first_column = 1 }
+
+abbrev pub file_with : Option Posn → Option (List ℕ) → Option (List ℕ)
+file_with None file = file
+file_with (Some posn) file = posn.file
+
+abbrev pub cut_view : Bor (List ℕ) × Bor (List ℕ) → List ℕ × List ℕ
+cut_view cut = (cut.0.now, cut.1.now)
+
+abbrev pub posn_view : code_posn.Posn → Posn
+posn_view posn = record { file = option_map (λ text. text.now) posn.file; line = posn.line; column = posn.column }
+
+-- ---- places
+
 pub record Place : Type 0 where
   pub file : Option (List ℕ)
   pub span : Span
   pub offsets : Option (ℕ × ℕ)
   pub unit : code_unit.Unit
 
-unfoldable pub place_at : List Row → Spot → Place
-place_at rows spot =
+abbrev pub place_by : List Row → Option Posn → Option (List ℕ) → Figures → Place
+place_by rows posn file figures =
     record {
-      file = text_at (part rows keys.FILE.now) spot;
-      span = span_of (figures_at rows spot);
-      offsets = offsets_of (figures_at rows spot);
+      file = file_with posn file;
+      span = span_of (with_posn posn figures);
+      offsets = offsets_of (with_posn posn figures);
       unit = unit_of rows;
     }
+
+unfoldable pub place_at : List Row → Spot → Place
+place_at rows spot = place_by rows (posn_at (part rows keys.POSN.now) spot) (text_at (part rows keys.FILE.now) spot) (figures_at rows spot)
 
 abbrev pub place_view : code_place.Place → Place
 place_view place =

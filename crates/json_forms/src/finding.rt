@@ -13,8 +13,9 @@ ghost use Rattle.json_forms.specs.Finding.{sides_of as sides_there, wrong as wro
 
 use crate::form::{List, Row, Side, SideKind};
 use crate::guard::{all_hold, any_holds};
-use crate::keys::{CODE, HELP, MESSAGE, NOTE, NUMBERS, PRIMARY, SCOPE, TEXT, TEXTS, URL};
+use crate::keys::{CODE, HELP, MESSAGE, NOTE, NUMBERS, POSN, PRIMARY, SCOPE, TEXT, TEXTS, URL};
 use crate::place::{Place, read_place};
+use crate::posn::posn_fault;
 use crate::rows::{constant, is_key, part};
 use crate::said::{Fault, number_fault, text_at, text_fault};
 use crate::severity::severity;
@@ -85,6 +86,8 @@ fn fault_in<'f>(row: &'f Row<'f>, spot: &Spot<'_, '_>) -> Option<Fault<'f>>
                 number_fault(paths, spot)
             } else if is_among(&TEXTS, key) {
                 text_fault(paths, spot)
+            } else if is_key(key, POSN) {
+                posn_fault(paths, spot)
             } else {
                 None
             }

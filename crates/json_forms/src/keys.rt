@@ -10,6 +10,9 @@ pub(crate) const COLUMN: &str = "column";
 
 pub(crate) const COLUMN0: &str = "column0";
 
+/// A file, a line and perhaps a column, in one text.
+pub(crate) const POSN: &str = "posn";
+
 pub(crate) const END_LINE: &str = "end_line";
 
 pub(crate) const END_COLUMN: &str = "end_column";

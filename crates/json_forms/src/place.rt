@@ -1,15 +1,18 @@
 //! Where a finding is.
-ghost use Rattle.std.specs.Prelude.{◌≡◌, ◌≤◌, IfSome, IsTrue};
+ghost use Rattle.std.specs.Prelude.{◌≡◌, ◌≤◌, IfSome, IsTrue, option_map};
 ghost use Rattle.json_spots.specs.Spot.{spot_view};
 ghost use Rattle.json_forms.specs.Place.{above as counted, asked_end as end_asked};
 ghost use Rattle.json_forms.specs.Place.{either as either_of};
 ghost use Rattle.json_forms.specs.Place.{end_of, figures_at, is_ordered as ordered_so, offsets_of};
-ghost use Rattle.json_forms.specs.Place.{first_of, place_at, place_view, span_of};
+ghost use Rattle.json_forms.specs.Place.{file_with, first_of, place_at, place_view, posn_view};
+ghost use Rattle.json_forms.specs.Place.{span_of, with_posn};
 
 use crate::form::{Row, Unit};
 use crate::keys::{
-    COLUMN, COLUMN0, END, END_COLUMN, END_LINE, END_OFFSET, FILE, LAST, LENGTH, LINE, LINE0, OFFSET,
+    COLUMN, COLUMN0, END, END_COLUMN, END_LINE, END_OFFSET, FILE, LAST, LENGTH, LINE, LINE0,
+    OFFSET, POSN,
 };
+use crate::posn::{Posn, posn_at};
 use crate::rows::{is_said, part, unit};
 use crate::said::{number_at, text_at};
 use json_spots::{Path, Spot};
@@ -196,14 +199,42 @@ fn read_figures<'f>(rows: &'f [Row<'f>], spot: &Spot<'_, '_>) -> Figures
     }
 }
 
-/// The place of an element.
+/// The figures, with those of a place in one text if there is one: it counts from 1.
+fn figures_by(posn: Option<Posn<'_>>, figures: Figures) -> Figures
+    ensures { result ≡ with_posn (option_map posn_view posn.entry) figures }
+{
+    let Some(posn) = posn else {
+        return figures;
+    };
+    Figures {
+        line: Some(posn.line),
+        column: posn.column,
+        first_line: 1,
+        first_column: 1,
+        ..figures
+    }
+}
+
+/// The file of a place in one text if there is one, else the other.
+fn file_by<'v>(posn: Option<Posn<'v>>, file: Option<&'v str>) -> Option<&'v str>
+    ensures { option_map (λ text. text.now) result
+        ≡ file_with (option_map posn_view posn.entry) (option_map (λ text. text.now) file.entry) }
+{
+    match posn {
+        Some(posn) => posn.file,
+        None => file,
+    }
+}
+
+/// The place of an element: the one in one text, if it is there.
 #[tactic(auto, unfolding(crate::specs::Place::place_at))]
 pub(crate) fn read_place<'f, 'v, 't>(rows: &'f [Row<'f>], spot: &Spot<'v, 't>) -> Place<'v>
     ensures { place_view result ≡ place_at rows.now (spot_view spot.now) }
 {
-    let figures = read_figures(rows, spot);
+    let posn = posn_at(part(rows, POSN), spot);
+    let figures = figures_by(posn, read_figures(rows, spot));
     Place {
-        file: text_at(part(rows, FILE), spot),
+        file: file_by(posn, text_at(part(rows, FILE), spot)),
         span: read_span(figures),
         offsets: offsets(figures),
         unit: unit(rows),

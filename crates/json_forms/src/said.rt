@@ -22,7 +22,7 @@ pub struct Fault<'f> {
 }
 
 /// The first of some paths that leads to something.
-fn pick<'f>(paths: &'f [Path<'f>], spot: &Spot<'_, '_>) -> Option<&'f Path<'f>>
+pub(crate) fn pick<'f>(paths: &'f [Path<'f>], spot: &Spot<'_, '_>) -> Option<&'f Path<'f>>
     ensures { option_copied result ≡ first_that_says paths.now (spot_view spot.now) }
 {
     for path in paths {
@@ -43,7 +43,7 @@ pub enum Whole {
     Bad,
 }
 
-fn are_digits(bytes: &[u8]) -> bool
+pub(crate) fn are_digits(bytes: &[u8]) -> bool
     ensures { result ≡ list_all is_ascii_digit bytes.now }
 {
     bytes.iter().all(|byte| byte.is_ascii_digit())

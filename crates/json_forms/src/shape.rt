@@ -4,7 +4,7 @@ ghost use Rattle.json_forms.specs.Print.{forms_text};
 
 use crate::form::{Ask, Form, Guard, List, Row, Side, SideKind};
 use crate::keys::{
-    AS, CODE, DEFAULT, END, LAST, LETTER, MESSAGE, NUMBERS, PRIMARY, SCOPE, TEXTS, UNIT,
+    AS, CODE, DEFAULT, END, LAST, LETTER, MESSAGE, NUMBERS, POSN, PRIMARY, SCOPE, TEXTS, UNIT,
 };
 use crate::print::push_forms;
 use crate::rows::unit_named;
@@ -269,7 +269,7 @@ fn guess_row<'t>(alloc: Global, text: &'t str) -> Result<Option<Row<'t>>, AllocE
     if key == "level" {
         return Ok(guess_levels(alloc, value)?.map(Row::Level));
     }
-    if key == PRIMARY || is_among(&NUMBERS, key) || is_among(&TEXTS, key) {
+    if key == PRIMARY || key == POSN || is_among(&NUMBERS, key) || is_among(&TEXTS, key) {
         return Ok(match guess_paths(alloc, value)? {
             Some(paths) => Some(Row::Part(key, paths)),
             None => None,

@@ -273,6 +273,8 @@ list={}[] scope=vale end=last file=^@ line=Line column=Span[0] end_line=Line \
 form=flake8-json mark=.:o mark={}[].physical_line:t0 mark={}[].line_number:n\n\
 list={}[] scope=flake8 as=letter file=filename|^@ line=line_number column=column_number \
     severity=code level=e:error,f:error,w:warning,c:advice,n:warning code=code message=text\n\
+form=go-vet mark=.:o mark={}{}[].posn:t\n\
+list={}{}[] scope=vet unit=bytes default=warning posn=posn code=^@ message=message\n\
 form=checkstyle mark=.:o mark=checkstyle:o\n\
 list=checkstyle.file[].error[] unit=cells8utf16 default=error file=^^name line=line \
     column=column end_line=endline severity=severity code=source message=message \
