@@ -1,0 +1,17 @@
+pub mod RunLemmas
+pub mod TextBackLemmas
+pub mod HeldLemmas
+pub mod AttributeLemmas
+pub mod ChildrenLemmas
+pub mod ValueLemmas
+pub mod BlankLemmas
+pub mod CharLemmas
+pub mod QuietLemmas
+pub mod Utf8Lemmas
+pub mod ErrorLemmas
+pub mod FileLemmas
+pub mod DocumentLemmas
+pub mod ToldLemmas
+pub mod PartLemmas
+pub mod SpotLemmas
+pub mod OutcomeLemmas
