@@ -1,5 +1,5 @@
 -- The alignment as a value, from what is known of it.
-use Rattle.std.proofs.Common.{◌≡◌, ◌⊎◌, ℕ, zero, suc, ◌+◌, ◌-◌, ◌<◌, ◌≤◌, ◌==◌, ◌||◌, ◌&&◌, nat_le, nat_lt, min, if◌then◌else◌, Bool, true, false, List, [], ◌∷◌, ◌++◌, length, drop, take, replicate, slice_get, slice_index, slice_index_or, Option, Some, None, MatchOption, refl, sym, ap, ◌∙◌, subst, inl, inr, arith, append-nil, append_assoc, length-append}
+use Rattle.std.proofs.Common.{◌≡◌, ◌⊎◌, ℕ, zero, suc, ◌+◌, ◌-◌, ◌<◌, ◌≤◌, ◌==◌, ◌||◌, ◌&&◌, nat_le, nat_lt, min, if◌then◌else◌, Bool, true, false, List, [], ◌∷◌, ◌++◌, length, drop, take, replicate, slice_get, slice_index, slice_index_or, Option, Some, None, is_some, MatchOption, refl, sym, ap, ◌∙◌, subst, inl, inr, arith, append-nil, append_assoc, length-append}
 use Rattle.std.specs.List.{list_all}
 use Rattle.std.specs.Option.{option_map, option_or}
 use Rattle.std.specs.Char.{len_utf8}
@@ -16,7 +16,8 @@ use Rattle.excerpt_rows.specs.declared.ends.Edge.TheVariants.{Blank, Dot}
 use Rattle.excerpt_rows.specs.declared.expansion.Rule.{Rule}
 use Rattle.excerpt_rows.specs.declared.expansion.Rule.TheVariants.{Same}
 use Rattle.excerpt_rows.specs.Aligned.{AlignedParts, OffsetsAreBoundaries, OffsetsAreWithin, OffsetsAscend, offset_in, aligned_parts, alignment_of, begins_with, cut_shift, first_by, is_begun_by, is_cut, only_one, parts_by, places_after, places_from, printed_by, shift_over, whole_shift}
-use Rattle.excerpt_rows.specs.Alignment.{HasNoAlignment, IsAlignment, IsLaid, IsNotLaid, IsOther, IsPrintedBy, IsWhole, NoneLaid, shifted, spare}
+use Rattle.excerpt_rows.specs.Hunk.{IsAligned}
+use Rattle.excerpt_rows.specs.Alignment.{FirstLaid, HasNoAlignment, IsAlignment, IsLaid, IsNotLaid, IsOther, IsPrintedBy, IsWhole, NoneLaid, shifted, spare}
 use Rattle.excerpt_rows.specs.Ends.{IsDotted, core, core_end, core_start, first_of, ink, is_blank, is_in, last_of}
 use Rattle.excerpt_rows.specs.Expansion.{ArePlaces, bytes_of, expanded, printed_len, rules, shown}
 use Rattle.excerpt_rows.specs.Search.{HasNoOnlyPlace, IsOnlyPlace}
@@ -25,27 +26,27 @@ use Rattle.excerpt_rows.proofs.EndLemmas.{ink_is}
 use Rattle.excerpt_rows.proofs.ExpansionLemmas.{PlacesSoFar, bytes_more, expanded_more, place_found, places_begin, places_end, places_more}
 use Rattle.excerpt_rows.proofs.PlaceLemmas.{first_is, only_is}
 
-and_left : (a b : Bool) → (a && b) ≡ true → a ≡ true
+pub and_left : (a b : Bool) → (a && b) ≡ true → a ≡ true
 and_left true b is = refl
 and_left false b is = is
 
-and_right : (a b : Bool) → (a && b) ≡ true → b ≡ true
+pub and_right : (a b : Bool) → (a && b) ≡ true → b ≡ true
 and_right true b is = is
 and_right false b is = cc
 
-and_both : (a b : Bool) → a ≡ true → b ≡ true → (a && b) ≡ true
+pub and_both : (a b : Bool) → a ≡ true → b ≡ true → (a && b) ≡ true
 and_both true b is is_b = is_b
 and_both false b is is_b = is
 
-or_true : (a b : Bool) → (a || b) ≡ true → (a ≡ true) ⊎ (b ≡ true)
+pub or_true : (a b : Bool) → (a || b) ≡ true → (a ≡ true) ⊎ (b ≡ true)
 or_true true b is = inl refl
 or_true false b is = inr is
 
-or_left : (a b : Bool) → a ≡ true → (a || b) ≡ true
+pub or_left : (a b : Bool) → a ≡ true → (a || b) ≡ true
 or_left true b is = refl
 or_left false b is = cc
 
-or_right : (a b : Bool) → b ≡ true → (a || b) ≡ true
+pub or_right : (a b : Bool) → b ≡ true → (a || b) ≡ true
 or_right true b is = refl
 or_right false b is = is
 
@@ -58,13 +59,13 @@ le_is a b less = grind (arith, nat_tests)
 le_not : (a b : ℕ) → b < a → nat_le a b ≡ false
 le_not a b less = grind (arith, nat_tests)
 
-lt_told : (a b : ℕ) → nat_lt a b ≡ true → a < b
+pub lt_told : (a b : ℕ) → nat_lt a b ≡ true → a < b
 lt_told a b is = grind (arith, nat_tests)
 
-lt_is : (a b : ℕ) → a < b → nat_lt a b ≡ true
+pub lt_is : (a b : ℕ) → a < b → nat_lt a b ≡ true
 lt_is a b less = grind (arith, nat_tests)
 
-not_true : (test : Bool) → (test ≡ true → ⊥) → test ≡ false
+pub not_true : (test : Bool) → (test ≡ true → ⊥) → test ≡ false
 not_true true none = absurd (none refl)
 not_true false none = refl
 
@@ -390,3 +391,71 @@ ascend printed source a is column later less =
     let counts : here.0 ≤ there.0 = counts_ascend source from.0 (shifted from.0.1 column) (shifted from.0.1 later) _ _ here.0 there.0 (omega (arith, less)) here.1 there.1 in
     let climb = bytes_climb source here.0 there.0 counts there.1.within in
     subst (λ (p : AlignedParts). offset_in p column ≤ offset_in p later) from.1 (omega (arith, climb, here.1.is, there.1.is))
+
+-- ---- whether there is one
+
+first_cons : (r : Rule) (table : List Rule) (printed source : List ℕ) (by : Rule × Shift) (here : Option Shift) (rest : Option (Rule × Shift)) → MatchOption here (IsNotLaid printed (expanded r source)) (IsLaid printed (expanded r source))
+    → (rest ≡ Some by → FirstLaid table printed source by.0 by.1) → option_or (option_map (λ shift. (r, shift)) here) rest ≡ Some by → FirstLaid (r ∷ table) printed source by.0 by.1
+first_cons r table printed source by None rest so later is =
+    let found = later is in
+    record {
+      at = suc found.at;
+      here = found.here;
+      laid = found.laid;
+      before = λ k rule less there. before_by k rule less there found.before;
+    }
+  where
+    before_by : (k : ℕ) (rule : Rule) → k < suc (later is).at → slice_get (r ∷ table) k ≡ Some rule → NoneLaid table (later is).at printed source → IsNotLaid printed (expanded rule source)
+    before_by zero rule less there none = (let same : r ≡ rule = cc in subst (λ (x : Rule). IsNotLaid printed (expanded x source)) same so)
+    before_by (suc k) rule less there none = none k rule (omega (arith, less)) there
+first_cons r table printed source by (Some shift) rest so later is =
+    let same : (r, shift) ≡ by = cc in
+    record {
+      at = 0;
+      here = ap (λ (b : Rule × Shift). Some b.0) same;
+      laid = subst (λ (b : Rule × Shift). IsLaid printed (expanded b.0 source) b.1) same so;
+      before = λ k rule less there. absurd (omega (arith, less));
+    }
+
+first_told : (table : List Rule) (printed source : List ℕ) (by : Rule × Shift) → first_by table printed source ≡ Some by → FirstLaid table printed source by.0 by.1
+unfolding first_by
+first_told [] printed source by is = cc
+first_told (r ∷ table) printed source by is =
+    first_cons r table printed source by (shift_over printed (expanded r source)) (first_by table printed source) (shift_is printed (expanded r source)) (λ later. first_told table printed source by later) is
+
+printed_told : (printed source : List ℕ) (same : Bool) (by : Rule × Shift) → pointwise (λ a b. a == b) printed source ≡ same
+    → (if same then Some (Same, record { skipped = 0; lead = 0 }) else first_by rules printed source) ≡ Some by → IsPrintedBy rules printed source by.0 by.1
+printed_told printed source true by test is =
+    let found : (Same, shift_of 0 0) ≡ by = cc in
+    inl (
+      (slice_eq-Decides Decides-eqb printed source true (sym test)).0 refl,
+      sym (ap (λ (b : Rule × Shift). b.0) found),
+      sym (ap (λ (b : Rule × Shift). b.1.skipped) found),
+      sym (ap (λ (b : Rule × Shift). b.1.lead) found),
+    )
+printed_told printed source false by test is =
+    inr (λ e. (let holds : false ≡ true = (slice_eq-Decides Decides-eqb printed source false (sym test)).1 e in cc), first_told rules printed source by is)
+
+aligned_by : (printed source : List ℕ) (short : Bool) (found : Option (Rule × Shift)) → (short ≡ true → (length printed ≤ LIMIT) × (length source ≤ LIMIT)) → printed_by printed source ≡ found
+    → is_some (if short then option_map (parts_by source) found else None) ≡ true → IsAligned printed source
+aligned_by printed source true None few by is = cc
+aligned_by printed source true (Some found) few by is = record {
+  printed_short = (few refl).0;
+  source_short = (few refl).1;
+  rule = found.0;
+  shift = found.1;
+  by = printed_told printed source (pointwise (λ a b. a == b) printed source) found refl by;
+}
+aligned_by printed source false found few by is = cc
+
+pub aligned_told : (printed source : List ℕ) → is_some (alignment_of printed source) ≡ true → IsAligned printed source
+unfolding alignment_of
+aligned_told printed source is =
+    aligned_by printed source (nat_le (length printed) LIMIT && nat_le (length source) LIMIT) (printed_by printed source)
+    (λ short. (le_told (length printed) LIMIT (and_left (nat_le (length printed) LIMIT) (nat_le (length source) LIMIT) short), le_told (length source) LIMIT (and_right (nat_le (length printed) LIMIT) (nat_le (length source) LIMIT) short)))
+    refl is
+
+pub aligned_is : (printed source : List ℕ) → IsAligned printed source → is_some (alignment_of printed source) ≡ true
+aligned_is printed source is =
+    let by : printed_by printed source ≡ Some (is.rule, is.shift) = by_test printed source is.rule is.shift (pointwise (λ a b. a == b) printed source) refl is.by in
+    ap is_some (value_if printed source is.printed_short is.source_short ∙ ap (λ (o : Option (Rule × Shift)). option_map (parts_by source) o) by)

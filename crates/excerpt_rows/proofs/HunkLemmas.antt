@@ -20,15 +20,15 @@ use Rattle.std.specs.Option.{option_copied}
 use Rattle.excerpt_rows.specs.declared.hunk.Sign.{Sign}
 use Rattle.excerpt_rows.specs.declared.hunk.Sign.TheVariants.{Unsigned, Added, Removed, Changed}
 
-steps_cons : (row : HunkRow) (rows : List HunkRow) (old new : ℕ) → AreSteps (row ∷ rows) old new → IsStep row old new × AreSteps rows (old + taken row) (new + length (row_list row))
+pub steps_cons : (row : HunkRow) (rows : List HunkRow) (old new : ℕ) → AreSteps (row ∷ rows) old new → IsStep row old new × AreSteps rows (old + taken row) (new + length (row_list row))
 unfolding AreSteps
 steps_cons row rows old new so = so
 
-cons_steps : (row : HunkRow) (rows : List HunkRow) (old new : ℕ) → IsStep row old new → AreSteps rows (old + taken row) (new + length (row_list row)) → AreSteps (row ∷ rows) old new
+pub cons_steps : (row : HunkRow) (rows : List HunkRow) (old new : ℕ) → IsStep row old new → AreSteps rows (old + taken row) (new + length (row_list row)) → AreSteps (row ∷ rows) old new
 unfolding AreSteps
 cons_steps row rows old new step so = (step, so)
 
-no_steps : (old new : ℕ) → AreSteps [] old new
+pub no_steps : (old new : ℕ) → AreSteps [] old new
 unfolding AreSteps
 no_steps old new = tt
 

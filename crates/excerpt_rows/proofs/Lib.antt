@@ -1,5 +1,6 @@
 pub mod AlignedLemmas
 pub mod AlignmentLemmas
+pub mod EditLemmas
 pub mod EndLemmas
 pub mod ExpansionLemmas
 pub mod HunkLemmas

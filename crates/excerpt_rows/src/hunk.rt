@@ -4,7 +4,8 @@ ghost use Rattle.std.specs.Prelude.{◌&&◌, if◌then◌else◌, Bool, nat_le,
 ghost use Rattle.std.specs.Prelude.{Some, IfOk, IfSome, IsTrue, MatchBool, MatchOption, OnOk};
 ghost use Rattle.std.specs.Prelude.{length, map, option_to_list};
 ghost use Rattle.std.specs.List.{find, list_all, prefix_len, slice_index_or, suffix_len};
-ghost use Rattle.std.specs.Option.{option_copied};
+ghost use Rattle.std.specs.Option.{option_copied, option_map};
+ghost use Rattle.excerpt_rows.specs.Edits.{edit_in, edit_parts, row_view};
 ghost use Rattle.excerpt_rows.specs.Hunk.{AreExact, AreSteps, EditsAreDrawn, HasDots, HasNoEdit};
 ghost use Rattle.excerpt_rows.specs.Hunk.{IsEdit, IsExact};
 ghost use Rattle.excerpt_rows.specs.Hunk.{IsAligned, IsSourceRow, IsStep, IsSumOf, Restores};
@@ -71,6 +72,16 @@ pub struct Edit<'a> {
 ///
 /// Out of memory.
 pub fn edit_of<'a>(alloc: Global, rows: &[HunkRow<'a>]) -> Result<Option<Edit<'a>>, AllocError>
+    ensures found { IfOk result (λ found.
+        MatchOption found (HasNoEdit rows.now) (IsEdit rows.now)) }
+    ensures value { IfOk result (λ found.
+        option_map edit_parts found ≡ edit_in (map row_view rows.now)) }
+{
+    edit_found(alloc, rows)
+}
+
+/// The same.
+fn edit_found<'a>(alloc: Global, rows: &[HunkRow<'a>]) -> Result<Option<Edit<'a>>, AllocError>
     ensures { IfOk result (λ found. MatchOption found (HasNoEdit rows.now) (IsEdit rows.now)) }
 {
     let begin = context_before(rows);

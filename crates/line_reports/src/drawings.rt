@@ -126,8 +126,12 @@ fn placed_if(
 }
 
 /// The labels of a block, if each of its printed rows is a row of the source.
+///
+/// # Errors
+///
+/// Out of memory.
 #[tactic(auto, unfolding(crate::specs::Drawings::block_placed))]
-fn labels_placed(
+pub(crate) fn labels_placed(
     alloc: Global,
     source: &RowText<'_>,
     lines: &[&[char]],
@@ -184,7 +188,7 @@ fn laid_row(
 }
 
 /// The text of a printed row.
-fn printed_text<'l>(lines: &[&'l [char]], row: PrintedRow) -> &'l [char]
+pub(crate) fn printed_text<'l>(lines: &[&'l [char]], row: PrintedRow) -> &'l [char]
     ensures { result.now ≡ text_printed (map (λ line. line.now) lines.now) row }
 {
     tail(line_at(lines, row.line), row.text)
@@ -214,7 +218,7 @@ fn laid_over(
 }
 
 /// Whether a row isn't much longer than a printed one.
-fn is_near(row: Row, printed: &[char]) -> bool
+pub(crate) fn is_near(row: Row, printed: &[char]) -> bool
     ensures { result ≡ is_near_row row printed.now }
 {
     row.end.saturating_sub(row.start) <= printed.len().saturating_add(1).saturating_mul(256)

@@ -6,7 +6,9 @@
 //! - [`span_at`]: the span of a [`Spot`] in a text with the index of its rows.
 #![tactic(auto)]
 
+mod asides;
 mod drawings;
+mod fixes;
 mod gathered;
 mod groups;
 mod labels;
