@@ -11,6 +11,9 @@
 
 mod drawing;
 mod each;
+mod fixes;
+mod long_rows;
+mod look;
 mod runs;
 mod texts;
 

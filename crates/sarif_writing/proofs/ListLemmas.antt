@@ -14,8 +14,9 @@ use Rattle.sarif_writing.specs.Rules.{rules_of}
 use Rattle.std.proofs.Math.Seq.{drop-cons}
 use Rattle.std.proofs.lemmas.List.{drop_all}
 use Rattle.oxc_span.specs.Label.{Label}
+use Rattle.found_reports.specs.Fixes.{ChangeParts}
 use Rattle.found_reports.specs.declared.places.GivenPlace.{GivenPlace}
-use Rattle.sarif_writing.specs.Written.{file_value, map_beside, placed_value, primary_place, run_of, run_with, some_array, tool_value}
+use Rattle.sarif_writing.specs.Written.{file_value, map_beside, map_between, placed_value, primary_place, run_of, run_with, some_array, tool_value}
 
 pub some_values : (its : List Value) → length its ≢ 0 → Some (array (items_of (map view its))) ≡ some_array (map view its)
 some_values [] some = absurd (some refl)
@@ -87,20 +88,24 @@ head_none labels at past before =
 
 -- ---- a run
 
-pub run_is : (tool : List ℕ) (files : List NamedText) (unread : List Bool) (its : List GivenReport) (places : List (Option GivenPlace))
+pub run_is : (tool : List ℕ) (files : List NamedText) (unread : List Bool) (its : List GivenReport) (places : List (Option GivenPlace)) (fixes : List (List (List ChangeParts)))
     (artifacts results rules : Vec Value Global) (driver run : Data)
     → run ≡ run_of (view (Array artifacts)) (view (Array results)) driver → map view artifacts.items ≡ map_beside file_value false unread files
-    → map view results.items ≡ map_beside (placed_value files (map view rules.items)) None places its → driver ≡ tool_value tool (view (Array rules))
-    → map view rules.items ≡ rules_of its → run ≡ run_with tool files unread its places
+    → map view results.items ≡ map_between (placed_value files (map view rules.items)) None [] places fixes its → driver ≡ tool_value tool (view (Array rules))
+    → map view rules.items ≡ rules_of its → run ≡ run_with tool files unread its places fixes
 unfolding run_with
-run_is tool files unread its places artifacts results rules driver run is listed found told ruled =
+run_is tool files unread its places fixes artifacts results rules driver run is listed found told ruled =
     let listed_as = map_beside file_value false unread files in
     let a : view (Array artifacts) ≡ array (items_of listed_as) = view-Array artifacts ∙ ap (λ l. array (items_of l)) listed in
-    let r : view (Array results) ≡ array (items_of (map_beside (placed_value files (rules_of its)) None places its)) =
-    view-Array results ∙ ap (λ l. array (items_of l)) (found ∙ ap (λ rs. map_beside (placed_value files rs) None places its) ruled) in
+    let r : view (Array results) ≡ array (items_of (map_between (placed_value files (rules_of its)) None [] places fixes its)) =
+    view-Array results ∙ ap (λ l. array (items_of l)) (found ∙ ap (λ rs. map_between (placed_value files rs) None [] places fixes its) ruled) in
     let t : driver ≡ tool_value tool (array (items_of (rules_of its))) = told ∙ ap (tool_value tool) (view-Array rules ∙ ap (λ l. array (items_of l)) ruled) in
     is ∙ ap₂ (λ x y. run_of x y driver) a r
-    ∙ ap (run_of (array (items_of listed_as)) (array (items_of (map_beside (placed_value files (rules_of its)) None places its)))) t
+    ∙ ap (run_of (array (items_of listed_as)) (array (items_of (map_between (placed_value files (rules_of its)) None [] places fixes its)))) t
+
+-- an array of values
+pub array_is : (values : Vec Value Global) (ds : List Data) → map view values.items ≡ ds → view (Array values) ≡ array (items_of ds)
+array_is values ds are = view-Array values ∙ ap (λ l. array (items_of l)) are
 
 pub ruleset one_taken = (map_remove, got, not_got, all_left)
 

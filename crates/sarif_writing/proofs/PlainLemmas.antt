@@ -1,6 +1,6 @@
 -- A log has no float, and isn't nested deep.
 use Rattle.std.proofs.Common.{◌≡◌, ℕ, Bool, suc, ◌≤◌, List, [], ◌∷◌, map, true, false, codes, Option, Some, None, option_map, unwrap_or, refl, arith}
-use Rattle.std.specs.Prelude.{is_none, is_some, ◌&&◌, ◌++◌, slice_get, zero, if◌then◌else◌}
+use Rattle.std.specs.Prelude.{is_none, is_some, ◌&&◌, ◌++◌, slice_get, slice_index_or, drop, zero, if◌then◌else◌}
 use Rattle.std.specs.List.{remove}
 use Rattle.serde_json.specs.Data.{Data, string, array, item, no_items, Members, member, no_members, object, put, depth}
 use Rattle.serde_json.specs.View.{items_of}
@@ -10,11 +10,12 @@ use Rattle.documents.specs.Written.{put_some, text_value, whole_number}
 use Rattle.documents.proofs.PlainLemmas.{IsPlain, ArePlainItems, ArePlain, plain_put, plain_object}
 use Rattle.oxc_span.specs.Label.{Label}
 use Rattle.oxc_protocol.specs.Parts.{OxcParts}
+use Rattle.found_reports.specs.Fixes.{ChangeParts}
 use Rattle.found_reports.specs.declared.places.GivenPlace.{GivenPlace}
 use Rattle.render_files.specs.Given.{GivenReport}
 use Rattle.render_files.specs.Shown.{placed_labels}
 use Rattle.sarif_writing.specs.Rules.{and_rule, and_rules, place_in, rule_of, rule_value, rules_of}
-use Rattle.sarif_writing.specs.Written.{artifact_value, bare_location, breaks_value, counted, file_value, given_region, head_place, label_location, level_text, log_of, log_with, map_beside, message_value, place_members, placed_value, reference_value, region_given, region_place, region_value, rule_place, run_of, run_with, said_members, some_array, tool_value, unread_value}
+use Rattle.sarif_writing.specs.Written.{artifact_value, bare_location, breaks_value, change_value, counted, file_value, fix_value, given_region, head_place, label_location, level_text, log_of, log_with, map_beside, map_between, message_value, place_members, placed_value, reference_value, region_given, region_place, region_value, rows_region, rule_place, run_of, run_with, said_members, some_array, tool_value, unread_value}
 
 -- each of a list
 EachPlain : ℕ → List Data → Type 0
@@ -50,6 +51,13 @@ unfolding EachPlain
 each_beside most f plain other ys [] = tt
 each_beside most f plain other [] (x ∷ xs) = (plain other x, each_beside most f plain other [] xs)
 each_beside most f plain other (y ∷ ys) (x ∷ xs) = (plain y x, each_beside most f plain other ys xs)
+
+each_between : {A B C : Type 0} (most : ℕ) (f : B → C → A → Data) → ((y : B) (z : C) (x : A) → IsPlain most (f y z x)) → (other : B) (last : C) (ys : List B) (zs : List C) (xs : List A)
+    → EachPlain most (map_between f other last ys zs xs)
+unfolding EachPlain
+each_between most f plain other last ys zs [] = tt
+each_between most f plain other last ys zs (x ∷ xs) =
+    (plain (slice_index_or ys 0 other) (slice_index_or zs 0 last) x, each_between most f plain other last (drop 1 ys) (drop 1 zs) xs)
 
 each_map : {A : Type 0} (most : ℕ) (f : A → Data) → ((x : A) → IsPlain most (f x)) → (xs : List A) → EachPlain most (map f xs)
 unfolding EachPlain
@@ -173,21 +181,41 @@ plain_bare files file place =
     plain_object 2 (put (codes "physicalLocation") (object placed) no_members)
     (plain_put 2 (codes "physicalLocation") (object placed) no_members physical (record { whole = refl; shallow = omega arith }))
 
-plain_said : (rules : List Data) (it : OxcParts) → ArePlain 4 (said_members rules it)
+plain_change : (it : ChangeParts) → IsPlain 2 (change_value it)
+unfolding change_value rows_region message_value
+plain_change it = record { whole = refl; shallow = omega arith }
+
+plain_fix : (files : List NamedText) (file : ℕ) (changes : List ChangeParts) → IsPlain 6 (fix_value files file changes)
+unfolding fix_value reference_value
+plain_fix files file changes =
+    let all = plain_array 2 (map change_value changes) (each_map 2 change_value plain_change changes) in
+    record { whole = rw all.whole refl; shallow = omega (arith, all.shallow) }
+
+plain_said : (rules : List Data) (it : OxcParts) → ArePlain 7 (said_members rules it)
 unfolding said_members message_value
 plain_said rules it =
     let leveled = put (codes "level") (string (level_text it.severity)) no_members in
     let told = put (codes "message") (message_value it.message) leveled in
     let ruled = put_some (codes "ruleId") (text_value it.code.number) told in
-    let plain_message : IsPlain 4 (message_value it.message) = record { whole = refl; shallow = omega arith } in
-    let plain_level : ArePlain 4 leveled = record { whole = refl; shallow = omega arith } in
-    plain_put_some 4 (codes "ruleIndex") (option_map whole_number (rule_place rules it)) ruled (plain_number 4 (rule_place rules it))
-    (plain_put_some 4 (codes "ruleId") (text_value it.code.number) told (plain_text 4 it.code.number)
-    (plain_put 4 (codes "message") (message_value it.message) leveled plain_message plain_level))
+    let plain_message : IsPlain 7 (message_value it.message) = record { whole = refl; shallow = omega arith } in
+    let plain_level : ArePlain 7 leveled = record { whole = refl; shallow = omega arith } in
+    plain_put_some 7 (codes "ruleIndex") (option_map whole_number (rule_place rules it)) ruled (plain_number 7 (rule_place rules it))
+    (plain_put_some 7 (codes "ruleId") (text_value it.code.number) told (plain_text 7 it.code.number)
+    (plain_put 7 (codes "message") (message_value it.message) leveled plain_message plain_level))
 
-plain_result : (files : List NamedText) (rules : List Data) (place : Option GivenPlace) (it : GivenReport) → IsPlain 5 (placed_value files rules place it)
-unfolding placed_value place_members
-plain_result files rules place it =
+-- what is plain at fewer levels
+deeper : (few many : ℕ) (d : Data) → few ≤ many → IsPlain few d → IsPlain many d
+deeper few many d upto plain = record { whole = plain.whole; shallow = omega (arith, upto, plain.shallow) }
+
+some_deeper : (few many : ℕ) (o : Option Data) → few ≤ many → OnePlain few o → OnePlain many o
+unfolding OnePlain
+some_deeper few many None upto plain = tt
+some_deeper few many (Some d) upto plain = deeper few many d upto plain
+
+plain_places : (files : List NamedText) (place : Option GivenPlace) (it : GivenReport) (said : Members) → ArePlain 7 said
+    → ArePlain 7 (place_members files it.file (bare_location files it.file place) (placed_labels files it) said)
+unfolding place_members
+plain_places files place it said plain =
     let bare = bare_location files it.file place in
     let labels = placed_labels files it in
     let places = map (label_location files it.file) labels in
@@ -195,13 +223,22 @@ plain_result files rules place it =
     let head = unwrap_or (slice_get places (head_place labels)) bare in
     let others = some_array (remove places (head_place labels)) in
     let plain_head : IsPlain 3 head = one_of 3 places (head_place labels) bare each (plain_bare files it.file place) in
-    let plain_one : IsPlain 4 (array (item head no_items)) = record { whole = rw plain_head.whole refl; shallow = omega (arith, plain_head.shallow) } in
+    let plain_one : IsPlain 7 (array (item head no_items)) = record { whole = rw plain_head.whole refl; shallow = omega (arith, plain_head.shallow) } in
+    plain_put_some 7 (codes "relatedLocations") others (put (codes "locations") (array (item head no_items)) said)
+    (some_deeper 4 7 others (omega arith) (plain_some_array 3 (remove places (head_place labels)) (others_of 3 places (head_place labels) each)))
+    (plain_put 7 (codes "locations") (array (item head no_items)) said plain_one plain)
+
+plain_result : (files : List NamedText) (rules : List Data) (place : Option GivenPlace) (fixes : List (List ChangeParts)) (it : GivenReport)
+    → IsPlain 8 (placed_value files rules place fixes it)
+unfolding placed_value
+plain_result files rules place fixes it =
     let said = said_members rules it.diagnostic in
-    let located = put (codes "locations") (array (item head no_items)) said in
-    plain_object 4 (put_some (codes "relatedLocations") others located)
-    (plain_put_some 4 (codes "relatedLocations") others located
-    (plain_some_array 3 (remove places (head_place labels)) (others_of 3 places (head_place labels) each))
-    (plain_put 4 (codes "locations") (array (item head no_items)) said plain_one (plain_said rules it.diagnostic)))
+    let located = place_members files it.file (bare_location files it.file place) (placed_labels files it) said in
+    let edits = map (fix_value files it.file) fixes in
+    plain_object 7 (put_some (codes "fixes") (some_array edits) located)
+    (plain_put_some 7 (codes "fixes") (some_array edits) located
+    (plain_some_array 6 edits (each_map 6 (fix_value files it.file) (plain_fix files it.file) fixes))
+    (plain_places files place it said (plain_said rules it.diagnostic)))
 
 -- ---- the log
 
@@ -217,30 +254,30 @@ plain_listed : (unread : Bool) (it : NamedText) → IsPlain 2 (file_value unread
 plain_listed true it = plain_unread it
 plain_listed false it = plain_artifact it
 
-plain_run : (tool : List ℕ) (files : List NamedText) (unread : List Bool) (its : List GivenReport) (places : List (Option GivenPlace))
-    → IsPlain 8 (run_with tool files unread its places)
+plain_run : (tool : List ℕ) (files : List NamedText) (unread : List Bool) (its : List GivenReport) (places : List (Option GivenPlace)) (fixes : List (List (List ChangeParts)))
+    → IsPlain 11 (run_with tool files unread its places fixes)
 unfolding run_with run_of breaks_value tool_value
-plain_run tool files unread its places =
+plain_run tool files unread its places fixes =
     let value = placed_value files (rules_of its) in
     let artifacts = plain_array 2 (map_beside file_value false unread files) (each_beside 2 file_value plain_listed false unread files) in
-    let results = plain_array 5 (map_beside value None places its) (each_beside 5 value (plain_result files (rules_of its)) None places its) in
+    let results = plain_array 8 (map_between value None [] places fixes its) (each_between 8 value (plain_result files (rules_of its)) None [] places fixes its) in
     let rules = plain_array 1 (rules_of its) (all_rules its) in
     record {
       whole = rw (artifacts.whole, results.whole, rules.whole) refl;
       shallow = omega (arith, artifacts.shallow, results.shallow, rules.shallow);
     }
 
-plain_log : (tool : List ℕ) (files : List NamedText) (unread : List Bool) (its : List GivenReport) (places : List (Option GivenPlace))
-    → IsPlain 10 (log_with tool files unread its places)
+plain_log : (tool : List ℕ) (files : List NamedText) (unread : List Bool) (its : List GivenReport) (places : List (Option GivenPlace)) (fixes : List (List (List ChangeParts)))
+    → IsPlain 13 (log_with tool files unread its places fixes)
 unfolding log_of
-plain_log tool files unread its places =
-    let run = plain_run tool files unread its places in
+plain_log tool files unread its places fixes =
+    let run = plain_run tool files unread its places fixes in
     record { whole = rw run.whole refl; shallow = omega (arith, run.shallow) }
 
-pub no_float : (tool : List ℕ) (files : List NamedText) (unread : List Bool) (its : List GivenReport) (places : List (Option GivenPlace))
-    → has_float (log_with tool files unread its places) ≡ false
-no_float tool files unread its places = (plain_log tool files unread its places).whole
+pub no_float : (tool : List ℕ) (files : List NamedText) (unread : List Bool) (its : List GivenReport) (places : List (Option GivenPlace)) (fixes : List (List (List ChangeParts)))
+    → has_float (log_with tool files unread its places fixes) ≡ false
+no_float tool files unread its places fixes = (plain_log tool files unread its places fixes).whole
 
-pub shallow : (tool : List ℕ) (files : List NamedText) (unread : List Bool) (its : List GivenReport) (places : List (Option GivenPlace))
-    → depth (log_with tool files unread its places) ≤ 127
-shallow tool files unread its places = omega (arith, (plain_log tool files unread its places).shallow)
+pub shallow : (tool : List ℕ) (files : List NamedText) (unread : List Bool) (its : List GivenReport) (places : List (Option GivenPlace)) (fixes : List (List (List ChangeParts)))
+    → depth (log_with tool files unread its places fixes) ≤ 127
+shallow tool files unread its places fixes = omega (arith, (plain_log tool files unread its places fixes).shallow)

@@ -1,5 +1,5 @@
 -- The JSON value of files and reports on them as a SARIF log of one run.
-use Rattle.std.specs.Prelude.{ℕ, ◌==◌, Bool, false, List, [], ◌∷◌, map, codes, if◌then◌else◌, Option, Some, None, option_map, option_and_then, unwrap_or, suc, slice_get, length, ◌<◌}
+use Rattle.std.specs.Prelude.{ℕ, ◌==◌, Bool, false, List, [], ◌∷◌, map, codes, if◌then◌else◌, Option, Some, None, option_map, option_and_then, unwrap_or, suc, slice_get, slice_index_or, length, drop, ◌<◌, ◌+◌}
 use Rattle.std.specs.List.{All, remove}
 use Rattle.std.specs.Str.{IsCharBoundary}
 use Rattle.serde_json.specs.Data.{Data, string, array, object, item, no_items, Members, member, no_members, put}
@@ -13,6 +13,7 @@ use Rattle.oxc_span.specs.Label.{Label, label_end}
 use Rattle.oxc_protocol.specs.Parts.{OxcParts}
 use Rattle.oxc_protocol.specs.declared.protocol.Severity.{Severity}
 use Rattle.oxc_protocol.specs.declared.protocol.Severity.TheVariants.{Advice, Warning, Error}
+use Rattle.found_reports.specs.Fixes.{ChangeParts}
 use Rattle.found_reports.specs.declared.places.GivenPlace.{GivenPlace}
 use Rattle.render_files.specs.Given.{GivenReport}
 use Rattle.render_files.specs.Shown.{placed_labels}
@@ -102,6 +103,28 @@ bare_location files file place =
     object (member (codes "physicalLocation") (object (put_some (codes "region") (region_given place)
     (put (codes "artifactLocation") (reference_value files file) no_members))) no_members)
 
+-- ---- the edits that tools propose
+
+-- a number of whole rows of a file from a first one on, each with its break: up to the start of the next row. No rows are
+-- the place before the first one
+unfoldable pub rows_region : ℕ → ℕ → Data
+rows_region first count =
+    object (member (codes "endColumn") (whole_number 1)
+    (member (codes "endLine") (whole_number (first + count))
+    (member (codes "startColumn") (whole_number 1)
+    (member (codes "startLine") (whole_number first) no_members))))
+
+-- rows, and the text that replaces them
+unfoldable pub change_value : ChangeParts → Data
+change_value it =
+    object (member (codes "deletedRegion") (rows_region it.first it.count) (member (codes "insertedContent") (message_value it.text) no_members))
+
+-- the changes of a file's rows that are one edit
+unfoldable pub fix_value : List NamedText → ℕ → List ChangeParts → Data
+fix_value files file changes =
+    object (member (codes "artifactChanges") (array (item (object (member (codes "artifactLocation") (reference_value files file)
+    (member (codes "replacements") (array (items_of (map change_value changes))) no_members))) no_items)) no_members)
+
 -- ---- results
 
 abbrev pub level_text : Severity → List ℕ
@@ -125,10 +148,11 @@ unfoldable pub result_value : List NamedText → List Data → GivenReport → D
 result_value files rules it =
     object (place_members files it.file (file_location files it.file) (placed_labels files it) (said_members rules it.diagnostic))
 
--- the same of a report that its tool puts at a place, which counts where it has no label
-unfoldable pub placed_value : List NamedText → List Data → Option GivenPlace → GivenReport → Data
-placed_value files rules place it =
-    object (place_members files it.file (bare_location files it.file place) (placed_labels files it) (said_members rules it.diagnostic))
+-- the same of a report that its tool puts at a place, which counts where it has no label; and the edits that its tool proposes
+unfoldable pub placed_value : List NamedText → List Data → Option GivenPlace → List (List ChangeParts) → GivenReport → Data
+placed_value files rules place fixes it =
+    object (put_some (codes "fixes") (some_array (map (fix_value files it.file) fixes))
+    (place_members files it.file (bare_location files it.file place) (placed_labels files it) (said_members rules it.diagnostic)))
 
 -- ---- the log
 
@@ -171,13 +195,19 @@ map_beside f other besides [] = []
 map_beside f other [] (it ∷ rest) = f other it ∷ map_beside f other [] rest
 map_beside f other (beside ∷ besides) (it ∷ rest) = f beside it ∷ map_beside f other besides rest
 
--- the same with the files that weren't read, and with the places of the reports; past the ends of these lists a file was
--- read, and a report has no place
-unfoldable pub run_with : List ℕ → List NamedText → List Bool → List GivenReport → List (Option GivenPlace) → Data
-run_with tool files unread reports places =
+-- the same of each of a list and of what stands beside it in two others
+abbrev pub map_between : {A B C D : Type 0} → (B → C → A → D) → B → C → List B → List C → List A → List D
+map_between f other last besides more [] = []
+map_between f other last besides more (it ∷ rest) =
+    f (slice_index_or besides 0 other) (slice_index_or more 0 last) it ∷ map_between f other last (drop 1 besides) (drop 1 more) rest
+
+-- the same with the files that weren't read, and with the places and the edits of the reports; past the ends of these lists
+-- a file was read, and a report has no place and no edit
+unfoldable pub run_with : List ℕ → List NamedText → List Bool → List GivenReport → List (Option GivenPlace) → List (List (List ChangeParts)) → Data
+run_with tool files unread reports places fixes =
     let rules = rules_of reports in
     run_of (array (items_of (map_beside file_value false unread files)))
-    (array (items_of (map_beside (placed_value files rules) None places reports))) (tool_value tool (array (items_of rules)))
+    (array (items_of (map_between (placed_value files rules) None [] places fixes reports))) (tool_value tool (array (items_of rules)))
 
 -- a log of one run
 unfoldable pub log_of : Data → Data
@@ -188,8 +218,8 @@ log_of run =
 abbrev pub log_value : List ℕ → List NamedText → List GivenReport → Data
 log_value tool files reports = log_of (run_value tool files reports)
 
-abbrev pub log_with : List ℕ → List NamedText → List Bool → List GivenReport → List (Option GivenPlace) → Data
-log_with tool files unread reports places = log_of (run_with tool files unread reports places)
+abbrev pub log_with : List ℕ → List NamedText → List Bool → List GivenReport → List (Option GivenPlace) → List (List (List ChangeParts)) → Data
+log_with tool files unread reports places fixes = log_of (run_with tool files unread reports places fixes)
 
 -- ---- what is known of reports that aren't refused
 

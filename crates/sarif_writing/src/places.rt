@@ -65,7 +65,7 @@ fn one(alloc: Global, value: Value) -> Result<Value, AllocError>
 
 /// An array under a key, if it isn't empty.
 #[tactic(auto, using(crate::proofs::ListLemmas::some_values, crate::proofs::ListLemmas::no_values))]
-fn put_array(
+pub(crate) fn put_array(
     alloc: Global,
     members: &mut Map<String, Value>,
     key: &str,

@@ -1,10 +1,11 @@
 //! A log of one run, and its text.
 ghost use Rattle.std.specs.Prelude.{◌≡◌, ◌<◌, IfOk, None, Some, map, length, string_bytes};
-ghost use Rattle.std.specs.Prelude.{false, slice_index_or};
+ghost use Rattle.std.specs.Prelude.{[], false, slice_index_or};
 ghost use Rattle.codespan.specs.Texts.{name_of, text_of};
 ghost use Rattle.serde_json.specs.View.{view};
 ghost use Rattle.serde_json.specs.Read.{read};
 ghost use Rattle.serde_json.specs.Written.{compact_text};
+ghost use Rattle.found_reports.specs.Fixes.{fix_view};
 ghost use Rattle.render_files.specs.Causes.{IsJudged};
 ghost use Rattle.render_files.specs.Given.{given_report};
 ghost use Rattle.render_files.specs.Refusal.{refusal_of};
@@ -19,7 +20,7 @@ ghost use Rattle.sarif_writing.specs.Written.{unread_value as unread_meant};
 use crate::results::results_of;
 use crate::rules::rules_of;
 use codespan::{FileId, Files};
-use found_reports::GivenPlace;
+use found_reports::{FoundFix, GivenPlace};
 use render_files::{FileReport, ReportError, place_labels};
 use serde_json::{Value, json};
 use source_location::LineIndex;
@@ -49,15 +50,17 @@ pub fn write_log(
         ≡ Some (log_meant tool.now files.now (map given_report reports.now))) }
     ensures cause { IsJudged (refusal_of files.now (map given_report reports.now)) result }
 {
-    write_log_with(alloc, tool, files, &[], reports, &[])
+    write_log_with(alloc, tool, files, &[], reports, &[], &[])
 }
 
-/// [`write_log`], but some files may be unread, and reports may have reported locations.
+/// [`write_log`], but some files may be unread, and reports may have reported locations, and edits
+/// that their tools propose.
 ///
 /// A file that is `unread`, by its number, is in the log without a text: an empty text would mean
 /// an empty file. A report without labels has the rows and columns of `places` at its number, if
-/// there is a row; 0 is none. A file past the end of `unread` was read, and a report past the end
-/// of `places` has no location.
+/// there is a row; 0 is none. A report has the edits of `fixes` at its number; each is a fix that
+/// replaces whole rows of the report's file. A file past the end of `unread` was read, and a report
+/// past the ends of `places` and `fixes` has no location and no fix.
 ///
 /// # Errors
 ///
@@ -69,14 +72,17 @@ pub fn write_log_with(
     unread: &[bool],
     reports: &[FileReport],
     places: &[Option<GivenPlace>],
+    fixes: &[&[FoundFix]],
 ) -> Result<String, ReportError>
     ensures text { IfOk result (λ text. string_bytes text ≡ compact_text
-        (log_with tool.now files.now unread.now (map given_report reports.now) places.now)) }
+        (log_with tool.now files.now unread.now (map given_report reports.now) places.now
+        (map (λ own. map fix_view own.now) fixes.now))) }
     ensures reads_back { IfOk result (λ text. read (string_bytes text) ≡ Some
-        (log_with tool.now files.now unread.now (map given_report reports.now) places.now)) }
+        (log_with tool.now files.now unread.now (map given_report reports.now) places.now
+        (map (λ own. map fix_view own.now) fixes.now))) }
     ensures cause { IsJudged (refusal_of files.now (map given_report reports.now)) result }
 {
-    let body = run_value(alloc, tool, files, unread, reports, places)?;
+    let body = run_value(alloc, tool, files, unread, reports, places, fixes)?;
     let written = log_value(alloc, body)?;
     let text = written.to_string(alloc)?;
     Ok(text)
@@ -100,15 +106,19 @@ fn run_value(
     unread: &[bool],
     reports: &[FileReport],
     places: &[Option<GivenPlace>],
+    fixes: &[&[FoundFix]],
 ) -> Result<Value, ReportError>
     ensures value { IfOk result (λ value. view value
-        ≡ run_with tool.now files.now unread.now (map given_report reports.now) places.now) }
+        ≡ run_with tool.now files.now unread.now (map given_report reports.now) places.now
+        (map (λ own. map fix_view own.now) fixes.now)) }
     ensures cause { IsJudged (refusal_of files.now (map given_report reports.now)) result }
 {
     let spans = place_labels(alloc, files, reports)?;
     let indexes = indexes_of(alloc, files)?;
     let rules = rules_of(alloc, reports)?;
-    let results = results_of(alloc, files, &indexes, &rules, reports, &spans, places)?;
+    let results = results_of(
+        alloc, files, &indexes, &rules, reports, &spans, places, fixes,
+    )?;
     let artifacts = artifacts_of(alloc, files, unread)?;
     let driver = tool_value(alloc, tool, Value::Array(rules.values))?;
     let body = run_of(
