@@ -33,7 +33,7 @@ Input
                          phpstan psalm pylint rubocop ruff rustc shellcheck
                          stylelint swiftlint (lines or JSON);
                          actionlint bandit biome brakeman buf cfn-lint credo
-                         dart deno eslint-metadata flake8-json gitlab
+                         dart deno eslint-metadata flake8-json gitlab go-vet
                          golangci-lint gosec hlint jshint ktlint
                          markdownlint-object mdl phpcs phpmd pylint2 pyright
                          rdjson rdjsonl semgrep shellcheck1 sonar sqlfluff
@@ -59,7 +59,8 @@ Input
                        counts if its list leads to something. Default: none. A
                        form is list=PATH, and KEY=PATH for parts of a finding:
                        file line column end_line end_column length offset
-                       end_offset severity code message help note url. Also
+                       end_offset severity code message help note url; or
+                       posn for a text such as a.go:26:2 or a.go:26. Also
                        level=WORD:error (or warning, advice), scope=NAME,
                        unit=bytes (or characters, utf16). In a path, these
                        follow each other with dots:
@@ -141,6 +142,9 @@ Output
                        drawn.
   --max-findings N     Draw at most N findings, and print how many more there
                        are. Default: all are drawn. Example: --max-findings 10
+  --max-row N          Draw a finding without its rows if one of them has more
+                       than N columns, as in minified files; 0 draws all rows.
+                       Default: 1000. Example: --max-row 4000
   --only-findings      Leave out lines that aren't findings. Default: they are
                        printed.
   --no-summary, -q, --quiet
