@@ -16,7 +16,7 @@ _girzohal() {
         values="clang gcc rustc cargo flake8 shellcheck pylint mypy eslint tsc dotenv-linter fasterer
             grep hadolint haml-lint kotlin markdownlint phpstan problem-lines psalm slim-lint oxlint
             rubocop ruff stylelint swiftlint actionlint bandit biome brakeman buf cfn-lint credo dart
-            deno eslint-metadata flake8-json gitlab golangci-lint gosec hlint jshint ktlint
+            deno eslint-metadata flake8-json gitlab go-vet golangci-lint gosec hlint jshint ktlint
             markdownlint-object mdl phpcs phpmd pylint2 pyright rdjson rdjsonl semgrep shellcheck1 sonar
             sqlfluff staticcheck tflint vale checkstyle cppcheck jslint pmd sarif"
         ;;
@@ -25,6 +25,7 @@ _girzohal() {
     --color) values="auto always never" ;;
     --width) values="auto 80 100 120" ;;
     --tabs) values="2 4 8" ;;
+    --max-row) values="0 1000 4000" ;;
     --fail-on) values="error warning advice never" ;;
     --filter-mode) values="added diff_context file nofilter" ;;
     --severity) values="error warning advice" ;;
@@ -39,7 +40,7 @@ _girzohal() {
             values="--from --tool --shape --json-shape --json-shapes --columns --first-column --root
                 --allow-outside-root --changed --filter-mode --strip --baseline --include --exclude --select --ignore
                 --severity --to --output --color --ascii --width --tabs --unique --no-unique --max-findings
-                --only-findings --no-summary --quiet --raw --fail-on --help --version"
+                --max-row --only-findings --no-summary --quiet --raw --fail-on --help --version"
         else
             mapfile -t COMPREPLY < <(compgen -f -- "$word")
             return

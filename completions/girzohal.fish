@@ -1,6 +1,6 @@
 # Completions of girzohal for fish. Put it into ~/.config/fish/completions.
 complete -c girzohal -l from -x -a 'auto document sarif json lines' -d 'The form of the input (auto)'
-complete -c girzohal -l tool -x -a 'clang gcc rustc cargo flake8 shellcheck pylint mypy eslint tsc dotenv-linter fasterer grep hadolint haml-lint kotlin markdownlint phpstan problem-lines psalm slim-lint oxlint rubocop ruff stylelint swiftlint actionlint bandit biome brakeman buf cfn-lint credo dart deno eslint-metadata flake8-json gitlab golangci-lint gosec hlint jshint ktlint markdownlint-object mdl phpcs phpmd pylint2 pyright rdjson rdjsonl semgrep shellcheck1 sonar sqlfluff staticcheck tflint vale checkstyle cppcheck jslint pmd sarif' -d 'The tool that wrote the input'
+complete -c girzohal -l tool -x -a 'clang gcc rustc cargo flake8 shellcheck pylint mypy eslint tsc dotenv-linter fasterer grep hadolint haml-lint kotlin markdownlint phpstan problem-lines psalm slim-lint oxlint rubocop ruff stylelint swiftlint actionlint bandit biome brakeman buf cfn-lint credo dart deno eslint-metadata flake8-json gitlab go-vet golangci-lint gosec hlint jshint ktlint markdownlint-object mdl phpcs phpmd pylint2 pyright rdjson rdjsonl semgrep shellcheck1 sonar sqlfluff staticcheck tflint vale checkstyle cppcheck jslint pmd sarif' -d 'The tool that wrote the input'
 complete -c girzohal -l shape -x -d 'A pattern of lines, tried first, as {name}:{line}: {message}'
 complete -c girzohal -l json-shape -x -d 'A form of JSON, asked first, as list=[] file=path message=text'
 complete -c girzohal -l json-shapes -r -d 'A file with forms of JSON'
@@ -26,6 +26,7 @@ complete -c girzohal -l tabs -x -a '2 4 8' -d 'How many columns tab stops are ap
 complete -c girzohal -l unique -d 'Leave out findings that came before'
 complete -c girzohal -l no-unique -d 'Keep findings that came before'
 complete -c girzohal -l max-findings -x -d 'Draw at most this many findings (all)'
+complete -c girzohal -l max-row -x -a '0 1000 4000' -d 'Draw no rows of more columns than this (1000)'
 complete -c girzohal -l only-findings -d 'Leave out lines that are not findings'
 complete -c girzohal -s q -l no-summary -d 'Leave out the line that counts the findings'
 complete -c girzohal -l quiet -d 'The same as --no-summary'

@@ -32,7 +32,7 @@ PARTS = {
     "message": rb"(?s:[^ \t].*)",
     "apart": rb"",
 }
-PAINT = re.compile(rb"\x1b\[[0-9;]*[mK]|\x1b\]8;[^\x07\x1b\n]*(?:\x07|\x1b\\)")
+PAINT = re.compile(rb"\x1b\[[0-9;]*[mK]|\x1b\]8;[^\x07\x1b\n]*(?:\x07|\x1b\\)|\x1b\(B")
 GUTTER = re.compile(rb"[ \t]*[0-9]*[ \t]*\|")
 
 

@@ -67,6 +67,9 @@ PAINTED = [
     ("\x1b]8;;file:///a\x07a\x1b]8;;\x1b\\ b", "", "a b\n"),
     ("\x1b]8;;a\nb\x07", "", "\x1b]8;;a\nb\x07\n"),
     ("\x1b[2Jx", "", "\x1b[2Jx\n"),
+    ("\x1b[1ma.c:1:2: \x1b(B\x1b[mx", "a.c:1:2:0:0: warning: x\n", ""),
+    ("a\x1b(B b\x1b(", "", "a b\x1b(\n"),
+    ("\x1b(0x", "", "\x1b(0x\n"),
 ]
 
 # What the lines after a finding add to it: its drawing, which has no source to lie over, and two lines, before the one that names its location.
@@ -78,6 +81,10 @@ COMING = "a.c:1:2: error: x\n  y\n\nz\na.c:2:3: error: x\na.js\n  3:5  error  x 
 COME = ("a.c:1:2:0:0: error: x\na.c:2:3:0:0: error: x\na.js:3:5:0:0: error[no-undef]: x\n", "\nz\nw\n")
 # The same as a drawing, which is written as lines come: each block where its lines were.
 DRAWN = ("\n  x x\n  note: y\n           at a.c:1:2\n" "\n" "z\n" "\n  x x\n  note: at a.c:2:3\n" "\n  x no-undef: x\n  note: at a.js:3:5\n" "w\n" "3 errors\n")
+
+# Empty lines: before a finding, between two, and before a line. One right before a finding isn't written, since a drawing begins with one.
+APART = "z\n\na.c:1:2: error: x\n  y\n\na.c:2:3: error: x\n\n\nw"
+APART_DRAWN = "z\n" "\n  x x\n  note: y\n           at a.c:1:2\n" "\n  x x\n  note: at a.c:2:3\n" "\n\nw\n" "2 errors\n"
 
 # A row with a tab, an accented letter of two bytes, and a letter of four bytes and two units of UTF-16.
 ROW = "\t\u00e9\U0001d54f b"
@@ -181,6 +188,7 @@ class Rows:
         self.told("details", DETAILED, "note", DETAILS)
         self.problems("lines as they come", COMING, *COME)
         self.tries.check("lines as they come, drawn", self.run(COMING, "--ascii"), (0, DRAWN, ""))
+        self.tries.check("empty lines, drawn", self.run(APART, "--ascii"), (0, APART_DRAWN, ""))
 
     def try_sources(self):
         with open(os.path.join(self.room, "a.c"), "w", encoding="utf-8", newline="") as source:

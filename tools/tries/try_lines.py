@@ -40,7 +40,7 @@ AROUND = ["", "1 error", "    int x;", "        ^", "        ^~~~", "  |", "1 | 
           "note: here", "help: there", "a.js", "  1:2  error  no such  a-b", "  3:4 warning x\tno-y", "  5:6 note z", " --> a.rs:1:2", "  --> b.rs:3:4:", "error[E1]: one", "F401 two", "-->", " ^ x", "~~~^", "/p/a.js", "\x1b[31m", " ",
           "  ╭▸ a.rs:6:13", "   ┌─ a.fun:1:2", "   ╭─[src/a.js:1:7]", "   ╭─[ s.tao:1:23 ]", "   ,-[a.rs:2:3]", "  ::: a.rs:1:2", "  ⸬  a.rs:1:2", "  × eslint(no-x): words", "  ⚠ words", "[E03] Error: words",
           "Error:   × words", "invalid-syntax: x", "   ╰ note: more", "   ├ help: do", "In file included from a.c:1:", "a.h:1:2: note: y", 'fix-it:"a.c":{5:8-5:14}:"x"', "type)  [a-b]", "[a-b]", "        row", "  5:6  error  x  (colons)"]
-PAINTS = ["\x1b[1;31m", "\x1b[0m", "\x1b[K", "\x1b]8;;file:///a\x1b\\", "\x1b]8;;\x07", "\x1b[x"]
+PAINTS = ["\x1b[1;31m", "\x1b[0m", "\x1b[K", "\x1b]8;;file:///a\x1b\\", "\x1b]8;;\x07", "\x1b(B", "\x1b(", "\x1b[x"]
 SHAPES = {
     "lead": ["[{level}] ", "", "", "", "", "{program}: ", " ", "\t"],
     "after": [":{line}:{column}:{endline}:{endcolumn}: ", ":{line}:{column}-{endcolumn}: ", ":({line},{column})-({endline},{endcolumn}): ", ":{line}:{column}: ", ":{line}:{column} - ", ":{line}: ",

@@ -10,6 +10,7 @@ TOP = os.path.dirname(os.path.dirname(os.path.dirname(os.path.abspath(__file__))
 ABSENT = object()
 NUMBERS = "line line0 column column0 end_line end_column length offset end_offset".split()
 TEXTS = "file severity code message help note url text".split()
+POSN = re.compile("(.*?):([0-9]+)(?::([0-9]+))?", re.S)  # a file, a row and perhaps a column, in one text
 SIDES = ("place", "labels", "edits", "notes")
 CONSTANTS = ("scope", "unit", "end", "default", "as")
 ROOTS = ("checkstyle", "results", "pmd", "jslint")
@@ -149,7 +150,7 @@ class Lines:
                 self.level.update({own.strip('"').lower(): severity for own, severity in (it.rsplit(":", 1) for it in split(value, ","))})
             elif name in CONSTANTS:
                 self.constants[name] = value
-            elif name in NUMBERS or name in TEXTS or name == "primary":
+            elif name in NUMBERS or name in TEXTS or name in ("primary", "posn"):
                 self.parts.append((name, [Path(path) for path in split(value, "|")]))
             else:
                 raise ValueError(f"no such part: {word}")
@@ -315,6 +316,14 @@ def whole(value):
     return int(value) if re.fullmatch(r"[0-9]+", value) and int(value) < 2 ** 32 else False
 
 
+def posn_of(text):
+    """The file, the row and the column that one text says, as `a.go:26:2` or `a.go:26`; none if its numbers aren't such."""
+    found = POSN.fullmatch(text)
+    if not found or any(it is not None and whole(it) is False for it in found.groups()[1:]):
+        return None
+    return dict(file=found[1] or None, line=whole(found[2]), column=found[3] and whole(found[3]))
+
+
 def fault(lines, crumbs):
     """The first part that isn't as it has to be."""
     for name, paths in lines.parts:
@@ -323,8 +332,10 @@ def fault(lines, crumbs):
             continue
         if name in NUMBERS and whole(it) is False:
             return way_by(crumbs, path), "number"
-        if name in TEXTS and not isinstance(it, str):
+        if (name in TEXTS or name == "posn") and not isinstance(it, str):
             return way_by(crumbs, path), "text"
+        if name == "posn" and not posn_of(it):
+            return way_by(crumbs, path), "number"
     return None
 
 
@@ -346,7 +357,11 @@ def place_of(lines, crumbs):
     numbers = {name: number_of(lines, name, crumbs)[0] for name in NUMBERS}
     first_line, first_column = number_of(lines, "line", crumbs)[1], number_of(lines, "column", crumbs)[1]
     numbers["line"], numbers["column"] = number_of(lines, "line", crumbs)[0], number_of(lines, "column", crumbs)[0]
-    place = dict(file=text_of(lines, "file", crumbs), line=None, column=None, end_line=None, end_column=None, offsets=None, unit=lines.constants.get("unit", "characters"))
+    file, posn = text_of(lines, "file", crumbs), text_of(lines, "posn", crumbs)
+    if posn is not None:
+        posn, first_line, first_column = posn_of(posn), 1, 1
+        file, numbers["line"], numbers["column"] = posn["file"], posn["line"], posn["column"]
+    place = dict(file=file, line=None, column=None, end_line=None, end_column=None, offsets=None, unit=lines.constants.get("unit", "characters"))
     if numbers["offset"] is not None:
         end = numbers["end_offset"] if numbers["end_offset"] is not None else numbers["offset"] + (numbers["length"] or 0)
         place["offsets"] = (numbers["offset"], max(numbers["offset"], end))

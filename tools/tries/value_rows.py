@@ -5,6 +5,7 @@ RUFF = '[{"filename": "a.py", "location": {"row": %s, "column": %s}, "end_locati
 OWN = "list=issues[] file=path line=row column0=col severity=kind level=bad:error,meh:advice code=rule message=text"
 RUSTC = '{"message": "%s", "level": "%s", "code": null, "spans": [%s], "children": [], "$message_type": "diagnostic"}'
 SPAN = '{"file_name": "a.rs", "line_start": 2, "line_end": 2, "column_start": 5, "column_end": 8, "is_primary": true, "label": "here"}'
+VET = '{"cart": {"printf": [{"posn": %s, "message": "m"}]}}'
 
 # What it is about, options, the input, the status, the lines of problems, and those of the error output (of a refusal up to a hint).
 ROWS = [
@@ -58,6 +59,30 @@ ROWS = [
      ["a.sh:1:2:1:3: advice[shellcheck(2086)]: m"], []),
     ("a name with a colon and a message of two lines", [], '[{"file": "c:a", "line": 1, "column": 2, "level": "info", "code": "x]", "message": "m\\nn"}]', 0,
      ["c\\ca:1:2:0:0: advice[hadolint(x\\b)]: m\\nn"], []),
+    ("a place in one text", [], VET % '"a.go:26:2"', 0, ["a.go:26:2:0:0: warning[vet(printf)]: m"], []),
+    ("a place in one text without a column", [], VET % '"a.go:26"', 0, ["a.go:26:0:0:0: warning[vet(printf)]: m"], []),
+    ("a place in one text with a name of Windows", [], VET % r'"C:\\a.go:3:4"', 0, [r"C\c\\a.go:3:4:0:0: warning[vet(printf)]: m"], []),
+    ("a place in one text whose name ends with numbers", [], VET % '"a:1:2:3"', 0, [r"a\c1:2:3:0:0: warning[vet(printf)]: m"], []),
+    ("a place in one text without a name", [], VET % '":3"', 0, [":3:0:0:0: warning[vet(printf)]: m"], []),
+    ("a place in one text without a name, with a column", [], VET % '":3:4"', 0, [":3:4:0:0: warning[vet(printf)]: m"], []),
+    ("a place in one text whose row is 0", [], VET % '"a.go:0:4"', 0, ["a.go:0:0:0:0: warning[vet(printf)]: m"], []),
+    ("a place in one text that is empty isn't there", [], VET % '""', 0, [":0:0:0:0: warning[vet(printf)]: m"], []),
+    ("a place in one text without a number", [], VET % '"a.go"', 3, [], ["girzohal: $.cart.printf[0].posn: wanted a whole number below 2^32"]),
+    ("a place in one text that ends with a colon", [], VET % '"a.go:3:"', 3, [], ["girzohal: $.cart.printf[0].posn: wanted a whole number below 2^32"]),
+    ("a place in one text with a word behind", [], VET % '"a.go:3:x"', 3, [], ["girzohal: $.cart.printf[0].posn: wanted a whole number below 2^32"]),
+    ("a place in one text with a negative number", [], VET % '"a.go:-3"', 3, [], ["girzohal: $.cart.printf[0].posn: wanted a whole number below 2^32"]),
+    ("a place in one text whose row is too great", [], VET % '"a.go:4294967296:1"', 3, [], ["girzohal: $.cart.printf[0].posn: wanted a whole number below 2^32"]),
+    ("a place in one text whose column is too great", [], VET % '"a.go:1:99999999999999999999"', 3, [], ["girzohal: $.cart.printf[0].posn: wanted a whole number below 2^32"]),
+    ("a place in one text with the greatest numbers", [], VET % '"a.go:4294967295:4294967295"', 0, ["a.go:4294967295:4294967295:0:0: warning[vet(printf)]: m"], []),
+    ("a place in one text that is a list beside one that is a text", [], '{"cart": {"printf": [{"posn": "a.go:1", "message": "m"}, {"posn": ["a.go:1"], "message": "m"}]}}', 3, [],
+     ["girzohal: $.cart.printf[1].posn: wanted a text"]),
+    ("go vet's lines before its values", ["--from", "json"], "# cart\n" + VET % '"a.go:1:2"' + "\n# cart/b\n{}\n", 0, ["a.go:1:2:0:0: warning[vet(printf)]: m"], ["# cart", "# cart/b"]),
+    ("go vet by its name", ["--tool", "go-vet"], '{"cart": {"printf": [{"message": "m"}]}}', 0, [":0:0:0:0: warning[vet(printf)]: m"], []),
+    ("go vet's analyzer that failed", [], '{"cart": {"copylocks": [{"posn": "a.go:1", "message": "m"}], "printf": {"error": "failed"}}}', 3, [], ["girzohal: $.cart.printf: wanted an array"]),
+    ("a place in one text, in a form of one's own", ["--json-shape", "list=[] posn=at|where message=text"], '[{"at": "b.c:2:6", "text": "t"}, {"at": "", "where": "c.c:3", "text": "u"}]', 1,
+     ["b.c:2:6:0:0: error: t", "c.c:3:0:0:0: error: u"], []),
+    ("a place in one text comes before other parts", ["--json-shape", "list=[] posn=at file=f line0=l column=c message=text"],
+     '[{"at": "b.c:2", "f": "x", "l": 8, "c": 9, "text": "t"}, {"f": "x", "l": 8, "c": 9, "text": "u"}]', 1, ["b.c:2:0:0:0: error: t", "x:9:9:0:0: error: u"], []),
     ("a form of one's own", ["--json-shape", OWN], '{"issues": [{"path": "a.c", "row": 3, "col": 0, "text": "t", "rule": "R", "kind": "BAD"}, {"path": "b", "text": "u", "kind": "meh"}]}', 1,
      ["a.c:3:1:0:0: error[R]: t", "b:0:0:0:0: advice: u"], []),
     ("a form of one's own comes first", ["--json-shape", "list=[] file=filename message=code"], RUFF % (1, 2, 1, 3, ""), 1, ["a.py:0:0:0:0: error: F401"], []),
@@ -84,6 +109,7 @@ SPANS = [
     ("offsets in bytes", '{"diagnostics": [{"filename": "b.py", "severity": "error", "message": "m", "labels": [{"span": {"offset": 4, "length": 2}}]}]}', ["é"]),
     ("Checkstyle's own columns", '<checkstyle><file name="b.py"><error line="2" column="13" severity="info" message="m" source="com.puppycrawl.tools.X"/></file></checkstyle>', ["𝕏y"]),
     ("Checkstyle's form, written by ESLint", '<checkstyle><file name="b.py"><error line="2" column="10" severity="info" message="m" source="eslint.rules.r"/></file></checkstyle>', ["="]),
+    ("bytes of a place in one text", '{"c": {"printf": [{"posn": "b.py:2:14", "message": "m"}]}}', ["total"]),
     ("an end that is missing", '[{"file": "b.py", "line": 4, "column": 3, "level": "info", "code": "C", "message": "m"}]', ["return"]),
     ("a row that is missing", '[{"file": "b.py", "line": 99, "column": 3, "level": "info", "code": "C", "message": "m"}]', []),
 ]

@@ -10,7 +10,7 @@ NAMES = ["src/a.c", "b.py", "lib/c d.js", "é/ñ.txt", "x/y.rs"]
 LEVELS = ["error", "Warning", "INFO", "note", "style", "W", "2", "high", "refactor", "no such level", "error: internal compiler error"]
 TEXTS = ["line 14 is long (121 > 120)", "no such name `totl`", "two\nlines", "a \"quoted\" text \\ with a backslash", "é → 𝕏", "x"]
 ODD = [None, reader.Number("0"), reader.Number("-1"), reader.Number("1.5"), reader.Number("1e3"), reader.Number("4294967295"), reader.Number("4294967296"),
-       reader.Number("99999999999999999999"), True, False, "", "x", "12", "007", "-3", [], [reader.Number("1")], [None], [[]], "error", "src/a.c"]
+       reader.Number("99999999999999999999"), True, False, "", "x", "12", "007", "-3", [], [reader.Number("1")], [None], [[]], "error", "src/a.c", "a.go:3", "C:\\a.go:3:4", ":3", "a.go:", "a.go:x:3", "a.go:0:2", "a.go:4294967296:1", "a.go:1:99999999999999999999"]
 
 
 def copy(value):
@@ -80,7 +80,8 @@ class Sampler:
             figure = str(figures.get(part, 1000 + number))
             return figure if not kinds and self.random.random() < 0.2 else reader.Number(figure)
         texts = {"file": NAMES[number % len(NAMES)], "severity": self.random.choice(LEVELS), "code": self.random.choice(["E501", "W033", "no-undef", "C", "f1"]),
-                 "url": "https://e/1", "message": f"{self.random.choice(TEXTS)} {number}"}
+                 "url": "https://e/1", "message": f"{self.random.choice(TEXTS)} {number}",
+                 "posn": f"{NAMES[number % len(NAMES)]}:{number + 1}{self.random.choice(['', ':2', ':6'])}"}
         return texts.get(part, f"{part} {number}: {self.random.choice(TEXTS)}")
 
     def kinds(self, form, steps):
