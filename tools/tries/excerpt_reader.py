@@ -453,13 +453,13 @@ class Excerpt:
     parts: list
 
     def drawings(self, name):
-        """The drawings of rows of the source, each with whether it is of the finding's file."""
-        here = True
+        """The drawings of rows of a source, each with the name of its file, which is the finding's up to a place in another."""
+        there = name
         for part in self.parts:
             if part.kind == "place":
-                here = part.lines[0].place[0] == name
+                there = part.lines[0].place[0]
             elif part.kind in ("source", "loose"):
-                yield part.block, here
+                yield part.block, there
 
     def blocks(self):
         return [block for block, _ in self.drawings("")]

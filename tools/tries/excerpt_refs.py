@@ -52,15 +52,21 @@ class Told:
         for report in reports:
             name = report.it["name"]
             if source.rows(name) is not None:
-                self.labels += [Label(name, source.known[name], label) for label in report.labels]
+                labels = report.labels if name == it["name"].decode(errors="replace") else [(*label[:2], False, said_in(report, expected)) for label in report.labels]
+                self.labels += [Label(name, source.known[name], label) for label in labels]
 
     def place(self):
         return self.it["line"], self.it["column"]
 
 
+def said_in(report, expected):
+    """What a label in another file says, which is a report by itself."""
+    return "" if report.message == expected.message else report.message
+
+
 def count(case, found, source, counts):
     tool = read(case, "tool.txt").strip() or os.path.basename(case)
-    told = [Told(findings, reports, source) for findings, reports in found if findings.expected()]
+    told = [Told(findings, reports, source) for findings, reports in found if list(findings.expected())]
     log = read(case, "ref.json")
     if tool in ("rustc", "cargo", "clippy") and log:
         Rust(told, counts).all(log)

@@ -2,7 +2,7 @@
 sources, and from what the tools mean by their drawings.
 
 A label is the row, the character, the row and the character at which it begins and ends in the source (rows from 1, characters from 0),
-whether it is primary, and its text."""
+whether it is primary, and its text. One in another file is that file's name, the place, and what its report says."""
 from typing import NamedTuple
 
 
@@ -16,6 +16,8 @@ class Row(NamedTuple):
     help: list = ()
     kept: list = ()
     read: bool = True  # else the body is kept as a whole
+    others: list = ()  # other files: their names and texts
+    asides: list = ()
 
 
 ROWS = [
@@ -177,6 +179,54 @@ error[E0425]: cannot find function `g`
 """,
         [(1, 0, 1, 1, True, "not found")],
         ["at b.rs:7:3", " 7 |   fn h() {}", "   |      - similar"], ["a function with a similar name exists"]),
+    Row("a label in another file, which is there", "a.rs",
+        "g();\n",
+        """\
+error[E0425]: cannot find function `g`
+  --> a.rs:1:1
+   |
+ 1 | g();
+   | ^ not found
+   |
+  ::: b.rs:2:4
+   |
+ 2 | fn h() {}
+   |    - similar
+   = help: a function with a similar name exists
+""",
+        [(1, 0, 1, 1, True, "not found")],
+        ["at b.rs:2:4"], ["a function with a similar name exists"],
+        others=[("b.rs", "\nfn h() {}\n")], asides=[("b.rs", 2, 3, 2, 4, "similar")]),
+    Row("labels in two other files, of which one has other rows", "a.rs",
+        "x\n",
+        """\
+error: twice
+ --> a.rs:1:1
+  |
+1 | x
+  | ^
+  |
+ ::: b.rs:1:1
+  |
+1 | y z
+  | - - second
+  | |
+  | first
+  |
+ ::: c.rs:1:1
+  |
+1 | q
+  | - third
+  |
+ ::: a.rs:1:1
+  |
+1 | x
+  | - own
+""",
+        [(1, 0, 1, 1, True, None), (1, 0, 1, 1, False, "own")],
+        ["at b.rs:1:1", "at c.rs:1:1", "1 | q", "  | - third"],
+        others=[("b.rs", "y z\n"), ("c.rs", "other\n")],
+        asides=[("b.rs", 1, 0, 1, 1, "first"), ("b.rs", 1, 2, 1, 3, "second")]),
     Row("a row that isn't the source's", "a.rs", "let y = 2;\n",
         """\
 error: no such name

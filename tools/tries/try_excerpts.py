@@ -89,7 +89,10 @@ class Findings:
         return not any(it and after[0] and after[0]["aside"] for (it, *_), after in zip(self.pieces, self.pieces[1:]))
 
     def expected(self):
-        return [self.of_finding(it, at, [shown(line) for line in self.reader.lines[at:end]]) for it, at, end in self.pieces if it]
+        """Each finding, and behind it its labels in other files."""
+        for it, at, end in self.pieces:
+            if it:
+                yield from self.of_finding(it, at, [shown(line) for line in self.reader.lines[at:end]])
 
     def below(self, at):
         """The line that has the message of a finding whose head has none, and whether the finding says all what that line says."""
@@ -113,16 +116,28 @@ class Findings:
         rows = self.source.rows(name)
         span = self.own_span(name, rows, it) if rows and line else None
         excerpt = self.excerpt(it, at, lines)
-        drawn, blocks, numbers = [], [], set()
-        for block, here in excerpt.drawings(name) if excerpt else ():
+        drawn, blocks, numbers, asides = [], [], set(), []
+        for block, there in excerpt.drawings(name) if excerpt else ():
             numbers |= {row.number for row in block.rows}
-            found = self.block_labels(block, name, rows) if here and span else None
+            if there != name:
+                found = self.asides(block, there, shown(it["message"]))
+                asides += found
+                blocks += [block] if found else []
+                continue
+            found = self.block_labels(block, name, rows) if span else None
             if found is not None:
                 drawn += found
                 blocks.append(block)
         said = excerpt.said(own, blocks) if excerpt else {"note": [], "kept": excerpt_reader.kept(lines[1:]), "help": []}
         note = said["note"] + without(self.below(at)[0], said["kept"]) + ([] if span else [placed(own)])
-        return Expected(shown(it["message"]), labels_over(span, drawn) if span else [], note, said["help"], numbers, it)
+        return [Expected(shown(it["message"]), labels_over(span, drawn) if span else [], note, said["help"], numbers, it), *asides]
+
+    def asides(self, block, there, message):
+        """The labels of a drawing in another file as reports, which say what the label says, or else the finding; none if one of its rows isn't
+        that file's."""
+        rows = self.source.rows(there)
+        found = (self.block_labels(block, there, rows) if rows is not None else None) or []
+        return [Expected(message if text is None else text, [(start, end, True, None)], [], [], it={"name": there}) for start, end, _, text, _ in found]
 
     def own_span(self, name, rows, it):
         """The span of the finding itself, in bytes."""
@@ -225,7 +240,7 @@ class Tries:
         if not findings.are_apart():
             self.skipped += 1
             return
-        expected = findings.expected()
+        expected = list(findings.expected())
         self.check(what, [said_by(it) for it in reports], [said_by(it) for it in expected], text)
 
     def drawn(self, what, whole, texts, source):
@@ -238,10 +253,22 @@ class Tries:
             parts[at] += line + "\n"
         told = set()
         for number, text in enumerate(texts):
-            finding = text.split("\nIn file included from ")[0]
-            if finding not in told:
+            again = printed(text)
+            if not again & told:
                 self.check(f"{what} {number}: words", missing_words(text, parts[number]), [], text)
-            told.add(finding)
+            told |= again
+
+
+def printed(text):
+    """The lines of each finding with its notes, by which it is known if it is printed again."""
+    reader, found = line_reader.Reader(text.encode()), []
+    for _, it, at, end in reader.pieces():
+        lines = tuple(reader.lines[at:end])
+        if it and it["aside"] and found and found[-1]:
+            found[-1] += lines
+        else:
+            found.append(lines if it else ())
+    return set(found) - {()}
 
 
 def sentinel(number):
@@ -321,6 +348,8 @@ def row_failures(root):
     for number, row in enumerate(excerpt_rows.ROWS):
         folder = os.path.join(root, str(number))
         put_source(folder, row.name, row.source)
+        for name, text in row.others:
+            put_source(folder, name, text)
         findings = Findings(row.output, Source(folder))
         found = [(it, findings.excerpt(it, at, list(map(shown, findings.reader.lines[at:end])))) for it, at, end in findings.pieces if it]
         if len(found) != 1 or (found[0][1] is not None) != row.read:
@@ -331,11 +360,15 @@ def row_failures(root):
 
 def row_wrong(row, findings, it, excerpt):
     source, own = findings.source, (row.name, it["line"], it["column"])
-    drawn = [(block, findings.block_labels(block, row.name, source.rows(row.name))) for block, here in excerpt.drawings(row.name) if here]
-    said = excerpt.said(own, [block for block, labels in drawn if labels is not None])
-    given = (sorted([label[:4] for _, labels in drawn for label in labels or ()], key=repr), said["note"], said["help"], said["kept"])
+    drawings = list(excerpt.drawings(row.name))
+    drawn = [(block, findings.block_labels(block, row.name, source.rows(row.name))) for block, there in drawings if there == row.name]
+    apart = [(block, there, findings.asides(block, there, shown(it["message"]))) for block, there in drawings if there != row.name]
+    said = excerpt.said(own, [block for block, labels in drawn if labels is not None] + [block for block, _, found in apart if found])
+    asides = [(there, *one.labels[0][:2], one.message) for _, there, found in apart for one in found]
+    given = (sorted([label[:4] for _, labels in drawn for label in labels or ()], key=repr), said["note"], said["help"], said["kept"], asides)
     want = [(source.offset(row.name, *label[:2]), source.offset(row.name, *label[2:4]), *label[4:]) for label in row.labels]
-    want = (sorted(want, key=repr), list(row.note), list(row.help), list(row.kept))
+    asides = [(name, source.offset(name, *label[:2]), source.offset(name, *label[2:4]), *label[4:]) for name, *label in row.asides]
+    want = (sorted(want, key=repr), list(row.note), list(row.help), list(row.kept), asides)
     if given != want:
         yield f"{row.what}:\n    given:    {given}\n    expected: {want}"
 

@@ -9,7 +9,6 @@ use Rattle.tool_lines.specs.Lines.{PieceParts, is_kept, piece_parts}
 use Rattle.girzohal_options.specs.declared.Asked.{Asked}
 use Rattle.drawn_lines.specs.Again.{RunParts, Sign, begun_by, flags_from, flags_in, fresh, is_unique, muted, muted_at, muted_if, no_run, repeated, seen_behind, seen_from, seen_with, sign_of, signs, was_printed, with_sign}
 use Rattle.drawn_lines.specs.Seam.{BarePieces, all_open, opens, span}
-use Rattle.drawn_lines.proofs.NameLemmas.{Named}
 
 -- ---- each piece has a flag
 
@@ -142,15 +141,6 @@ muted_bare which [] ps bare = tt
 muted_bare which (f ∷ fs) [] bare = tt
 muted_bare which (f ∷ fs) (p ∷ ps) bare = (one_bare (if which then f else not f) p bare.0, muted_bare which fs ps bare.1)
 
-one_named : (P : List ℕ → Type 0) (is : Bool) (p : PieceParts) → Named P (p ∷ []) → Named P (muted_if is p ∷ [])
-one_named P true p named = (tt, tt)
-one_named P false p named = named
-
-muted_named : (P : List ℕ → Type 0) (which : Bool) (fs : List Bool) (ps : List PieceParts) → Named P ps → Named P (muted_at which fs ps)
-muted_named P which [] ps named = tt
-muted_named P which (f ∷ fs) [] named = tt
-muted_named P which (f ∷ fs) (p ∷ ps) named = ((one_named P (if which then f else not f) p (named.0, tt)).0, muted_named P which fs ps named.1)
-
 -- ---- those that are new, and those that are printed again
 
 pub fresh_parted : (asked : Asked) (seen : Seen) (lines more : List (List ℕ)) (front ps : List PieceParts) → span front ≤ length lines → all_open ps ≡ true
@@ -186,14 +176,6 @@ repeated_open asked seen lines ps here = muted_open false (flags_in asked seen l
 pub fresh_bare : (asked : Asked) (seen : Seen) (lines : List (List ℕ)) (ps : List PieceParts) → BarePieces ps → BarePieces (fresh asked seen lines ps)
 unfolding fresh
 fresh_bare asked seen lines ps bare = muted_bare true (flags_in asked seen lines ps) ps bare
-
-pub fresh_named : (P : List ℕ → Type 0) (asked : Asked) (seen : Seen) (lines : List (List ℕ)) (ps : List PieceParts) → Named P ps → Named P (fresh asked seen lines ps)
-unfolding fresh
-fresh_named P asked seen lines ps named = muted_named P true (flags_in asked seen lines ps) ps named
-
-pub repeated_named : (P : List ℕ → Type 0) (asked : Asked) (seen : Seen) (lines : List (List ℕ)) (ps : List PieceParts) → Named P ps → Named P (repeated asked seen lines ps)
-unfolding repeated
-repeated_named P asked seen lines ps named = muted_named P false (flags_in asked seen lines ps) ps named
 
 -- ---- one step of the walk
 

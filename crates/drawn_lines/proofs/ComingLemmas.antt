@@ -2,7 +2,6 @@
 use Rattle.std.proofs.Common.{◌≡◌, ℕ, ◌+◌, ◌≤◌, ◌||◌, Bool, true, false, cond, List, [], ◌∷◌, ◌++◌, length, map, take, drop, Option, None, Result, Ok, Err, Vec, Global, All, refl, sym, ap, ap₂, ◌∙◌, subst, append_assoc, append-nil, arith}
 use Rattle.std.specs.Prelude.{IfOk, string_bytes}
 use Rattle.std.specs.List.{drop-map}
-use Rattle.std.specs.Str.Lossy.{utf8_lossy}
 use Rattle.std.proofs.lemmas.List.{drop-append-le, length-append, length-map, map-append, take-append-drop}
 use Rattle.std.proofs.lemmas.List.Elements.{All-nil, All-cons, All-head, All-tail, All-append, All-same}
 use Rattle.found_reports.specs.Held.{Held}
@@ -20,12 +19,13 @@ use Rattle.report_counts.specs.Counted.{one_reaches, reaches, severity_of}
 use Rattle.line_reports.specs.Names.{names_in}
 use Rattle.line_reports.specs.Pieces.{AreRead, ReadParts}
 use Rattle.line_reports.specs.Reports.{reports_in}
+use Rattle.line_reports.proofs.NamesLemmas.{all_front, all_rest, names_behind}
 use Rattle.line_reports.proofs.PieceLemmas.{are_read_append, are_read_more, lines_in}
 use Rattle.girzohal_options.specs.declared.Asked.{Asked}
 use Rattle.drawn_lines.specs.Text.{AreRead as LinesAreRead, came_of, came_to_come, lines_of, read_line, rest_to_come, to_come}
 use Rattle.drawn_lines.specs.Again.{fresh, repeated, seen_behind}
 use Rattle.drawn_lines.specs.Lines.{aside_text, columns_of, shapes_of, still, written}
-use Rattle.drawn_lines.specs.Coming.{Agrees, Draws, GoesOn, IsComing, IsDrawn, Looks, Reads, Told, most_of, seen_of, sources_of}
+use Rattle.drawn_lines.specs.Coming.{Agrees, BothGiven, Draws, GoesOn, IsComing, IsDrawn, Looks, Reads, Told, most_of, seen_of, sources_of}
 use Rattle.drawn_lines.specs.Counts.{count_of, count_with, ending, ending_by, no_count}
 use Rattle.drawn_lines.specs.Seam.{BarePieces, IsPart, IsSeam, all_open, span}
 use Rattle.drawn_lines.specs.declared.coming.Come.{Come}
@@ -35,9 +35,9 @@ use Rattle.drawn_lines.specs.declared.count.Count.{Count}
 use Rattle.drawn_lines.specs.declared.tally.Tally.{Tally}
 use Rattle.drawn_lines.proofs.PlainLemmas.{lines_are}
 use Rattle.drawn_lines.proofs.LineLemmas.{aside_parted}
-use Rattle.drawn_lines.proofs.NameLemmas.{agreed_reports, agreed_text, named_append, named_names, names_named}
+use Rattle.drawn_lines.proofs.NameLemmas.{agreed_reports, agreed_text}
 use Rattle.drawn_lines.proofs.PartLemmas.{reports_parted, lines_span, still_none, still_parts, text_parted}
-use Rattle.drawn_lines.proofs.AgainLemmas.{fresh_bare, fresh_named, fresh_open, fresh_parted, fresh_span, repeated_named, repeated_open, repeated_parted, repeated_span}
+use Rattle.drawn_lines.proofs.AgainLemmas.{fresh_bare, fresh_open, fresh_parted, fresh_span, repeated_open, repeated_parted, repeated_span}
 use Rattle.drawn_lines.proofs.CountLemmas.{counted_append, none_counted}
 use Rattle.drawn_lines.proofs.SeamLemmas.{all_bare}
 
@@ -64,11 +64,11 @@ agrees_before before more now given is agrees =
     λ name here.
     subst (λ sources. listed sources name ≡ true → given name ≡ held_in sources name) is (agrees name) (still_listed before more name here) ∙ still_held before more name here
 
-given_more : (told : Told) (given : List ℕ → Held) (front ps : List PieceParts) → IsGiven told Path (names_in front) given → IsGiven told Path (names_in ps) given
-    → IsGiven told Path (names_in (front ++ ps)) given
-given_more told given front ps a b =
+given_more : (told : Told) (given : List ℕ → Held) (lines more : List (List ℕ)) (here rest : List ReadParts) (count : ℕ) → lines_in here ≡ count → count ≤ length lines
+    → IsGiven told Path (names_in lines here) given → IsGiven told Path (names_in (drop count lines ++ more) rest) given → IsGiven told Path (names_in (lines ++ more) (here ++ rest)) given
+given_more told given lines more here rest count is within a b =
     let P : List ℕ → Type 0 = λ name. IsSaid (told_of told Path name) (given name) in
-    names_named P (front ++ ps) (named_append (λ name. P (utf8_lossy name)) front ps (named_names P front a) (named_names P ps b))
+    names_behind P lines more here rest (omega (arith, is, within)) a (subst (λ n. All P (names_in (drop n lines ++ more) rest)) (sym is) b)
 
 -- ---- nothing came
 
@@ -95,7 +95,7 @@ whole_goes told asked given lines came left still_came most seen ps reads others
       stands = ap (λ ls. aside_text asked ls ps) (sym lines_are);
       reports = ap (λ ls. reports_in (columns_of asked) given ls reads) (sym lines_are);
       repeats = ap (λ ls. reports_in (columns_of asked) given ls others) (sym lines_are);
-      said = λ is. is;
+      said = λ is. subst (λ ls. BothGiven told given ls reads others) lines_are is;
     }
 
 pub nothing_came : (told : Told) (asked : Asked) (held : HeldLines) (tally : Tally) → ((more : List ℕ) → came_to_come held more ≡ came_of more) → LinesAreRead held
@@ -196,7 +196,7 @@ front_goes : (told : Told) (asked : Asked) (given : List ℕ → Held) (whole wh
     → Reads (drop (span front) lines ++ more) fresh_ps reads → Reads (drop (span front) lines ++ more) rep_ps others
     → drawn ≡ written asked given most lines came now_reads → stands ≡ aside_text asked lines front
     → here ≡ reports_in (columns_of asked) given lines now_reads → there ≡ reports_in (columns_of asked) given lines now_others
-    → next ≡ still most (length here) → IsGiven told Path (names_in front) given
+    → next ≡ still most (length here) → BothGiven told given lines now_reads now_others
     → GoesOn told asked given whole whole_came text aside found again most (lines ++ more) (came ++ rest) (front ++ ps) (now_reads ++ reads) (now_others ++ others)
     → GoesOn told asked given whole whole_came (text ++ drawn) (aside ++ stands) (found ++ here) (again ++ there) next (drop (span front) lines ++ more) (drop (span front) came ++ rest) ps reads others
 front_goes told asked given whole whole_came text aside drawn stands found again here there most next fresh_front fresh_ps rep_front rep_ps now_reads now_others reads others lines came more rest front ps within room bare open_fresh open_rep fresh_span_is rep_span_is now_are others_now reads_are others_are drawn_is stands_is here_is there_is next_is said on =
@@ -228,25 +228,19 @@ front_goes told asked given whole whole_came text aside drawn stands found again
       stands = on.stands ∙ (ap (λ t. aside ++ t) aside_there ∙ sym (append_assoc aside stands (aside_text asked left ps)));
       reports = on.reports ∙ (ap (λ fs. found ++ fs) reported ∙ sym (append_assoc found here found_left));
       repeats = on.repeats ∙ (ap (λ fs. again ++ fs) repeats_are ∙ sym (append_assoc again there again_left));
-      said = λ rest. on.said (given_more told given front ps said rest);
+      said = λ rest.
+          on.said
+          (given_more told given lines more now_reads reads (span front) (lines_span now_reads ∙ (ap span now_are.of_them ∙ fresh_span_is)) within said.0 rest.0,
+          given_more told given lines more now_others others (span front) (lines_span now_others ∙ (ap span others_now.of_them ∙ rep_span_is)) within said.1 rest.1);
     }
 
--- what is the same for names of pieces is so for those that are new, and for the others
-fresh_same : (given other : List ℕ → Held) (asked : Asked) (seen : Seen) (lines : List (List ℕ)) (ps : List PieceParts) (reads : List ReadParts)
-    → All (λ name. given name ≡ other name) (names_in ps) → map (λ (it : ReadParts). it.piece) reads ≡ fresh asked seen lines ps
-    → All (λ name. given name ≡ other name) (names_in (map (λ (it : ReadParts). it.piece) reads))
-fresh_same given other asked seen lines ps reads same are =
-    let Q : List ℕ → Type 0 = λ name. given name ≡ other name in
-    subst (λ its. All Q (names_in its)) (sym are)
-    (names_named Q (fresh asked seen lines ps) (fresh_named (λ name. Q (utf8_lossy name)) asked seen lines ps (named_names Q ps same)))
-
-repeated_same : (given other : List ℕ → Held) (asked : Asked) (seen : Seen) (lines : List (List ℕ)) (ps : List PieceParts) (reads : List ReadParts)
-    → All (λ name. given name ≡ other name) (names_in ps) → map (λ (it : ReadParts). it.piece) reads ≡ repeated asked seen lines ps
-    → All (λ name. given name ≡ other name) (names_in (map (λ (it : ReadParts). it.piece) reads))
-repeated_same given other asked seen lines ps reads same are =
-    let Q : List ℕ → Type 0 = λ name. given name ≡ other name in
-    subst (λ its. All Q (names_in its)) (sym are)
-    (names_named Q (repeated asked seen lines ps) (repeated_named (λ name. Q (utf8_lossy name)) asked seen lines ps (named_names Q ps same)))
+-- what is given of these names is what was told
+both_here : (told : Told) (sources : List Source) (given : List ℕ → Held) (lines : List (List ℕ)) (reads others : List ReadParts) → All (MeetsTold told Path) sources → Agrees sources given
+    → All (λ name. listed sources name ≡ true) (names_in lines reads ++ names_in lines others) → BothGiven told given lines reads others
+both_here told sources given lines reads others meet agrees all =
+    let L : List ℕ → Type 0 = λ name. listed sources name ≡ true in
+    (said_here told sources given (names_in lines reads) meet agrees (all_front L (names_in lines reads) (names_in lines others) all),
+    said_here told sources given (names_in lines others) meet agrees (all_rest L (names_in lines reads) (names_in lines others) all))
 
 -- the first lines that came are let go with those that are read
 dropped_read : (held next : HeldLines) (count : ℕ) → map (λ line. line.items) next.lines.items ≡ drop count (map (λ line. line.items) held.lines.items)
@@ -297,7 +291,11 @@ front_drawn told asked taken text aside drawn stands held next before now pieces
           read_behind next (rest_to_come next.begun next.tail.items more) next_read ∙ ap₂ (λ ls r. ls ++ map read_line r) lines_are rest_is in
           let here : ArePieces (shapes_of asked) None (left ++ these) ps = subst (λ ls. ArePieces (shapes_of asked) None ls ps) next_is comes in
           let opens_here : all_open ps ≡ true = seam.open_behind these ps here in
-          let same : All (λ name. held_in (sources_of now) name ≡ given name) (names_in front) = same_here (sources_of now) given (names_in front) agrees draws.there in
+          let L : List ℕ → Type 0 = λ name. listed (sources_of now) name ≡ true in
+          let new_names : List (List ℕ) = names_in lines draws.reads in
+          let old_names : List (List ℕ) = names_in lines draws.others in
+          let same : All (λ name. held_in (sources_of now) name ≡ given name) new_names = same_here (sources_of now) given new_names agrees (all_front L new_names old_names draws.there) in
+          let same_again : All (λ name. held_in (sources_of now) name ≡ given name) old_names = same_here (sources_of now) given old_names agrees (all_rest L new_names old_names draws.there) in
           let split : to_come held more ≡ lines ++ these = read_behind held rest coming.read in
           let seen : Seen = seen_of before in
           let later_seen : Seen = seen_behind asked seen lines front in
@@ -331,15 +329,12 @@ front_drawn told asked taken text aside drawn stands held next before now pieces
           fresh_front fresh_ps rep_front rep_ps draws.reads draws.others reads others lines came these rest front ps
           seam.within (omega (arith, seam.within, as_many held coming.read)) (fresh_bare asked seen lines front bare) (fresh_open asked later_seen (left ++ these) ps opens_here)
           (repeated_open asked later_seen (left ++ these) ps opens_here) fresh_same_span rep_same_span draws.reads_are draws.others_are reads_left others_left
-          (draws.text_is ∙ agreed_text asked (held_in (sources_of now)) given (most_of asked before) lines came draws.reads
-          (fresh_same (held_in (sources_of now)) given asked seen lines front draws.reads same draws.reads_are.of_them))
+          (draws.text_is ∙ agreed_text asked (held_in (sources_of now)) given (most_of asked before) lines came draws.reads same)
           draws.aside_is
-          (draws.found_is ∙ agreed_reports asked (held_in (sources_of now)) given lines draws.reads
-          (fresh_same (held_in (sources_of now)) given asked seen lines front draws.reads same draws.reads_are.of_them))
-          (draws.again_is ∙ agreed_reports asked (held_in (sources_of now)) given lines draws.others
-          (repeated_same (held_in (sources_of now)) given asked seen lines front draws.others same draws.others_are.of_them))
+          (draws.found_is ∙ agreed_reports asked (held_in (sources_of now)) given lines draws.reads same)
+          (draws.again_is ∙ agreed_reports asked (held_in (sources_of now)) given lines draws.others same_again)
           (ap (λ (c : Count). still asked.most c.total) draws.counted ∙ sym (still_parts asked.most before.count.total (length draws.found)))
-          (said_here told (sources_of now) given (names_in front) told_all agrees draws.there) on));
+          (both_here told (sources_of now) given lines draws.reads draws.others told_all agrees draws.there) on));
     }
 
 -- ---- what was looked at
@@ -417,7 +412,7 @@ all_drawn told asked taken text aside drawn stands end held all before now lines
       pieces = on.all;
       are = on.are;
       given = given;
-      told_so = on.said (said_here told (sources_of now) given (names_in pieces) told_all agrees draws.there);
+      told_so = on.said (both_here told (sources_of now) given lines draws.reads draws.others told_all agrees draws.there);
       found = found;
       reports = sym (on.reports ∙ ap (λ fs. coming.found ++ fs) (sym draws.found_is));
       drawn =

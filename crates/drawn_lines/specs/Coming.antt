@@ -50,12 +50,12 @@ pub record Draws (told : Told) (asked : Asked) (before now : Tally) (lines came 
   pub more : List Source
   pub sources : sources_of now ≡ sources_of before ++ more
   pub told_so : All (MeetsTold told Path) more
-  pub there : All (λ name. listed (sources_of now) name ≡ true) (names_in pieces)
   pub seen : seen_of now ≡ seen_behind asked (seen_of before) lines pieces
   pub reads : List ReadParts
   pub reads_are : Reads lines (fresh asked (seen_of before) lines pieces) reads
   pub others : List ReadParts
   pub others_are : Reads lines (repeated asked (seen_of before) lines pieces) others
+  pub there : All (λ name. listed (sources_of now) name ≡ true) (names_in lines reads ++ names_in lines others)
   pub found : List Found
   pub found_is : found ≡ reports_in (columns_of asked) (held_in (sources_of now)) lines reads
   pub again : List Found
@@ -84,6 +84,10 @@ IsLook told asked before lines came (Known drawn count) = Looks told asked befor
 abbrev pub Agrees : List Source → (List ℕ → Held) → Type 0
 Agrees sources given = (name : List ℕ) → listed sources name ≡ true → given name ≡ held_in sources name
 
+-- what is given of the names that these ask for is what was told
+abbrev pub BothGiven : Told → (List ℕ → Held) → List (List ℕ) → List ReadParts → List ReadParts → Type 0
+BothGiven told given lines reads others = IsGiven told Path (names_in lines reads) given × IsGiven told Path (names_in lines others) given
+
 -- what is written of the whole, what stands aside and the reports are those so far, and behind them what these pieces of the lines that are left add,
 -- of which these are read that are new, and those others
 pub record GoesOn (told : Told) (asked : Asked) (given : List ℕ → Held) (whole whole_came : List (List ℕ)) (text aside : List ℕ) (found again : List Found)
@@ -98,7 +102,7 @@ pub record GoesOn (told : Told) (asked : Asked) (given : List ℕ → Held) (who
   pub stands : aside_text asked whole all ≡ aside ++ aside_text asked left pieces
   pub reports : reports_in (columns_of asked) given whole all_reads ≡ found ++ reports_in (columns_of asked) given left reads
   pub repeats : reports_in (columns_of asked) given whole all_others ≡ again ++ reports_in (columns_of asked) given left others
-  pub said : IsGiven told Path (names_in pieces) given → IsGiven told Path (names_in all) given
+  pub said : BothGiven told given left reads others → BothGiven told given whole all_reads all_others
 
 -- of these bytes this was written and stands aside, whatever comes behind them
 pub record IsComing (told : Told) (asked : Asked) (bytes text aside : List ℕ) (held : HeldLines) (tally : Tally) : Type 0 where
@@ -127,11 +131,11 @@ pub record IsDrawn (told : Told) (asked : Asked) (bytes text aside : List ℕ) (
   pub pieces : List PieceParts
   pub are : ArePieces (shapes_of asked) None (lines_of bytes) pieces
   pub given : List ℕ → Held
-  pub told_so : IsGiven told Path (names_in pieces) given
   pub reads : List ReadParts
   pub reads_are : Reads (lines_of bytes) (fresh asked none_seen (lines_of bytes) pieces) reads
   pub others : List ReadParts
   pub others_are : Reads (lines_of bytes) (repeated asked none_seen (lines_of bytes) pieces) others
+  pub told_so : BothGiven told given (lines_of bytes) reads others
   pub found : List Found
   pub reports : found ≡ reports_in (columns_of asked) given (lines_of bytes) reads
   pub again : List Found

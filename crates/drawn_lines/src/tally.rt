@@ -1,7 +1,8 @@
 // What was drawn so far, and how more blocks are drawn.
-ghost use Rattle.std.specs.Prelude.{◌≡◌, ◌||◌, IfOk, map, string_bytes};
+ghost use Rattle.std.specs.Prelude.{◌≡◌, ◌||◌, ◌++◌, IfOk, map, string_bytes};
 ghost use Rattle.found_reports.specs.Listed.{held_in};
 ghost use Rattle.tool_lines.specs.Lines.{piece_parts};
+ghost use Rattle.line_reports.specs.Names.{names_in};
 ghost use Rattle.line_reports.specs.Pieces.{read_parts};
 ghost use Rattle.line_reports.specs.Reports.{reports_in};
 ghost use Rattle.drawn_lines.specs.Lines.{columns_of as columns_meant, written as written_of};
@@ -70,13 +71,13 @@ pub(crate) fn draw<S: Store>(
         mut seen,
         mut sources,
     } = tally;
-    let names = names_of(alloc, pieces)?;
-    gather_more(alloc, store, Spelling::Path, &mut sources, &names)?;
     let parts = sift(alloc, asked, &mut seen, lines, pieces)?;
     let most = still(asked.most, count.total);
     let reads = read_pieces(alloc, lines, &parts.fresh)?;
-    let share = written(alloc, asked, most, lines, came, &reads, &sources)?;
     let repeats = read_pieces(alloc, lines, &parts.again)?;
+    let names = all_names(alloc, lines, &reads, &repeats)?;
+    gather_more(alloc, store, Spelling::Path, &mut sources, &names)?;
+    let share = written(alloc, asked, most, lines, came, &reads, &sources)?;
     let others = count_in(alloc, asked, lines, &repeats, &sources)?;
     let aside = aside_text(alloc, asked, lines, pieces)?;
     let tally = Tally {
@@ -90,6 +91,23 @@ pub(crate) fn draw<S: Store>(
         aside,
         tally,
     })
+}
+
+/// The names that the reports of these blocks ask for, and then those of others.
+fn all_names(
+    alloc: Global,
+    lines: &[&[u8]],
+    reads: &[ReadPiece<'_>],
+    others: &[ReadPiece<'_>],
+) -> Result<Vec<String>, AllocError>
+    ensures { IfOk result (λ it. map string_bytes it.items
+        ≡ names_in (map (λ line. line.now) lines.now) (map read_parts reads.now)
+        ++ names_in (map (λ line. line.now) lines.now) (map read_parts others.now)) }
+{
+    let mut names = names_of(alloc, lines, reads)?;
+    let mut more = names_of(alloc, lines, others)?;
+    names.append(&mut more)?;
+    Ok(names)
 }
 
 /// Whether a report is at or above the level.

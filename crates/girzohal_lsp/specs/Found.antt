@@ -92,11 +92,11 @@ columns_of asked =
 pub record ShowsLines (asked : Asked) (bytes path text : List ℕ) (shown : List OxcParts) : Type 0 where
   pub pieces : List PieceParts
   pub those : ArePieces (tools.shapes_of (tool_name asked.tool)) None (lines_of (unpainted bytes)) pieces
-  pub given : List ℕ → Held
-  pub told_so : IsGiven (told_open path text) Path (lines.names_in pieces) given
   pub reads : List ReadParts
   pub of_them : map (λ (it : ReadParts). it.piece) reads ≡ pieces
   pub read : AreRead (lines_of (unpainted bytes)) reads
+  pub given : List ℕ → Held
+  pub told_so : IsGiven (told_open path text) Path (lines.names_in (lines_of (unpainted bytes)) reads) given
   pub are : AreShown Path path text (lines_meaning.reports_in (columns_of asked) given (lines_of (unpainted bytes)) reads) shown
 
 abbrev pub Shows : Asked → LogFile → List ℕ → List ℕ → List OxcParts → Type 0

@@ -88,9 +88,9 @@ fn found_in_lines(
     let lines = lines_of(alloc, &plain)?;
     let shapes = tool_shapes(alloc, tool_name(asked))?;
     let pieces = pieces_of(alloc, &lines, &shapes)?;
-    let names = line_reports::names_of(alloc, &pieces)?;
-    let sources = gather_indexed(alloc, &file, Spelling::Path, &names)?;
     let reads = line_reports::read_pieces(alloc, &lines, &pieces)?;
+    let names = line_reports::names_of(alloc, &lines, &reads)?;
+    let sources = gather_indexed(alloc, &file, Spelling::Path, &names)?;
     let found = line_reports::reports_of(alloc, &lines, &reads, &sources, columns_of(asked))?;
     let shown = shown_of(alloc, Spelling::Path, &found, path, text)?;
     Ok(shown)

@@ -39,10 +39,10 @@ pub record FindsPieces (asked : Asked) (given : List ℕ → Held) (lines : List
 pub record FindsLines (told : Told) (asked : Asked) (bytes : List ℕ) (found : List Found) (aside : List ℕ) : Type 0 where
   pub pieces : List PieceParts
   pub are : ArePieces (shapes_of asked) None (lines_of bytes) pieces
-  pub given : List ℕ → Held
-  pub told_so : IsGiven told Path (names_in pieces) given
   pub reads : List ReadParts
   pub reads_are : Reads (lines_of bytes) pieces reads
+  pub given : List ℕ → Held
+  pub told_so : IsGiven told Path (names_in (lines_of bytes) reads) given
   pub finds : FindsPieces asked given (lines_of bytes) pieces reads found aside
 
 -- the reports of the JSON object among other lines, and what stands around it

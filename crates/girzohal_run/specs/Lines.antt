@@ -51,10 +51,10 @@ pub record WritesPieces (asked : Asked) (given : List ℕ → Held) (lines : Lis
 pub record ListsLines (told : Told) (asked : Asked) (bytes text aside : List ℕ) (reached : Bool) : Type 0 where
   pub pieces : List PieceParts
   pub are : ArePieces (shapes_of asked) None (lines_of bytes) pieces
-  pub given : List ℕ → Held
-  pub told_so : IsGiven told Path (names_in pieces) given
   pub reads : List ReadParts
   pub reads_are : Reads (lines_of bytes) pieces reads
+  pub given : List ℕ → Held
+  pub told_so : IsGiven told Path (names_in (lines_of bytes) reads) given
   pub writes : WritesPieces asked given (lines_of bytes) pieces reads text aside reached
 
 -- so are those of lines, unless there are filters: these read the whole input first

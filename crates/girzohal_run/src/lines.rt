@@ -124,9 +124,9 @@ fn list_lines<S: Store>(
     let lines = text_lines(alloc, &text)?;
     let shapes = shapes_of(alloc, asked)?;
     let pieces = pieces_of(alloc, &lines, &shapes)?;
-    let names = names_of(alloc, &pieces)?;
-    let sources = gather_indexed(alloc, store, Spelling::Path, &names)?;
     let reads = read_pieces(alloc, &lines, &pieces)?;
+    let names = names_of(alloc, &lines, &reads)?;
+    let sources = gather_indexed(alloc, store, Spelling::Path, &names)?;
     write_pieces(alloc, asked, &lines, &pieces, &reads, &sources)
 }
 

@@ -28,7 +28,7 @@ abbrev pub lines_in : List ReadParts → ℕ
 lines_in [] = 0
 lines_in (read ∷ rest) = read.piece.lines + lines_in rest
 
-drop_on : {A : Type 0} (m n : ℕ) (xs : List A) → drop (m + n) xs ≡ drop n (drop m xs)
+pub drop_on : {A : Type 0} (m n : ℕ) (xs : List A) → drop (m + n) xs ≡ drop n (drop m xs)
 drop_on zero n xs = rw (zero-add n) refl
 drop_on (suc m) n [] = drop-nil (suc m + n) ∙ sym (drop-nil n)
 drop_on (suc m) n (x ∷ xs) = rw (suc-add m n) (drop_on m n xs)
@@ -48,12 +48,12 @@ are_read_rest lines [] rest are = are
 are_read_rest lines (read ∷ front) rest are =
     subst (λ ls. AreRead ls rest) (sym (drop_on read.piece.lines (lines_in front) lines)) (are_read_rest (drop read.piece.lines lines) front rest are.1)
 
-take_within : {A : Type 0} (n : ℕ) (xs ys : List A) → n ≤ length xs → take n (xs ++ ys) ≡ take n xs
+pub take_within : {A : Type 0} (n : ℕ) (xs ys : List A) → n ≤ length xs → take n (xs ++ ys) ≡ take n xs
 take_within zero xs ys few = refl
 take_within (suc n) [] ys few = absurd (omega (arith, few))
 take_within (suc n) (x ∷ xs) ys few = ap (λ it. x ∷ it) (take_within n xs ys (omega (arith, few)))
 
-drop_within : {A : Type 0} (n : ℕ) (xs ys : List A) → n ≤ length xs → drop n (xs ++ ys) ≡ drop n xs ++ ys
+pub drop_within : {A : Type 0} (n : ℕ) (xs ys : List A) → n ≤ length xs → drop n (xs ++ ys) ≡ drop n xs ++ ys
 drop_within zero xs ys few = refl
 drop_within (suc n) [] ys few = absurd (omega (arith, few))
 drop_within (suc n) (x ∷ xs) ys few = drop_within n xs ys (omega (arith, few))

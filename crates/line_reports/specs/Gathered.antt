@@ -14,7 +14,8 @@ use Rattle.found_reports.specs.Kept.{FoundParts}
 use Rattle.indexed_sources.specs.declared.row_text.RowText.{RowText}
 use Rattle.line_reports.specs.declared.labels.Mark.{Mark}
 use Rattle.line_reports.specs.Told.{told_parts}
-use Rattle.line_reports.specs.Drawings.{PlacedParts, PlacedStand, drawings_parts}
+use Rattle.line_reports.specs.Asides.{AsidesStand, PlacedHeld, aside_parts}
+use Rattle.line_reports.specs.Drawings.{drawings_parts}
 use Rattle.line_reports.specs.Reports.{MarkParts}
 
 abbrev pub text_in : Held → Option (List ℕ)
@@ -43,12 +44,7 @@ pub record FitsLabel (range : Range ℕ) : Type 0 where
   pub short : range.end < 2 ^ 32
 
 abbrev pub mark_parts : Mark → MarkParts
-mark_parts mark = record { note = told_parts mark.note.now; span = mark.span; drawings = drawings_parts mark.drawings }
-
--- labels of an excerpt stand in what is held
-abbrev pub PlacedHeld : Held → List PlacedParts → Type 0
-PlacedHeld (holds text) placed = PlacedStand text placed
-PlacedHeld (lacks why) placed = placed ≡ []
+mark_parts mark = record { note = told_parts mark.note.now; span = mark.span; drawings = drawings_parts mark.drawings; asides = map (option_map aside_parts) mark.asides.items }
 
 -- a note's span and its labels do
 pub record MarkStands (held : Held) (mark : MarkParts) : Type 0 where
@@ -58,6 +54,10 @@ pub record MarkStands (held : Held) (mark : MarkParts) : Type 0 where
 -- the spans of notes and their labels do
 abbrev pub MarksStand : Held → List MarkParts → Type 0
 MarksStand held marks = All (MarkStands held) marks
+
+-- the labels of notes in other files do
+abbrev pub MarksAside : (List ℕ → Held) → List MarkParts → Type 0
+MarksAside told marks = All (λ mark. AsidesStand told mark.asides) marks
 
 abbrev pub MarksFit : List MarkParts → Type 0
 MarksFit marks = All (λ mark. IfSome mark.span FitsLabel) marks

@@ -126,8 +126,12 @@ fn placed_if(
 }
 
 /// The labels of a block, if each of its printed rows is a row of the source.
+///
+/// # Errors
+///
+/// Out of memory.
 #[tactic(auto, unfolding(crate::specs::Drawings::block_placed))]
-fn labels_placed(
+pub(crate) fn labels_placed(
     alloc: Global,
     source: &RowText<'_>,
     lines: &[&[char]],

@@ -1,9 +1,9 @@
 //! The reports of blocks, with their files.
 ghost use Rattle.std.specs.Prelude.{◌≡◌, ◌++◌, ◌∷◌, [], ◌<◌, IfOk, IfSome, OnOk, None, Some, map};
-ghost use Rattle.std.specs.Prelude.{length, option_map, string_bytes};
+ghost use Rattle.std.specs.Prelude.{length, option_map, string_bytes, true};
 ghost use Rattle.std.specs.Str.Lossy.{utf8_lossy};
 ghost use Rattle.found_reports.specs.Files.{files_of, with_file};
-ghost use Rattle.found_reports.specs.Found.{file_at};
+ghost use Rattle.found_reports.specs.Found.{LabelsStand, file_at, found_on};
 ghost use Rattle.found_reports.specs.Held.{held_of};
 ghost use Rattle.indexed_sources.specs.Indexed.{AreTold, text_held};
 ghost use Rattle.found_reports.specs.Listed.{held_in};
@@ -14,17 +14,22 @@ ghost use Rattle.line_reports.specs.Gathered.{is_named, mark_parts, row_text as 
 ghost use Rattle.line_reports.specs.Joined.{group_parts};
 ghost use Rattle.line_reports.specs.Reports.{all_reports, group_by, group_reports, held_span};
 ghost use Rattle.line_reports.specs.Drawings.{drawings_parts, placed_parts};
-ghost use Rattle.line_reports.specs.Gathered.{PlacedHeld};
+ghost use Rattle.line_reports.specs.Asides.{AsidesStand, PlacedHeld, aside_parts};
+ghost use Rattle.line_reports.specs.Gathered.{MarksAside};
 ghost use Rattle.line_reports.specs.Reports.{drawings_on as drawings_if, held_drawings};
 ghost use Rattle.line_reports.specs.Reports.{kept_place as place_kept, marks_of, named_file};
-ghost use Rattle.line_reports.specs.Reports.{note_span, other_notes, own_labels as labels_by};
-ghost use Rattle.line_reports.specs.Reports.{report_alone, report_in, reports_in};
+ghost use Rattle.line_reports.specs.Reports.{aside_report, aside_reports, asides_on as asides_if};
+ghost use Rattle.line_reports.specs.Reports.{block_reports, each_alone, head_report, label_at};
+ghost use Rattle.line_reports.specs.Reports.{mark_report, mark_reports, note_span};
+ghost use Rattle.line_reports.specs.Reports.{own_labels as labels_by, report_in, reports_alone};
+ghost use Rattle.line_reports.specs.Reports.{reports_in, reports_with};
 ghost use Rattle.line_reports.specs.Pieces.{read_parts};
 ghost use Rattle.line_reports.specs.Told.{told_parts};
 
+use crate::asides::{Aside, either};
 use crate::drawings::{Drawings, no_drawings};
 use crate::groups::{Group, joined};
-use crate::labels::{Mark, diagnostic, labels, lines};
+use crate::labels::{Mark, aside_diagnostic, diagnostic, labels, lines};
 use crate::pieces::ReadPiece;
 use crate::placed::Placed;
 use crate::rows::span_at;
@@ -32,7 +37,7 @@ use crate::told::Told;
 use found_reports::{FoundReports, GivenPlace, Lack};
 use indexed_sources::{IndexedSources, RowText};
 use line_shapes::tools::Columns;
-use oxc_protocol::LabeledSpan;
+use oxc_protocol::{LabeledSpan, OxcDiagnostic};
 use std::alloc::{AllocError, Global};
 use std::collections::BTreeMap;
 use std::ops::Range;
@@ -137,7 +142,7 @@ impl<'s> Gathered<'s> {
         match self.span(columns, file, &group.head) {
             Some(range) => self.push_marked(alloc, sources, columns, file, group, &range),
             None => {
-                self.push_in(alloc, columns, file, &group.head)?;
+                self.push_with(alloc, sources, columns, file, &group.head)?;
                 self.push_each(alloc, sources, columns, group.notes.as_slice())
             }
         }
@@ -167,22 +172,55 @@ impl<'s> Gathered<'s> {
             ++ group_by columns (held_in sources.now.entries.items) (file_at self.old.found.files file)
             (group_parts group.now) (Some range.now)) }
     {
-        let marks = self.marks(alloc, columns, file, group.notes.as_slice())?;
-        let drawings = self.drawings(alloc, file, &group.head)?;
-        let labels = labels(alloc, range, drawings.labels.as_slice(), marks.as_slice())?;
-        let lines = lines(
+        let asides = group.head.asides(alloc, sources)?;
+        let marks = self.marks(alloc, sources, columns, file, group.notes.as_slice())?;
+        self.push_head(
             alloc,
-            &group.head,
-            drawings.shown.as_slice(),
+            file,
+            group,
+            range,
+            asides.as_slice(),
             marks.as_slice(),
         )?;
-        let diagnostic = diagnostic(alloc, &group.head, labels, lines.as_slice())?;
-        self.found.push(file, diagnostic, None)?;
-        self.push_others(alloc, sources, columns, marks.as_slice())
+        self.push_asides(alloc, sources, &group.head, asides.as_slice())?;
+        self.push_marks(alloc, sources, columns, marks.as_slice())
     }
 
-    /// Adds the reports of the notes that are no labels.
-    fn push_others(
+    /// Adds the report of a finding that has this span in this file, with its notes.
+    #[tactic(auto, using(crate::proofs::NumberLemmas::marked_rules))]
+    fn push_head(
+        &mut self,
+        alloc: Global,
+        file: usize,
+        group: &Group<'_>,
+        range: &Range<usize>,
+        asides: &[Option<Aside>],
+        marks: &[Mark<'_, '_>],
+    ) -> Result<(), AllocError>
+        requires texts { AreTexts self.old.texts.items self.old.found.files }
+        requires file { file < length self.old.found.files }
+        requires range { StandsHeld (file_at self.old.found.files file).held range.now }
+        requires marks { MarksStand (file_at self.old.found.files file).held
+            (map mark_parts marks.now) }
+        requires listed { IsListedWith self.old.numbers self.old.found file }
+        ensures texts { OnOk result (AreTexts self.new.texts.items self.new.found.files) }
+        ensures files { self.new.found.files ≡ self.old.found.files }
+        ensures listed { OnOk result (IsListed self.new.numbers self.new.found) }
+        ensures found { OnOk result (self.new.found.found ≡ self.old.found.found
+            ++ head_report (file_at self.old.found.files file) (group_parts group.now).head
+            (map (option_map aside_parts) asides.now) range.now (map mark_parts marks.now) ∷ []) }
+    {
+        let drawings = self.drawings(alloc, file, &group.head)?;
+        let labels = labels(alloc, range, drawings.labels.as_slice(), marks)?;
+        let shown = either(alloc, drawings.shown.as_slice(), asides)?;
+        let lines = lines(alloc, &group.head, shown.as_slice(), marks)?;
+        let diagnostic = diagnostic(alloc, &group.head, labels, lines.as_slice())?;
+        self.found.push(file, diagnostic, None)?;
+        Ok(())
+    }
+
+    /// Adds the reports of the notes that are no labels, and of the labels of notes in other files.
+    fn push_marks(
         &mut self,
         alloc: Global,
         sources: &'s IndexedSources,
@@ -192,20 +230,176 @@ impl<'s> Gathered<'s> {
         requires texts { AreTexts self.old.texts.items self.old.found.files }
         requires told { AreTold (held_in sources.now.entries.items) self.old.found.files }
         requires listed { IsListed self.old.numbers self.old.found }
+        requires asides { MarksAside (held_in sources.now.entries.items) (map mark_parts marks.now) }
         ensures texts { OnOk result (AreTexts self.new.texts.items self.new.found.files) }
         ensures told { OnOk result (AreTold (held_in sources.now.entries.items) self.new.found.files) }
         ensures listed { OnOk result (IsListed self.new.numbers self.new.found) }
         ensures found { OnOk result (self.new.found.found
             ≡ self.old.found.found
-            ++ map (report_alone columns (held_in sources.now.entries.items))
-            (other_notes (map mark_parts marks.entry.now))) }
+            ++ mark_reports columns (held_in sources.now.entries.items)
+            (map mark_parts marks.entry.now)) }
     {
         while let [mark, rest @ ..] = marks {
-            if mark.span.is_none() {
-                self.push_alone(alloc, sources, columns, mark.note)?;
-            }
+            self.push_mark(alloc, sources, columns, mark)?;
             marks = rest;
         }
+        Ok(())
+    }
+
+    /// Adds the report of a note that is no label, or of its labels in other files.
+    fn push_mark(
+        &mut self,
+        alloc: Global,
+        sources: &'s IndexedSources,
+        columns: Columns,
+        mark: &Mark<'_, '_>,
+    ) -> Result<(), AllocError>
+        requires texts { AreTexts self.old.texts.items self.old.found.files }
+        requires told { AreTold (held_in sources.now.entries.items) self.old.found.files }
+        requires listed { IsListed self.old.numbers self.old.found }
+        requires asides { AsidesStand (held_in sources.now.entries.items)
+            (mark_parts mark.now).asides }
+        ensures texts { OnOk result (AreTexts self.new.texts.items self.new.found.files) }
+        ensures told { OnOk result (AreTold (held_in sources.now.entries.items) self.new.found.files) }
+        ensures listed { OnOk result (IsListed self.new.numbers self.new.found) }
+        ensures found { OnOk result (self.new.found.found
+            ≡ self.old.found.found
+            ++ mark_report columns (held_in sources.now.entries.items) (mark_parts mark.now)
+            (mark_parts mark.now).span) }
+    {
+        match &mark.span {
+            Some(_) => self.push_asides(alloc, sources, mark.note, mark.asides.as_slice()),
+            None => self.push_alone(alloc, sources, columns, mark.note),
+        }
+    }
+
+    /// Adds the reports of a finding's labels in other files.
+    fn push_asides(
+        &mut self,
+        alloc: Global,
+        sources: &'s IndexedSources,
+        told: &Told<'_>,
+        mut asides: &[Option<Aside>],
+    ) -> Result<(), AllocError>
+        requires texts { AreTexts self.old.texts.items self.old.found.files }
+        requires told { AreTold (held_in sources.now.entries.items) self.old.found.files }
+        requires listed { IsListed self.old.numbers self.old.found }
+        requires asides { AsidesStand (held_in sources.now.entries.items)
+            (map (option_map aside_parts) asides.now) }
+        ensures texts { OnOk result (AreTexts self.new.texts.items self.new.found.files) }
+        ensures told { OnOk result (AreTold (held_in sources.now.entries.items) self.new.found.files) }
+        ensures listed { OnOk result (IsListed self.new.numbers self.new.found) }
+        ensures found { OnOk result (self.new.found.found
+            ≡ self.old.found.found
+            ++ aside_reports (held_in sources.now.entries.items) (told_parts told.now)
+            (map (option_map aside_parts) asides.entry.now)) }
+    {
+        while let [aside, rest @ ..] = asides {
+            self.push_block(alloc, sources, told, aside)?;
+            asides = rest;
+        }
+        Ok(())
+    }
+
+    /// Adds the reports of the labels of a block in another file.
+    fn push_block(
+        &mut self,
+        alloc: Global,
+        sources: &'s IndexedSources,
+        told: &Told<'_>,
+        aside: &Option<Aside>,
+    ) -> Result<(), AllocError>
+        requires texts { AreTexts self.old.texts.items self.old.found.files }
+        requires told { AreTold (held_in sources.now.entries.items) self.old.found.files }
+        requires listed { IsListed self.old.numbers self.old.found }
+        requires aside { IfSome (option_map aside_parts aside.now) (λ it.
+            PlacedHeld (held_in sources.now.entries.items it.name) it.labels) }
+        ensures texts { OnOk result (AreTexts self.new.texts.items self.new.found.files) }
+        ensures told { OnOk result (AreTold (held_in sources.now.entries.items) self.new.found.files) }
+        ensures listed { OnOk result (IsListed self.new.numbers self.new.found) }
+        ensures found { OnOk result (self.new.found.found
+            ≡ self.old.found.found
+            ++ block_reports (held_in sources.now.entries.items) (told_parts told.now)
+            (option_map aside_parts aside.now)) }
+    {
+        match aside {
+            Some(aside) => {
+                let labels = aside.labels.as_slice();
+                self.push_labels(alloc, sources, told, aside.name.as_str(), labels)
+            }
+            None => Ok(()),
+        }
+    }
+
+    /// Adds the reports of labels in a file.
+    fn push_labels(
+        &mut self,
+        alloc: Global,
+        sources: &'s IndexedSources,
+        told: &Told<'_>,
+        name: &str,
+        mut labels: &[Placed],
+    ) -> Result<(), AllocError>
+        requires texts { AreTexts self.old.texts.items self.old.found.files }
+        requires told { AreTold (held_in sources.now.entries.items) self.old.found.files }
+        requires listed { IsListed self.old.numbers self.old.found }
+        requires labels { PlacedHeld (held_in sources.now.entries.items name.now)
+            (map placed_parts labels.now) }
+        ensures texts { OnOk result (AreTexts self.new.texts.items self.new.found.files) }
+        ensures told { OnOk result (AreTold (held_in sources.now.entries.items) self.new.found.files) }
+        ensures listed { OnOk result (IsListed self.new.numbers self.new.found) }
+        ensures found { OnOk result (self.new.found.found
+            ≡ self.old.found.found
+            ++ map (aside_report (held_in sources.now.entries.items) (told_parts told.now) name.now)
+            (map placed_parts labels.entry.now)) }
+    {
+        while let [placed, rest @ ..] = labels {
+            self.push_label(alloc, sources, told, name, placed)?;
+            labels = rest;
+        }
+        Ok(())
+    }
+
+    /// Adds the report of a label in a file.
+    fn push_label(
+        &mut self,
+        alloc: Global,
+        sources: &'s IndexedSources,
+        told: &Told<'_>,
+        name: &str,
+        placed: &Placed,
+    ) -> Result<(), AllocError>
+        requires texts { AreTexts self.old.texts.items self.old.found.files }
+        requires told { AreTold (held_in sources.now.entries.items) self.old.found.files }
+        requires listed { IsListed self.old.numbers self.old.found }
+        requires stands { LabelsStand (held_in sources.now.entries.items name.now)
+            (label_at None true (placed_parts placed.now) ∷ []) }
+        ensures texts { OnOk result (AreTexts self.new.texts.items self.new.found.files) }
+        ensures told { OnOk result (AreTold (held_in sources.now.entries.items) self.new.found.files) }
+        ensures listed { OnOk result (IsListed self.new.numbers self.new.found) }
+        ensures found { OnOk result (self.new.found.found
+            ≡ self.old.found.found
+            ++ aside_report (held_in sources.now.entries.items) (told_parts told.now) name.now
+            (placed_parts placed.now) ∷ []) }
+    {
+        let file = self.named(alloc, sources, name)?;
+        let diagnostic = aside_diagnostic(alloc, told, placed)?;
+        self.push_on(file, diagnostic)
+    }
+
+    /// Adds a report on a file.
+    #[tactic(auto, using(crate::proofs::NumberLemmas::listed_push))]
+    fn push_on(&mut self, file: usize, diagnostic: OxcDiagnostic) -> Result<(), AllocError>
+        requires file { file < length self.old.found.files }
+        requires stand { LabelsStand (file_at self.old.found.files file).held diagnostic.labels }
+        requires listed { IsListedWith self.old.numbers self.old.found file }
+        ensures texts { self.new.texts.items ≡ self.old.texts.items }
+        ensures files { self.new.found.files ≡ self.old.found.files }
+        ensures listed { OnOk result (IsListed self.new.numbers self.new.found) }
+        ensures found { OnOk result (self.new.found.found ≡ self.old.found.found
+            ++ found_on (file_at self.old.found.files file) diagnostic None ∷ []) }
+    {
+        self.found.push(file, diagnostic, None)?;
         Ok(())
     }
 
@@ -225,7 +419,7 @@ impl<'s> Gathered<'s> {
         ensures listed { OnOk result (IsListed self.new.numbers self.new.found) }
         ensures found { OnOk result (self.new.found.found
             ≡ self.old.found.found
-            ++ map (report_alone columns (held_in sources.now.entries.items))
+            ++ each_alone columns (held_in sources.now.entries.items)
             (map told_parts findings.entry.now)) }
     {
         while let [told, rest @ ..] = findings {
@@ -235,7 +429,7 @@ impl<'s> Gathered<'s> {
         Ok(())
     }
 
-    /// Adds the report of a finding alone.
+    /// Adds the reports of a finding alone.
     fn push_alone(
         &mut self,
         alloc: Global,
@@ -251,10 +445,36 @@ impl<'s> Gathered<'s> {
         ensures listed { OnOk result (IsListed self.new.numbers self.new.found) }
         ensures found { OnOk result (self.new.found.found
             ≡ self.old.found.found
-            ++ report_alone columns (held_in sources.now.entries.items) (told_parts told.now) ∷ []) }
+            ++ reports_alone columns (held_in sources.now.entries.items) (told_parts told.now)) }
     {
         let file = self.file(alloc, sources, told.finding.place.name)?;
-        self.push_in(alloc, columns, file, told)
+        self.push_with(alloc, sources, columns, file, told)
+    }
+
+    /// Adds the report of a finding alone, which is in this file, and then its labels in others.
+    fn push_with(
+        &mut self,
+        alloc: Global,
+        sources: &'s IndexedSources,
+        columns: Columns,
+        file: usize,
+        told: &Told<'_>,
+    ) -> Result<(), AllocError>
+        requires texts { AreTexts self.old.texts.items self.old.found.files }
+        requires told { AreTold (held_in sources.now.entries.items) self.old.found.files }
+        requires file { file < length self.old.found.files }
+        requires listed { IsListedWith self.old.numbers self.old.found file }
+        ensures texts { OnOk result (AreTexts self.new.texts.items self.new.found.files) }
+        ensures told { OnOk result (AreTold (held_in sources.now.entries.items) self.new.found.files) }
+        ensures listed { OnOk result (IsListed self.new.numbers self.new.found) }
+        ensures found { OnOk result (self.new.found.found
+            ≡ self.old.found.found
+            ++ reports_with columns (held_in sources.now.entries.items)
+            (file_at self.old.found.files file) (told_parts told.now)) }
+    {
+        let asides = told.asides(alloc, sources)?;
+        self.push_in(alloc, columns, file, told, asides.as_slice())?;
+        self.push_asides(alloc, sources, told, asides.as_slice())
     }
 
     /// Adds the report of a finding alone, which is in this file.
@@ -265,6 +485,7 @@ impl<'s> Gathered<'s> {
         columns: Columns,
         file: usize,
         told: &Told<'_>,
+        asides: &[Option<Aside>],
     ) -> Result<(), AllocError>
         requires texts { AreTexts self.old.texts.items self.old.found.files }
         requires file { file < length self.old.found.files }
@@ -274,12 +495,14 @@ impl<'s> Gathered<'s> {
         ensures listed { OnOk result (IsListed self.new.numbers self.new.found) }
         ensures found { OnOk result (self.new.found.found
             ≡ self.old.found.found
-            ++ report_in columns (file_at self.old.found.files file) (told_parts told.now) ∷ []) }
+            ++ report_in columns (file_at self.old.found.files file) (told_parts told.now)
+            (map (option_map aside_parts) asides.now) ∷ []) }
     {
         let span = self.span(columns, file, told);
         let drawings = self.drawings_on(alloc, file, told, &span)?;
         let labels = own_labels(alloc, &span, drawings.labels.as_slice())?;
-        let lines = told.lines(alloc, drawings.shown.as_slice())?;
+        let shown = either(alloc, drawings.shown.as_slice(), asides)?;
+        let lines = told.lines(alloc, shown.as_slice())?;
         let diagnostic = diagnostic(alloc, told, labels, lines.as_slice())?;
         self.found.push(file, diagnostic, kept_place(told, &span))?;
         Ok(())
@@ -290,6 +513,7 @@ impl<'s> Gathered<'s> {
     fn marks<'n, 'a>(
         &self,
         alloc: Global,
+        sources: &IndexedSources,
         columns: Columns,
         file: usize,
         mut notes: &'n [Told<'a>],
@@ -297,19 +521,23 @@ impl<'s> Gathered<'s> {
         requires texts { AreTexts self.now.texts.items self.now.found.files }
         requires file { file < length self.now.found.files }
         ensures marks { IfOk result (λ marks. map mark_parts marks.items
-            ≡ marks_of columns (file_at self.now.found.files file)
-            (map told_parts notes.entry.now)) }
+            ≡ marks_of columns (held_in sources.now.entries.items)
+            (file_at self.now.found.files file) (map told_parts notes.entry.now)) }
         ensures stand { IfOk result (λ marks. MarksStand (file_at self.now.found.files file).held
+            (map mark_parts marks.items)) }
+        ensures asides { IfOk result (λ marks. MarksAside (held_in sources.now.entries.items)
             (map mark_parts marks.items)) }
     {
         let mut marks = Vec::new(alloc);
         while let [note, rest @ ..] = notes {
             let span = self.note_span(alloc, columns, file, note)?;
             let drawings = self.drawings_on(alloc, file, note, &span)?;
+            let asides = asides_on(alloc, sources, note, &span)?;
             marks.push(Mark {
                 note,
                 span,
                 drawings,
+                asides,
             })?;
             notes = rest;
         }
@@ -410,7 +638,6 @@ impl<'s> Gathered<'s> {
     }
 
     /// The number of the file of a name, which is added if it isn't there.
-    #[tactic(auto, using(crate::proofs::NumberLemmas::listed_there))]
     fn file(
         &mut self,
         alloc: Global,
@@ -429,9 +656,31 @@ impl<'s> Gathered<'s> {
         ensures found { self.new.found.found ≡ self.old.found.found }
     {
         let name = String::from_utf8_lossy(alloc, name)?;
-        match self.number(name.as_str()) {
+        self.named(alloc, sources, name.as_str())
+    }
+
+    /// The number of the file of a name, which is added if it isn't there.
+    #[tactic(auto, using(crate::proofs::NumberLemmas::listed_there))]
+    fn named(
+        &mut self,
+        alloc: Global,
+        sources: &'s IndexedSources,
+        name: &str,
+    ) -> Result<usize, AllocError>
+        requires texts { AreTexts self.old.texts.items self.old.found.files }
+        requires told { AreTold (held_in sources.now.entries.items) self.old.found.files }
+        requires listed { IsListed self.old.numbers self.old.found }
+        ensures texts { OnOk result (AreTexts self.new.texts.items self.new.found.files) }
+        ensures told { OnOk result (AreTold (held_in sources.now.entries.items) self.new.found.files) }
+        ensures listed { IfOk result (IsListedWith self.new.numbers self.new.found) }
+        ensures file { IfOk result (λ file. file < length self.new.found.files) }
+        ensures named { IfOk result (λ file. file_at self.new.found.files file
+            ≡ named_file (held_in sources.now.entries.items) name.now) }
+        ensures found { self.new.found.found ≡ self.old.found.found }
+    {
+        match self.number(name) {
             Some(file) => Ok(file),
-            None => self.add(alloc, sources, name),
+            None => self.add(alloc, sources, String::from_str(alloc, name)?),
         }
     }
 
@@ -515,6 +764,24 @@ fn row_text<'s>(source: Result<RowText<'s>, Lack>) -> Option<RowText<'s>>
     match source {
         Ok(text) => Some(text),
         Err(_) => None,
+    }
+}
+
+/// The labels of a note in other files, if it has a span.
+fn asides_on(
+    alloc: Global,
+    sources: &IndexedSources,
+    note: &Told<'_>,
+    span: &Option<Range<usize>>,
+) -> Result<Vec<Option<Aside>>, AllocError>
+    ensures asides { IfOk result (λ it. map (option_map aside_parts) it.items
+        ≡ asides_if (held_in sources.now.entries.items) (told_parts note.now) span.now) }
+    ensures stand { IfOk result (λ it. AsidesStand (held_in sources.now.entries.items)
+        (map (option_map aside_parts) it.items)) }
+{
+    match span {
+        Some(_) => note.asides(alloc, sources),
+        None => Ok(Vec::new(alloc)),
     }
 }
 

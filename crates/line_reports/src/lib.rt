@@ -6,6 +6,7 @@
 //! - [`span_at`]: the span of a [`Spot`] in a text with the index of its rows.
 #![tactic(auto)]
 
+mod asides;
 mod drawings;
 mod gathered;
 mod groups;

@@ -107,7 +107,7 @@ pub(crate) fn characters(alloc: Global, mut lines: &[&[u8]]) -> Result<Vec<Vec<c
     Ok(all)
 }
 
-fn line_characters(alloc: Global, line: &[u8]) -> Result<Vec<char>, AllocError>
+pub(crate) fn line_characters(alloc: Global, line: &[u8]) -> Result<Vec<char>, AllocError>
     ensures { IfOk result (λ all. all.items ≡ line_chars line.now) }
 {
     let text = String::from_utf8_lossy(alloc, line)?;

@@ -23,19 +23,19 @@ returns-clause-shown c =
     let given = held_in c.in_ok-sources.sources.entries.items in
     let shapes : map shape_parts c.deref-3.result.now ≡ shapes_of (tool_name c.args.asked.tool) = search rules in
     let lines : map (λ line. line.now) c.deref-2.result.now ≡ all = search rules in
-    let read_lines : map (λ line. line.now) c.deref-6.result.now ≡ all = search rules in
-    let names : map string_bytes c.deref-5.result.now ≡ names_in pieces = search rules in
+    let read_lines : map (λ line. line.now) c.deref-4.result.now ≡ all = search rules in
     let reads = map read_parts c.in_ok-reads.reads.items in
+    let names : map string_bytes c.deref-8.result.now ≡ names_in all reads = search rules in
     let of_them : map (λ (it : ReadParts). it.piece) reads ≡ pieces = search rules in
     let found : c.in_ok-found.found.found ≡ reports_in (columns_of c.args.asked) given all reads = search rules in
     record {
       pieces = pieces;
       those = subst (λ (l : List (List ℕ)). ArePieces (shapes_of (tool_name c.args.asked.tool)) None l pieces) lines
           (subst (λ (s : List ShapeParts). ArePieces s None (map (λ line. line.now) c.deref-2.result.now) pieces) shapes c.in_ok-pieces.ensures);
-      given = given;
-      told_so = subst (λ (l : List (List ℕ)). IsGiven (told_open path text) Path l given) names c.in_ok-sources.ensures;
       reads = reads;
       of_them = of_them;
       read = subst (λ (l : List (List ℕ)). AreRead l reads) read_lines c.in_ok-reads.ensures.read;
+      given = given;
+      told_so = subst (λ (l : List (List ℕ)). IsGiven (told_open path text) Path l given) names c.in_ok-sources.ensures;
       are = subst (λ (l : List Found). AreShown Path path text l c.in_ok-shown.shown.items) found c.in_ok-shown.ensures.shown;
     }

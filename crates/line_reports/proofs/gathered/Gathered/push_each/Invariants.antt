@@ -2,7 +2,7 @@ use Rattle.std.proofs.Common.{◌≡◌, ◌++◌, map, length}
 use Rattle.indexed_sources.specs.Indexed.{AreTold}
 use Rattle.found_reports.specs.Listed.{held_in}
 use Rattle.line_reports.specs.Gathered.{AreTexts, IsListed}
-use Rattle.line_reports.specs.Reports.{report_alone}
+use Rattle.line_reports.specs.Reports.{each_alone}
 use Rattle.line_reports.specs.Told.{told_parts}
 use Rattle.line_reports.proofs.gathered.Gathered.push_each.Given as goal
 
@@ -13,7 +13,7 @@ invariant-loop-findings l =
       texts : AreTexts l.self.texts.items l.self.found.files;
       held : AreTold told l.self.found.files;
       listed : IsListed l.self.numbers l.self.found;
-      found : l.self.found.found ++ map (report_alone l.columns told) (map told_parts l.findings) ≡ l.initial.self.found.found ++ map (report_alone l.columns told) (map told_parts l.initial.findings);
+      found : l.self.found.found ++ each_alone l.columns told (map told_parts l.findings) ≡ l.initial.self.found.found ++ each_alone l.columns told (map told_parts l.initial.findings);
     }
 
 abbrev pub decreases-loop-findings : goal.decreases-loop-findings
