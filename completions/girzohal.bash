@@ -25,6 +25,7 @@ _girzohal() {
     --color) values="auto always never" ;;
     --width) values="auto 80 100 120" ;;
     --tabs) values="2 4 8" ;;
+    --max-row) values="0 1000 4000" ;;
     --fail-on) values="error warning advice never" ;;
     --filter-mode) values="added diff_context file nofilter" ;;
     --severity) values="error warning advice" ;;
@@ -39,7 +40,7 @@ _girzohal() {
             values="--from --tool --shape --json-shape --json-shapes --columns --first-column --root
                 --allow-outside-root --changed --filter-mode --strip --baseline --include --exclude --select --ignore
                 --severity --to --output --color --ascii --width --tabs --unique --no-unique --max-findings
-                --only-findings --no-summary --quiet --raw --fail-on --help --version"
+                --max-row --only-findings --no-summary --quiet --raw --fail-on --help --version"
         else
             mapfile -t COMPREPLY < <(compgen -f -- "$word")
             return

@@ -26,6 +26,7 @@ complete -c girzohal -l tabs -x -a '2 4 8' -d 'How many columns tab stops are ap
 complete -c girzohal -l unique -d 'Leave out findings that came before'
 complete -c girzohal -l no-unique -d 'Keep findings that came before'
 complete -c girzohal -l max-findings -x -d 'Draw at most this many findings (all)'
+complete -c girzohal -l max-row -x -a '0 1000 4000' -d 'Draw no rows of more columns than this (1000)'
 complete -c girzohal -l only-findings -d 'Leave out lines that are not findings'
 complete -c girzohal -s q -l no-summary -d 'Leave out the line that counts the findings'
 complete -c girzohal -l quiet -d 'The same as --no-summary'

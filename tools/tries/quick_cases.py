@@ -207,7 +207,7 @@ WRONG_WORDS = [
     ("an-option", ("--what", "--color", "pink"), "unknown option --what"),
     ("an-option-that-is-misspelt", ("--colour=never",), "unknown option --colour; did you mean --color?"),
     ("an-option-that-is-cut", ("--max-f", "1"), "unknown option --max-f; did you mean --max-findings?"),
-    ("one-of-two-options-that-is-cut", ("--max", "1"), "unknown option --max; did you mean --max-findings?"),
+    ("one-of-two-options-that-is-cut", ("--max", "1"), "unknown option --max"),
     ("a-value-too-many", ("--quiet=yes",), "--quiet takes no value, but has 'yes'"),
     ("a-log-in-bytes", ("--from", "sarif", "--columns", "bytes"), "--columns: a SARIF log counts characters or utf16"),
     ("a-root", ("--root", "nowhere"), "--root: nowhere isn't a folder"),

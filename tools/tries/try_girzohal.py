@@ -20,6 +20,7 @@ import summary_rows
 from finding_rows import FindingRows
 from tries_around import Around
 from tries_outputs import OutputTries
+from tries_rows import LongRowTries
 from tries_several import SeveralTries
 
 TOP = os.path.dirname(os.path.dirname(os.path.dirname(os.path.abspath(__file__))))
@@ -82,7 +83,7 @@ def drives(text):
     return re.search("[\x00-\x08\x0b-\x1f\x7f\x80-\x9f\u202a-\u202e\u2066-\u2069]", text.replace("\r\n", "\n")) is not None
 
 
-class Tries(Around, FindingRows, OutputTries, SeveralTries):
+class Tries(Around, FindingRows, OutputTries, LongRowTries, SeveralTries):
     def __init__(self, program):
         self.program, self.passed, self.failed = program, 0, 0
 
@@ -282,7 +283,7 @@ class Tries(Around, FindingRows, OutputTries, SeveralTries):
             (("--colour=always",), "unknown option --colour; did you mean --color?\n"),
             (("-color", "never"), "unknown option -color; did you mean --color?\n"),
             (("--max-f", "1"), "unknown option --max-f; did you mean --max-findings?\n"),
-            (("--max", "1"), "unknown option --max; did you mean --max-findings?\n"),
+            (("--max", "1"), "unknown option --max\n"),
             (("--fail", "error"), "unknown option --fail; did you mean --fail-on?\n"),
             (("--json-shap", "x"), "unknown option --json-shap\n"),
             (("-oo", "x"), "unknown option -oo; did you mean --to?\n"),
@@ -628,7 +629,7 @@ class Tries(Around, FindingRows, OutputTries, SeveralTries):
             for each in (self.try_runs, self.try_words, self.try_columns, self.try_effects, self.try_tools, self.try_looks, self.try_asking, self.try_inputs,
                          self.try_sources, self.try_terminals, self.try_pipes, self.try_slowly, self.try_paint, self.try_formats, self.try_lost,
                          self.try_colors, self.try_keyboard, self.try_limits, self.try_memory, self.try_help, self.try_manual,
-                         self.try_completions, self.try_install, self.try_pages, self.try_outputs, self.try_files, self.try_findings,
+                         self.try_completions, self.try_install, self.try_pages, self.try_outputs, self.try_long_rows, self.try_files, self.try_findings,
                          self.try_finding_logs, self.try_finding_lines):
                 try:
                     each()

@@ -18,7 +18,7 @@ use Rattle.line_reports.specs.Reports.{all_reports, group_reports, reports_in}
 use Rattle.line_reports.proofs.FileLemmas.{no_true}
 use Rattle.line_reports.proofs.NamesLemmas.{never_aside}
 use Rattle.std.proofs.lemmas.Bool.{not-true}
-use Rattle.report_texts.specs.Texts.{drawing_of, drawings, drawn_count, first_drawings, handler_of}
+use Rattle.report_texts.specs.Texts.{drawing_of, drawings, drawn_count, first_drawings, look_of}
 use Rattle.ci_formats.specs.declared.format.CiFormat.TheVariants as ci
 use Rattle.ci_texts.specs.Texts.{ci_text}
 use Rattle.girzohal_options.specs.declared.Asked.{Asked}
@@ -181,12 +181,12 @@ first_parts : (asked : Asked) (most : Option ℕ) (fore bs : List Found)
     → first_drawings asked most (fore ++ bs) ≡ first_drawings asked most fore ++ first_drawings asked (still most (length fore)) bs
 unfolding first_drawings
 first_parts asked most fore bs =
-    ap (drawings (handler_of asked) asked.raw) (taken_parts most fore bs)
-    ∙ flat_map-append (drawing_of (handler_of asked) asked.raw) (taken most fore) (taken (still most (length fore)) bs)
+    ap (drawings (look_of asked) asked.raw) (taken_parts most fore bs)
+    ∙ flat_map-append (drawing_of (look_of asked) asked.raw) (taken most fore) (taken (still most (length fore)) bs)
 
 first_none : (asked : Asked) (most : Option ℕ) → first_drawings asked most [] ≡ []
 unfolding first_drawings
-first_none asked most = ap (drawings (handler_of asked) asked.raw) (take-nil (drawn_count most (length {A = Found} [])))
+first_none asked most = ap (drawings (look_of asked) asked.raw) (take-nil (drawn_count most (length {A = Found} [])))
 
 pub still_parts : (most : Option ℕ) (a b : ℕ) → still (still most a) b ≡ still most (a + b)
 still_parts None a b = refl

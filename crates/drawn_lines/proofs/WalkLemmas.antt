@@ -10,7 +10,7 @@ use Rattle.tool_lines.specs.Lines.{piece_parts, is_kept}
 use Rattle.line_reports.specs.Reports.{reports_in}
 use Rattle.found_reports.specs.declared.sources.Source.{Source}
 use Rattle.report_texts.specs.Runs.{DrawnOn, drawn_on}
-use Rattle.report_texts.specs.Texts.{drawings, drawn_count, first_drawings, handler_of}
+use Rattle.report_texts.specs.Texts.{drawings, drawn_count, first_drawings, look_of}
 use Rattle.girzohal_options.specs.declared.Asked.{Asked}
 use Rattle.drawn_lines.specs.Counts.{count_of, count_with}
 use Rattle.drawn_lines.specs.Walk.{reports_placed}
@@ -132,7 +132,7 @@ take_none n = take_all n [] (omega arith)
 pub nothing_drawn : (asked : Asked) (most : Option ℕ) (found : List Found) → found ≡ [] → first_drawings asked most found ≡ []
 unfolding first_drawings
 nothing_drawn asked None found none = rw none refl
-nothing_drawn asked (Some most) found none = rw none (ap (drawings (handler_of asked) asked.raw) (take_none (min most 0)))
+nothing_drawn asked (Some most) found none = rw none (ap (drawings (look_of asked) asked.raw) (take_none (min most 0)))
 
 pub finish_is : (asked : Asked) (given : List ℕ → Held) (most : Option ℕ) (text drawn : List ℕ) (before : List ReadParts) (from left shown : List (Bor (List ℕ))) (found : List Found)
     → found ≡ reports_in (columns_of asked) given (map (λ line. line.now) from) before → drawn ≡ text ++ first_drawings asked most found
@@ -206,7 +206,7 @@ nil_mapped f (x ∷ xs) none = absurd (omega (arith, none))
 
 -- what is drawn as it was asked for
 pub first_is : (asked : Asked) (on : DrawnOn) (entries : List Source) (most : Option ℕ) (found wanted : List Found) → on ≡ drawn_on asked entries → found ≡ wanted
-    → drawings on.handler on.raw (take (drawn_count most (length found)) found) ≡ first_drawings asked most wanted
+    → drawings on.look on.raw (take (drawn_count most (length found)) found) ≡ first_drawings asked most wanted
 unfolding first_drawings
 first_is asked on entries most found wanted is same = rw (is, same) refl
 

@@ -141,6 +141,9 @@ Output
                        drawn.
   --max-findings N     Draw at most N findings, and print how many more there
                        are. Default: all are drawn. Example: --max-findings 10
+  --max-row N          Draw a finding without its rows if one of them has more
+                       than N columns, as in minified files; 0 draws all rows.
+                       Default: 1000. Example: --max-row 4000
   --only-findings      Leave out lines that aren't findings. Default: they are
                        printed.
   --no-summary, -q, --quiet

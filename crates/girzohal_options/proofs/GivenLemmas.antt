@@ -7,7 +7,7 @@ use Rattle.line_shapes.specs.Shape.{ShapeParts}
 use Rattle.girzohal_options.specs.Given.{Takes, first_wrong, given_with, last, last_text, last_unique, nothing, shapes_in, shapes_under, wrong, wrong_in}
 use Rattle.girzohal_options.specs.Said.{Said, file_named, said, value_under}
 use Rattle.girzohal_options.specs.Shapes.{own_parts}
-use Rattle.girzohal_options.specs.Values.{color_named, filter_named, first_named, form_named, level_named, output_named, severity_named, tabs_named, unit_named, width_named}
+use Rattle.girzohal_options.specs.Values.{color_named, filter_named, first_named, form_named, level_named, max_row_named, output_named, severity_named, tabs_named, unit_named, width_named}
 use Rattle.girzohal_options.specs.declared.given.Fault.{Fault}
 use Rattle.girzohal_options.specs.declared.items.Item.{Item}
 use Rattle.girzohal_options.specs.declared.given.Given.{Given as GivenValues}
@@ -45,6 +45,7 @@ given_by all = record {
   width = last width_named (codes "--width") all;
   tabs = last tabs_named (codes "--tabs") all;
   max_findings = last number_of (codes "--max-findings") all;
+  max_row = last max_row_named (codes "--max-row") all;
   fail_on = last level_named (codes "--fail-on") all;
   filter_mode = last filter_named (codes "--filter-mode") all;
   strip = last number_of (codes "--strip") all;

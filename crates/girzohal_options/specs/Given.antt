@@ -11,7 +11,7 @@ use Rattle.girzohal_options.specs.declared.InputForm.{InputForm}
 use Rattle.girzohal_options.specs.declared.InputForm.TheVariants as form
 use Rattle.girzohal_options.specs.declared.OutputForm.{OutputForm}
 use Rattle.girzohal_options.specs.Said.{Said, flag, setting, file, unknown, bare, valued, file_named, value_under}
-use Rattle.girzohal_options.specs.Values.{color_named, filter_named, first_named, form_named, form_of_tool, is_text, is_tool, level_named, output_in, output_named, severity_named, tabs_named, unit_named, width_named}
+use Rattle.girzohal_options.specs.Values.{color_named, filter_named, first_named, form_named, form_of_tool, is_text, is_tool, level_named, max_row_named, output_in, output_named, severity_named, tabs_named, unit_named, width_named}
 use Rattle.girzohal_options.specs.declared.given.Fault.{Fault}
 use Rattle.girzohal_options.specs.declared.given.Fault.TheVariants as fault
 use Rattle.girzohal_options.specs.declared.given.Given.{Given as GivenValues}
@@ -19,7 +19,7 @@ use Rattle.girzohal_options.specs.declared.given.Taken.{Taken}
 use Rattle.girzohal_options.specs.declared.table.Program.{Program}
 use Rattle.girzohal_options.specs.declared.table.Program.TheVariants.{Girzohal, Server}
 use Rattle.girzohal_options.specs.declared.table.Setting.{Setting}
-use Rattle.girzohal_options.specs.declared.table.Setting.TheVariants.{From, Tool, Columns, FirstColumn, To, Output, Shape, JsonShape, JsonShapes, Root, Changed, FilterMode, Strip, Baseline, Include, Exclude, Select, Ignore, Severity, Color, Width, Tabs, MaxFindings, FailOn}
+use Rattle.girzohal_options.specs.declared.table.Setting.TheVariants.{From, Tool, Columns, FirstColumn, To, Output, Shape, JsonShape, JsonShapes, Root, Changed, FilterMode, Strip, Baseline, Include, Exclude, Select, Ignore, Severity, Color, Width, Tabs, MaxFindings, MaxRow, FailOn}
 use Rattle.girzohal_options.specs.Shapes.{own_parts}
 
 -- the last value of an option, as it is meant
@@ -51,7 +51,7 @@ form_in program all = form_with program (last form_named (codes "--from") all) (
 
 -- nothing is given
 abbrev pub nothing : GivenValues
-nothing = record { from = None; to = None; columns = None; first_column = None; color = None; width = None; tabs = None; max_findings = None; fail_on = None; filter_mode = None; strip = None; severity = None; unique = None; file = false }
+nothing = record { from = None; to = None; columns = None; first_column = None; color = None; width = None; tabs = None; max_findings = None; max_row = None; fail_on = None; filter_mode = None; strip = None; severity = None; unique = None; file = false }
 
 -- what is given, after earlier values: of each option the last value counts
 unfoldable pub given_with : GivenValues → List Said → GivenValues
@@ -64,6 +64,7 @@ given_with before all = record {
   width = option_or (last width_named (codes "--width") all) before.width;
   tabs = option_or (last tabs_named (codes "--tabs") all) before.tabs;
   max_findings = option_or (last number_of (codes "--max-findings") all) before.max_findings;
+  max_row = option_or (last max_row_named (codes "--max-row") all) before.max_row;
   fail_on = option_or (last level_named (codes "--fail-on") all) before.fail_on;
   filter_mode = option_or (last filter_named (codes "--filter-mode") all) before.filter_mode;
   strip = option_or (last number_of (codes "--strip") all) before.strip;
@@ -163,6 +164,7 @@ wrong_choice before Color value = unless (is_some (color_named value)) Color val
 wrong_choice before Width value = unless (is_some (width_named value)) Width value
 wrong_choice before Tabs value = unless (is_some (tabs_named value)) Tabs value
 wrong_choice before MaxFindings value = unless (is_some (number_of value)) MaxFindings value
+wrong_choice before MaxRow value = unless (is_some (max_row_named value)) MaxRow value
 wrong_choice before FailOn value = unless (is_some (level_named value)) FailOn value
 wrong_choice before it value = None
 

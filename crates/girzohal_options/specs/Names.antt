@@ -5,7 +5,7 @@ use Rattle.std.specs.Str.{bytes_eq}
 use Rattle.girzohal_options.specs.declared.table.Program.{Program}
 use Rattle.girzohal_options.specs.declared.table.Program.TheVariants.{Girzohal, Server}
 use Rattle.girzohal_options.specs.declared.table.Setting.{Setting}
-use Rattle.girzohal_options.specs.declared.table.Setting.TheVariants.{From, Tool, Columns, FirstColumn, To, Output, Shape, JsonShape, JsonShapes, Root, Changed, FilterMode, Strip, Baseline, Include, Exclude, Select, Ignore, Severity, Color, Width, Tabs, MaxFindings, FailOn}
+use Rattle.girzohal_options.specs.declared.table.Setting.TheVariants.{From, Tool, Columns, FirstColumn, To, Output, Shape, JsonShape, JsonShapes, Root, Changed, FilterMode, Strip, Baseline, Include, Exclude, Select, Ignore, Severity, Color, Width, Tabs, MaxFindings, MaxRow, FailOn}
 
 -- the name of an option that takes a value
 abbrev pub setting_name : Setting → List ℕ
@@ -32,11 +32,12 @@ setting_name Color = codes "--color"
 setting_name Width = codes "--width"
 setting_name Tabs = codes "--tabs"
 setting_name MaxFindings = codes "--max-findings"
+setting_name MaxRow = codes "--max-row"
 setting_name FailOn = codes "--fail-on"
 
 -- the options of a program that take a value
 unfoldable pub settings : Program → List Setting
-settings Girzohal = From ∷ Tool ∷ Columns ∷ FirstColumn ∷ To ∷ Output ∷ Shape ∷ JsonShape ∷ JsonShapes ∷ Root ∷ Changed ∷ FilterMode ∷ Strip ∷ Baseline ∷ Include ∷ Exclude ∷ Select ∷ Ignore ∷ Severity ∷ Color ∷ Width ∷ Tabs ∷ MaxFindings ∷ FailOn ∷ []
+settings Girzohal = From ∷ Tool ∷ Columns ∷ FirstColumn ∷ To ∷ Output ∷ Shape ∷ JsonShape ∷ JsonShapes ∷ Root ∷ Changed ∷ FilterMode ∷ Strip ∷ Baseline ∷ Include ∷ Exclude ∷ Select ∷ Ignore ∷ Severity ∷ Color ∷ Width ∷ Tabs ∷ MaxFindings ∷ MaxRow ∷ FailOn ∷ []
 settings Server = From ∷ Tool ∷ Columns ∷ FirstColumn ∷ []
 
 -- the option with a name

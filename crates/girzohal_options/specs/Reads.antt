@@ -20,7 +20,7 @@ use Rattle.girzohal_options.specs.Given.{Wrong, first_wrong, form_in, last, last
 use Rattle.girzohal_options.specs.Lists.{files_in, output_parts, outputs_in, texts_under}
 use Rattle.girzohal_options.specs.Said.{Said, is_named}
 use Rattle.girzohal_options.specs.Together.{wrong_together}
-use Rattle.girzohal_options.specs.Values.{color_named, filter_named, first_named, level_named, output_named, severity_named, tabs_named, unit_named, width_named}
+use Rattle.girzohal_options.specs.Values.{color_named, filter_named, first_named, level_named, max_row_named, output_named, severity_named, tabs_named, unit_named, width_named}
 
 -- an option that takes no value is there
 abbrev pub has_flag : List ℕ → List Said → Bool
@@ -62,6 +62,7 @@ pub record Asks (program : Program) (all : List Said) (asked : Asked) : Type 0 w
   pub only_is : asked.only_findings ≡ has_flag (codes "--only-findings") all
   pub level_is : asked.fail_on ≡ unwrap_or (last level_named (codes "--fail-on") all) level.Error
   pub most_is : asked.most ≡ last number_of (codes "--max-findings") all
+  pub row_is : asked.max_row ≡ unwrap_or (last max_row_named (codes "--max-row") all) (Some 1000)
   pub quiet_is : asked.quiet ≡ asks_quiet all
   pub raw_is : asked.raw ≡ has_flag (codes "--raw") all
   pub changed_is : option_map string_bytes asked.changed ≡ last_text (codes "--changed") all

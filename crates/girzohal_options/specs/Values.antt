@@ -122,6 +122,10 @@ tabs_named value = option_and_then (within 1 16) (number_of value)
 abbrev pub positive : ℕ → Option ℕ
 positive n = if n == 0 then None else Some n
 
+-- none where rows of any length are drawn
+unfoldable pub max_row_named : List ℕ → Option (Option ℕ)
+max_row_named value = option_map positive (number_of value)
+
 -- none where the environment is to say it
 unfoldable pub width_named : List ℕ → Option (Option ℕ)
 width_named value = if bytes_eq value (codes "auto") then Some None else option_map (λ n. Some n) (option_and_then positive (number_of value))

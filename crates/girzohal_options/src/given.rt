@@ -12,8 +12,8 @@ ghost use Rattle.girzohal_options.specs.Values.{is_text as is_some_text};
 use crate::items::Item;
 use crate::table::{Program, Setting};
 use crate::values::{
-    color_named, filter_named, first_named, form_named, is_text, is_tool, level_named, output_in,
-    output_named, severity_named, tabs_named, unit_named, width_named,
+    color_named, filter_named, first_named, form_named, is_text, is_tool, level_named,
+    max_row_named, output_in, output_named, severity_named, tabs_named, unit_named, width_named,
 };
 use crate::{InputForm, OutputForm, ThemeChoice};
 use escapes::number;
@@ -65,6 +65,7 @@ pub(crate) struct Given {
     pub(crate) width: Option<Option<usize>>,
     pub(crate) tabs: Option<TabWidth>,
     pub(crate) max_findings: Option<usize>,
+    pub(crate) max_row: Option<Option<usize>>,
     pub(crate) fail_on: Option<Level>,
     pub(crate) filter_mode: Option<FilterMode>,
     pub(crate) strip: Option<usize>,
@@ -112,6 +113,7 @@ impl<'w> Taken<'w> {
                 width: None,
                 tabs: None,
                 max_findings: None,
+                max_row: None,
                 fail_on: None,
                 filter_mode: None,
                 strip: None,
@@ -259,6 +261,7 @@ fn choose<'w>(given: &mut Given, setting: Setting, value: &'w str) -> Option<Fau
         Setting::Width => put(&mut given.width, width_named(value), setting, value),
         Setting::Tabs => put(&mut given.tabs, tabs_named(value), setting, value),
         Setting::MaxFindings => put(&mut given.max_findings, number(value), setting, value),
+        Setting::MaxRow => put(&mut given.max_row, max_row_named(value), setting, value),
         Setting::FailOn => put(&mut given.fail_on, level_named(value), setting, value),
         _ => None,
     }

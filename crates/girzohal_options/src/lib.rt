@@ -143,6 +143,8 @@ pub struct Asked {
     pub fail_on: Level,
     /// The maximum number of reports that are drawn.
     pub most: Option<usize>,
+    /// The most columns of a row that is drawn; if there is none, all rows are.
+    pub max_row: Option<usize>,
     /// Whether the line with the numbers of reports is left out.
     pub quiet: bool,
     /// Whether texts are written raw, even if they drive a terminal.

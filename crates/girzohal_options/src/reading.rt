@@ -114,6 +114,9 @@ impl Asked {
     }
 }
 
+/// The default of `--max-row`.
+const MAX_ROW: usize = 1000;
+
 /// What items ask for, with the values that they give.
 #[tactic(auto, using(crate::proofs::GivenLemmas::nothing_before), unfolding(crate::specs::Given::given_with))]
 fn asked(
@@ -163,6 +166,7 @@ fn asked(
         baseline: texts.baseline,
         severity: given.severity,
         unique: given.unique,
+        max_row: given.max_row.unwrap_or(Some(MAX_ROW)),
         rules: None,
         files: lists.files,
         outputs: lists.outputs,

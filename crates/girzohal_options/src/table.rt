@@ -40,6 +40,7 @@ pub enum Setting {
     Width,
     Tabs,
     MaxFindings,
+    MaxRow,
     FailOn,
 }
 
@@ -90,13 +91,14 @@ impl Setting {
             Setting::Width => ("--width", "auto or a number from 1"),
             Setting::Tabs => ("--tabs", "a number from 1 to 16"),
             Setting::MaxFindings => ("--max-findings", "a number from 0"),
+            Setting::MaxRow => ("--max-row", "a number from 0"),
             Setting::FailOn => ("--fail-on", "error, warning, advice or never"),
         }
     }
 }
 
 /// The options that take a value; those of the server come first.
-pub(crate) const SETTINGS: [Setting; 24] = [
+pub(crate) const SETTINGS: [Setting; 25] = [
     Setting::From,
     Setting::Tool,
     Setting::Columns,
@@ -120,6 +122,7 @@ pub(crate) const SETTINGS: [Setting; 24] = [
     Setting::Width,
     Setting::Tabs,
     Setting::MaxFindings,
+    Setting::MaxRow,
     Setting::FailOn,
 ];
 

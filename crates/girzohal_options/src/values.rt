@@ -8,6 +8,7 @@ ghost use Rattle.girzohal_options.specs.Values.{is_text as is_some_text, is_tool
 ghost use Rattle.girzohal_options.specs.Values.{json_or_auto as json_or_auto_so};
 ghost use Rattle.girzohal_options.specs.Values.{level_named as level_meant};
 ghost use Rattle.girzohal_options.specs.Values.{lines_or_auto as lines_or_auto_so};
+ghost use Rattle.girzohal_options.specs.Values.{max_row_named as max_row_meant};
 ghost use Rattle.girzohal_options.specs.Values.{output_in as output_said, output_named as output_meant};
 ghost use Rattle.girzohal_options.specs.Values.{positive as from_one, severity_named as severity_meant};
 ghost use Rattle.girzohal_options.specs.Values.{tabs_named as tabs_meant};
@@ -181,6 +182,14 @@ pub(crate) fn width_named(value: &str) -> Option<Option<usize>>
         "auto" => Some(None),
         _ => Some(Some(positive(number(value)?)?)),
     }
+}
+
+/// The most bytes of a row that is drawn; none if all rows are.
+#[tactic(auto, unfolding(crate::specs::Values::max_row_named))]
+pub(crate) fn max_row_named(value: &str) -> Option<Option<usize>>
+    ensures { result ≡ max_row_meant value.now }
+{
+    Some(positive(number(value)?))
 }
 
 fn positive(number: usize) -> Option<usize>

@@ -6,6 +6,7 @@ use Rattle.oxc_handlers.specs.Handler.{Handler}
 use Rattle.girzohal_options.specs.declared.Asked.{Asked}
 use Rattle.girzohal_options.specs.declared.ThemeChoice.{ThemeChoice}
 use Rattle.girzohal_options.specs.declared.ThemeChoice.TheVariants.{Auto, Plain, Unicode, UnicodeNocolor}
+use Rattle.report_texts.specs.declared.look.Look.{Look}
 
 -- styles stand in a page as classes, whatever a terminal shows
 abbrev pub page_theme : ThemeChoice → GraphicalTheme
@@ -16,3 +17,6 @@ page_theme UnicodeNocolor = unicode_theme
 
 abbrev pub page_handler : Asked → Handler
 page_handler asked = record { theme = page_theme asked.theme; width = unwrap_or asked.width 80; tab = asked.tabs }
+
+abbrev pub page_look : Asked → Look
+page_look asked = record { handler = page_handler asked; max_row = asked.max_row }

@@ -11,6 +11,8 @@
 
 mod drawing;
 mod each;
+mod long_rows;
+mod look;
 mod runs;
 mod texts;
 

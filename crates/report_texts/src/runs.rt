@@ -3,40 +3,41 @@ ghost use Rattle.std.specs.Prelude.{◌≡◌, ◌<◌, ◌≤◌, ◌++◌, [],
 ghost use Rattle.std.specs.Prelude.{Some, None, map, string_bytes, take};
 ghost use Rattle.std.specs.Option.{option_copied};
 ghost use Rattle.oxc_span.specs.Label.{label_end};
-ghost use Rattle.oxc_windows.specs.Breaks.{breaks_of};
-ghost use Rattle.oxc_windows.specs.Rows.{row_of};
-ghost use Rattle.oxc_handlers.specs.Report.{drawn, plan_of, view_parts};
+ghost use Rattle.oxc_handlers.specs.Report.{report_of, view_parts};
 ghost use Rattle.oxc_protocol.specs.Code.{shown_of};
 ghost use Rattle.oxc_protocol.specs.Parts.{parts_with};
 ghost use Rattle.oxc_protocol.specs.Source.{Fits};
 ghost use Rattle.harmless.specs.declared.Kind.TheVariants.{Name};
-ghost use Rattle.shown_reports.specs.Shown.{shown_diagnostic, shown_text};
+ghost use Rattle.shown_reports.specs.Shown.{shown_diagnostic as diagnostic_of};
+ghost use Rattle.shown_reports.specs.Shown.{shown_text as shown_by};
 ghost use Rattle.found_reports.specs.Found.{LabelsStand, found_on};
 ghost use Rattle.found_reports.specs.Kept.{Stands, file_view, report_view};
 ghost use Rattle.indexed_sources.specs.Indexed.{AreTold};
-ghost use Rattle.found_reports.specs.Listed.{held_in};
+ghost use Rattle.found_reports.specs.Listed.{held_by, held_in};
 ghost use Rattle.render_files.specs.Readers.{Reads};
-ghost use Rattle.report_texts.specs.Runs.{drawn_on, text_at};
+ghost use Rattle.report_texts.specs.LongRows.{fitted};
+ghost use Rattle.report_texts.specs.Runs.{StandsAt, drawn_on, text_at};
 ghost use Rattle.report_texts.specs.Texts.{drawing_of, drawings, drawn_count as drawn_of};
 
-use crate::drawing::{drawn_count, handler};
+use crate::drawing::drawn_count;
+use crate::look::Look;
 use found_reports::{FoundFile, FoundReport, FoundReports};
 use girzohal_options::Asked;
 use harmless::Kind;
-use oxc_handlers::{DiagnosticView, GraphicalReportHandler};
+use oxc_handlers::DiagnosticView;
 use oxc_protocol::{Diagnostic, LabeledSpan, OxcDiagnostic, SourceRef};
 use oxc_windows::SpanScanner;
-use shown_reports::{ShownSources, shown_diagnostic, shown_text};
+use shown_reports::{ShownSources, ShownText, shown_diagnostic, shown_text};
 use std::alloc::{AllocError, Global};
 use std::collections::BTreeMap;
 use std::marker::Model;
 
 /// Draws reports on sources, one list of reports after another. Each source is read by one scanner
-/// for all of them. Contracts see the handler, whether texts are raw, and the sources.
+/// for all of them. Contracts see the look, whether texts are raw, and the sources.
 #[derive(Drop)]
 pub struct Drawings<'s> {
     alloc: Global,
-    handler: GraphicalReportHandler,
+    look: Look,
     raw: bool,
     sources: &'s ShownSources,
     /// The scanners of the sources that reports were drawn on, by their indexes.
@@ -49,7 +50,7 @@ impl<'s> Model for Drawings<'s> {
     ghost Value = { DrawnOn };
 
     ghost view = { λ d. record {
-      handler = d.handler;
+      look = d.look;
       raw = d.raw;
       entries = d.sources.now.entries.items;
     } };
@@ -62,10 +63,18 @@ impl<'s> Drawings<'s> {
     pub fn new(alloc: Global, asked: &Asked, sources: &'s ShownSources) -> Self
         ensures { result ≡ drawn_on asked.now sources.now.entries.items }
     {
+        Drawings::with_look(alloc, Look::new(asked), asked.raw, sources)
+    }
+
+    /// The same with a look.
+    pub(crate) fn with_look(alloc: Global, look: Look, raw: bool, sources: &'s ShownSources) -> Self
+        ensures { result
+            ≡ record { look = look; raw = raw; entries = sources.now.entries.items } }
+    {
         Drawings {
             alloc,
-            handler: handler(asked),
-            raw: asked.raw,
+            look,
+            raw,
             sources,
             scanners: BTreeMap::new(alloc),
         }
@@ -85,7 +94,7 @@ impl<'s> Drawings<'s> {
     ) -> Result<(), AllocError>
         requires { AreTold (held_in self.old.entries) found.now.files }
         ensures text { OnOk result (string_bytes text.new ≡ string_bytes text.old
-            ++ drawings self.old.handler self.old.raw
+            ++ drawings self.old.look self.old.raw
             (take (drawn_of most (length found.now.found)) found.now.found)) }
         ensures unchanged { self.new ≡ self.old }
     {
@@ -93,13 +102,13 @@ impl<'s> Drawings<'s> {
         let reports = found.reports();
         let first = &reports[..drawn_count(most, reports.len())];
         for report in first {
-            self.push_report(text, files, report)?;
+            self.push_named(text, files, report)?;
         }
         Ok(())
     }
 
-    /// Appends the drawing of a report on one of these files.
-    fn push_report(
+    /// Appends the drawing of a report on one of these files, whose source is found by its name.
+    fn push_named(
         &mut self,
         text: &mut String,
         files: &[FoundFile<'_>],
@@ -108,16 +117,61 @@ impl<'s> Drawings<'s> {
         requires told { AreTold (held_in self.old.entries) (map file_view files.now) }
         requires stands { Stands (map file_view files.now) report.now }
         ensures text { OnOk result (string_bytes text.new ≡ string_bytes text.old
-            ++ drawing_of self.old.handler self.old.raw
+            ++ drawing_of self.old.look self.old.raw
             (report_view (map file_view files.now) report.now)) }
         ensures unchanged { self.new ≡ self.old }
     {
-        let (alloc, raw) = (self.alloc, self.raw);
         let file = &files[report.file];
+        let place = self.sources.indexed().place(file.name.as_str());
+        self.push_at(text, file, place, report)
+    }
+
+    /// Appends the drawing of a report on one of these files, which are the sources, in order.
+    pub(crate) fn push_numbered(
+        &mut self,
+        text: &mut String,
+        files: &[FoundFile<'_>],
+        report: &FoundReport,
+    ) -> Result<(), AllocError>
+        requires held { map held_by self.old.entries
+            ≡ map (λ file. file.held) (map file_view files.now) }
+        requires stands { Stands (map file_view files.now) report.now }
+        ensures text { OnOk result (string_bytes text.new ≡ string_bytes text.old
+            ++ drawing_of self.old.look self.old.raw
+            (report_view (map file_view files.now) report.now)) }
+        ensures unchanged { self.new ≡ self.old }
+    {
+        self.push_at(text, &files[report.file], Some(report.file), report)
+    }
+
+    /// Appends the drawing of a report on a file, whose source is at this index.
+    fn push_at(
+        &mut self,
+        text: &mut String,
+        file: &FoundFile<'_>,
+        place: Option<usize>,
+        report: &FoundReport,
+    ) -> Result<(), AllocError>
+        requires held { StandsAt self.old.entries (file_view file.now).held place }
+        requires stand { LabelsStand (file_view file.now).held report.now.diagnostic.labels }
+        ensures text { OnOk result (string_bytes text.new ≡ string_bytes text.old
+            ++ drawing_of self.old.look self.old.raw
+            (found_on (file_view file.now) report.now.diagnostic report.now.place)) }
+        ensures unchanged { self.new ≡ self.old }
+    {
+        let (alloc, raw) = (self.alloc, self.raw);
         let shown = shown_diagnostic(alloc, file, report, raw)?;
         let name = shown_text(alloc, raw, Kind::Name, file.name.as_str())?;
         let code = shown.code(alloc)?;
-        self.push_shown(text, file, report, &shown, code.as_deref(), name.as_str())
+        self.push_shown(
+            text,
+            file,
+            place,
+            report,
+            &shown,
+            code.as_deref(),
+            name.as_str(),
+        )
     }
 
     /// Appends the drawing of a report that is shown as this diagnostic, with its code and its
@@ -126,65 +180,64 @@ impl<'s> Drawings<'s> {
         &mut self,
         text: &mut String,
         file: &FoundFile<'_>,
+        place: Option<usize>,
         report: &FoundReport,
         shown: &OxcDiagnostic,
         code: Option<&str>,
         name: &str,
     ) -> Result<(), AllocError>
-        requires told { (file_view file.now).held
-            ≡ held_in self.old.entries (file_view file.now).name }
+        requires held { StandsAt self.old.entries (file_view file.now).held place }
         requires stand { LabelsStand (file_view file.now).held report.now.diagnostic.labels }
-        requires shown { shown.now ≡ shown_diagnostic self.old.raw
+        requires shown { shown.now ≡ diagnostic_of self.old.raw
             (found_on (file_view file.now) report.now.diagnostic report.now.place) }
         requires code { option_copied code ≡ shown_of shown.now.code }
-        requires name { name.now ≡ shown_text self.old.raw Name (file_view file.now).name }
+        requires name { name.now ≡ shown_by self.old.raw Name (file_view file.now).name }
         ensures text { OnOk result (string_bytes text.new ≡ string_bytes text.old
-            ++ drawing_of self.old.handler self.old.raw
+            ++ drawing_of self.old.look self.old.raw
             (found_on (file_view file.now) report.now.diagnostic report.now.place)) }
         ensures unchanged { self.new ≡ self.old }
     {
-        let sources = self.sources;
-        match sources.indexed().place(file.name.as_str()) {
+        match place {
             Some(place) => {
-                let source = sources.shown(place, self.raw);
-                let view = view_of(shown, code, name, source);
-                self.draw(text, place, &view)
+                let source = self.sources.shown(place, self.raw);
+                let view = view_of(shown, code, name, source.text());
+                self.draw(text, place, name, &source, &view)
             }
             None => {
                 let view = view_of(shown, code, name, "");
-                draw_bare(self.alloc, &self.handler, text, &view)
+                draw_bare(self.alloc, &self.look, text, &view)
             }
         }
     }
 
-    /// Appends the drawing of a report on the source at an index. A scanner is used in its place in
-    /// the map.
+    /// Appends the drawing of a view on the source at an index, of which this is shown. A scanner is
+    /// used in its place in the map.
     fn draw(
         &mut self,
         text: &mut String,
         place: usize,
+        name: &str,
+        source: &ShownText<'s>,
         view: &DiagnosticView<'_>,
     ) -> Result<(), AllocError>
-        requires held { place < length self.old.entries }
+        requires shown { source.now ≡ text_at self.old place }
         requires source { IfSome (view_parts view.now).source
             (λ source. source.bytes ≡ text_at self.old place) }
         requires within { All (λ label. label_end label ≤ length (text_at self.old place))
             (view_parts view.now).labels }
         ensures text { OnOk result (string_bytes text.new ≡ string_bytes text.old
-            ++ drawn self.old.handler.theme self.old.handler.width
-            (plan_of self.old.handler.tab (view_parts view.now))) }
+            ++ report_of self.old.look.handler
+            (fitted self.old.look.max_row name.now source.now (view_parts view.now))) }
         ensures unchanged { self.new ≡ self.old }
     {
         let alloc = self.alloc;
         let from = self.ready(place, least_start(view.labels));
         if let Some(scanner) = self.scanners.get_mut(&place) {
-            return self
-                .handler
-                .push_view_with_scanner(alloc, text, view, scanner);
+            return self.look.push(alloc, text, name, source, view, scanner);
         }
-        let mut scanner = self.new_scanner(place, from)?;
-        self.handler
-            .push_view_with_scanner(alloc, text, view, &mut scanner)?;
+        let mut scanner = scanner_of(alloc, source, from)?;
+        self.look
+            .push(alloc, text, name, source, view, &mut scanner)?;
         self.scanners.insert(place, scanner)?;
         Ok(())
     }
@@ -202,33 +255,21 @@ impl<'s> Drawings<'s> {
             _ => start,
         }
     }
-
-    /// A scanner of the source at an index, which keeps rows from this start on.
-    fn new_scanner(&self, place: usize, from: u32) -> Result<SpanScanner<'s>, AllocError>
-        requires { place < length self.now.entries }
-        ensures { IfOk result (Reads (text_at self.now place) 1) }
-    {
-        let source = self.sources.shown(place, self.raw);
-        let row = self.sources.row_at(place, from);
-        scanner_of(self.alloc, source, from, row)
-    }
 }
 
-/// A scanner of a text, which keeps rows from this start on. The row of the start is given, so that
-/// no break before it is counted.
+/// A scanner of what is shown of a source, which keeps rows from this start on. No break before it
+/// is counted.
 fn scanner_of<'s>(
     alloc: Global,
-    source: &'s str,
+    source: &ShownText<'s>,
     from: u32,
-    row: usize,
 ) -> Result<SpanScanner<'s>, AllocError>
-    requires short { Fits source.now }
-    requires row { row ≡ row_of (breaks_of source.now) from }
-    ensures { IfOk result (Reads source.entry.now 1) }
+    ensures { IfOk result (Reads source.now 1) }
 {
-    let mut scanner = SpanScanner::of_text(alloc, source, 1, 1);
+    let mut scanner = SpanScanner::of_text(alloc, source.text(), 1, 1);
+    let row = source.row_at(from);
     let from = from as usize;
-    if from > source.len() {
+    if from > source.text().len() {
         return Ok(scanner);
     }
     scanner.begin_at(from, row)?;
@@ -238,18 +279,18 @@ fn scanner_of<'s>(
 /// Appends the drawing of a report on an empty source, which has no labels.
 fn draw_bare(
     alloc: Global,
-    handler: &GraphicalReportHandler,
+    look: &Look,
     text: &mut String,
     view: &DiagnosticView<'_>,
 ) -> Result<(), AllocError>
     requires source { IfSome (view_parts view.now).source (λ source. source.bytes ≡ []) }
     requires labels { (view_parts view.now).labels ≡ [] }
     ensures { OnOk result (string_bytes text.new ≡ string_bytes text.old
-        ++ drawn handler.now.theme handler.now.width
-        (plan_of handler.now.tab (view_parts view.now))) }
+        ++ report_of look.now.handler (view_parts view.now)) }
 {
     let mut scanner = SpanScanner::of_text(alloc, "", 1, 1);
-    handler.push_view_with_scanner(alloc, text, view, &mut scanner)
+    look.handler
+        .push_view_with_scanner(alloc, text, view, &mut scanner)
 }
 
 /// The least start of the labels, or 0.

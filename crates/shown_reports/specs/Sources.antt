@@ -1,8 +1,10 @@
 -- Sources with what is shown of them.
-use Rattle.std.specs.Prelude.{◌≡◌, ℕ, Bool, List, [], Option, String, map, option_map, slice_get, string_bytes, unwrap_or}
+use Rattle.std.specs.Prelude.{◌≡◌, ℕ, Bool, List, Option, String, length, map, option_map, string_bytes}
 use Rattle.std.specs.declared.alloc.Global.{Global}
 use Rattle.harmless.specs.Harmless.{changed_source}
-use Rattle.found_reports.specs.Held.{held_text}
+use Rattle.oxc_windows.specs.Breaks.{breaks_of}
+use Rattle.oxc_protocol.specs.Source.{Fits}
+use Rattle.found_reports.specs.Held.{Held, held_text}
 use Rattle.found_reports.specs.Listed.{held_by}
 use Rattle.found_reports.specs.declared.sources.Source.{Source}
 use Rattle.shown_reports.specs.Shown.{shown_source}
@@ -15,9 +17,11 @@ changed_by source = changed_source (held_text (held_by source))
 abbrev pub shown_by : Bool → Source → List ℕ
 shown_by raw source = shown_source raw (held_text (held_by source))
 
--- what is shown of the source at a place, nothing where there is none
-abbrev pub shown_at : Bool → List Source → ℕ → List ℕ
-shown_at raw entries place = unwrap_or (slice_get (map (shown_by raw) entries) place) []
+-- a text that is shown has the length and the rows of what is held
+pub record HasRowsOf (held : Held) (shown : List ℕ) : Type 0 where
+  pub short : Fits shown
+  pub len : length shown ≡ length (held_text held)
+  pub breaks : breaks_of shown ≡ breaks_of (held_text held)
 
 -- these are the texts that are changed of these sources
 abbrev pub AreChanged : List Source → List (Option (String Global)) → Type 0

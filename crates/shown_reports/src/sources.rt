@@ -1,25 +1,72 @@
 // Sources with what is shown of them, which is made once.
-ghost use Rattle.std.specs.Prelude.{◌≡◌, ◌<◌, [], ℕ, Bool, List, Some, length, map, option_map};
+ghost use Rattle.std.specs.Prelude.{◌≡◌, ◌<◌, ◌≤◌, [], All, IfOk, Some, length, map, option_map};
 ghost use Rattle.std.specs.Prelude.{slice_get, string_bytes};
 ghost use Rattle.std.specs.Str.{IsUtf8};
 ghost use Rattle.source_location.specs.Index.{index_of};
 ghost use Rattle.oxc_windows.specs.Breaks.{breaks_of};
-ghost use Rattle.oxc_windows.specs.Rows.{row_of};
+ghost use Rattle.oxc_windows.specs.Rows.{row_of, row_start as start_of};
 ghost use Rattle.oxc_protocol.specs.Source.{Fits};
-ghost use Rattle.found_reports.specs.Held.{held_text};
-ghost use Rattle.found_reports.specs.Listed.{held_by, held_in};
-ghost use Rattle.indexed_sources.specs.Indexed.{CountsAt, text_held};
-ghost use Rattle.shown_reports.specs.Shown.{shown_source};
-ghost use Rattle.shown_reports.specs.Sources.{changed_by, shown_at, shown_by};
+ghost use Rattle.found_reports.specs.Held.{Held, held_text};
+ghost use Rattle.found_reports.specs.Kept.{IsShort, file_view};
+ghost use Rattle.found_reports.specs.Listed.{held_by};
+ghost use Rattle.indexed_sources.specs.Indexed.{text_held};
+ghost use Rattle.shown_reports.specs.Sources.{changed_by, shown_by};
 ghost use Rattle.shown_reports.specs.Standing.{KeepsHeld};
 
-use found_reports::{Lack, Source};
+use found_reports::{FoundFile, Lack, Source};
 use harmless::changed_source;
 use indexed_sources::{IndexedSources, RowText, SourceList};
 use source_location::LineIndex;
 use std::alloc::{AllocError, Global};
 use std::marker::Model;
 use text_size::TextSize;
+
+/// What is shown of the text of a source: the text sanitized, or as it is; empty if there is none.
+/// Its rows are told by the index that is kept. Contracts see the text.
+#[derive(Drop)]
+pub struct ShownText<'s> {
+    text: &'s str,
+    /// The source with its index, if it has a text.
+    rows: Result<RowText<'s>, Lack>,
+}
+
+impl<'s> Model for ShownText<'s> {
+    ghost use Rattle.std.specs.Prelude.{ℕ, List};
+    ghost use Rattle.indexed_sources.specs.Indexed.{text_held};
+    ghost use Rattle.shown_reports.specs.Sources.{HasRowsOf};
+
+    ghost Value = { List ℕ };
+
+    ghost view = { λ s. s.text.now };
+
+    ghost invariant = { λ s. HasRowsOf (text_held s.rows) s.text.now };
+}
+
+impl<'s> ShownText<'s> {
+    /// The text.
+    pub fn text(&self) -> &'s str
+        ensures text { result.now ≡ self.now }
+        ensures short { Fits self.now }
+    {
+        self.text
+    }
+
+    /// The row of an offset, from 0. It takes a search among the row starts that are kept.
+    pub fn row_at(&self, offset: u32) -> usize
+        ensures row { result ≡ row_of (breaks_of self.now) offset }
+        ensures few { result ≤ offset }
+    {
+        row_in(&self.rows, offset)
+    }
+
+    /// Where a row starts, and the text's length if there is no such row. It takes a look at the
+    /// row starts that are kept.
+    pub fn row_start(&self, row: usize) -> usize
+        ensures { result ≡ start_of (length self.now) (breaks_of self.now) row }
+    {
+        start_in(&self.rows, row)
+    }
+}
 
 /// A list of sources, each with the index of its rows, and with its sanitized text if that is
 /// another. Both are made when a source is added. Contracts see the entries.
@@ -52,6 +99,24 @@ impl ShownSources {
         }
     }
 
+    /// The texts of files, in their order.
+    ///
+    /// # Errors
+    ///
+    /// Out of memory.
+    pub fn of_files(alloc: Global, files: &[FoundFile<'_>]) -> Result<ShownSources, AllocError>
+        requires { All IsShort (map file_view files.now) }
+        ensures { IfOk result (λ sources. map held_by sources.entries.items
+            ≡ map (λ file. file.held) (map file_view files.now)) }
+    {
+        let mut sources = ShownSources::empty(alloc);
+        for file in files {
+            let source = source_of(alloc, file)?;
+            sources.push(alloc, source)?;
+        }
+        Ok(sources)
+    }
+
     /// The sources with their indexes.
     pub fn indexed(&self) -> &IndexedSources
         ensures { result.now ≡ self.now }
@@ -61,25 +126,16 @@ impl ShownSources {
 
     /// What is shown of the text of the entry at an index: the text sanitized, or as it is if
     /// `raw`; empty if there is none.
-    pub fn shown(&self, place: usize, raw: bool) -> &str
+    pub fn shown(&self, place: usize, raw: bool) -> ShownText<'_>
         requires { place < length self.now.entries.items }
-        ensures shown { Some result.now ≡ slice_get (map (shown_by raw) self.now.entries.items)
-            place }
-        ensures keeps { (name : List ℕ) → CountsAt self.now.entries.items name place
-            → KeepsHeld raw (held_in self.now.entries.items name) }
-        ensures short { Fits result.now }
+        ensures shown { Some result ≡ slice_get (map (shown_by raw) self.now.entries.items) place }
+        ensures keeps { (held : Held)
+            → slice_get (map held_by self.now.entries.items) place ≡ Some held
+            → KeepsHeld raw held }
     {
-        shown_of(&self.indexed.entries()[place], &self.changed[place], raw)
-    }
-
-    /// The row of an offset of what is shown of the entry at an index, from 0. It takes a search
-    /// among the row starts that are kept.
-    pub fn row_at(&self, place: usize, offset: u32) -> usize
-        requires { place < length self.now.entries.items }
-        ensures { (raw : Bool) → result
-            ≡ row_of (breaks_of (shown_at raw self.now.entries.items place)) offset }
-    {
-        row_in(&self.indexed.rows_at(place), offset)
+        let text = shown_of(&self.indexed.entries()[place], &self.changed[place], raw);
+        let rows = self.indexed.rows_at(place);
+        ShownText { text, rows }
     }
 }
 
@@ -99,11 +155,23 @@ impl SourceList for ShownSources {
     }
 }
 
-/// The row of an offset of what is shown of a text, or 0 if there is none.
+/// A file as a source.
+fn source_of(alloc: Global, file: &FoundFile<'_>) -> Result<Source, AllocError>
+    requires { IsShort (file_view file.now) }
+    ensures { IfOk result (λ source. held_by source ≡ (file_view file.now).held) }
+{
+    let text = match file.source {
+        Ok(text) => Ok(String::from_str(alloc, text)?),
+        Err(why) => Err(why),
+    };
+    let name = String::from_str(alloc, file.name.as_str())?;
+    Ok(Source { name, text })
+}
+
+/// The row of an offset of a text, and 0 if there is none.
 #[tactic(auto, using(crate::proofs::RowAtLemmas::no_row))]
 fn row_in(rows: &Result<RowText<'_>, Lack>, offset: u32) -> usize
-    ensures { (raw : Bool) → result
-        ≡ row_of (breaks_of (shown_source raw (held_text (text_held rows.now)))) offset }
+    ensures { result ≡ row_of (breaks_of (held_text (text_held rows.now))) offset }
 {
     match rows {
         Ok(rows) => row_with(rows.text, rows.index, offset),
@@ -111,14 +179,38 @@ fn row_in(rows: &Result<RowText<'_>, Lack>, offset: u32) -> usize
     }
 }
 
-/// The row of an offset of what is shown of the text with this index.
+/// The row of an offset of the text with this index.
 fn row_with(text: &str, index: &LineIndex, offset: u32) -> usize
     requires { index.now ≡ index_of text.now }
-    ensures { (raw : Bool) → result ≡ row_of (breaks_of (shown_source raw text.now)) offset }
+    ensures { result ≡ row_of (breaks_of text.now) offset }
 {
     index
         .line_index(TextSize::new(offset))
         .to_zero_indexed_usize()
+}
+
+/// Where a row of a text starts, or its length; 0 if there is no text.
+#[tactic(auto, using(crate::proofs::RowAtLemmas::no_start))]
+fn start_in(rows: &Result<RowText<'_>, Lack>, row: usize) -> usize
+    ensures { let text = held_text (text_held rows.now) in
+        result ≡ start_of (length text) (breaks_of text) row }
+{
+    match rows {
+        Ok(rows) => start_with(rows.text, rows.index, row),
+        Err(_) => 0,
+    }
+}
+
+/// Where a row of the text with this index starts, or its length.
+#[tactic(auto, unfolding(oxc_windows::specs::Rows::row_start))]
+fn start_with(text: &str, index: &LineIndex, row: usize) -> usize
+    requires { index.now ≡ index_of text.now }
+    ensures { result ≡ start_of (length text.now) (breaks_of text.now) row }
+{
+    match index.line_starts().get(row) {
+        Some(start) => start.to_usize(),
+        None => text.len(),
+    }
 }
 
 /// What is shown of a source that is this one sanitized, if that is another.

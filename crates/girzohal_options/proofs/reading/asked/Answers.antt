@@ -1,5 +1,5 @@
 -- Each field is what the arguments say of it.
-use Rattle.std.proofs.Common.{rules, ◌≡◌, ◌∙◌, None, ap, codes, is_some, map, refl, unwrap_or}
+use Rattle.std.proofs.Common.{rules, ◌≡◌, ◌∙◌, None, Some, ap, codes, is_some, map, refl, unwrap_or}
 use Rattle.std.specs.Option.{option_copied}
 use Rattle.finding_filters.specs.declared.changed.FilterMode.TheVariants as filter
 use Rattle.report_counts.specs.declared.counted.Level.TheVariants as level
@@ -25,6 +25,7 @@ returns c =
     let asked_tabs : c.unwrap_or-3.result ≡ unwrap_or given.tabs 4 = search rules in
     let asked_level : c.unwrap_or-4.result ≡ unwrap_or given.fail_on level.Error = search rules in
     let asked_filter : c.unwrap_or-5.result ≡ unwrap_or given.filter_mode filter.Added = search rules in
+    let asked_row : c.unwrap_or-6.result ≡ unwrap_or given.max_row (Some 1000) = search rules in
     record {
       files_are = lists.files;
       root_is = texts.root ∙ ap (λ root. unwrap_or root (codes ".")) c.requires.root;
@@ -45,6 +46,7 @@ returns c =
       only_is = search rules;
       level_is = asked_level ∙ ap (λ g. unwrap_or g.fail_on level.Error) by;
       most_is = ap (λ g. g.max_findings) by;
+      row_is = asked_row ∙ ap (λ g. unwrap_or g.max_row (Some 1000)) by;
       quiet_is = search rules;
       raw_is = search rules;
       changed_is = texts.changed ∙ c.requires.changed;

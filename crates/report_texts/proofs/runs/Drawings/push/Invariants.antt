@@ -8,5 +8,5 @@ abbrev pub invariant-loop-report : goal.invariant-loop-report
 invariant-loop-report l = record {
   same : l.self ≡ l.initial.self;
   text : string_bytes l.text
-      ≡ string_bytes l.initial.text ++ drawings l.initial.self.handler l.initial.self.raw (map (report_view (map file_view l.files)) (take l.report-index l.first));
+      ≡ string_bytes l.initial.text ++ drawings l.initial.self.look l.initial.self.raw (map (report_view (map file_view l.files)) (take l.report-index l.first));
 }

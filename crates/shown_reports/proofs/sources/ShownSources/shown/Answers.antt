@@ -2,15 +2,16 @@
 use Rattle.std.proofs.Common.{◌≡◌, ◌<◌, ◌∙◌, Some, length, map, get_or, option_map, string_bytes, ap, sym, subst, arith}
 use Rattle.std.specs.Prelude.{slice_get}
 use Rattle.std.proofs.lemmas.List.{length-map}
-use Rattle.found_reports.specs.Listed.{held_by, held_in}
-use Rattle.indexed_sources.specs.Indexed.{CountsAt}
+use Rattle.found_reports.specs.Listed.{held_by}
+use Rattle.indexed_sources.specs.Indexed.{text_held}
 use Rattle.shown_reports.specs.Sources.{changed_by, shown_by}
 use Rattle.shown_reports.specs.Standing.{KeepsHeld}
-use Rattle.shown_reports.proofs.SourceLemmas.{at_both, counts_held, slice_at}
+use Rattle.shown_reports.proofs.RowAtLemmas.{held_there, rows_shown}
+use Rattle.shown_reports.proofs.SourceLemmas.{at_both, held_at, slice_at}
 use Rattle.shown_reports.proofs.sources.ShownSources.shown.Goals as goal
 
-pub shown_of-requires : goal.shown_of-requires
-shown_of-requires c =
+pub shown_of-text-requires : goal.shown_of-text-requires
+shown_of-text-requires c =
     let entries = c.self.inside.indexed.entries.items in
     let changed = c.self.inside.changed.items in
     let low : c.args.place < length entries = subst (λ it. c.args.place < length it.entries.items) (sym c.self.view_is) c.requires in
@@ -24,15 +25,15 @@ pub returns-clause-shown : goal.returns-clause-shown
 returns-clause-shown c =
     let entries = c.args.self.now.entries.items in
     let are : c.entries.result.now ≡ entries = c.entries.ensures ∙ ap (λ it. it.entries.items) c.self.view_is in
-    ap Some c.shown_of.ensures.shown
+    ap Some c.shown_of-text.ensures.shown
     ∙ slice_at (shown_by c.args.raw) entries c.args.place c.index-entries-place.result c.requires
     (subst (λ xs. c.index-entries-place.result ≡ get_or xs c.args.place c.index-entries-place.result) are c.index-entries-place.is)
 
 pub returns-clause-keeps : goal.returns-clause-keeps
-returns-clause-keeps c = λ name counts.
+returns-clause-keeps c = λ held is.
     let entries = c.args.self.now.entries.items in
     let are : c.entries.result.now ≡ entries = c.entries.ensures ∙ ap (λ it. it.entries.items) c.self.view_is in
     subst (KeepsHeld c.args.raw)
-    (counts_held entries name c.args.place c.index-entries-place.result counts
+    (held_at entries held c.args.place c.index-entries-place.result c.requires is
     (subst (λ xs. c.index-entries-place.result ≡ get_or xs c.args.place c.index-entries-place.result) are c.index-entries-place.is))
-    c.shown_of.ensures.keeps
+    c.shown_of-text.ensures.keeps
