@@ -3,8 +3,8 @@ use Rattle.std.proofs.Common.{◌≡◌, ℕ, ◌<◌, List, [], ◌∷◌, ◌+
 use Rattle.std.specs.List.{All}
 use Rattle.std.proofs.Math.ListN.{get_or-append}
 use Rattle.std.proofs.lemmas.List.Elements.{All-head, All-tail}
-use Rattle.found_reports.specs.Found.{NamedHeld, file_at, found_on}
-use Rattle.found_reports.specs.Kept.{Stands, report_view}
+use Rattle.found_reports.specs.Found.{NamedHeld, file_at}
+use Rattle.found_reports.specs.Kept.{Stands, report_on, report_view}
 use Rattle.found_reports.specs.declared.reports.FoundReport.{FoundReport}
 
 file_more : (files more : List NamedHeld) (number : ℕ) → number < length files → file_at (files ++ more) number ≡ file_at files number
@@ -14,5 +14,5 @@ pub views_more : (files more : List NamedHeld) (reports : List FoundReport) → 
 views_more files more [] stand = refl
 views_more files more (report ∷ rest) stand =
     let here : Stands files report = All-head (Stands files) report rest stand in
-    let first : report_view (files ++ more) report ≡ report_view files report = ap (λ file. found_on file report.diagnostic report.place) (file_more files more report.file here.held) in
+    let first : report_view (files ++ more) report ≡ report_view files report = ap (λ file. report_on file report) (file_more files more report.file here.held) in
     ap₂ (λ x xs. x ∷ xs) first (views_more files more rest (All-tail (Stands files) report rest stand))

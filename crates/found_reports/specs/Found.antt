@@ -4,6 +4,7 @@ use Rattle.std.specs.Str.{IsCharBoundary}
 use Rattle.oxc_span.specs.Label.{Label, label_end}
 use Rattle.oxc_protocol.specs.Parts.{OxcParts}
 use Rattle.found_reports.specs.Held.{Held, holds, lacks}
+use Rattle.found_reports.specs.Fixes.{ChangeParts}
 use Rattle.found_reports.specs.declared.places.GivenPlace.{GivenPlace}
 use Rattle.found_reports.specs.declared.sources.Lack.TheVariants.{Missing}
 
@@ -12,20 +13,25 @@ pub record NamedHeld : Type 0 where
   pub name : List ℕ
   pub held : Held
 
--- a report with its file's name and text, and where the tool says that it stands
+-- a report with its file's name and text, where the tool says that it stands, and its exact edits
 pub record Found : Type 0 where
   pub name : List ℕ
   pub held : Held
   pub diagnostic : OxcParts
   pub place : Option GivenPlace
+  pub fixes : List (List ChangeParts)
 
 -- the file with a number; a nameless one that is missing past their end, which no report's number reaches
 abbrev pub file_at : List NamedHeld → ℕ → NamedHeld
 file_at files number = slice_index_or files number (record { name = []; held = lacks Missing })
 
--- a report on a file
+-- a report on a file with its exact edits
+abbrev pub found_fixed : NamedHeld → OxcParts → Option GivenPlace → List (List ChangeParts) → Found
+found_fixed file diagnostic place fixes = record { name = file.name; held = file.held; diagnostic = diagnostic; place = place; fixes = fixes }
+
+-- a report on a file without edits
 abbrev pub found_on : NamedHeld → OxcParts → Option GivenPlace → Found
-found_on file diagnostic place = record { name = file.name; held = file.held; diagnostic = diagnostic; place = place }
+found_on file diagnostic place = found_fixed file diagnostic place []
 
 -- a label ends within a text, and starts and ends between characters
 pub record StandsIn (text : List ℕ) (label : Label) : Type 0 where

@@ -1,8 +1,9 @@
 -- What contracts see of reports that are kept with their files.
-use Rattle.std.specs.Prelude.{◌<◌, ⊤, List, length, string_bytes}
+use Rattle.std.specs.Prelude.{◌<◌, ⊤, List, length, map, string_bytes}
 use Rattle.oxc_protocol.specs.Source.{Fits}
 use Rattle.found_reports.specs.Held.{Held, holds, lacks, held_of}
-use Rattle.found_reports.specs.Found.{Found, NamedHeld, LabelsStand, file_at, found_on}
+use Rattle.found_reports.specs.Fixes.{fix_view}
+use Rattle.found_reports.specs.Found.{Found, NamedHeld, LabelsStand, file_at, found_fixed}
 use Rattle.found_reports.specs.declared.reports.FoundFile.{FoundFile}
 use Rattle.found_reports.specs.declared.reports.FoundReport.{FoundReport}
 
@@ -14,8 +15,11 @@ pub record FoundParts : Type 0 where
 abbrev pub file_view : FoundFile → NamedHeld
 file_view file = record { name = string_bytes file.name; held = held_of file.source }
 
+abbrev pub report_on : NamedHeld → FoundReport → Found
+report_on file report = found_fixed file report.diagnostic report.place (map fix_view report.fixes.items)
+
 abbrev pub report_view : List NamedHeld → FoundReport → Found
-report_view files report = found_on (file_at files report.file) report.diagnostic report.place
+report_view files report = report_on (file_at files report.file) report
 
 abbrev pub IsShortHeld : Held → Type 0
 IsShortHeld (holds text) = Fits text

@@ -3,10 +3,13 @@ ghost use Rattle.std.specs.Prelude.{◌≡◌, ◌++◌, ◌∷◌, [], ◌<◌,
 ghost use Rattle.std.specs.Prelude.{length, map, string_bytes};
 ghost use Rattle.std.specs.Result.{ForOk};
 ghost use Rattle.oxc_protocol.specs.Source.{Fits};
-ghost use Rattle.found_reports.specs.Found.{Found, LabelsStand, StandsIn, file_at, found_on};
+ghost use Rattle.found_reports.specs.Found.{Found, LabelsStand, StandsIn, file_at};
+ghost use Rattle.found_reports.specs.Found.{found_fixed, found_on};
+ghost use Rattle.found_reports.specs.Fixes.{fix_view};
 ghost use Rattle.found_reports.specs.Held.{held_of};
 ghost use Rattle.found_reports.specs.Kept.{FoundParts, IsShort, Stands, file_view, report_view};
 
+use crate::fixes::FoundFix;
 use crate::places::GivenPlace;
 use crate::sources::Lack;
 use oxc_protocol::{Diagnostic, LabeledSpan, OxcDiagnostic};
@@ -32,6 +35,8 @@ pub struct FoundReport {
     pub diagnostic: OxcDiagnostic,
     /// Where the tool reports it, if it has no label and the tool says so.
     pub place: Option<GivenPlace>,
+    /// The exact edits of its file that the tool suggests, each by itself.
+    pub fixes: Vec<FoundFix>,
 }
 
 /// Reports, in the order in which they were found, and their files.
@@ -90,7 +95,7 @@ impl<'s> FoundReports<'s> {
         Ok(file)
     }
 
-    /// Adds a report on a file. Each label ends within the file's text, and starts and ends
+    /// Adds a report on a file, without edits. Each label ends within the file's text, and starts and ends
     /// between characters; without a text there is no label.
     ///
     /// # Errors
@@ -109,10 +114,35 @@ impl<'s> FoundReports<'s> {
         ensures kept { OnErr result (self.new.found ≡ self.old.found) }
         ensures files { self.new.files ≡ self.old.files }
     {
+        let fixes = Vec::new(*self.reports.allocator());
+        self.push_fixed(file, diagnostic, place, fixes)
+    }
+
+    /// Adds a report on a file with exact edits of that file. Its labels are as in [`Self::push`].
+    ///
+    /// # Errors
+    ///
+    /// Out of memory; then nothing has changed.
+    pub fn push_fixed(
+        &mut self,
+        file: usize,
+        diagnostic: OxcDiagnostic,
+        place: Option<GivenPlace>,
+        fixes: Vec<FoundFix>,
+    ) -> Result<(), AllocError>
+        requires held { file < length self.old.files }
+        requires stand { LabelsStand (file_at self.old.files file).held diagnostic.labels }
+        ensures added { OnOk result (self.new.found ≡ self.old.found
+            ++ found_fixed (file_at self.old.files file) diagnostic place (map fix_view fixes.items)
+            ∷ []) }
+        ensures kept { OnErr result (self.new.found ≡ self.old.found) }
+        ensures files { self.new.files ≡ self.old.files }
+    {
         self.reports.push(FoundReport {
             file,
             diagnostic,
             place,
+            fixes,
         })?;
         Ok(())
     }

@@ -5,7 +5,7 @@ ghost use Rattle.found_reports.specs.Held.{held_of};
 ghost use Rattle.found_reports.specs.Kept.{IsShort, Stands, file_view, report_view};
 ghost use Rattle.girzohal_run.specs.Owned.{held_by, source_view};
 
-use found_reports::{FoundFile, FoundReport, FoundReports, Lack, Source};
+use found_reports::{FoundFile, FoundReport, FoundReports, Lack, Source, copied_fixes};
 use std::alloc::{AllocError, Global};
 use std::marker::Model;
 
@@ -169,5 +169,6 @@ fn append_report(
     ensures files { found.new.files ≡ found.old.files }
 {
     let diagnostic = report.diagnostic.try_clone(alloc)?;
-    found.push(first + report.file, diagnostic, report.place)
+    let fixes = copied_fixes(alloc, &report.fixes)?;
+    found.push_fixed(first + report.file, diagnostic, report.place, fixes)
 }

@@ -195,7 +195,8 @@ impl<'s> Gathered<'s> {
             ≡ self.old.found.found ++ report_view (map file_view given.now) report ∷ []) }
     {
         let file = self.file_like(alloc, sources, given, report.file)?;
-        self.found.push(file, report.diagnostic, report.place)
+        self.found
+            .push_fixed(file, report.diagnostic, report.place, report.fixes)
     }
 
     /// The number here of one of these files.

@@ -10,8 +10,8 @@ ghost use Rattle.oxc_protocol.specs.Source.{Fits};
 ghost use Rattle.harmless.specs.declared.Kind.TheVariants.{Name};
 ghost use Rattle.shown_reports.specs.Shown.{shown_diagnostic as diagnostic_of};
 ghost use Rattle.shown_reports.specs.Shown.{shown_text as shown_by};
-ghost use Rattle.found_reports.specs.Found.{LabelsStand, found_on};
-ghost use Rattle.found_reports.specs.Kept.{Stands, file_view, report_view};
+ghost use Rattle.found_reports.specs.Found.{LabelsStand};
+ghost use Rattle.found_reports.specs.Kept.{Stands, file_view, report_on, report_view};
 ghost use Rattle.indexed_sources.specs.Indexed.{AreTold};
 ghost use Rattle.found_reports.specs.Listed.{held_by, held_in};
 ghost use Rattle.render_files.specs.Readers.{Reads};
@@ -156,7 +156,7 @@ impl<'s> Drawings<'s> {
         requires stand { LabelsStand (file_view file.now).held report.now.diagnostic.labels }
         ensures text { OnOk result (string_bytes text.new ≡ string_bytes text.old
             ++ drawing_of self.old.look self.old.raw
-            (found_on (file_view file.now) report.now.diagnostic report.now.place)) }
+            (report_on (file_view file.now) report.now)) }
         ensures unchanged { self.new ≡ self.old }
     {
         let (alloc, raw) = (self.alloc, self.raw);
@@ -189,12 +189,12 @@ impl<'s> Drawings<'s> {
         requires held { StandsAt self.old.entries (file_view file.now).held place }
         requires stand { LabelsStand (file_view file.now).held report.now.diagnostic.labels }
         requires shown { shown.now ≡ diagnostic_of self.old.raw
-            (found_on (file_view file.now) report.now.diagnostic report.now.place) }
+            (report_on (file_view file.now) report.now) }
         requires code { option_copied code ≡ shown_of shown.now.code }
         requires name { name.now ≡ shown_by self.old.raw Name (file_view file.now).name }
         ensures text { OnOk result (string_bytes text.new ≡ string_bytes text.old
             ++ drawing_of self.old.look self.old.raw
-            (found_on (file_view file.now) report.now.diagnostic report.now.place)) }
+            (report_on (file_view file.now) report.now)) }
         ensures unchanged { self.new ≡ self.old }
     {
         match place {

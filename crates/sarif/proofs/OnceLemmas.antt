@@ -18,7 +18,8 @@ use Rattle.std.proofs.lemmas.Map.Text.{is_eq-slice_cmp}
 use Rattle.std.proofs.lemmas.Slice.Eq.{bytes_eq-Decides}
 use Rattle.oxc_protocol.specs.Parts.{OxcParts}
 use Rattle.found_reports.specs.Files.{files_of, same_file, with_file}
-use Rattle.found_reports.specs.Found.{Found, NamedHeld, file_at, found_on}
+use Rattle.found_reports.specs.Fixes.{ChangeParts}
+use Rattle.found_reports.specs.Found.{Found, NamedHeld, file_at, found_fixed}
 use Rattle.found_reports.specs.Held.{Held, holds, lacks}
 use Rattle.found_reports.specs.Kept.{file_view, report_view}
 use Rattle.found_reports.specs.declared.places.GivenPlace.{GivenPlace}
@@ -151,11 +152,11 @@ file_seen [] k file low is = absurd (omega (arith, low))
 file_seen (x ∷ xs) zero file low is = ap file_view is
 file_seen (x ∷ xs) (suc k) file low is = file_seen xs k file (omega (arith, low)) is
 
-pub files_grow : {T E : Type 0} (r : Result T E) (before start found : List Found) (files : List NamedHeld) (file other : NamedHeld) (diagnostic : OxcParts) (place : Option GivenPlace)
-    → OnOk r (found ≡ before ++ found_on file diagnostic place ∷ []) → before ≡ start → file ≡ other → files ≡ with_file (files_of start) other → OnOk r (files ≡ files_of found)
-files_grow (Ok x) before start found files file other diagnostic place added same is are =
-    are ∙ (sym (files_push start (found_on other diagnostic place)) ∙ (ap₂ (λ fs f. files_of (fs ++ found_on f diagnostic place ∷ [])) (sym same) (sym is) ∙ ap files_of (sym added)))
-files_grow (Err e) before start found files file other diagnostic place added same is are = tt
+pub files_grow : {T E : Type 0} (r : Result T E) (before start found : List Found) (files : List NamedHeld) (file other : NamedHeld) (diagnostic : OxcParts) (place : Option GivenPlace) (fixes : List (List ChangeParts))
+    → OnOk r (found ≡ before ++ found_fixed file diagnostic place fixes ∷ []) → before ≡ start → file ≡ other → files ≡ with_file (files_of start) other → OnOk r (files ≡ files_of found)
+files_grow (Ok x) before start found files file other diagnostic place fixes added same is are =
+    are ∙ (sym (files_push start (found_fixed other diagnostic place fixes)) ∙ (ap₂ (λ fs f. files_of (fs ++ found_fixed f diagnostic place fixes ∷ [])) (sym same) (sym is) ∙ ap files_of (sym added)))
+files_grow (Err e) before start found files file other diagnostic place fixes added same is are = tt
 
 -- the last of those that are left
 pub popped : (given : List NamedHeld) (before all : List Found) (old rest : List FoundReport) (report : FoundReport) → old ≡ rest ++ report ∷ []

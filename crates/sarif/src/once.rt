@@ -116,7 +116,8 @@ impl<'s> Once<'s> {
             ≡ self.old.found.found ++ report_view (map file_view given.now) report ∷ []) }
     {
         let number = self.number(alloc, given, report.file)?;
-        self.found.push(number, report.diagnostic, report.place)
+        self.found
+            .push_fixed(number, report.diagnostic, report.place, report.fixes)
     }
 
     /// The number here of a given file.

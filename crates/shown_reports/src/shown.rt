@@ -5,9 +5,8 @@ ghost use Rattle.oxc_span.specs.Views.{text_bytes};
 ghost use Rattle.oxc_protocol.specs.Views.{code_parts, inner_parts};
 ghost use Rattle.render_files.specs.Given.{given_label, given_report};
 ghost use Rattle.documents.specs.Views.{document_view};
-ghost use Rattle.found_reports.specs.Found.{found_on};
 ghost use Rattle.found_reports.specs.Held.{held_of};
-ghost use Rattle.found_reports.specs.Kept.{IsShort, Stands, file_view};
+ghost use Rattle.found_reports.specs.Kept.{IsShort, Stands, file_view, report_on};
 ghost use Rattle.shown_reports.specs.Shown.{IsShown, breaks_held, breaks_shown};
 ghost use Rattle.shown_reports.specs.Shown.{label_by_bytes as by_bytes, shown_file};
 ghost use Rattle.shown_reports.specs.Shown.{shown_code, shown_diagnostic as diagnostic_shown};
@@ -168,7 +167,7 @@ pub fn shown_diagnostic(
     raw: bool,
 ) -> Result<OxcDiagnostic, AllocError>
     ensures { IfOk result (λ it. it ≡ diagnostic_shown raw
-        (found_on (file_view file.now) report.now.diagnostic report.now.place)) }
+        (report_on (file_view file.now) report.now)) }
 {
     let parts = parts_of(alloc, file, report, raw)?;
     let labels = shown_labels(alloc, report.diagnostic.labels(), raw)?;
@@ -222,7 +221,7 @@ fn parts_of(
     raw: bool,
 ) -> Result<OxcDiagnosticInner, AllocError>
     ensures { IfOk result (λ it. inner_parts it
-        ≡ shown_parts raw (found_on (file_view file.now) report.now.diagnostic report.now.place)) }
+        ≡ shown_parts raw (report_on (file_view file.now) report.now)) }
 {
     let said = &report.diagnostic;
     Ok(OxcDiagnosticInner {
@@ -255,7 +254,7 @@ fn note(
     raw: bool,
 ) -> Result<Option<String>, AllocError>
     ensures { IfOk result (λ note. text_bytes note
-        ≡ shown_note raw (found_on (file_view file.now) report.now.diagnostic report.now.place)) }
+        ≡ shown_note raw (report_on (file_view file.now) report.now)) }
 {
     let note = shown_if(alloc, raw, Kind::Prose, report.diagnostic.note())?;
     match report.place {

@@ -2,8 +2,8 @@
 use Rattle.std.proofs.Common.{◌≡◌, ◌++◌, ◌<◌, ℕ, List, [], Some, OnOk, length, map, string_bytes, ap, refl, sym, subst, ◌∙◌}
 use Rattle.std.specs.Prelude.{slice_get}
 use Rattle.oxc_handlers.specs.Report.{report_of, view_parts}
-use Rattle.found_reports.specs.Found.{Found, found_on}
-use Rattle.found_reports.specs.Kept.{file_view}
+use Rattle.found_reports.specs.Found.{Found}
+use Rattle.found_reports.specs.Kept.{file_view, report_on}
 use Rattle.found_reports.specs.Listed.{held_by}
 use Rattle.shown_reports.specs.Sources.{shown_by}
 use Rattle.shown_reports.specs.Standing.{KeepsHeld}
@@ -32,7 +32,7 @@ draw-requires-clause-source c =
 
 pub draw-requires-clause-within : goal.draw-requires-clause-within
 draw-requires-clause-within c =
-    let it : Found = found_on (file_view c.args.file.now) c.args.report.now.diagnostic c.args.report.now.place in
+    let it : Found = report_on (file_view c.args.file.now) c.args.report.now in
     let there = ap Some c.text.ensures.text
     ∙ subst (λ (on : DrawnOn). Some c.shown-source.result ≡ slice_get (map (shown_by on.raw) on.entries) c.in-Some.place) c.self.view_is c.shown-source.ensures.shown in
     let at = placed c.args.self.now.entries it.held c.args.place c.in-Some.place c.requires.held c.in-Some.is in
@@ -42,7 +42,7 @@ draw-requires-clause-within c =
 
 pub returns-in-Some-clause-text : goal.returns-in-Some-clause-text
 returns-in-Some-clause-text c =
-    let it : Found = found_on (file_view c.args.file.now) c.args.report.now.diagnostic c.args.report.now.place in
+    let it : Found = report_on (file_view c.args.file.now) c.args.report.now in
     let there = ap Some c.text.ensures.text
     ∙ subst (λ (on : DrawnOn). Some c.shown-source.result ≡ slice_get (map (shown_by on.raw) on.entries) c.in-Some.place) c.self.view_is c.shown-source.ensures.shown in
     let at = placed c.args.self.now.entries it.held c.args.place c.in-Some.place c.requires.held c.in-Some.is in
@@ -55,13 +55,13 @@ returns-in-Some-clause-text c =
 
 pub draw_bare-requires-clause-labels : goal.draw_bare-requires-clause-labels
 draw_bare-requires-clause-labels c =
-    let it : Found = found_on (file_view c.args.file.now) c.args.report.now.diagnostic c.args.report.now.place in
+    let it : Found = report_on (file_view c.args.file.now) c.args.report.now in
     bare_labels c.args.self.now.raw it c.args.shown.now c.args.name.now (view_parts c.view_of-view-in-None.result) c.view_of-view-in-None.ensures c.requires.shown c.requires.stand
     (unplaced c.args.self.now.entries it.held c.args.place c.requires.held c.in-None.is)
 
 pub returns-in-None-clause-text : goal.returns-in-None-clause-text
 returns-in-None-clause-text c =
-    let it : Found = found_on (file_view c.args.file.now) c.args.report.now.diagnostic c.args.report.now.place in
+    let it : Found = report_on (file_view c.args.file.now) c.args.report.now in
     let told = unplaced c.args.self.now.entries it.held c.args.place c.requires.held c.in-None.is in
     let none = bare_labels c.args.self.now.raw it c.args.shown.now c.args.name.now (view_parts c.view_of-view-in-None.result) c.view_of-view-in-None.ensures c.requires.shown c.requires.stand told in
     subst (λ t. OnOk c.draw_bare.result (string_bytes c.draw_bare.new.text ≡ string_bytes c.args.text.now ++ t))
