@@ -14,7 +14,7 @@ page_start =
 -- a class for each style of a drawing, in light and dark colors
 unfoldable pub style_sheet : List ℕ
 style_sheet =
-    codes ":root{color-scheme:light dark;--text:#1f2328;--back:#fff;--box:#f6f8fa;--edge:#d0d7de;--error:#b3261e;--warning:#7d5200;--info:#1b5f86;--link:#0b57d0;--row:#636c76;--first:#a3119f;--second:#00697a;--third:#1f7a1f}\n@media (prefers-color-scheme:dark){:root{--text:#e6edf3;--back:#0d1117;--box:#161b22;--edge:#30363d;--error:#ff7b72;--warning:#f4bf75;--info:#7fb8d0;--link:#79b0ff;--row:#8b949e;--first:#f657f8;--second:#1ec9d4;--third:#91f66f}}\nbody{margin:2rem auto;max-width:72rem;padding:0 1rem;background:var(--back);color:var(--text);font:1rem/1.5 system-ui,sans-serif}\na{color:var(--link)}\nsummary{cursor:pointer;font-weight:600;overflow-wrap:anywhere}\nli{overflow-wrap:anywhere}\npre{margin:.75rem 0;padding:.75rem 1rem;overflow-x:auto;background:var(--box);border:1px solid var(--edge);border-radius:6px;font:.85rem/1.4 ui-monospace,monospace}\npre:target{border-color:var(--link)}\n.error{color:var(--error);font-weight:700}\n.warning{color:var(--warning);font-weight:700}\n.info{color:var(--info)}\n.link{color:var(--link);font-weight:700}\n.row{color:var(--row)}\n.first{color:var(--first)}\n.second{color:var(--second)}\n.third{color:var(--third)}\n"
+    codes ":root{color-scheme:light dark;--text:#1f2328;--back:#fff;--box:#f6f8fa;--edge:#d0d7de;--error:#b3261e;--warning:#7d5200;--info:#1b5f86;--link:#0b57d0;--row:#636c76;--first:#a3119f;--second:#00697a;--third:#1f7a1f}\n@media (prefers-color-scheme:dark){:root{--text:#e6edf3;--back:#0d1117;--box:#161b22;--edge:#30363d;--error:#ff7b72;--warning:#f4bf75;--info:#7fb8d0;--link:#79b0ff;--row:#8b949e;--first:#f657f8;--second:#1ec9d4;--third:#91f66f}}\nbody{margin:2rem auto;max-width:72rem;padding:0 1rem;background:var(--back);color:var(--text);font:1rem/1.5 system-ui,sans-serif}\na{color:var(--link)}\nsummary{cursor:pointer;font-weight:600;overflow-wrap:anywhere}\nli{overflow-wrap:anywhere}\npre{margin:.75rem 0;padding:.75rem 1rem;overflow-x:auto;background:var(--box);border:1px solid var(--edge);border-radius:6px;font:.85rem/1.2 ui-monospace,monospace}\npre:target{border-color:var(--link)}\n.error{color:var(--error);font-weight:700}\n.warning{color:var(--warning);font-weight:700}\n.info{color:var(--info)}\n.link{color:var(--link);font-weight:700}\n.row{color:var(--row)}\n.first{color:var(--first)}\n.second{color:var(--second)}\n.third{color:var(--third)}\n"
 
 -- what stands after the title
 unfoldable pub title_end : List ℕ

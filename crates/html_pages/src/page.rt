@@ -180,7 +180,7 @@ fn style_sheet() -> &'static str
     font:1rem/1.5 system-ui,sans-serif}\na{color:var(--link)}\nsummary{cursor:pointer;\
     font-weight:600;overflow-wrap:anywhere}\nli{overflow-wrap:anywhere}\npre{\
     margin:.75rem 0;padding:.75rem 1rem;overflow-x:auto;background:var(--box);\
-    border:1px solid var(--edge);border-radius:6px;font:.85rem/1.4 ui-monospace,monospace}\n\
+    border:1px solid var(--edge);border-radius:6px;font:.85rem/1.2 ui-monospace,monospace}\n\
     pre:target{border-color:var(--link)}\n.error{color:var(--error);font-weight:700}\n\
     .warning{color:var(--warning);font-weight:700}\n.info{color:var(--info)}\n.link{\
     color:var(--link);font-weight:700}\n.row{color:var(--row)}\n.first{color:var(--first)}\n\
