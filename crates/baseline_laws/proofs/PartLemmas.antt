@@ -3,7 +3,7 @@ use Rattle.std.proofs.Common.{◌≡◌, ◌⊎◌, inl, inr, Bool, true, false,
 use Rattle.found_reports.specs.Found.{Found}
 use Rattle.found_reports.specs.Kept.{FoundParts}
 use Rattle.report_filters.specs.Filtered.{IsLeft, flags_for}
-use Rattle.report_filters.specs.Kept.{kept_of, later_flags, next_flag}
+use Rattle.found_reports.specs.Flagged.{kept_of, later_flags, next_flag}
 use Rattle.report_filters.specs.declared.rules.Rules.{Rules}
 use Rattle.baseline_laws.specs.Parts.{IsPartOf}
 

@@ -1,3 +1,4 @@
 pub mod KeptLemmas
 pub mod ListedLemmas
 pub mod FileLemmas
+pub mod OnceLemmas

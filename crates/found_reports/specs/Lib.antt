@@ -6,3 +6,5 @@ pub mod Fixes
 pub mod Found
 pub mod Kept
 pub mod Files
+pub mod Flagged
+pub mod Once

@@ -4,7 +4,6 @@ use Rattle.std.proofs.lemmas.List.{map_push, take_more}
 use Rattle.std.specs.Result.{IsErrAnd}
 use Rattle.std.specs.Prelude.{IfErr}
 use Rattle.std.specs.declared.alloc.Global.{Global}
-use Rattle.report_filters.specs.Kept.{kept_of}
 use Rattle.girzohal_options.specs.declared.Asked.{Asked}
 use Rattle.girzohal_run.specs.Told.{Told}
 use Rattle.girzohal_run.specs.Each.{asked_with}
@@ -20,11 +19,6 @@ use Rattle.girzohal_run.specs.declared.making.Made.{Made}
 use Rattle.girzohal_run.specs.declared.several.Input.{Input}
 use Rattle.girzohal_run.specs.declared.status.Status.{Status}
 use Rattle.girzohal_run.specs.declared.status.Status.TheVariants as status
-
--- without flags all are kept
-pub all_kept : {A : Type 0} (its : List A) → kept_of [] its ≡ its
-all_kept [] = refl
-all_kept (it ∷ its) = ap (λ rest. it ∷ rest) (all_kept its)
 
 -- ---- one input more
 

@@ -21,12 +21,11 @@ use crate::finds::{Finds, find};
 use crate::making::Made;
 use crate::program::{fail, tell};
 use crate::status::Status;
-use found_reports::FoundReports;
+use found_reports::{FoundReports, each_file_once};
 use girzohal_options::{Asked, InputForm};
 use harmless::{Kind, harmless};
 use input_forms::{Begun, begins_as};
 use oxc_protocol::Sink;
-use report_filters::kept;
 use source_store::Store;
 use std::alloc::{AllocError, Global};
 
@@ -269,13 +268,12 @@ pub(crate) fn write_found(
 
 /// The findings of all inputs, on the files that they are on: each once, in the order of their
 /// first findings.
-#[tactic(auto, using(crate::proofs::SeveralLemmas::all_kept))]
 fn joined<'f>(alloc: Global, finds: &'f [Finds]) -> Result<FoundReports<'f>, AllocError>
     ensures found { IfOk result (λ it. it.found ≡ found_in (map finds_parts finds.entry.now)) }
     ensures files { IfOk result (λ it. it.files ≡ files_of it.found) }
 {
     let found = appended(alloc, finds)?;
-    kept(alloc, found, &[])
+    each_file_once(alloc, found)
 }
 
 /// The findings of all inputs, each on the files of its input.

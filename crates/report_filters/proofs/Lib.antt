@@ -1,3 +1,2 @@
-pub mod OnceLemmas
 pub mod EntryLemmas
 pub mod LawLemmas

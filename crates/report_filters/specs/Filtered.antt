@@ -13,7 +13,7 @@ use Rattle.filtered_findings.specs.Verdicts.{entries_of as items_of_baseline, tw
 use Rattle.filtered_findings.specs.declared.counts.Counts.{Counts}
 use Rattle.filtered_findings.specs.declared.verdicts.Verdict.{Verdict}
 use Rattle.report_filters.specs.Entries.{entries_of, entry_parts}
-use Rattle.report_filters.specs.Kept.{kept_of}
+use Rattle.found_reports.specs.Flagged.{kept_of}
 use Rattle.report_filters.specs.declared.rules.Rules.{Rules}
 
 -- ---- which filters there are

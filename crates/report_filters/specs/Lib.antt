@@ -1,4 +1,2 @@
-pub mod Kept
-pub mod Once
 pub mod Entries
 pub mod Filtered

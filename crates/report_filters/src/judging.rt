@@ -6,11 +6,10 @@ ghost use Rattle.report_filters.specs.Filtered.{IsLeft, baseline_of, counts_for}
 ghost use Rattle.report_filters.specs.Filtered.{flags_for};
 
 use crate::entries::{entries_of, views_of};
-use crate::once::kept;
 use crate::rules::Rules;
 use filtered_findings::{Counts, counts_of, judge_all, stays_each, summary_line};
 use finding_filters::FindingView;
-use found_reports::FoundReports;
+use found_reports::{FoundReports, kept};
 use std::alloc::{AllocError, Global};
 
 /// What filters say of reports.

@@ -5,4 +5,3 @@ pub mod ReportLemmas
 pub mod AskedLemmas
 pub mod ContentsLemmas
 pub mod Opened
-pub mod OnceLemmas

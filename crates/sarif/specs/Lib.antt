@@ -6,4 +6,3 @@ pub mod Meaning
 pub mod Asked
 pub mod Contents
 pub mod Views
-pub mod Once

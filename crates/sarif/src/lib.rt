@@ -12,7 +12,6 @@ mod contents;
 mod diagnostics;
 mod known;
 mod labels;
-mod once;
 mod reading;
 mod reports;
 mod resolving;

@@ -5,8 +5,9 @@ use Rattle.std.proofs.lemmas.List.Elements.{All-pop}
 use Rattle.std.proofs.lemmas.List.Sorted.{All-permutation}
 use Rattle.found_reports.specs.Kept.{Stands, file_view, report_view}
 use Rattle.found_reports.proofs.FileLemmas.{files_none}
-use Rattle.sarif.proofs.OnceLemmas.{popped}
-use Rattle.sarif.proofs.once.each_file_once.Goals as goal
+use Rattle.found_reports.specs.Flagged.{kept_of}
+use Rattle.found_reports.proofs.OnceLemmas.{popped}
+use Rattle.found_reports.proofs.once.kept.Goals as goal
 
 pub loop-report-init : goal.loop-report-init
 loop-report-init c =
@@ -19,11 +20,11 @@ loop-report-init c =
       files = rw c.in_ok-once.ensures.found (sym files_none);
       stand = All-permutation (Stands given) reports c.reverse.new.self.items c.reverse.ensures.permutation stand;
       found = rw (c.in_ok-once.ensures.found, c.reverse.ensures.items, reverse-reverse reports)
-          (ap (λ files. map (report_view files) reports) same ∙ c.into_reports-reports.ensures.found);
+          (ap (λ files. kept_of c.args.flags.now (map (report_view files) reports)) same ∙ ap (kept_of c.args.flags.now) c.into_reports-reports.ensures.found);
     }
 
-pub push-requires-clause-stands : goal.push-requires-clause-stands
-push-requires-clause-stands c =
+pub push_if-requires-clause-stands : goal.push_if-requires-clause-stands
+push_if-requires-clause-stands c =
     let given = map file_view c.in_ok-files.files.items in
     let left = All-pop (Stands given) c.loop-report.reports.items c.pop.new.self.items (Some c.in-Some.report) c.in-Some.ensures.items c.loop-report.invariant.stand in
     rw c.deref-in-Some.ensures.value left.1
@@ -32,11 +33,11 @@ pub loop-report-preserved : goal.loop-report-preserved
 loop-report-preserved c =
     let given = map file_view c.in_ok-files.files.items in
     let left = All-pop (Stands given) c.loop-report.reports.items c.pop.new.self.items (Some c.in-Some.report) c.in-Some.ensures.items c.loop-report.invariant.stand in
-    let pushed = rw c.deref-in-Some.ensures.value at c.in_ok-push.ensures in
+    let pushed = rw c.deref-in-Some.ensures.value at c.in_ok-push_if.ensures in
     record {
       keeps = pushed.keeps;
       files = pushed.files;
       stand = left.0;
-      found = rw pushed.found
-          (popped given c.loop-report.once.found.found c.args.found.found c.loop-report.reports.items c.pop.new.self.items c.in-Some.report c.in-Some.ensures.items c.loop-report.invariant.found);
+      found = rw (pushed.found, c.next.ensures, c.later-rest.ensures)
+          (popped given c.loop-report.rest.now c.loop-report.once.found.found (kept_of c.args.flags.now c.args.found.found) c.loop-report.reports.items c.pop.new.self.items c.in-Some.report c.in-Some.ensures.items c.loop-report.invariant.found);
     }

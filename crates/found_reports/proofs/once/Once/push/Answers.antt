@@ -3,8 +3,8 @@ use Rattle.std.proofs.Common.{◌∙◌, ap, map}
 use Rattle.found_reports.specs.Files.{with_file}
 use Rattle.found_reports.specs.Found.{file_at}
 use Rattle.found_reports.specs.Kept.{file_view}
-use Rattle.report_filters.proofs.OnceLemmas.{files_grow}
-use Rattle.report_filters.proofs.once.Once.push.Goals as goal
+use Rattle.found_reports.proofs.OnceLemmas.{files_grow}
+use Rattle.found_reports.proofs.once.Once.push.Goals as goal
 
 pub returns-clause-files : goal.returns-clause-files
 returns-clause-files c =

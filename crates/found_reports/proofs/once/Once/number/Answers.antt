@@ -3,8 +3,8 @@ use Rattle.std.proofs.Common.{◌≡◌, ◌<◌, ◌∙◌, arith, length, map}
 use Rattle.std.proofs.lemmas.List.{length-map, length-set}
 use Rattle.found_reports.specs.Found.{file_at}
 use Rattle.found_reports.specs.Kept.{file_view}
-use Rattle.report_filters.proofs.OnceLemmas.{file_seen, seat_read, seats_set, with_there}
-use Rattle.report_filters.proofs.once.Once.number.Goals as goal
+use Rattle.found_reports.proofs.OnceLemmas.{file_seen, seat_read, seats_set, with_there}
+use Rattle.found_reports.proofs.once.Once.number.Goals as goal
 
 pub returns-in-Some-clause-at : goal.returns-in-Some-clause-at
 returns-in-Some-clause-at c =

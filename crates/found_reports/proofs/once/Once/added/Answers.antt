@@ -1,9 +1,9 @@
 -- What the map has of the key is the number of the file.
 use Rattle.std.proofs.Common.{sym, subst}
 use Rattle.found_reports.specs.Kept.{file_view}
-use Rattle.sarif.specs.Once.{IsNumber}
-use Rattle.sarif.proofs.OnceLemmas.{with_there}
-use Rattle.sarif.proofs.once.Once.added.Goals as goal
+use Rattle.found_reports.specs.Once.{IsNumber}
+use Rattle.found_reports.proofs.OnceLemmas.{with_there}
+use Rattle.found_reports.proofs.once.Once.added.Goals as goal
 
 pub add-requires-clause-new : goal.add-requires-clause-new
 add-requires-clause-new c =

@@ -26,8 +26,8 @@ use Rattle.found_reports.specs.declared.places.GivenPlace.{GivenPlace}
 use Rattle.found_reports.specs.declared.reports.FoundFile.{FoundFile}
 use Rattle.found_reports.specs.declared.reports.FoundReport.{FoundReport}
 use Rattle.found_reports.proofs.FileLemmas.{file_decides, file_new, file_there, files_push, same_why}
-use Rattle.report_filters.specs.Kept.{kept_of, later_flags, next_flag, one_if}
-use Rattle.report_filters.specs.Once.{AreNumbers, AreSeats, FileKey, HeldKey, IsFileAt, IsHeldKey, IsKey, IsNumber, key_cmp, rest_cmp}
+use Rattle.found_reports.specs.Flagged.{kept_of, later_flags, next_flag, one_if}
+use Rattle.found_reports.specs.Once.{AreNumbers, AreSeats, FileKey, HeldKey, IsFileAt, IsHeldKey, IsKey, IsNumber, key_cmp, rest_cmp}
 
 -- ---- keys of the same file are equal, and of others they aren't
 
@@ -162,6 +162,11 @@ pub files_grow : {T E : Type 0} (r : Result T E) (before start found : List Foun
 files_grow (Ok x) before start found files file other diagnostic place fixes added same is are =
     are ∙ (sym (files_push start (found_fixed other diagnostic place fixes)) ∙ (ap₂ (λ fs f. files_of (fs ++ found_fixed f diagnostic place fixes ∷ [])) (sym same) (sym is) ∙ ap files_of (sym added)))
 files_grow (Err e) before start found files file other diagnostic place fixes added same is are = tt
+
+-- without a flag all are kept
+pub all_kept : {A : Type 0} (its : List A) → kept_of [] its ≡ its
+all_kept [] = refl
+all_kept (it ∷ its) = ap (λ rest. it ∷ rest) (all_kept its)
 
 -- the last of those that are left
 kept_next : {A : Type 0} (next : Bool) (flags : List Bool) (before all rest : List A) (it : A) → next_flag flags ≡ next → before ++ kept_of flags (it ∷ rest) ≡ all

@@ -4,10 +4,11 @@ ghost use Rattle.std.specs.List.{list_any};
 ghost use Rattle.found_reports.specs.Files.{files_of, same_file, why_number, with_file};
 ghost use Rattle.found_reports.specs.Found.{file_at};
 ghost use Rattle.found_reports.specs.Kept.{IsShort, Stands, file_view, report_view};
-ghost use Rattle.report_filters.specs.Kept.{kept_of, later_flags, next_flag, one_if};
-ghost use Rattle.report_filters.specs.Once.{AreNumbers, IsFileAt, IsKey, KeepsFiles};
+ghost use Rattle.found_reports.specs.Flagged.{kept_of, later_flags, next_flag, one_if};
+ghost use Rattle.found_reports.specs.Once.{AreNumbers, IsFileAt, IsKey, KeepsFiles};
 
-use found_reports::{FoundFile, FoundReport, FoundReports, Lack};
+use crate::reports::{FoundFile, FoundReport, FoundReports};
+use crate::sources::Lack;
 use std::alloc::{AllocError, Global};
 use std::collections::BTreeMap;
 
@@ -35,6 +36,23 @@ pub fn kept<'s>(
         rest = later(rest);
     }
     Ok(once.found)
+}
+
+/// The same reports, with the files that they are on, each once, in the order of their first
+/// reports.
+///
+/// # Errors
+///
+/// Out of memory.
+#[tactic(auto, using(crate::proofs::OnceLemmas::all_kept))]
+pub fn each_file_once<'s>(
+    alloc: Global,
+    found: FoundReports<'s>,
+) -> Result<FoundReports<'s>, AllocError>
+    ensures found { IfOk result (λ it. it.found ≡ found.entry.found) }
+    ensures files { IfOk result (λ it. it.files ≡ files_of it.found) }
+{
+    kept(alloc, found, &[])
 }
 
 /// Whether the next report is kept.

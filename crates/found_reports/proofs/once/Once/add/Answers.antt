@@ -1,8 +1,8 @@
 -- The file comes behind the others, under its key.
 use Rattle.std.proofs.Common.{rules}
 use Rattle.found_reports.specs.Kept.{file_view}
-use Rattle.sarif.proofs.OnceLemmas.{numbers_more, with_new}
-use Rattle.sarif.proofs.once.Once.add.Goals as goal
+use Rattle.found_reports.proofs.OnceLemmas.{numbers_more, with_new}
+use Rattle.found_reports.proofs.once.Once.add.Goals as goal
 
 pub returns-clause-numbers : goal.returns-clause-numbers
 returns-clause-numbers c =

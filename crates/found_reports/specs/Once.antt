@@ -12,7 +12,7 @@ use Rattle.std.specs.declared.cmp.Ordering.{Ordering}
 use Rattle.found_reports.specs.Files.{same_file, why_number}
 use Rattle.found_reports.specs.Found.{NamedHeld, file_at}
 use Rattle.found_reports.specs.Held.{Held, holds, lacks}
-use Rattle.report_filters.specs.declared.once.Once as code
+use Rattle.found_reports.specs.declared.once.Once as code
 
 -- ---- what tells files apart
 
