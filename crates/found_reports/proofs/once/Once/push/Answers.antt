@@ -10,5 +10,5 @@ pub returns-clause-files : goal.returns-clause-files
 returns-clause-files c =
     let file = file_at (map file_view c.args.given.now) c.args.report.file in
     let number = c.in_ok-number.ensures in
-    files_grow c.push.result c.number.new.self.found.found c.args.self.now.found.found c.push.new.self.found c.push.new.self.files _ file _ _ c.push.ensures.added number.found number.at.is
-    (c.push.ensures.files ∙ (number.files ∙ ap (λ all. with_file all file) c.requires.files))
+    files_grow c.push_fixed.result c.number.new.self.found.found c.args.self.now.found.found c.push_fixed.new.self.found c.push_fixed.new.self.files _ file _ _ _ c.push_fixed.ensures.added number.found number.at.is
+    (c.push_fixed.ensures.files ∙ (number.files ∙ ap (λ all. with_file all file) c.requires.files))
