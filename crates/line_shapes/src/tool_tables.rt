@@ -260,6 +260,7 @@ pub const TOOL_COLUMNS: [(&str, Unit, u32, bool); 71] = [
     ("go", Unit::Bytes, 1, true),
     ("ocaml", Unit::Bytes, 0, false),
     ("go vet", Unit::Bytes, 1, true),
+    ("cppcheck", Unit::Bytes, 1, true),
     // Of these nothing else is known than how most tools count.
     ("ariadne", Unit::Characters, 1, true),
     ("bash", Unit::Characters, 1, true),
@@ -267,7 +268,6 @@ pub const TOOL_COLUMNS: [(&str, Unit, u32, bool); 71] = [
     ("cmake", Unit::Characters, 1, true),
     ("codespan", Unit::Characters, 1, true),
     ("collect2", Unit::Characters, 1, true),
-    ("cppcheck", Unit::Characters, 1, true),
     ("crystal", Unit::Characters, 1, true),
     ("curl", Unit::Characters, 1, true),
     ("dotenv-linter", Unit::Characters, 1, true),
