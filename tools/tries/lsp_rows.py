@@ -184,6 +184,28 @@ ON_THE_FILE = ("findings are those on the file", LINES, ["--from", "lines", "--t
                [BEGUN, published(XY, [found("no such name", (1, 4), (1, 8), 1, '"code":"x",'),
                                       found("past the end", (0, 0), (0, 0), 2)])])
 
+# the label in the open file, which is not the finding's
+LABELED = b"""error[E0425]: cannot find function `g`
+  --> a.rs:1:1
+   |
+ 1 | g();
+   | ^ not found
+   |
+  ::: b.rs:2:4
+   |
+ 2 | fn h() {}
+   |    - similar
+   = help: a function with a similar name exists
+"""
+RS = "file:///b.rs"
+
+IN_ANOTHER_FILE = [
+    ("a label in another file is a finding there", LABELED, ["--from", "lines", "--tool", "rustc"],
+     [BEGIN, opened(RS, "\\nfn h() {}\\n")], [BEGUN, published(RS, [found("similar", (1, 3), (1, 4), 3)])]),
+    ("one that doesn't fit that file's text is none", LABELED, ["--from", "lines", "--tool", "rustc"],
+     [BEGIN, opened(RS, "\\nfn i() {}\\n")], [BEGUN, published(RS, [])]),
+]
+
 # how names are spelled, a name, whether it means the file /x y/src/a.c, and the URI of a file that it means
 NAMES = [
     ("lines", "a.c", True, "file:///b/a.c"),

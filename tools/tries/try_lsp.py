@@ -207,7 +207,7 @@ def talk(folder, log, words, bodies):
 
 def try_sessions(folder):
     """What is answered and told, message by message."""
-    sessions = rows.SERVED + rows.TOLD + [rows.ON_THE_FILE] + [rows.named_session(*row) for row in rows.NAMES]
+    sessions = rows.SERVED + rows.TOLD + [rows.ON_THE_FILE] + rows.IN_ANOTHER_FILE + [rows.named_session(*row) for row in rows.NAMES]
     sessions += [rows.log_session(number, *row) for number, row in enumerate(rows.LOGS)]
     for name, log, words, bodies, wanted in sessions:
         got = talk(folder, log, words + ["log"], bodies + [rows.END, rows.EXIT])

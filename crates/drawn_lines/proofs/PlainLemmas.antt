@@ -9,7 +9,7 @@ use Rattle.std.proofs.lemmas.List.Splits.{length-slice_split, slice_split-cons_y
 use Rattle.std.proofs.lemmas.List.Sums.{prefix_len-le-length}
 use Rattle.memchr.specs.Find.{is_byte}
 use Rattle.tool_lines.specs.Lines.{lines_of as lines_in, without_cr}
-use Rattle.tool_lines.specs.Paint.{behind_bracket, behind_escape, color_end, color_len, ends_color, ends_link, is_color_byte, link_end, link_len, paint_len, unpainted, unpainted_from}
+use Rattle.tool_lines.specs.Paint.{behind_bracket, behind_escape, behind_paren, color_end, color_len, ends_color, ends_link, is_color_byte, link_end, link_len, paint_len, unpainted, unpainted_from}
 use Rattle.fed_lines.proofs.FeedLemmas.{some_length}
 use Rattle.drawn_lines.specs.Text.{begun_with, came_behind, came_of, lines_in_text, lines_of, read_line, without_bare_end, without_lf, without_mark}
 
@@ -102,18 +102,32 @@ bracket_within (x ∷ (y ∷ c)) =
       | false ↦ omega arith
     ]
 
+paren_cut : (c more : List ℕ) → behind_paren (c ++ 0x0A ∷ more) ≡ behind_paren c
+paren_cut [] more = refl
+paren_cut (x ∷ c) more = refl
+
+paren_within : (c : List ℕ) → behind_paren c ≤ length c + 2
+paren_within [] = omega arith
+paren_within (x ∷ c) = elim (x == 0x42) as (λ v. (if v then 3 else 0) ≤ length (x ∷ c) + 2) [ true ↦ omega arith | false ↦ omega arith ]
+
 escape_cut : (c more : List ℕ) → behind_escape (c ++ 0x0A ∷ more) ≡ behind_escape c
 escape_cut [] more = refl
-escape_cut (x ∷ c) more = ap₂ (λ a b. if x == 0x5B then a else if x == 0x5D then b else 0) (color_cut c more) (bracket_cut c more)
+escape_cut (x ∷ c) more =
+    ap₂ (λ a b. if x == 0x5B then a else if x == 0x5D then b else if x == 0x28 then behind_paren (c ++ 0x0A ∷ more) else 0) (color_cut c more) (bracket_cut c more)
+    ∙ ap (λ n. if x == 0x5B then color_len c else if x == 0x5D then behind_bracket c else if x == 0x28 then n else 0) (paren_cut c more)
 
 escape_within : (c : List ℕ) → behind_escape c ≤ length c + 1
 escape_within [] = omega arith
 escape_within (x ∷ c) =
     let color : color_len c ≤ length c + 2 = color_within c in
     let bracket : behind_bracket c ≤ length c + 2 = bracket_within c in
-    elim (x == 0x5B) as (λ v. (if v then color_len c else if x == 0x5D then behind_bracket c else 0) ≤ length (x ∷ c) + 1) [
+    let paren : behind_paren c ≤ length c + 2 = paren_within c in
+    elim (x == 0x5B) as (λ v. (if v then color_len c else if x == 0x5D then behind_bracket c else if x == 0x28 then behind_paren c else 0) ≤ length (x ∷ c) + 1) [
       | true ↦ omega (arith, color)
-      | false ↦ elim (x == 0x5D) as (λ v. (if v then behind_bracket c else 0) ≤ length (x ∷ c) + 1) [ true ↦ omega (arith, bracket) | false ↦ omega arith ]
+      | false ↦ elim (x == 0x5D) as (λ v. (if v then behind_bracket c else if x == 0x28 then behind_paren c else 0) ≤ length (x ∷ c) + 1) [
+        | true ↦ omega (arith, bracket)
+        | false ↦ elim (x == 0x28) as (λ v. (if v then behind_paren c else 0) ≤ length (x ∷ c) + 1) [ true ↦ omega (arith, paren) | false ↦ omega arith ]
+      ]
     ]
 
 paint_cut : (x : ℕ) (c more : List ℕ) → paint_len (x ∷ (c ++ 0x0A ∷ more)) ≡ paint_len (x ∷ c)

@@ -59,8 +59,8 @@ pub record RefusesValue (own : List (String Global)) (tool : Option (String Glob
 -- ---- what is found in them
 
 -- the names of findings and of the pieces of lines
-abbrev pub names_in : List Finding → List PieceParts → List (List ℕ)
-names_in findings pieces = changes None (filter_map file_of findings) ++ line_names pieces
+abbrev pub names_in : List Finding → List (List ℕ) → List ReadParts → List (List ℕ)
+names_in findings lines reads = changes None (filter_map file_of findings) ++ line_names lines reads
 
 -- the lines of the text beside values
 abbrev pub lines_of : List ℕ → List (List ℕ)
@@ -75,10 +75,10 @@ pub record FindsSaid (asked : Asked) (given : List ℕ → Held) (said : Said) (
 pub record FindsBeside (told : Told) (asked : Asked) (said : Said) (beside : List ℕ) (found : List Found) (aside : List ℕ) : Type 0 where
   pub pieces : List PieceParts
   pub are : ArePieces (shapes_of asked) None (lines_of beside) pieces
-  pub given : List ℕ → Held
-  pub told_so : IsGiven told Path (names_in said.findings pieces) given
   pub reads : List ReadParts
   pub reads_are : Reads (lines_of beside) pieces reads
+  pub given : List ℕ → Held
+  pub told_so : IsGiven told Path (names_in said.findings (lines_of beside) reads) given
   pub finds : FindsSaid asked given said (lines_of beside) pieces reads found aside
 
 -- ---- all

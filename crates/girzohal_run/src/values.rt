@@ -143,9 +143,9 @@ fn find_beside<S: Store>(
     let lines = text_lines(alloc, &text)?;
     let shapes = shapes_of(alloc, asked)?;
     let pieces = pieces_of(alloc, &lines, &shapes)?;
-    let names = names_of(alloc, said, &pieces)?;
-    let sources = gather_indexed(alloc, store, Spelling::Path, &names)?;
     let reads = read_pieces(alloc, &lines, &pieces)?;
+    let names = names_of(alloc, said, &lines, &reads)?;
+    let sources = gather_indexed(alloc, store, Spelling::Path, &names)?;
     find_said(alloc, asked, said, &lines, &pieces, &reads, &sources)
 }
 
@@ -153,13 +153,15 @@ fn find_beside<S: Store>(
 fn names_of(
     alloc: Global,
     said: &Said<'_, '_>,
-    pieces: &[Piece<'_>],
+    lines: &[&[u8]],
+    reads: &[ReadPiece<'_>],
 ) -> Result<Vec<String>, AllocError>
     ensures { IfOk result (λ names. map string_bytes names.items
-        ≡ names_in (said_view said.now).findings (map piece_parts pieces.now)) }
+        ≡ names_in (said_view said.now).findings (map (λ line. line.now) lines.now)
+        (map read_parts reads.now)) }
 {
     let mut names = finding_names(alloc, &said.findings)?;
-    let mut others = line_names(alloc, pieces)?;
+    let mut others = line_names(alloc, lines, reads)?;
     names.append(&mut others)?;
     Ok(names)
 }

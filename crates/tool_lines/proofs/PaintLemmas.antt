@@ -6,7 +6,7 @@ use Rattle.std.proofs.lemmas.List.Sums.{sum_by-cons}
 use Rattle.std.proofs.lemmas.Bool.Decides.{nat_tests}
 use Rattle.line_shapes.proofs.PlaceLemmas.{rest_is}
 use Rattle.memchr.specs.Find.{IsFirstByte, is_byte}
-use Rattle.tool_lines.specs.Paint.{behind_bracket, behind_escape, color_len, ends_color, ends_link, is_color_byte, link_end, link_len, paint_len, unpainted, unpainted_from}
+use Rattle.tool_lines.specs.Paint.{behind_bracket, behind_escape, behind_paren, color_len, ends_color, ends_link, is_color_byte, link_end, link_len, paint_len, unpainted, unpainted_from}
 
 skips : (n : ℕ) (text : List ℕ) → unpainted_from n text ≡ unpainted (drop n text)
 unfolding unpainted_from
@@ -155,11 +155,18 @@ bracket_spared (x ∷ (y ∷ rest)) =
     either_spares text (x == 0x38) (if y == 0x3B then link_len rest else 0) 0 (λ so. either_spares text (y == 0x3B) (link_len rest) 0 (λ too.
     subst (λ a. Spares (0x1B ∷ (0x5D ∷ (a ∷ (y ∷ rest)))) (link_len rest)) (sym (eqb-true x 0x38 so)) (subst (λ b. Spares (0x1B ∷ (0x5D ∷ (0x38 ∷ (b ∷ rest)))) (link_len rest)) (sym (eqb-true y 0x3B too)) (link_spared rest))) refl) refl
 
+paren_spared : (rest : List ℕ) → Spares (0x1B ∷ (0x28 ∷ rest)) (behind_paren rest)
+paren_spared [] = refl
+paren_spared (x ∷ rest) = either_spares (0x1B ∷ (0x28 ∷ (x ∷ rest))) (x == 0x42) 3 0 (λ so. first_spared (λ a. a == 0x42) refl x rest so) refl
+
 escape_spared : (rest : List ℕ) → Spares (0x1B ∷ rest) (behind_escape rest)
 escape_spared [] = refl
 escape_spared (x ∷ rest) =
-    either_spares (0x1B ∷ (x ∷ rest)) (x == 0x5B) (color_len rest) (if x == 0x5D then behind_bracket rest else 0) (λ so. subst (λ a. Spares (0x1B ∷ (a ∷ rest)) (color_len rest)) (sym (eqb-true x 0x5B so)) (color_spared rest))
-    (either_spares (0x1B ∷ (x ∷ rest)) (x == 0x5D) (behind_bracket rest) 0 (λ so. subst (λ a. Spares (0x1B ∷ (a ∷ rest)) (behind_bracket rest)) (sym (eqb-true x 0x5D so)) (bracket_spared rest)) refl)
+    let text : List ℕ = 0x1B ∷ (x ∷ rest) in
+    let letters : ℕ = if x == 0x28 then behind_paren rest else 0 in
+    either_spares text (x == 0x5B) (color_len rest) (if x == 0x5D then behind_bracket rest else letters) (λ so. subst (λ a. Spares (0x1B ∷ (a ∷ rest)) (color_len rest)) (sym (eqb-true x 0x5B so)) (color_spared rest))
+    (either_spares text (x == 0x5D) (behind_bracket rest) letters (λ so. subst (λ a. Spares (0x1B ∷ (a ∷ rest)) (behind_bracket rest)) (sym (eqb-true x 0x5D so)) (bracket_spared rest))
+    (either_spares text (x == 0x28) (behind_paren rest) 0 (λ so. subst (λ a. Spares (0x1B ∷ (a ∷ rest)) (behind_paren rest)) (sym (eqb-true x 0x28 so)) (paren_spared rest)) refl))
 
 paint_spared : (text : List ℕ) → Spares text (paint_len text)
 paint_spared [] = refl

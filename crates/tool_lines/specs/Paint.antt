@@ -1,4 +1,4 @@
--- Texts without the colors and links that tools write to terminals.
+-- Texts without the colors and links that tools write to terminals, and without what sets plain letters.
 use Rattle.std.specs.Prelude.{ℕ, zero, suc, ◌+◌, ◌-◌, ◌==◌, ◌||◌, not, if◌then◌else◌, Bool, List, [], ◌∷◌, drop, slice_index}
 use Rattle.std.specs.List.{prefix_len}
 use Rattle.line_shapes.specs.declared.bytes.Kind.TheVariants.{Digit}
@@ -35,11 +35,16 @@ behind_bracket [] = 0
 behind_bracket (x ∷ []) = 0
 behind_bracket (x ∷ (y ∷ rest)) = if x == 0x38 then (if y == 0x3B then link_len rest else 0) else 0
 
+-- plain letters are set by ESC, `(` and `B`
+abbrev pub behind_paren : List ℕ → ℕ
+behind_paren [] = 0
+behind_paren (x ∷ rest) = if x == 0x42 then 3 else 0
+
 abbrev pub behind_escape : List ℕ → ℕ
 behind_escape [] = 0
-behind_escape (x ∷ rest) = if x == 0x5B then color_len rest else if x == 0x5D then behind_bracket rest else 0
+behind_escape (x ∷ rest) = if x == 0x5B then color_len rest else if x == 0x5D then behind_bracket rest else if x == 0x28 then behind_paren rest else 0
 
--- how many bytes the color or the link takes that a text begins with, or 0
+-- how many bytes the color, the link or the setting of letters takes that a text begins with, or 0
 abbrev pub paint_len : List ℕ → ℕ
 paint_len [] = 0
 paint_len (x ∷ rest) = if x == 0x1B then behind_escape rest else 0

@@ -13,8 +13,9 @@ use line_shapes::bytes::{Kind, is_in};
 use memchr::memchr;
 use std::alloc::{AllocError, Global};
 
-/// A text without its ANSI escapes: colors (ESC `[`, digits and `;`, and `m` or `K`), and the
-/// start and end of links (ESC `]8;` up to BEL or ESC `\`). It has as many LF as before.
+/// A text without its ANSI escapes: colors (ESC `[`, digits and `;`, and `m` or `K`), the start
+/// and end of links (ESC `]8;` up to BEL or ESC `\`), and plain letters (ESC `(B`, which `tput
+/// sgr0` gives before it ends a color). It has as many LF as before.
 ///
 /// # Errors
 ///
@@ -68,7 +69,7 @@ fn keep_or_skip<'a>(plain: &mut Vec<u8>, text: &'a [u8]) -> Result<&'a [u8], All
     }
 }
 
-/// The length of the color or link at the beginning of a text, or 0.
+/// The length of the ANSI escape at the beginning of a text, or 0.
 fn paint_len(text: &[u8]) -> usize
     ensures value { result ≡ paint_length text.now }
     ensures within { result ≤ length text.now }
@@ -76,6 +77,7 @@ fn paint_len(text: &[u8]) -> usize
     match text {
         [b'\x1B', b'[', rest @ ..] => color_len(rest),
         [b'\x1B', b']', b'8', b';', rest @ ..] => link_len(rest),
+        [b'\x1B', b'(', b'B', ..] => 3,
         _ => 0,
     }
 }
