@@ -79,6 +79,10 @@ COME = ("a.c:1:2:0:0: error: x\na.c:2:3:0:0: error: x\na.js:3:5:0:0: error[no-un
 # The same as a drawing, which is written as lines come: each block where its lines were.
 DRAWN = ("\n  x x\n  note: y\n           at a.c:1:2\n" "\n" "z\n" "\n  x x\n  note: at a.c:2:3\n" "\n  x no-undef: x\n  note: at a.js:3:5\n" "w\n" "3 errors\n")
 
+# Empty lines: before a finding, between two, and before a line. One right before a finding isn't written, since a drawing begins with one.
+APART = "z\n\na.c:1:2: error: x\n  y\n\na.c:2:3: error: x\n\n\nw"
+APART_DRAWN = "z\n" "\n  x x\n  note: y\n           at a.c:1:2\n" "\n  x x\n  note: at a.c:2:3\n" "\n\nw\n" "2 errors\n"
+
 # A row with a tab, an accented letter of two bytes, and a letter of four bytes and two units of UTF-16.
 ROW = "\t\u00e9\U0001d54f b"
 # A unit, a column of this row from 1, and the span that begins there.
@@ -181,6 +185,7 @@ class Rows:
         self.told("details", DETAILED, "note", DETAILS)
         self.problems("lines as they come", COMING, *COME)
         self.tries.check("lines as they come, drawn", self.run(COMING, "--ascii"), (0, DRAWN, ""))
+        self.tries.check("empty lines, drawn", self.run(APART, "--ascii"), (0, APART_DRAWN, ""))
 
     def try_sources(self):
         with open(os.path.join(self.room, "a.c"), "w", encoding="utf-8", newline="") as source:

@@ -8,7 +8,9 @@ use Rattle.tool_lines.specs.declared.lines.Piece.{Piece}
 use Rattle.tool_lines.specs.Lines.{PieceParts, is_kept, piece_parts}
 use Rattle.girzohal_options.specs.declared.Asked.{Asked}
 use Rattle.drawn_lines.specs.Again.{RunParts, Sign, begun_by, flags_from, flags_in, fresh, is_unique, muted, muted_at, muted_if, no_run, repeated, seen_behind, seen_from, seen_with, sign_of, signs, was_printed, with_sign}
+use Rattle.drawn_lines.specs.Parting.{begins_empty, is_blank, unparted, waits}
 use Rattle.drawn_lines.specs.Seam.{BarePieces, all_open, opens, span}
+use Rattle.drawn_lines.proofs.PartingLemmas.{unparted_bare, unparted_open, unparted_parted, unparted_span}
 
 -- ---- each piece has a flag
 
@@ -141,14 +143,34 @@ muted_bare which [] ps bare = tt
 muted_bare which (f ∷ fs) [] bare = tt
 muted_bare which (f ∷ fs) (p ∷ ps) bare = (one_bare (if which then f else not f) p bare.0, muted_bare which fs ps bare.1)
 
+one_sort : (is : Bool) (p : PieceParts) → (muted_if is p).begun.sort ≡ p.begun.sort
+one_sort true p = refl
+one_sort false p = refl
+
+muted_waits : (before which : Bool) (lines : List (List ℕ)) (fs : List Bool) (ps : List PieceParts) → length fs ≡ length ps → waits before lines (muted_at which fs ps) ≡ waits before lines ps
+muted_waits before which lines [] [] same = refl
+muted_waits before which lines [] (p ∷ ps) same = absurd (omega arith)
+muted_waits before which lines (f ∷ fs) [] same = absurd (omega arith)
+muted_waits before which lines (f ∷ fs) (p ∷ ps) same =
+    let is : Bool = if which then f else not f in
+    ap₂ (λ s n. waits (is_kept s && begins_empty (take n lines)) (drop n lines) (muted_at which fs ps)) (one_sort is p) (one_span is p)
+    ∙ muted_waits (is_blank (take p.lines lines) p) which (drop p.lines lines) fs ps (omega arith)
+
 -- ---- those that are new, and those that are printed again
 
-pub fresh_parted : (asked : Asked) (seen : Seen) (lines more : List (List ℕ)) (front ps : List PieceParts) → span front ≤ length lines → all_open ps ≡ true
+pub fresh_parted : (asked : Asked) (seen : Seen) (lines more : List (List ℕ)) (front ps : List PieceParts) → span front ≤ length lines → all_open ps ≡ true → waits false lines front ≡ false
     → fresh asked seen (lines ++ more) (front ++ ps) ≡ fresh asked seen lines front ++ fresh asked (seen_behind asked seen lines front) (drop (span front) lines ++ more) ps
 unfolding fresh
-fresh_parted asked seen lines more front ps within is =
-    ap (λ fs. muted_at true fs (front ++ ps)) (flags_parted asked seen lines more front ps within is)
-    ∙ muted_parted true (flags_in asked seen lines front) (flags_in asked (seen_behind asked seen lines front) (drop (span front) lines ++ more) ps) front ps (flags_each asked seen lines front)
+fresh_parted asked seen lines more front ps within is full =
+    let here : List Bool = flags_in asked seen lines front in
+    let there : List Bool = flags_in asked (seen_behind asked seen lines front) (drop (span front) lines ++ more) ps in
+    let each : length here ≡ length front = flags_each asked seen lines front in
+    let muted_front : List PieceParts = muted_at true here front in
+    let as_long : span muted_front ≡ span front = muted_span true here front each in
+    ap (λ fs. unparted (lines ++ more) (muted_at true fs (front ++ ps))) (flags_parted asked seen lines more front ps within is)
+    ∙ ap (unparted (lines ++ more)) (muted_parted true here there front ps each)
+    ∙ unparted_parted false lines more muted_front (muted_at true there ps) (omega (arith, within, as_long)) (muted_waits false true lines here front each ∙ full)
+    ∙ ap (λ n. unparted lines muted_front ++ unparted (drop n lines ++ more) (muted_at true there ps)) as_long
 
 pub repeated_parted : (asked : Asked) (seen : Seen) (lines more : List (List ℕ)) (front ps : List PieceParts) → span front ≤ length lines → all_open ps ≡ true
     → repeated asked seen (lines ++ more) (front ++ ps) ≡ repeated asked seen lines front ++ repeated asked (seen_behind asked seen lines front) (drop (span front) lines ++ more) ps
@@ -159,7 +181,7 @@ repeated_parted asked seen lines more front ps within is =
 
 pub fresh_span : (asked : Asked) (seen : Seen) (lines : List (List ℕ)) (ps : List PieceParts) → span (fresh asked seen lines ps) ≡ span ps
 unfolding fresh
-fresh_span asked seen lines ps = muted_span true (flags_in asked seen lines ps) ps (flags_each asked seen lines ps)
+fresh_span asked seen lines ps = unparted_span lines (muted_at true (flags_in asked seen lines ps) ps) ∙ muted_span true (flags_in asked seen lines ps) ps (flags_each asked seen lines ps)
 
 pub repeated_span : (asked : Asked) (seen : Seen) (lines : List (List ℕ)) (ps : List PieceParts) → span (repeated asked seen lines ps) ≡ span ps
 unfolding repeated
@@ -167,7 +189,7 @@ repeated_span asked seen lines ps = muted_span false (flags_in asked seen lines 
 
 pub fresh_open : (asked : Asked) (seen : Seen) (lines : List (List ℕ)) (ps : List PieceParts) → all_open ps ≡ true → all_open (fresh asked seen lines ps) ≡ true
 unfolding fresh
-fresh_open asked seen lines ps here = muted_open true (flags_in asked seen lines ps) ps here
+fresh_open asked seen lines ps here = unparted_open lines (muted_at true (flags_in asked seen lines ps) ps) (muted_open true (flags_in asked seen lines ps) ps here)
 
 pub repeated_open : (asked : Asked) (seen : Seen) (lines : List (List ℕ)) (ps : List PieceParts) → all_open ps ≡ true → all_open (repeated asked seen lines ps) ≡ true
 unfolding repeated
@@ -175,7 +197,7 @@ repeated_open asked seen lines ps here = muted_open false (flags_in asked seen l
 
 pub fresh_bare : (asked : Asked) (seen : Seen) (lines : List (List ℕ)) (ps : List PieceParts) → BarePieces ps → BarePieces (fresh asked seen lines ps)
 unfolding fresh
-fresh_bare asked seen lines ps bare = muted_bare true (flags_in asked seen lines ps) ps bare
+fresh_bare asked seen lines ps bare = unparted_bare lines (muted_at true (flags_in asked seen lines ps) ps) (muted_bare true (flags_in asked seen lines ps) ps bare)
 
 -- ---- one step of the walk
 

@@ -27,7 +27,8 @@ use Rattle.drawn_lines.specs.Again.{fresh, repeated, seen_behind}
 use Rattle.drawn_lines.specs.Lines.{aside_text, columns_of, shapes_of, still, written}
 use Rattle.drawn_lines.specs.Coming.{Agrees, BothGiven, Draws, GoesOn, IsComing, IsDrawn, Looks, Reads, Told, most_of, seen_of, sources_of}
 use Rattle.drawn_lines.specs.Counts.{count_of, count_with, ending, ending_by, no_count}
-use Rattle.drawn_lines.specs.Seam.{BarePieces, IsPart, IsSeam, all_open, span}
+use Rattle.drawn_lines.specs.Parting.{waits}
+use Rattle.drawn_lines.specs.Seam.{BarePieces, IsFull, IsPart, IsSeam, all_open, span}
 use Rattle.drawn_lines.specs.declared.coming.Come.{Come}
 use Rattle.drawn_lines.specs.declared.held.HeldLines.{HeldLines}
 use Rattle.drawn_lines.specs.declared.seam.Part.{Part}
@@ -229,18 +230,20 @@ front_goes told asked given whole whole_came text aside drawn stands found again
       reports = on.reports ∙ (ap (λ fs. found ++ fs) reported ∙ sym (append_assoc found here found_left));
       repeats = on.repeats ∙ (ap (λ fs. again ++ fs) repeats_are ∙ sym (append_assoc again there again_left));
       said = λ rest.
-          on.said
-          (given_more told given lines more now_reads reads (span front) (lines_span now_reads ∙ (ap span now_are.of_them ∙ fresh_span_is)) within said.0 rest.0,
-          given_more told given lines more now_others others (span front) (lines_span now_others ∙ (ap span others_now.of_them ∙ rep_span_is)) within said.1 rest.1);
+          on.said (
+            given_more told given lines more now_reads reads (span front) (lines_span now_reads ∙ (ap span now_are.of_them ∙ fresh_span_is)) within said.0 rest.0,
+            given_more told given lines more now_others others (span front) (lines_span now_others ∙ (ap span others_now.of_them ∙ rep_span_is)) within said.1 rest.1,
+          );
     }
 
 -- what is given of these names is what was told
 both_here : (told : Told) (sources : List Source) (given : List ℕ → Held) (lines : List (List ℕ)) (reads others : List ReadParts) → All (MeetsTold told Path) sources → Agrees sources given
     → All (λ name. listed sources name ≡ true) (names_in lines reads ++ names_in lines others) → BothGiven told given lines reads others
 both_here told sources given lines reads others meet agrees all =
-    let L : List ℕ → Type 0 = λ name. listed sources name ≡ true in
-    (said_here told sources given (names_in lines reads) meet agrees (all_front L (names_in lines reads) (names_in lines others) all),
-    said_here told sources given (names_in lines others) meet agrees (all_rest L (names_in lines reads) (names_in lines others) all))
+    let L : List ℕ → Type 0 = λ name. listed sources name ≡ true in (
+      said_here told sources given (names_in lines reads) meet agrees (all_front L (names_in lines reads) (names_in lines others) all),
+      said_here told sources given (names_in lines others) meet agrees (all_rest L (names_in lines reads) (names_in lines others) all),
+    )
 
 -- the first lines that came are let go with those that are read
 dropped_read : (held next : HeldLines) (count : ℕ) → map (λ line. line.items) next.lines.items ≡ drop count (map (λ line. line.items) held.lines.items)
@@ -258,10 +261,10 @@ as_many held read = ap length read ∙ length-map (map (λ line. line.items) hel
 
 front_drawn : (told : Told) (asked : Asked) (taken text aside drawn stands : List ℕ) (held next : HeldLines) (before now : Tally) (pieces : List PieceParts) (at : ℕ)
     → (let lines : List (List ℕ) = map (λ line. line.items) held.lines.items in let came : List (List ℕ) = map (λ line. line.items) held.came.items in
-    ArePieces (shapes_of asked) None lines pieces → IsSeam (shapes_of asked) lines pieces at → Draws told asked before now lines came (take at pieces) drawn stands
+    ArePieces (shapes_of asked) None lines pieces → IsSeam (shapes_of asked) lines pieces at → waits false lines (take at pieces) ≡ false → Draws told asked before now lines came (take at pieces) drawn stands
     → map (λ line. line.items) next.lines.items ≡ drop (span (take at pieces)) lines → map (λ line. line.items) next.came.items ≡ drop (span (take at pieces)) came
     → next.tail.items ≡ held.tail.items → next.begun ≡ held.begun → IsComing told asked taken text aside held before → IsComing told asked taken (text ++ drawn) (aside ++ stands) next now)
-front_drawn told asked taken text aside drawn stands held next before now pieces at are seam draws lines_are came_are tail_is begun_is coming =
+front_drawn told asked taken text aside drawn stands held next before now pieces at are seam full draws lines_are came_are tail_is begun_is coming =
     let lines : List (List ℕ) = map (λ line. line.items) held.lines.items in
     let came : List (List ℕ) = map (λ line. line.items) held.came.items in
     let front : List PieceParts = take at pieces in
@@ -311,7 +314,7 @@ front_drawn told asked taken text aside drawn stands held next before now pieces
           let rep_same_span : span rep_front ≡ span front = repeated_span asked seen lines front in
           let all_reads : Reads (lines ++ these) (fresh asked seen (lines ++ these) (front ++ ps)) (draws.reads ++ reads) =
           reads_on lines these fresh_front fresh_ps (fresh asked seen (lines ++ these) (front ++ ps)) draws.reads reads (omega (arith, seam.within, fresh_same_span))
-          (fresh_parted asked seen lines these front ps seam.within opens_here) draws.reads_are
+          (fresh_parted asked seen lines these front ps seam.within opens_here full) draws.reads_are
           (subst (λ n. Reads (drop n lines ++ these) fresh_ps reads) (sym fresh_same_span) reads_left) in
           let all_others : Reads (lines ++ these) (repeated asked seen (lines ++ these) (front ++ ps)) (draws.others ++ others) =
           reads_on lines these rep_front rep_ps (repeated asked seen (lines ++ these) (front ++ ps)) draws.others others (omega (arith, seam.within, rep_same_span))
@@ -340,25 +343,26 @@ front_drawn told asked taken text aside drawn stands held next before now pieces
 -- ---- what was looked at
 
 looks_are : (told : Told) (asked : Asked) (before now : Tally) (lines came : List (List ℕ)) (pieces front : List PieceParts) (part : Part) (text aside : List ℕ)
-    → ArePieces (shapes_of asked) None lines pieces → IsPart (shapes_of asked) lines pieces part → front ≡ take part.pieces pieces
+    → ArePieces (shapes_of asked) None lines pieces → IsPart (shapes_of asked) lines pieces part → IsFull lines pieces part → front ≡ take part.pieces pieces
     → Draws told asked before now lines came front text aside → Looks told asked before now lines came text aside part.lines
-looks_are told asked before now lines came pieces front part text aside are is front_is draws =
+looks_are told asked before now lines came pieces front part text aside are is full front_is draws =
     record {
       pieces = pieces;
       are = are;
       at = part.pieces;
       seam = is.seam;
+      full = full;
       draws = subst (λ ps. Draws told asked before now lines came ps text aside) front_is draws;
       lines_are = is.lines_are;
     }
 
 pub looks_from : (told : Told) (asked : Asked) (before now : Tally) (shapes : List ShapeParts) (lent lines came : List (List ℕ)) (pieces front : List PieceParts) (part : Part)
-    (text aside : List ℕ) → shapes ≡ shapes_of asked → lent ≡ lines → ArePieces shapes None lent pieces → IsPart shapes lent pieces part → front ≡ take part.pieces pieces
+    (text aside : List ℕ) → shapes ≡ shapes_of asked → lent ≡ lines → ArePieces shapes None lent pieces → IsPart shapes lent pieces part → IsFull lent pieces part → front ≡ take part.pieces pieces
     → Draws told asked before now lent came front text aside → Looks told asked before now lines came text aside part.lines
-looks_from told asked before now shapes lent lines came pieces front part text aside shapes_is lent_is are is front_is draws =
+looks_from told asked before now shapes lent lines came pieces front part text aside shapes_is lent_is are is full front_is draws =
     subst (λ ls. Looks told asked before now ls came text aside part.lines) lent_is
     (looks_are told asked before now lent came pieces front part text aside (subst (λ s. ArePieces s None lent pieces) shapes_is are)
-    (subst (λ s. IsPart s lent pieces part) shapes_is is) front_is draws)
+    (subst (λ s. IsPart s lent pieces part) shapes_is is) full front_is draws)
 
 pub look_drawn : (told : Told) (asked : Asked) (taken text aside drawn stands : List ℕ) (held next : HeldLines) (before now : Tally) (count : ℕ)
     → Looks told asked before now (map (λ line. line.items) held.lines.items) (map (λ line. line.items) held.came.items) drawn stands count
@@ -366,7 +370,7 @@ pub look_drawn : (told : Told) (asked : Asked) (taken text aside drawn stands : 
     → map (λ line. line.items) next.came.items ≡ drop count (map (λ line. line.items) held.came.items) → next.tail.items ≡ held.tail.items → next.begun ≡ held.begun
     → IsComing told asked taken text aside held before → IsComing told asked taken (text ++ drawn) (aside ++ stands) next now
 look_drawn told asked taken text aside drawn stands held next before now count looks left later tail begun coming =
-    front_drawn told asked taken text aside drawn stands held next before now looks.pieces looks.at looks.are looks.seam looks.draws
+    front_drawn told asked taken text aside drawn stands held next before now looks.pieces looks.at looks.are looks.seam looks.full looks.draws
     (left ∙ ap (λ n. drop n (map (λ (line : Vec ℕ Global). line.items) held.lines.items)) looks.lines_are)
     (later ∙ ap (λ n. drop n (map (λ (line : Vec ℕ Global). line.items) held.came.items)) looks.lines_are) tail begun coming
 

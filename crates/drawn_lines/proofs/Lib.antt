@@ -10,3 +10,4 @@ pub mod PartLemmas
 pub mod NameLemmas
 pub mod ComingLemmas
 pub mod AgainLemmas
+pub mod PartingLemmas

@@ -168,6 +168,11 @@ pub gap_found : (shapes : List ShapeParts) (lines : List (List ℕ)) (pieces : L
 gap_found shapes lines pieces None are gap = tt
 gap_found shapes lines pieces (Some part) are gap = gap_is shapes lines pieces part are gap
 
+-- a place that is taken if it is full stays a place
+pub part_stays : (P : Part → Type 0) (part : Part) (taken : Option Part) → IfSome taken (λ it. part ≡ it) → P part → IfSome taken P
+part_stays P part None same is = tt
+part_stays P part (Some it) same is = subst P same is
+
 -- ---- where the last line is a piece by itself
 
 opens_line : (shapes : List ShapeParts) (line : List ℕ) (more : List (List ℕ)) (ps : List PieceParts) → OpensAlways shapes line → ArePieces shapes None (line ∷ more) ps

@@ -4,6 +4,7 @@ use Rattle.std.specs.Option.{is_some}
 use Rattle.build_dirs.specs.Again.{Seen, key_text, lossy_piece, with_seen}
 use Rattle.tool_lines.specs.Lines.{FindingParts, PieceParts}
 use Rattle.girzohal_options.specs.declared.Asked.{Asked}
+use Rattle.drawn_lines.specs.Parting.{unparted}
 use Rattle.drawn_lines.specs.Seam.{says_aside}
 use Rattle.drawn_lines.specs.declared.again.Run.{Run}
 use Rattle.std.specs.Prelude.{string_bytes, unwrap_or}
@@ -93,9 +94,9 @@ muted_at which [] pieces = []
 muted_at which (flag ∷ flags) [] = []
 muted_at which (flag ∷ flags) (piece ∷ pieces) = muted_if (if which then flag else not flag) piece ∷ muted_at which flags pieces
 
--- pieces without the findings that were printed before, and those with no others
+-- pieces without the findings that were printed before, and without the empty lines before findings; and those with no other findings
 unfoldable pub fresh : Asked → Seen → List (List ℕ) → List PieceParts → List PieceParts
-fresh asked seen lines pieces = muted_at true (flags_in asked seen lines pieces) pieces
+fresh asked seen lines pieces = unparted lines (muted_at true (flags_in asked seen lines pieces) pieces)
 
 unfoldable pub repeated : Asked → Seen → List (List ℕ) → List PieceParts → List PieceParts
 repeated asked seen lines pieces = muted_at false (flags_in asked seen lines pieces) pieces

@@ -16,6 +16,7 @@ use Rattle.drawn_lines.specs.Again.{fresh, repeated, seen_behind}
 use Rattle.drawn_lines.specs.Counts.{count_of, count_with, ending}
 use Rattle.girzohal_options.specs.declared.Asked.{Asked}
 use Rattle.drawn_lines.specs.Text.{AreRead as LinesAreRead, came_of, came_to_come, lines_of, to_come}
+use Rattle.drawn_lines.specs.Parting.{waits}
 use Rattle.drawn_lines.specs.Seam.{IsSeam, span}
 use Rattle.drawn_lines.specs.Lines.{annotates, aside_text, columns_of, shapes_of, still, written}
 use Rattle.drawn_lines.specs.declared.held.HeldLines.{HeldLines}
@@ -71,6 +72,7 @@ pub record Looks (told : Told) (asked : Asked) (before now : Tally) (lines came 
   pub are : ArePieces (shapes_of asked) None lines pieces
   pub at : ℕ
   pub seam : IsSeam (shapes_of asked) lines pieces at
+  pub full : waits false lines (take at pieces) ≡ false
   pub draws : Draws told asked before now lines came (take at pieces) text aside
   pub lines_are : count ≡ span (take at pieces)
 

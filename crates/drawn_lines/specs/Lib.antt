@@ -5,3 +5,4 @@ pub mod Walk
 pub mod Seam
 pub mod Coming
 pub mod Again
+pub mod Parting

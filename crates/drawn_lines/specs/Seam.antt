@@ -6,6 +6,7 @@ use Rattle.tool_lines.specs.declared.lines.Sort.TheVariants.{Kept, Heading, Belo
 use Rattle.line_shapes.specs.Shape.{ShapeParts}
 use Rattle.tool_lines.specs.Lines.{ArePieces, FindingParts, PieceParts, begun, is_kept}
 use Rattle.fed_lines.specs.Feed.{ends_at}
+use Rattle.drawn_lines.specs.Parting.{waits}
 use Rattle.drawn_lines.specs.declared.seam.Part.{Part}
 use Rattle.drawn_lines.specs.declared.seam.Sought.{Sought}
 
@@ -62,6 +63,10 @@ pub record IsPart (shapes : List ShapeParts) (lines : List (List ℕ)) (pieces :
   pub seam : IsSeam shapes lines pieces part.pieces
   pub within : part.pieces ≤ length pieces
   pub lines_are : part.lines ≡ span (take part.pieces pieces)
+
+-- the last piece before such a place is no empty line
+abbrev pub IsFull : List (List ℕ) → List PieceParts → Part → Type 0
+IsFull lines pieces part = waits false lines (take part.pieces pieces) ≡ false
 
 -- ---- how such places are sought
 

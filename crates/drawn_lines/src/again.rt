@@ -14,6 +14,7 @@ ghost use Rattle.drawn_lines.specs.Seam.{says_aside as says_it_aside};
 ghost use Rattle.std.specs.Prelude.{option_map, if◌then◌else◌, not};
 
 use crate::kept::{behind, front};
+use crate::parting::unparted;
 use crate::seam::says_aside;
 use build_dirs::again::{SeenKeys, push_piece};
 use girzohal_options::Asked;
@@ -47,7 +48,8 @@ fn is_unique(asked: &Asked) -> bool
     asked.unique.unwrap_or(true)
 }
 
-/// Parts blocks by whether their findings were printed before, with the same notes.
+/// Parts blocks by whether their findings were printed before, with the same notes. The new ones
+/// are without the empty lines before findings.
 #[tactic(auto, unfolding(crate::specs::Again::fresh, crate::specs::Again::repeated))]
 pub(crate) fn sift<'p>(
     alloc: Global,
@@ -64,7 +66,8 @@ pub(crate) fn sift<'p>(
         (map (λ line. line.now) lines.now) (map piece_parts pieces.now)) }
 {
     let flags = flags_of(alloc, asked, seen, lines, pieces)?;
-    let fresh = muted_at(alloc, true, &flags, pieces)?;
+    let new = muted_at(alloc, true, &flags, pieces)?;
+    let fresh = unparted(alloc, lines, &new)?;
     let again = muted_at(alloc, false, &flags, pieces)?;
     Ok(Sifted { fresh, again })
 }

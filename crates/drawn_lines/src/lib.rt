@@ -13,6 +13,7 @@ mod count;
 mod form;
 mod held;
 mod kept;
+mod parting;
 mod reading;
 mod seam;
 mod tally;

@@ -1,12 +1,13 @@
 // Split points between blocks that stay, whatever follows.
 ghost use Rattle.std.specs.Prelude.{◌≡◌, ◌≤◌, ◌-◌, ◌&&◌, nat_le, true, if◌then◌else◌, IfSome, None};
-ghost use Rattle.std.specs.Prelude.{Some, map, option_map};
+ghost use Rattle.std.specs.Prelude.{Some, length, map, option_map, take};
 ghost use Rattle.line_shapes.specs.Shape.{shape_parts};
 ghost use Rattle.tool_lines.specs.Lines.{ArePieces, finding_parts, piece_parts};
-ghost use Rattle.drawn_lines.specs.Seam.{EndsKnown, IsEnd, IsGap, IsPart, OpensAlways};
+ghost use Rattle.drawn_lines.specs.Seam.{EndsKnown, IsEnd, IsFull, IsGap, IsPart, OpensAlways};
 ghost use Rattle.drawn_lines.specs.Seam.{closes as closes_sort, opens as opens_there};
 ghost use Rattle.drawn_lines.specs.Seam.{says_aside as says_it_aside};
 
+use crate::parting::waits;
 use fed_lines::ends_at;
 use line_shapes::shape::Shape;
 use tool_lines::lines::{Finding, Piece, Sort, announced, what_begins};
@@ -37,21 +38,73 @@ pub(crate) struct Sought {
     closed: bool,
 }
 
-/// The most of the first blocks of these lines that stay as they are, whatever follows, so that
-/// nothing later belongs to them.
+/// The first blocks of these lines that stay as they are, whatever follows, so that nothing later
+/// belongs to them, and of which the last isn't an empty line.
 pub(crate) fn part_of(shapes: &[Shape<'_>], lines: &[&[u8]], pieces: &[Piece<'_>]) -> Option<Part>
-    ensures { ArePieces (map shape_parts shapes.now) None (map (λ line. line.now) lines.now)
+    ensures part { ArePieces (map shape_parts shapes.now) None (map (λ line. line.now) lines.now)
         (map piece_parts pieces.now)
         → IfSome result (IsPart (map shape_parts shapes.now) (map (λ line. line.now) lines.now)
         (map piece_parts pieces.now)) }
+    ensures full { IfSome result (IsFull (map (λ line. line.now) lines.now)
+        (map piece_parts pieces.now)) }
+{
+    match end_part(shapes, lines, pieces) {
+        Some(part) => Some(part),
+        None => gap_part(lines, pieces),
+    }
+}
+
+/// A part, unless its last block is an empty line.
+fn full_part(lines: &[&[u8]], pieces: &[Piece<'_>], part: Part) -> Option<Part>
+    ensures same { IfSome result (λ it. part ≡ it) }
+    ensures full { IfSome result (IsFull (map (λ line. line.now) lines.now)
+        (map piece_parts pieces.now)) }
+{
+    if waits(lines, front_of(pieces, part.pieces)) {
+        None
+    } else {
+        Some(part)
+    }
+}
+
+/// The first `count` blocks of a list, or all.
+#[tactic(auto, using(crate::proofs::LineLemmas::take_within))]
+fn front_of<'r, 'p>(pieces: &'r [Piece<'p>], count: usize) -> &'r [Piece<'p>]
+    ensures { result.now ≡ take count pieces.now }
+{
+    let count = count.min(pieces.len());
+    pieces.split_at(count).0
+}
+
+/// All blocks but the last, if that is the last line and ends them.
+fn end_part(shapes: &[Shape<'_>], lines: &[&[u8]], pieces: &[Piece<'_>]) -> Option<Part>
+    ensures part { ArePieces (map shape_parts shapes.now) None (map (λ line. line.now) lines.now)
+        (map piece_parts pieces.now)
+        → IfSome result (IsPart (map shape_parts shapes.now) (map (λ line. line.now) lines.now)
+        (map piece_parts pieces.now)) }
+    ensures full { IfSome result (IsFull (map (λ line. line.now) lines.now)
+        (map piece_parts pieces.now)) }
 {
     if ends_known(shapes, lines, pieces) {
-        return Some(Part {
+        let part = Part {
             pieces: pieces.len().saturating_sub(1),
             lines: lines.len().saturating_sub(1),
-        });
+        };
+        return full_part(lines, pieces, part);
     }
-    gap_in(pieces, lines.len())
+    None
+}
+
+/// The most of the first blocks that have two lines after them.
+fn gap_part(lines: &[&[u8]], pieces: &[Piece<'_>]) -> Option<Part>
+    ensures gap { IfSome result (IsGap (map piece_parts pieces.now) (length lines.now)) }
+    ensures full { IfSome result (IsFull (map (λ line. line.now) lines.now)
+        (map piece_parts pieces.now)) }
+{
+    match gap_in(pieces, lines.len()) {
+        Some(part) => full_part(lines, pieces, part),
+        None => None,
+    }
 }
 
 /// Whether the last line alone is a block, ends the block before it, and is no note of it,

@@ -26,11 +26,12 @@ returns-in-Some g c =
     let drawn = c.in_ok-drawn-in-Some.drawn in
     let pieces = c.in_ok-pieces.pieces.items in
     let are = rw c.deref.ensures.value at c.in_ok-pieces.ensures in
-    let part = rw (c.deref-2.ensures.value, c.deref-3.ensures.value) at c.in-Some.ensures in
+    let part = rw (c.deref-2.ensures.value, c.deref-3.ensures.value) at c.in-Some.ensures.part in
+    let full = rw (c.deref-2.ensures.value, c.deref-3.ensures.value) at c.in-Some.ensures.full in
     let draws = rw c.deref-in-Some-2.ensures.value at c.in_ok-drawn-in-Some.ensures in
     looks_from (g.S.Store.told c.args.store.now) c.args.asked.now c.args.tally drawn.tally (map shape_parts c.args.shapes.now)
     (map (λ (line : Bor (List ℕ)). line.now) c.in_ok-lines.lines.items) (map (λ (line : Vec ℕ Global). line.items) c.args.lines.now)
     (map (λ (line : Vec ℕ Global). line.items) c.args.came.now) (map piece_parts pieces)
-    (map piece_parts c.split_at.result.0.now) c.in-Some.part (string_bytes drawn.text) (string_bytes drawn.aside) c.requires c.in_ok-lines.ensures are (part are)
+    (map piece_parts c.split_at.result.0.now) c.in-Some.part (string_bytes drawn.text) (string_bytes drawn.aside) c.requires c.in_ok-lines.ensures are (part are) full
     (ap (map piece_parts) (c.split_at.ensures.front ∙ ap (take c.in-Some.part.pieces) c.deref-in-Some.ensures.value)
     ∙ sym (take-map piece_parts c.in-Some.part.pieces pieces)) draws

@@ -1,29 +1,17 @@
--- The last line's place, or the last with two lines behind it.
-use Rattle.std.proofs.Common.{◌-◌, Bor, ℕ, List, map, ap₂, ◌∙◌, sym, ap, subst}
+-- The place before the last line, or the last with two lines behind it.
+use Rattle.std.proofs.Common.{Bor, ℕ, List, map, sym, subst}
 use Rattle.std.specs.Prelude.{IfSome}
 use Rattle.std.proofs.lemmas.List.{length-map}
 use Rattle.line_shapes.specs.Shape.{shape_parts}
 use Rattle.tool_lines.specs.Lines.{piece_parts}
-use Rattle.drawn_lines.specs.Seam.{IsGap, IsPart}
-use Rattle.drawn_lines.specs.declared.seam.Part.{Part}
-use Rattle.drawn_lines.proofs.SeamLemmas.{end_is, gap_found}
+use Rattle.drawn_lines.specs.Seam.{IsGap}
+use Rattle.drawn_lines.proofs.SeamLemmas.{gap_found}
 use Rattle.drawn_lines.proofs.seam.part_of.Goals as goal
 
-pub returns-then-ends_known : goal.returns-then-ends_known
-returns-then-ends_known c = λ are.
+pub returns-in-None-clause-part : goal.returns-in-None-clause-part
+returns-in-None-clause-part c = λ are.
     let shapes = map shape_parts c.args.shapes.now in
     let lines = map (λ (line : Bor (List ℕ)). line.now) c.args.lines.now in
     let pieces = map piece_parts c.args.pieces.now in
-    subst (IsPart shapes lines pieces)
-    (ap₂ (λ p l. let part : Part = record { pieces = p; lines = l } in part)
-    (ap (λ n. n - 1) (length-map c.args.pieces.now piece_parts) ∙ sym c.saturating_sub.ensures)
-    (ap (λ n. n - 1) (length-map c.args.lines.now (λ (line : Bor (List ℕ)). line.now)) ∙ sym c.saturating_sub-then-ends_known.ensures))
-    (end_is shapes lines pieces are (c.ends_known.ensures c.if-ends_known.true))
-
-pub returns : goal.returns
-returns c = λ are.
-    let shapes = map shape_parts c.args.shapes.now in
-    let lines = map (λ (line : Bor (List ℕ)). line.now) c.args.lines.now in
-    let pieces = map piece_parts c.args.pieces.now in
-    gap_found shapes lines pieces c.gap_in.result are
-    (subst (λ n. IfSome c.gap_in.result (IsGap pieces n)) (sym (length-map c.args.lines.now (λ (line : Bor (List ℕ)). line.now))) c.gap_in.ensures)
+    gap_found shapes lines pieces c.gap_part.result are
+    (subst (λ n. IfSome c.gap_part.result (IsGap pieces n)) (sym (length-map c.args.lines.now (λ (line : Bor (List ℕ)). line.now))) c.gap_part.ensures.gap)

@@ -1,0 +1,120 @@
+// Empty lines that part a finding from what stands before it.
+ghost use Rattle.std.specs.Prelude.{◌≡◌, ◌++◌, ◌∷◌, [], IfOk, OnOk, false, map};
+ghost use Rattle.tool_lines.specs.Lines.{piece_parts};
+ghost use Rattle.drawn_lines.specs.Parting.{begins_empty as begins_empty_line};
+ghost use Rattle.drawn_lines.specs.Parting.{begins_passed as begins_passed_there};
+ghost use Rattle.drawn_lines.specs.Parting.{is_blank as is_blank_piece};
+ghost use Rattle.drawn_lines.specs.Parting.{is_parting as is_parting_piece, passed as passed_piece};
+ghost use Rattle.drawn_lines.specs.Parting.{passed_if as passed_or, unparted as unparted_of};
+ghost use Rattle.drawn_lines.specs.Parting.{waits as waits_there};
+
+use crate::kept::{behind, front, is_kept};
+use std::alloc::{AllocError, Global};
+use tool_lines::lines::{Begun, Piece, Sort};
+
+/// Blocks of which an empty line right before a block that isn't kept is left out, since a drawing
+/// begins with an empty line.
+pub(crate) fn unparted<'p>(
+    alloc: Global,
+    lines: &[&[u8]],
+    pieces: &[Piece<'p>],
+) -> Result<Vec<Piece<'p>>, AllocError>
+    ensures { IfOk result (λ it. map piece_parts it.items
+        ≡ unparted_of (map (λ line. line.now) lines.now) (map piece_parts pieces.now)) }
+{
+    let mut all = Vec::new(alloc);
+    let mut left = lines;
+    let mut rest = pieces;
+    while let [piece, more @ ..] = rest {
+        push_next(&mut all, front(left, piece.lines), piece, more)?;
+        left = behind(left, piece.lines);
+        rest = more;
+    }
+    Ok(all)
+}
+
+/// Appends a block with these lines, which is before others.
+fn push_next<'p>(
+    all: &mut Vec<Piece<'p>>,
+    run: &[&[u8]],
+    piece: &Piece<'p>,
+    more: &[Piece<'p>],
+) -> Result<(), AllocError>
+    ensures { OnOk result (map piece_parts all.new.items ≡ map piece_parts all.old.items
+        ++ passed_or (is_parting_piece (map (λ line. line.now) run.now) (piece_parts piece.now)
+        (map piece_parts more.now)) (piece_parts piece.now) ∷ []) }
+{
+    all.push(passed_if(is_parting(run, piece, more), piece))?;
+    Ok(())
+}
+
+/// Whether a block with these lines is an empty line right before a block that isn't kept.
+fn is_parting(run: &[&[u8]], piece: &Piece<'_>, more: &[Piece<'_>]) -> bool
+    ensures { result ≡ is_parting_piece (map (λ line. line.now) run.now) (piece_parts piece.now)
+        (map piece_parts more.now) }
+{
+    is_blank(run, piece) && begins_passed(more)
+}
+
+/// Whether the last of these blocks is an empty line: what follows decides whether it is written.
+pub(crate) fn waits(lines: &[&[u8]], pieces: &[Piece<'_>]) -> bool
+    ensures { result ≡ waits_there false (map (λ line. line.now) lines.now)
+        (map piece_parts pieces.now) }
+{
+    let mut last = false;
+    let mut left = lines;
+    let mut rest = pieces;
+    while let [piece, more @ ..] = rest {
+        last = is_blank(front(left, piece.lines), piece);
+        left = behind(left, piece.lines);
+        rest = more;
+    }
+    last
+}
+
+/// Whether a block with these lines is an empty line that is kept.
+fn is_blank(run: &[&[u8]], piece: &Piece<'_>) -> bool
+    ensures { result ≡ is_blank_piece (map (λ line. line.now) run.now) (piece_parts piece.now) }
+{
+    is_kept(piece.begun.sort) && begins_empty(run)
+}
+
+/// Whether the first line is empty.
+fn begins_empty(run: &[&[u8]]) -> bool
+    ensures { result ≡ begins_empty_line (map (λ line. line.now) run.now) }
+{
+    match run {
+        [line, ..] => line.is_empty(),
+        [] => false,
+    }
+}
+
+/// Whether the first of these blocks isn't kept.
+fn begins_passed(pieces: &[Piece<'_>]) -> bool
+    ensures { result ≡ begins_passed_there (map piece_parts pieces.now) }
+{
+    match pieces {
+        [piece, ..] => !is_kept(piece.begun.sort),
+        [] => false,
+    }
+}
+
+/// A block, passed if `is`.
+fn passed_if<'p>(is: bool, piece: &Piece<'p>) -> Piece<'p>
+    ensures { piece_parts result ≡ passed_or is (piece_parts piece.now) }
+{
+    if is { passed(piece) } else { *piece }
+}
+
+/// A block whose lines aren't written.
+fn passed<'p>(piece: &Piece<'p>) -> Piece<'p>
+    ensures { piece_parts result ≡ passed_piece (piece_parts piece.now) }
+{
+    Piece {
+        lines: piece.lines,
+        begun: Begun {
+            sort: Sort::Heading,
+            finding: None,
+        },
+    }
+}
