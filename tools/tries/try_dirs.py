@@ -233,7 +233,7 @@ class Tries:
         found = []
         for part in re.split(r"^  x ", text, flags=re.M)[1:]:
             message = part.split("\n", 1)[0]
-            name = re.search(r",-\[(.*):\d+:\d+\]", part) or re.search(r"\bat (.*):\d+:\d+$", part, flags=re.M)
+            name = re.search(r",-\[(.*):\d+:\d+\]", part) or re.search(r"\bat (.*):\d+:\d+(?: \(not read: .*\))?$", part, flags=re.M)
             found.append((message, name and name[1]))
         return found
 
