@@ -1,7 +1,7 @@
 use Rattle.std.proofs.Common.{◌*◌, ◌≤◌, length}
 use Rattle.excerpt_rows.specs.Expansion.{IsMeasured}
 use Rattle.excerpt_rows.proofs.ExpansionLemmas.{PlacesSoFar}
-use Rattle.excerpt_rows.proofs.expansion.places_of.Given as goal
+use Rattle.excerpt_rows.proofs.expansion.shown_places.Given as goal
 
 abbrev pub invariant-loop-c : goal.invariant-loop-c
 invariant-loop-c l = record {

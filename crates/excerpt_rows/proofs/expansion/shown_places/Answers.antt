@@ -3,7 +3,7 @@ use Rattle.std.proofs.Common.{vec_len, ◌+◌, ◌≡◌, ◌<◌, ◌∙◌, a
 use Rattle.std.proofs.lemmas.List.{get_or_read}
 use Rattle.excerpt_rows.specs.Expansion.{shown}
 use Rattle.excerpt_rows.proofs.ExpansionLemmas.{places_begin, places_more, resized, shown_few}
-use Rattle.excerpt_rows.proofs.expansion.places_of.Goals as goal
+use Rattle.excerpt_rows.proofs.expansion.shown_places.Goals as goal
 
 pub loop-c-init : goal.loop-c-init
 loop-c-init c = record {
