@@ -5,7 +5,7 @@ use Rattle.std.proofs.lemmas.Bool.{cases_lt}
 use Rattle.std.proofs.lemmas.Bool.Decides.{nat_tests}
 use Rattle.std.proofs.lemmas.List.{drop_all}
 use Rattle.std.specs.List.{prefix_len}
-use Rattle.excerpt_lines.specs.Cells.{cells_of, cell_at, is_narrow, narrow_end, over_from, step}
+use Rattle.excerpt_lines.specs.Cells.{cells_of, cell_at, is_narrow, narrow_end, over_from, places_from, step}
 
 next_of : (cell : ℕ) (line : List ℕ) (k : ℕ) → k < length line → cells_of cell (take (suc k) line) ≡ cells_of cell (take k line) + step (cells_of cell (take k line)) (slice_index line k)
 next_of cell [] k within = absurd (omega arith)
@@ -52,6 +52,14 @@ narrow_stops line k wide =
       | inl inside ↦ rw (drop-cons line k 0 inside) (omega (arith, prefix_no (slice_index line k) (drop (suc k) line) (wide inside)))
       | inr past ↦ rw (drop_all k line past) (omega arith)
     ]
+
+none_from : (k cell : ℕ) (line : List ℕ) → places_from [] k cell line ≡ []
+none_from k cell [] = refl
+none_from k cell (c ∷ cs) = none_from (k + 1) (cell + step cell c) cs
+
+pub no_places : (cells line : List ℕ) → length cells ≡ 0 → places_from cells 0 0 line ≡ []
+no_places [] line none = none_from 0 0 line
+no_places (cell ∷ cells) line none = absurd (omega (arith, none))
 
 pub ruleset overs = (over_goes_on, over_here, over_end)
 

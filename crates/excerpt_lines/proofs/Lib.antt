@@ -3,4 +3,5 @@ pub mod GutterLemmas
 pub mod ItemLemmas
 pub mod PlaceLemmas
 pub mod RunLemmas
+pub mod TableLemmas
 pub mod TextLemmas

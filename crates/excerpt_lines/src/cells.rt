@@ -119,12 +119,15 @@ pub fn end_column(row: &[char], text: usize, end_cell: usize) -> usize
 /// # Errors
 ///
 /// Out of memory.
-#[tactic(auto, unfolding(crate::specs::Cells::places_of))]
+#[tactic(auto, using(crate::proofs::CellLemmas::no_places), unfolding(crate::specs::Cells::places_of))]
 pub fn places_in(alloc: Global, line: &[char], cells: &[usize]) -> Result<Vec<usize>, AllocError>
     requires { length line.now < 2 ^ 32 }
     ensures { IfOk result (λ places. places.items ≡ places_of cells.now line.now) }
 {
     let mut places = Vec::new(alloc);
+    if cells.is_empty() {
+        return Ok(places);
+    }
     let mut cell = 0;
     for (k, c) in line.iter().enumerate() {
         if cells.contains(&cell) {

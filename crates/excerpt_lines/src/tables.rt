@@ -1,5 +1,5 @@
 //! What drawings are made of. No row of these tables is for one tool alone.
-ghost use Rattle.std.specs.Prelude.{◌≡◌, ◌==◌, ◌≤◌, IfSome, length, true};
+ghost use Rattle.std.specs.Prelude.{◌≡◌, ◌==◌, ◌||◌, ◌≤◌, IfSome, false, length, true};
 ghost use Rattle.std.specs.List.{list_any};
 ghost use Rattle.excerpt_lines.specs.Tables.{is_frame as frames};
 ghost use Rattle.excerpt_lines.specs.Tables.{arrow_len as arrow_length, class_of as class_meant};
@@ -117,7 +117,9 @@ pub fn arrow_len(text: &[char]) -> usize
     ensures value { result ≡ arrow_length text.now }
     ensures within { result ≤ length text.now }
 {
-    if text.starts_with(&['-', '-', '>', ' ']) || text.starts_with(&[':', ':', ':', ' ']) {
+    if !may_be_arrow(text) {
+        0
+    } else if text.starts_with(&['-', '-', '>', ' ']) || text.starts_with(&[':', ':', ':', ' ']) {
         4
     } else if text.starts_with(&['╭', '▸', ' '])
         || text.starts_with(&['⸬', ' ', ' '])
@@ -131,13 +133,32 @@ pub fn arrow_len(text: &[char]) -> usize
     }
 }
 
+/// Whether the first character of a text is that of an arrow.
+fn may_be_arrow(text: &[char]) -> bool
+    ensures { result ≡ false → arrow_length text.now ≡ 0 }
+{
+    match text {
+        [c, ..] => is_arrow_head(*c),
+        [] => false,
+    }
+}
+
+fn is_arrow_head(c: char) -> bool
+    ensures { result ≡ (0x2D == c || 0x3A == c || 0x256D == c || 0x2E2C == c || 0x250C == c
+        || 0x2C == c) }
+{
+    matches!(c, '-' | ':' | '╭' | '⸬' | '┌' | ',')
+}
+
 /// The length of the leader of a note that a text begins with, in characters; 0 without one.
 #[tactic(auto, unfolding(crate::specs::Tables::leader_len))]
 pub fn leader_len(text: &[char]) -> usize
     ensures value { result ≡ leader_length text.now }
     ensures within { result ≤ length text.now }
 {
-    if text.starts_with(&['=', ' '])
+    if !may_be_leader(text) {
+        0
+    } else if text.starts_with(&['=', ' '])
         || text.starts_with(&['├', ' '])
         || text.starts_with(&['╰', ' '])
     {
@@ -145,6 +166,22 @@ pub fn leader_len(text: &[char]) -> usize
     } else {
         0
     }
+}
+
+/// Whether the first character of a text is that of a leader.
+fn may_be_leader(text: &[char]) -> bool
+    ensures { result ≡ false → leader_length text.now ≡ 0 }
+{
+    match text {
+        [c, ..] => is_leader_head(*c),
+        [] => false,
+    }
+}
+
+fn is_leader_head(c: char) -> bool
+    ensures { result ≡ (0x3D == c || 0x251C == c || 0x2570 == c) }
+{
+    matches!(c, '=' | '├' | '╰')
 }
 
 /// Whether a text is a note without a leader in a drawing.
