@@ -1,4 +1,4 @@
-use Rattle.std.proofs.Common.{◌≡◌, ◌∙◌, sym, arith}
+use Rattle.std.proofs.Common.{◌∙◌, sym, arith}
 use Rattle.std.proofs.lemmas.List.{get_or_read}
 use Rattle.excerpt_lines.proofs.TableLemmas.{other_arrow, short_arrow}
 use Rattle.excerpt_lines.proofs.tables.may_be_arrow.Goals as goal

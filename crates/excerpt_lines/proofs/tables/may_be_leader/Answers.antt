@@ -1,4 +1,4 @@
-use Rattle.std.proofs.Common.{◌≡◌, ◌∙◌, sym, arith}
+use Rattle.std.proofs.Common.{◌∙◌, sym, arith}
 use Rattle.std.proofs.lemmas.List.{get_or_read}
 use Rattle.excerpt_lines.proofs.TableLemmas.{other_leader, short_leader}
 use Rattle.excerpt_lines.proofs.tables.may_be_leader.Goals as goal
