@@ -107,18 +107,50 @@ pub(crate) fn characters(alloc: Global, mut lines: &[&[u8]]) -> Result<Vec<Vec<c
     Ok(all)
 }
 
+#[tactic(auto, using(crate::proofs::CharacterLemmas::ascii_rules))]
 pub(crate) fn line_characters(alloc: Global, line: &[u8]) -> Result<Vec<char>, AllocError>
     ensures { IfOk result (λ all. all.items ≡ line_chars line.now) }
 {
+    if line.is_ascii() {
+        return ascii_characters(alloc, line);
+    }
     let text = String::from_utf8_lossy(alloc, line)?;
-    text_characters(alloc, text.as_str())
+    all_characters(alloc, text.as_str())
 }
 
-#[tactic(auto, using(std::proofs::lemmas::Str::chars_from_encodes))]
+#[tactic(auto, using(crate::proofs::CharacterLemmas::ascii_rules))]
 pub(crate) fn text_characters(alloc: Global, text: &str) -> Result<Vec<char>, AllocError>
     ensures { IfOk result (λ all. all.items ≡ chars text.now) }
 {
+    if text.is_ascii() {
+        return ascii_characters(alloc, text.as_bytes());
+    }
+    all_characters(alloc, text)
+}
+
+#[tactic(auto, using(std::proofs::lemmas::Str::chars_from_encodes))]
+fn all_characters(alloc: Global, text: &str) -> Result<Vec<char>, AllocError>
+    ensures { IfOk result (λ all. all.items ≡ chars text.now) }
+{
     text.chars().collect(alloc)
+}
+
+/// Each byte as a character.
+fn ascii_characters(alloc: Global, line: &[u8]) -> Result<Vec<char>, AllocError>
+    ensures { IfOk result (λ all. all.items ≡ line.now) }
+{
+    let mut all = Vec::with_capacity(alloc, line.len())?;
+    for byte in line {
+        push_character(&mut all, *byte as char)?;
+    }
+    Ok(all)
+}
+
+fn push_character(all: &mut Vec<char>, c: char) -> Result<(), AllocError>
+    ensures { OnOk result (all.new.items ≡ all.old.items ++ c ∷ []) }
+{
+    all.push(c)?;
+    Ok(())
 }
 
 /// Lines, lent.
