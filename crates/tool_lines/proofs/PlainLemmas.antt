@@ -6,7 +6,7 @@ use Rattle.line_shapes.specs.declared.name.NameKind.TheVariants.{Any}
 use Rattle.line_shapes.specs.declared.tables.Manner.TheVariants.{Plain}
 use Rattle.line_shapes.specs.declared.tables.TheConstants.{ANNOUNCED, ARROW, ARROW_PLACE, UNDER}
 use Rattle.line_shapes.specs.Part.{Seen, before, fit, may_begin}
-use Rattle.line_shapes.specs.Place.{Place, has_figure}
+use Rattle.line_shapes.specs.Place.{Place, has_figure, place}
 use Rattle.line_shapes.specs.Said.{meant, whole}
 use Rattle.line_shapes.specs.Shape.{ShapeParts, first_named, own, own_at}
 use Rattle.line_shapes.specs.Name.{is_name}
@@ -18,7 +18,7 @@ use Rattle.line_shapes.proofs.PlaceLemmas.{all_past}
 use Rattle.line_shapes.proofs.PartLemmas.{not_begun}
 use Rattle.tool_lines.specs.declared.lines.Sort.TheVariants.{Kept}
 use Rattle.tool_lines.specs.Marks.{begins_blank}
-use Rattle.tool_lines.specs.Lines.{BegunParts, FindingParts, announced, first_place, parted, places, announced_by, arrow, begun, begun_of, below, inline, is_heading, is_placing, is_plain, other_arrow, text_below, told, uncoloned, whole_among}
+use Rattle.tool_lines.specs.Lines.{BegunParts, FindingParts, announced, arrows, first_arrow, first_place, parted, places, announced_by, arrow, begun, begun_of, below, inline, is_heading, is_placing, is_plain, other_arrow, text_below, told, uncoloned, whole_among}
 
 not_some : {A : Type 0} (o : Option A) → is_some o ≡ false → o ≡ None
 not_some None e = refl
@@ -76,6 +76,20 @@ none_first (row ∷ rows) line needs none =
 places_need : list_all (λ row. needs_figure row.2) places ≡ true
 unfolding places
 places_need = refl
+
+none_among : (rows : List (List Part × List Part)) (line : List ℕ) → list_all (λ row. needs_figure row.1) rows ≡ true → has_figure line ≡ false → first_arrow rows line ≡ None
+none_among [] line needs none = refl
+none_among (row ∷ rows) line needs none =
+    let parts : (needs_figure row.1 ≡ true) × (list_all (λ row. needs_figure row.1) rows ≡ true) = and_parts (needs_figure row.1) (list_all (λ row. needs_figure row.1) rows) needs in
+    ap (λ o. option_or o (first_arrow rows line)) (none_own Any row.0 row.1 line (fit row.0 (before line)) refl parts.0 none) ∙ none_among rows line parts.1 none
+
+-- each arrow has such a number
+arrows_need : list_all (λ row. needs_figure row.1) arrows ≡ true
+unfolding arrows
+arrows_need = refl
+
+pub no_other_arrow : (line : List ℕ) → has_figure line ≡ false → other_arrow line ≡ None
+no_other_arrow line none = ap (option_and_then (λ (p : Place). if is_some (place line) then None else Some p)) (none_among arrows line arrows_need none)
 
 not_inline : (line : List ℕ) (next : Option (List ℕ)) → has_figure line ≡ false → inline [] line next ≡ None
 not_inline line next none =

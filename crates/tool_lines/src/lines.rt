@@ -455,10 +455,13 @@ fn arrow(line: &[u8]) -> Option<Placed<'_>>
 
 /// The location in a line that is an arrow other than `-->`. A line that has a location before its
 /// message is none.
-#[tactic(auto, unfolding(crate::specs::Lines::arrows))]
+#[tactic(auto, unfolding(crate::specs::Lines::arrows), using(crate::proofs::PlainLemmas::no_other_arrow))]
 fn other_arrow(line: &[u8]) -> Option<Placed<'_>>
     ensures { option_map placed_parts result ≡ other_arrow_in line.now }
 {
+    if !has_figure(line) {
+        return None;
+    }
     let there = first_arrow(&ARROWS, line)?;
     if place(line).is_some() {
         None
