@@ -21,6 +21,7 @@ use Rattle.checkstyle_roundtrip.proofs.ChildrenLemmas.{names_for, parts_of, rows
 use Rattle.checkstyle_roundtrip.proofs.CharLemmas.{is_quiet}
 use Rattle.checkstyle_roundtrip.proofs.Utf8Lemmas.{ascii_on, ByRecursion, HasTexts, rows_utf8}
 use Rattle.checkstyle_roundtrip.proofs.QuietLemmas.{rows_quiet}
+use Rattle.checkstyle_roundtrip.proofs.ErrorLemmas.{started_as}
 use Rattle.checkstyle_roundtrip.proofs.FileLemmas.{file_quiet, file_utf8, file_written, files_are, HasOwn, own_then}
 
 -- ---- as it is written
@@ -67,9 +68,6 @@ version_read : (n : ℕ) (rest : List ℕ) → attributes (suc (suc n)) [] (tag_
 version_read n rest =
     attributes_on (suc n) [] (codes "version") (codes "4.3") (codes "4.3") (0x3E ∷ rest) version_key version_value refl ∙ attributes_closed n ((codes "version", codes "4.3") ∷ []) rest
 
-root_started : Reading → Option (List Attribute × List ℕ) → Option ((List ℕ × Json) × List ℕ)
-root_started el read = option_and_then (started el (codes "checkstyle")) read
-
 ended_by : Option (Parts × List ℕ) → Option ((List ℕ × Json) × List ℕ)
 ended_by read = option_and_then (ended (codes "checkstyle")) read
 
@@ -83,14 +81,14 @@ abbrev root_value : List FindingParts → Json
 root_value findings = object (member (codes "version") (string (codes "4.3")) (some_under (codes "file") (map (file_value findings) (names_of findings))))
 
 root_read : (depth : ℕ) (findings : List FindingParts) (rest : List ℕ) → element (suc (suc (suc depth))) (root_then findings rest) ≡ Some ((codes "checkstyle", root_value findings), rest)
-unfolding element root_then root_started ended_by
+unfolding element root_then started_as ended_by
 root_read depth findings rest =
     let rows : List ℕ = 0x0A ∷ rows_of findings rest in
     let turns = two_turns (0x3E ∷ rows) in
     let el : Reading = element (suc (suc depth)) in
     let back = rows_back el (codes "file") (own_then findings) (file_value findings) (files_are depth findings) refl (names_of findings) (length rows + 1) ((codes "version", codes "4.3") ∷ []) (codes "checkstyle>" ++ rest) (omega arith) in
-    ap (λ n. root_started el (attributes n [] (tag_then (0x3E ∷ rows)))) turns.1
-    ∙ (ap (root_started el) (version_read turns.0 rows)
+    ap (λ n. started_as (codes "checkstyle") el (attributes n [] (tag_then (0x3E ∷ rows)))) turns.1
+    ∙ (ap (started_as (codes "checkstyle") el) (version_read turns.0 rows)
     ∙ (ap ended_by back.2
     ∙ (closed_as back.0 (names_for (codes "file") (names_of findings)) (map (λ name. (codes "file", file_value findings name)) (names_of findings)) rest
     ∙ ap (λ v. Some ((codes "checkstyle", v), rest)) (children_value (codes "file") (codes "version") (codes "4.3") (file_value findings) files_apart (names_of findings) back.0 back.1))))

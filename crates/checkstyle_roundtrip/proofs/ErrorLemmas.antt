@@ -181,8 +181,9 @@ tag_read n f rest =
 six_turns : (f : FindingParts) (rest : List ℕ) → (n : ℕ) × (length (tag_then f rest) + 1 ≡ suc (suc (suc (suc (suc (suc n))))))
 six_turns f rest = (length (tag_then f rest) - 5, omega arith)
 
-error_started : Reading → Option (List Attribute × List ℕ) → Option ((List ℕ × Json) × List ℕ)
-error_started el read = option_and_then (started el (codes "error")) read
+-- an element of this name after its attributes
+unfoldable pub started_as : List ℕ → Reading → Option (List Attribute × List ℕ) → Option ((List ℕ × Json) × List ℕ)
+started_as name el read = option_and_then (started el name) read
 
 -- an element without content
 empty_read : (el : Reading) (f : FindingParts) (code : Option (List ℕ)) (rest : List ℕ) → f.code ≡ code
@@ -192,11 +193,11 @@ empty_read el f None rest is = rw is refl
 empty_read el f (Some code) rest is = rw is refl
 
 pub error_read : (depth : ℕ) (f : FindingParts) (rest : List ℕ) → element (suc depth) (error_then f rest) ≡ Some ((codes "error", error_value f), rest)
-unfolding element error_then error_started
+unfolding element error_then started_as
 error_read depth f rest =
     let turns = six_turns f (0x3E ∷ rest) in
-    ap (λ n. error_started (element depth) (attributes n [] (tag_then f (0x3E ∷ rest)))) turns.1
-    ∙ (ap (error_started (element depth)) (tag_read turns.0 f (0x3E ∷ rest)) ∙ empty_read (element depth) f f.code rest refl)
+    ap (λ n. started_as (codes "error") (element depth) (attributes n [] (tag_then f (0x3E ∷ rest)))) turns.1
+    ∙ (ap (started_as (codes "error") (element depth)) (tag_read turns.0 f (0x3E ∷ rest)) ∙ empty_read (element depth) f f.code rest refl)
 
 child_if : Parts → List ℕ × Json → List ℕ → Bool → Option (Bool × Parts × List ℕ)
 child_if parts it rest may = if may then Some (false, with_child parts it, rest) else None

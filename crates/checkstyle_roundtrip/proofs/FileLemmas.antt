@@ -15,7 +15,7 @@ use Rattle.checkstyle_roundtrip.specs.Value as value
 use Rattle.checkstyle_roundtrip.specs.Value.{error_value, file_value}
 use Rattle.checkstyle_roundtrip.proofs.AttributeLemmas.{attribute_longer, attribute_then, attributes_closed, attributes_on, IsKey, spelled_out}
 use Rattle.checkstyle_roundtrip.proofs.ChildrenLemmas.{AreChildren, names_for, parts_of, rows_back, rows_then}
-use Rattle.checkstyle_roundtrip.proofs.ErrorLemmas.{error_quiet, error_then, error_utf8, error_written, errors_are}
+use Rattle.checkstyle_roundtrip.proofs.ErrorLemmas.{error_quiet, error_then, error_utf8, error_written, errors_are, started_as}
 use Rattle.checkstyle_roundtrip.proofs.BlankLemmas.{AreApart, children_value}
 use Rattle.checkstyle_roundtrip.proofs.CharLemmas.{is_quiet, shown_quiet}
 use Rattle.checkstyle_roundtrip.proofs.Utf8Lemmas.{ascii_on, ByRecursion, HasTexts, rows_utf8, shown_utf8}
@@ -80,9 +80,6 @@ name_read : (n : ℕ) (name rest : List ℕ) → attributes (suc (suc n)) [] (at
 name_read n name rest =
     attributes_on (suc n) [] (codes "name") (shown name) (held name) (0x3E ∷ rest) name_key (shown_value name) refl ∙ attributes_closed n ((codes "name", held name) ∷ []) rest
 
-file_started : Reading → Option (List Attribute × List ℕ) → Option ((List ℕ × Json) × List ℕ)
-file_started el read = option_and_then (started el (codes "file")) read
-
 ended_by : Option (Parts × List ℕ) → Option ((List ℕ × Json) × List ℕ)
 ended_by read = option_and_then (ended (codes "file")) read
 
@@ -92,14 +89,14 @@ unfolding ended_by
 closed_as name own names children rest = refl
 
 pub file_read : (depth : ℕ) (name : List ℕ) (own : List FindingParts) (rest : List ℕ) → element (suc (suc depth)) (file_then name own rest) ≡ Some ((codes "file", value.file_with name own), rest)
-unfolding element file_then file_started ended_by value.file_with
+unfolding element file_then started_as ended_by value.file_with
 file_read depth name own rest =
     let rows : List ℕ = 0x0A ∷ rows_then error_then own (0x3C ∷ 0x2F ∷ (codes "file>" ++ rest)) in
     let turns = two_turns name (0x3E ∷ rows) in
     let attrs : List Attribute = (codes "name", held name) ∷ [] in
     let back = rows_back (element (suc depth)) (codes "error") error_then error_value (errors_are depth) refl own (length rows + 1) attrs (codes "file>" ++ rest) (omega arith) in
-    ap (λ n. file_started (element (suc depth)) (attributes n [] (attribute_then (codes "name") (shown name) (0x3E ∷ rows)))) turns.1
-    ∙ (ap (file_started (element (suc depth))) (name_read turns.0 name rows)
+    ap (λ n. started_as (codes "file") (element (suc depth)) (attributes n [] (attribute_then (codes "name") (shown name) (0x3E ∷ rows)))) turns.1
+    ∙ (ap (started_as (codes "file") (element (suc depth))) (name_read turns.0 name rows)
     ∙ (ap ended_by back.2
     ∙ (closed_as name back.0 (names_for (codes "error") own) (map (λ f. (codes "error", error_value f)) own) rest
     ∙ ap (λ v. Some ((codes "file", v), rest)) (children_value (codes "error") (codes "name") (held name) error_value errors_apart own back.0 back.1))))
