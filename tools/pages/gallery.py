@@ -25,6 +25,14 @@ HEAD = """# Gallery
 What real tools printed for the sources in `examples/outputs/src`, and what `girzohal` draws of it. `tools/pages/gallery.py` makes this page.
 """
 
+DIFFERENCES = """What differs from the tools' own drawings:
+
+- Labels' colors go by their order: none is red because it is the error's own. Of two boxes the first label's comes first.
+- A mark within a range (`~~~^~~`) is the range alone, and the place its start. gcc's columns become characters.
+- Marks that overlap are side by side: an insertion in one (`──▲`) is right of its place. Replacements are insertions (`help: %d`).
+- Notes that are labels, and second helps, have no word; the level is a sign; what a suggestion adds isn't green.
+- What tsc draws, and paths of gcc's analyzer, stay text. mypy's wrapped messages end at their first line."""
+
 
 class Gallery:
     def __init__(self, program):
@@ -71,13 +79,10 @@ class Gallery:
             self.block(self.text(OUTPUTS, *words))
 
     def colors(self):
-        self.say(f"## In colors\n\nOn the left what the tool printed, on the right what is drawn, in terminals with {WIDTHS[0]} columns and below with {WIDTHS[1]}.")
-        for name, tool in self.beside(os.path.join(TOP, "docs")):
-            self.say(f"{called([*tool_words(name), f'../{name}.txt'])}:")
-            self.say("\n".join(f"![{tool}, {width}](gallery-{tool}-{width}.svg)" for width in WIDTHS))
-        self.say("What differs from the tools' own drawings: the labels' colors go by their order, so none is red because it is the error's own; of "
-                 "two boxes the first label's comes first, though the finding is at another; a replacement of clang or gcc is drawn as an insertion "
-                 "(`help: %d`); what a suggestion adds isn't green; a mark within a range (`~~~^~~`) is drawn as the range alone; and the level is a sign, not a word.")
+        self.say(f"## In colors\n\nWhat the tool printed, and what `girzohal --tool NAME` draws of it, in terminals with {WIDTHS[0]} and {WIDTHS[1]} columns.")
+        for _, tool in self.beside(os.path.join(TOP, "docs")):
+            self.say("\n".join(f"![{tool}-{width}](gallery-{tool}-{width}.svg)" for width in WIDTHS))
+        self.say(DIFFERENCES)
 
     def log(self):
         self.say("## A log\n\nA SARIF log whose findings have several labels:")

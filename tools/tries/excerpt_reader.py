@@ -419,15 +419,15 @@ def are_joined(one, over, other):
 
 
 def parts_of(mark):
-    """One label of a mark; or one for each cell at which texts hang from it."""
-    hung = sorted({cell for cell, beside, _, _ in mark.texts if not beside})
+    """One label of a mark; or one for each cell at which texts hang from it, in the order in which these texts are printed."""
+    hung = list(dict.fromkeys(cell for cell, beside, _, _ in mark.texts if not beside))
     if len(hung) < 2:
         return [(mark.start, [text for *_, text in mark.texts])]
-    parts = []
+    parts, least = [], min(hung)
     for cell in hung:
-        mine = [it for it in mark.texts if it[0] == cell and not it[1] or it[1] and cell == hung[0]]
+        mine = [it for it in mark.texts if it[0] == cell and not it[1] or it[1] and cell == least]
         column = next(it[2] for it in mine if not it[1])
-        parts.append((mark.start if cell == hung[0] else column, [text for *_, text in mine]))
+        parts.append((mark.start if cell == least else column, [text for *_, text in mine]))
     return parts
 
 

@@ -18,6 +18,7 @@ class Row(NamedTuple):
     read: bool = True  # else the body is kept as a whole
     others: list = ()  # other files: their names and texts
     asides: list = ()
+    unit: str = "characters"  # what the columns count
 
 
 ROWS = [
@@ -274,6 +275,27 @@ a.c:1:10: error: no such name
       |         ^
 """,
         [(1, 7, 1, 8, True, None)]),
+    Row("the mark is set by the column, which counts bytes", "a.c", "    /* \U0001d54f */ p[0] = 1 / 0;\n",
+        """\
+a.c:1:25: error: Division by zero. [zerodiv]
+    /* \U0001d54f */ p[0] = 1 / 0;
+                        ^
+""",
+        [(1, 21, 1, 22, True, None)], unit="bytes"),
+    Row("the same in a row with a tab, printed as a blank", "a.c", "\tf(\"\u65e5\", x);\n",
+        """\
+a.c:1:11: error: no such name
+ f("\u65e5", x);
+          ^
+""",
+        [(1, 8, 1, 9, True, None)], unit="bytes"),
+    Row("the mark is right where the column counts bytes", "a.c", 'f("\u65e5", x);\n',
+        """\
+a.c:1:10: error: no such name
+    1 | f("\u65e5", x);
+      |         ^
+""",
+        [(1, 7, 1, 8, True, None)], unit="bytes"),
     Row("the message is below", "M.hs", "import Data.Nope\n",
         """\
 M.hs:1:1: error:

@@ -8,7 +8,8 @@ usage: try_excerpts.py PROGRAM [--open DIR] [--mutants N] [--seed S] [--words]
 
 DIR has a folder for each output: out.txt, src/, and perhaps what the tool itself says of the same source (ref.json, ref.sarif; tool.txt
 names the tool). Its labels are counted against those of the program. --mutants: how many bodies are changed (default 2,000). --words: each
-word that a tool printed has to be in the drawing.
+word that a tool printed has to be in the drawing. Of a changed body, rows of the source that are more than one row from each label aren't
+asked for.
 
 The last line is `N passed, M failed`; the status is 0 if M is 0."""
 import argparse
@@ -46,6 +47,7 @@ class Source:
     """Folders in which names are looked up, as the program does from its root."""
     root: str
     anywhere: bool = False
+    unit: str = "characters"  # what columns count
     known: dict = field(default_factory=dict)
 
     def rows(self, name):
@@ -58,6 +60,13 @@ class Source:
                     self.known[name] = it.read()
         text = self.known[name]
         return None if text is None else [row.removesuffix("\r") for row in text.split("\n")]
+
+    def column(self, rows, it):
+        """The column of a finding in characters."""
+        column = it["column"]
+        if self.unit == "characters" or column is None or not it["line"] or it["line"] > len(rows):
+            return column
+        return len(rows[it["line"] - 1].encode()[:max(column - 1, 0)].decode(errors="ignore")) + 1
 
     def offset(self, name, row, column):
         """The bytes before a character of a row."""
@@ -124,13 +133,32 @@ class Findings:
                 asides += found
                 blocks += [block] if found else []
                 continue
-            found = self.block_labels(block, name, rows) if span else None
+            found = self.block_labels(block, name, rows, self.aim(span, it)) if span else None
             if found is not None:
                 drawn += found
                 blocks.append(block)
         said = excerpt.said(own, blocks) if excerpt else {"note": [], "kept": excerpt_reader.kept(lines[1:]), "help": []}
         note = said["note"] + without(self.below(at)[0], said["kept"]) + ([] if span else [placed(own)])
         return [Expected(shown(it["message"]), labels_over(span, drawn) if span else [], note, said["help"], numbers, it), *asides]
+
+    def far_lines(self):
+        """The lines that are rows of the source, but more than one row from each label in their file, so that no drawing shows them."""
+        for it, at, end in self.pieces:
+            excerpt = it and self.excerpt(it, at, [shown(line) for line in self.reader.lines[at:end]])
+            parts = {id(part.block): part for part in excerpt.parts} if excerpt else {}
+            laid = [(parts[id(block)], there) for block, there in (excerpt.drawings(shown(it["name"])) if excerpt else ()) if self.is_shown(block, there, it)]
+            for part, name in laid:
+                near = [(row.number, end_row.number) for other, there in laid if there == name for row, end_row in touched_rows(other.block)]
+                near += [(it["line"], it["line"])] if name == shown(it["name"]) else []
+                lines = [number for number, line in enumerate(part.lines, at + 1 + part.first) if line.kind == "row"]
+                yield from (number for number, row in zip(lines, part.block.rows) if not any(start - 1 <= row.number <= last + 1 for start, last in near))
+
+    def is_shown(self, block, there, it):
+        """Whether a drawing's labels are drawn over the source."""
+        rows = self.source.rows(there)
+        if there == shown(it["name"]):
+            return bool(rows and it["line"] and self.own_span(there, rows, it)) and self.block_labels(block, there, rows) is not None
+        return bool(self.asides(block, there, ""))
 
     def asides(self, block, there, message):
         """The labels of a drawing in another file as reports, which say what the label says, or else the finding; none if one of its rows isn't
@@ -141,12 +169,17 @@ class Findings:
 
     def own_span(self, name, rows, it):
         """The span of the finding itself, in bytes."""
-        span = span_of(rows, it)
+        span = span_of(rows, {**it, "column": self.source.column(rows, it)})
         before = span and ["\n".join(rows).encode()[:at].decode().split("\n") for at in span]
         return before and tuple(self.source.offset(name, len(lines), len(lines[-1])) for lines in before)
 
-    def block_labels(self, block, name, rows):
-        """The labels of a drawing, in bytes; none if one of its rows isn't the source's."""
+    def aim(self, span, it):
+        """The span of a finding and how many bytes its tool counts before it, if it counts these."""
+        return (span, max(it["column"] - 1, 0)) if self.source.unit == "bytes" and it["column"] is not None else None
+
+    def block_labels(self, block, name, rows, aim=None):
+        """The labels of a drawing, in bytes; none if one of its rows isn't the source's. A mark is over the finding, whose span and bytes before it
+        `aim` has, if it was set by the number of the column, as if that counted cells, and the finding begins before it in the row."""
         inserts = [excerpt_reader.Label(row, column, row, column, False, "help: " + text) for row, column, text in block.inserts]
         if not all(is_laid(row, rows) for row in block.rows):
             return None
@@ -155,8 +188,20 @@ class Findings:
             there = excerpt_reader.place_in_source(label, rows)
             start, end = self.source.offset(name, *there[:2]), self.source.offset(name, *there[2:])
             row = (self.source.offset(name, there[0], 0), self.source.offset(name, there[0], len(rows[there[0] - 1])))
+            if label.primary and aim and row[0] <= aim[0][0] < start and label.start == over(label.row.text(), aim[1]):
+                start, end = aim[0]
             found.append((start, max(start, end), label.primary, label.text, row))
         return found
+
+
+def touched_rows(block):
+    """The first and the last row of each label of a drawing, and of what it inserts."""
+    return [(label.row, label.end_row) for label in block.labels] + [(row, row) for row, *_ in block.inserts]
+
+
+def over(text, cell):
+    """The character of a text over a cell."""
+    return excerpt_reader.Row(None, "", text, 0).over(cell)
 
 
 def without(text, lines):
@@ -197,7 +242,7 @@ def of_report(report, document):
 class Tries:
     def __init__(self, program, words):
         self.program, self.words = os.path.abspath(program), words
-        self.passed = self.failed = self.skipped = 0
+        self.passed = self.failed = self.skipped = self.far = 0
         self.refs = Counter()
 
     def check(self, what, given, expected, text=""):
@@ -211,13 +256,13 @@ class Tries:
 
     def run(self, text, form, source, *words):
         anywhere = ["--allow-outside-root"] if source.anywhere else []
-        command = [self.program, "--from", "lines", "--to", form, "--fail-on", "never", "--columns", "characters", "--first-column", "1", "--root", source.root, *anywhere, *words]
+        command = [self.program, "--from", "lines", "--to", form, "--fail-on", "never", "--columns", source.unit, "--first-column", "1", "--root", source.root, *anywhere, *words]
         run = subprocess.run(command, input=text.encode(), capture_output=True, timeout=300)
         if run.returncode != 0:
             print(f"status {run.returncode} of {' '.join(command)}: {run.stderr.decode(errors='replace')[:300]}")
         return run.stdout.decode("utf-8", "replace")
 
-    def bodies(self, what, texts, source):
+    def bodies(self, what, texts, source, are_changed=False):
         """Each text is read between two findings without a body, so that it is known which reports are its own. Gives the reports of each."""
         whole = "".join(f"{text}\n\n{sentinel(number)}\n\n=== {number}\n\n" for number, text in enumerate(texts))
         document = json.loads(self.run(whole, "document", source, "--raw") or '{"files": [], "reports": []}')
@@ -232,7 +277,7 @@ class Tries:
         for number, text in enumerate(texts):
             self.body(f"{what} {number}", text, source, found[number])
         if self.words:
-            self.drawn(what, whole, texts, source)
+            self.drawn(what, whole, texts, source, are_changed)
         return found
 
     def body(self, what, text, source, reports):
@@ -243,8 +288,9 @@ class Tries:
         expected = list(findings.expected())
         self.check(what, [said_by(it) for it in reports], [said_by(it) for it in expected], text)
 
-    def drawn(self, what, whole, texts, source):
-        """Each word of a text is in what is drawn of it. A finding that is printed again isn't drawn again."""
+    def drawn(self, what, whole, texts, source, are_changed):
+        """Each word of a text is in what is drawn of it, but for those of far rows in a text that was changed. A finding that is printed
+        again isn't drawn again."""
         drawing = self.run(whole, "drawing", source, "--ascii", "--width", "4000", "--no-summary")
         parts, at = [""] * (len(texts) + 1), 0
         for line in drawing.split("\n"):
@@ -255,7 +301,9 @@ class Tries:
         for number, text in enumerate(texts):
             again = printed(text)
             if not again & told:
-                self.check(f"{what} {number}: words", missing_words(text, parts[number]), [], text)
+                far = set(Findings(text, source).far_lines()) if are_changed else set()
+                self.far += len(far)
+                self.check(f"{what} {number}: words", missing_words(text, parts[number], far), [], text)
             told |= again
 
 
@@ -283,13 +331,15 @@ def words_of(text):
     return re.findall(r"[^\W_]+", text)
 
 
-def missing_words(text, drawing):
-    """The words of a text that aren't drawn. Heads are drawn in another form, columns in another unit, and `<U+200D>` as it is in the source."""
+def missing_words(text, drawing, far):
+    """The words of a text that aren't drawn, but for those of far lines. Heads are drawn in another form, columns in another unit, and
+    `<U+200D>` as it is in the source."""
     heads = set()
     for _, it, at, _ in line_reader.Reader(text.encode()).pieces():
         if it:
             heads |= {str(it[key]) for key in ("line", "column", "endline", "endcolumn")}
-    plain = re.sub(r"<U\+[0-9A-F]+>", "", line_reader.PAINT.sub(b"", text.encode()).decode())
+    near = "\n".join(line for number, line in enumerate(text.split("\n")) if number not in far)
+    plain = re.sub(r"<U\+[0-9A-F]+>", "", line_reader.PAINT.sub(b"", near.encode()).decode())
     missing = [word for word in words_of(plain) if word not in drawing]
     return [word for word in missing if word.lower() not in HEADS and (word.lstrip("0") or "0") not in heads]
 
@@ -350,7 +400,7 @@ def row_failures(root):
         put_source(folder, row.name, row.source)
         for name, text in row.others:
             put_source(folder, name, text)
-        findings = Findings(row.output, Source(folder))
+        findings = Findings(row.output, Source(folder, unit=row.unit))
         found = [(it, findings.excerpt(it, at, list(map(shown, findings.reader.lines[at:end])))) for it, at, end in findings.pieces if it]
         if len(found) != 1 or (found[0][1] is not None) != row.read:
             yield f"{row.what}: findings, and whether each is read: {[excerpt is not None for _, excerpt in found]}"
@@ -361,7 +411,10 @@ def row_failures(root):
 def row_wrong(row, findings, it, excerpt):
     source, own = findings.source, (row.name, it["line"], it["column"])
     drawings = list(excerpt.drawings(row.name))
-    drawn = [(block, findings.block_labels(block, row.name, source.rows(row.name))) for block, there in drawings if there == row.name]
+    rows = source.rows(row.name)
+    span = findings.own_span(row.name, rows, it)
+    aim = span and findings.aim(span, it)
+    drawn = [(block, findings.block_labels(block, row.name, rows, aim)) for block, there in drawings if there == row.name]
     apart = [(block, there, findings.asides(block, there, shown(it["message"]))) for block, there in drawings if there != row.name]
     said = excerpt.said(own, [block for block, labels in drawn if labels is not None] + [block for block, _, found in apart if found])
     asides = [(there, *one.labels[0][:2], one.message) for _, there, found in apart for one in found]
@@ -375,7 +428,7 @@ def row_wrong(row, findings, it, excerpt):
 
 def try_rows(tries, root):
     for number, row in enumerate(excerpt_rows.ROWS):
-        tries.bodies(f"{row.what}:", [row.output.removesuffix("\n")], Source(os.path.join(root, str(number))))
+        tries.bodies(f"{row.what}:", [row.output.removesuffix("\n")], Source(os.path.join(root, str(number)), unit=row.unit))
 
 
 def try_output(tries, what, text, source):
@@ -403,7 +456,7 @@ def try_mutants(tries, chance, count):
         by_source.setdefault(source.root, (source, []))[1].append(text)
     for root, (source, texts) in by_source.items():
         for at in range(0, len(texts), 200):
-            tries.bodies(f"changed at random ({os.path.basename(os.path.dirname(root)) or root}), from {at}:", texts[at:at + 200], source)
+            tries.bodies(f"changed at random ({os.path.basename(os.path.dirname(root)) or root}), from {at}:", texts[at:at + 200], source, are_changed=True)
 
 
 def main():
@@ -423,7 +476,7 @@ def main():
         tries = Tries(asked.program, asked.words)
         tries.check("the second reader and the rows", wrong, [])
         try_rows(tries, root)
-        pool = [(row.output.removesuffix("\n"), Source(os.path.join(root, str(number)))) for number, row in enumerate(excerpt_rows.ROWS)]
+        pool = [(row.output.removesuffix("\n"), Source(os.path.join(root, str(number)), unit=row.unit)) for number, row in enumerate(excerpt_rows.ROWS)]
         for name in sorted(os.listdir(OUTPUTS)):
             if name.endswith(".txt") and not name.endswith("-color.txt"):
                 with open(os.path.join(OUTPUTS, name), encoding="utf-8", newline="") as it:
@@ -433,6 +486,8 @@ def main():
             try_open(tries, asked.open, pool)
             print("labels of the tools' own logs:", ", ".join(f"{tries.refs[key]} {key}" for key in excerpt_refs.KEYS))
         try_mutants(tries, Chance(asked.seed, [it for it in pool if "\n" in it[0]]), asked.mutants)
+    if tries.far:
+        print(f"{tries.far} rows of changed bodies weren't asked for: no label is near")
     print(f"{tries.passed} passed, {tries.failed} failed" + (f" ({tries.skipped} not compared: notes in them are of a finding above)" if tries.skipped else ""))
     sys.exit(1 if tries.failed else 0)
 

@@ -188,6 +188,49 @@ def try_logs(folder):
     check("JSON that begins with a list is told", published == [[]] and len(said) == 1 and "JSON of no known form" in said[0])
 
 
+def heard(child, count):
+    """The next messages that the program sends, of which so many come."""
+    out = []
+    for _ in range(count):
+        head = child.stdout.readline()
+        child.stdout.readline()
+        out.append(json.loads(child.stdout.read(int(head.split(b":")[1]))))
+    return [m["params"].get("message") or [d["message"] for d in m["params"].get("diagnostics", [])] if "params" in m else m["id"] for m in out]
+
+
+def try_changing_logs(folder):
+    """A log that changes while it is served: of what comes at once each message sees what the log has by then, in order."""
+    path = os.path.join(folder, "changing.log")
+    other = frame(notice("textDocument/didOpen", {"textDocument": {"uri": "file:///x/b.c", "version": 1, "text": "int x;\n"}}))
+    cut = frame(notice("textDocument/didChange", {"textDocument": {"uri": URI, "version": 2}, "contentChanges": [{"text": ""}]}))
+    steps = [
+        ("a log that is missing is told", None, BEGUN + OPENED, [1, path + ": it can't be read", []]),
+        ("lines that came since are shown", b"a.c:1:5: error: one\n", SAVED, [["one"]]),
+        ("the same are shown again", b"a.c:1:5: error: one\n", SAVED + SAVED, [["one"], ["one"]]),
+        ("others are shown to all that comes at once", b"a.c:2:1: note: two\nb.c:1:1: note: three\n", SAVED + other + SAVED + OPENED,
+         [["two"], ["three"], ["two"], ["three"], ["two"]]),
+        ("a SARIF log is shown behind lines", json.dumps(SARIF).encode(), SAVED + cut, [["one"], [], []]),
+        ("and shown again", json.dumps(SARIF).encode(), SAVED + OPENED, [["one"], [], ["one"]]),
+        ("a broken log is told", b"[{}]", OPENED, [path + ": JSON of no known form; SARIF logs and lines are read", []]),
+        ("and one that is gone", None, OPENED + OVER, [path + ": it can't be read", [], 2]),
+    ]
+    child = subprocess.Popen([PROGRAM, path], stdin=subprocess.PIPE, stdout=subprocess.PIPE)
+    for name, log, sent, wanted in steps:
+        if log is not None:
+            with open(path, "wb") as out:
+                out.write(log)
+        elif os.path.exists(path):
+            os.remove(path)
+        child.stdin.write(sent)
+        child.stdin.flush()
+        got = heard(child, len(wanted))
+        check(name, got == wanted)
+        if got != wanted:
+            print("        ", got, wanted)
+    child.communicate(EXITED, timeout=60)
+    check("the session ends well", child.returncode == 0)
+
+
 def said(bodies):
     """Bodies as frames, in order."""
     return b"".join(frame(body.encode()) for body in bodies)
@@ -438,6 +481,7 @@ with tempfile.TemporaryDirectory() as place:
     try_frames()
     try_messages(place)
     try_logs(place)
+    try_changing_logs(place)
     check("30 replays", all(try_replay(place, seed, ["utf-8", "utf-16", "utf-32"][seed % 3]) for seed in range(30)))
     if shutil.which("nvim"):
         try_neovim(place, os.path.join(os.path.dirname(os.path.dirname(HERE)), "examples"))

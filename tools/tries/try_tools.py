@@ -54,6 +54,13 @@ fn total(é: i32) -> i32 {
 }
 pub fn other() { let mut y = 1; println!("{}", y); return 2; }
 """
+CLIPPY = """\
+pub fn total(é: &Vec<i32>) -> i32 {
+    let mut sum = 0; /* 𝕏 */ for i in 0..é.len() { sum = sum + é[i]; }
+\tif é.len() == 0 { println!("{}", "é"); }
+    return sum;
+}
+"""
 SHELL = """\
 #!/bin/sh
 for f in $(ls *.txt); do
@@ -125,7 +132,7 @@ type T struct {
 
 func main() {
 \tx := 1
-\tx = x
+\t_ = "é𝕏"; x = x
 \tfmt.Printf("é %s %d\\n", x)
 \tfmt.Println("𝕏 %d", x)
 }
@@ -140,6 +147,7 @@ TOOLS = [
     Tool("g++", {"a.cpp": CPP}, "g++ -fsyntax-only -Wall -Wextra -fdiagnostics-format=json a.cpp", "g++ -fsyntax-only -Wall -Wextra a.cpp", ("--tool", "gcc"), "within", False),
     Tool("rustc", {"a.rs": RUST}, "rustc --crate-type lib --emit metadata --out-dir out --error-format json a.rs", "rustc --crate-type lib --emit metadata --out-dir out a.rs", ("--tool", "rustc"), "same", False),
     Tool("cargo", {"a.rs": RUST, "Cargo.toml": CARGO}, "cargo check --offline --message-format json", "cargo check --offline", ("--tool", "cargo"), "same", False),
+    Tool("cargo-clippy", {"a.rs": CLIPPY, "Cargo.toml": CARGO}, "cargo clippy --offline --message-format json", "cargo clippy --offline", ("--tool", "cargo"), "same", False),
     Tool("cppcheck", {"a.c": CPPCHECK}, "cppcheck --enable=warning,style --xml a.c", "cppcheck --enable=warning,style a.c", ("--columns", "bytes"), "same", True),
     Tool("shellcheck", {"a.sh": SHELL}, "shellcheck -f json a.sh", "shellcheck -f gcc a.sh", ("--tool", "shellcheck")),
     Tool("shellcheck", {"a.sh": SHELL}, "shellcheck -f json1 a.sh", "shellcheck -f gcc a.sh", ("--tool", "shellcheck")),

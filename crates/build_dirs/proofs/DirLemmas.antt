@@ -1,15 +1,19 @@
 -- The directories of a build.
-use Rattle.std.proofs.Common.{◌≡◌, ℕ, suc, ◌+◌, ◌-◌, ◌<◌, ◌≤◌, nat_lt, if◌then◌else◌, Bool, true, false, List, [], ◌∷◌, ◌++◌, length, take, drop, map, reverse, remove, get_or, slice_get, Option, Some, None, option_map, unwrap_or, Result, Ok, Err, OnOk, refl, sym, ap, ap₂, ◌∙◌, inl, inr, arith}
-use Rattle.std.specs.List.{find}
+use Rattle.std.proofs.Common.{◌≡◌, ℕ, zero, suc, ◌+◌, ◌-◌, ◌<◌, ◌≤◌, ◌==◌, ◌&&◌, ◌||◌, nat_lt, if◌then◌else◌, Bool, true, false, List, [], ◌∷◌, ◌++◌, length, take, drop, map, reverse, remove, get_or, slice_get, Option, Some, None, option_map, unwrap_or, Result, Ok, Err, OnOk, refl, sym, ap, ap₂, ◌∙◌, inl, inr, arith}
+use Rattle.std.specs.List.{find, list_any}
+use Rattle.std.specs.Str.{bytes_eq}
 use Rattle.std.specs.String.{string_bytes}
-use Rattle.std.proofs.lemmas.Bool.{cases_lt}
+use Rattle.std.proofs.lemmas.Bool.{cases_lt, eq-eqb, eqb-true}
+use Rattle.std.proofs.lemmas.Slice.Eq.{bytes_eq-Decides}
 use Rattle.std.proofs.lemmas.Bool.Decides.{nat_tests}
 use Rattle.std.proofs.lemmas.List.{drop-map, get_or_append_left, get_or-append_right, get_or-reverse, length-append, length-map, length-reverse, map-append, reverse-append, take-map, take_more}
 use Rattle.std.proofs.lemmas.Option.{get_or_from_slice_get, slice_get-get_or, slice_get-map, slice_get_past, slice_get_read, slice_get_within}
 use Rattle.build_dirs.specs.declared.dirs.TheConstants.{LIMIT}
 use Rattle.build_dirs.specs.declared.dirs.OpenDir.{OpenDir}
 use Rattle.build_dirs.specs.declared.dirs.BuildDirs.{BuildDirs}
-use Rattle.build_dirs.specs.Dirs.{Dir, IsEntered, IsEqual, appended, base_of, dir_of, dirs_in_order, ever_of, opens_of}
+use Rattle.build_dirs.specs.declared.changes.Change.{Change}
+use Rattle.build_dirs.specs.Changes.{change_of, change_parts}
+use Rattle.build_dirs.specs.Dirs.{Dir, DirsParts, IsEntered, IsEqual, IsLastEqual, NoneEqual, appended, base_of, dir_in, dir_of, dirs_in_order, dirs_parts, entered, ever_of, is_dir, joined, left, opens_of, taken, taken_by, without_last_dir}
 
 pub open_at : (items : List OpenDir) (k : ℕ) (x : OpenDir) → k < length items → x ≡ get_or items k x → slice_get (map dir_of items) k ≡ Some (dir_of x)
 open_at items k x within is = slice_get-map dir_of items k ∙ ap (option_map dir_of) (slice_get_read items (length items) k x refl within is)
@@ -158,3 +162,119 @@ entered_if (Ok u) old new program path level dir program_is level_is path_is ope
       ever = ever_is;
     }
 entered_if (Err e) old new program path level dir program_is level_is path_is open_is ever_is = tt
+
+-- ---- the last equal directory goes
+
+is_itself : (dir : Dir) → is_dir dir dir ≡ true
+is_itself dir =
+    let program : bytes_eq dir.program dir.program ≡ true = (bytes_eq-Decides dir.program dir.program).1 refl in
+    let level : (dir.level == dir.level) ≡ true = eq-eqb dir.level dir.level refl in
+    let path : bytes_eq dir.path dir.path ≡ true = (bytes_eq-Decides dir.path dir.path).1 refl in
+    rw (program, level, path) refl
+
+and_left : (a b : Bool) → (a && b) ≡ true → a ≡ true
+and_left true b is = refl
+and_left false b is = is
+
+and_right : (a b : Bool) → (a && b) ≡ true → b ≡ true
+and_right true b is = is
+and_right false b is = cc
+
+is_same_dir : (dir other : Dir) → is_dir dir other ≡ true → other ≡ dir
+is_same_dir dir other is =
+    let P : Bool = bytes_eq other.program dir.program in
+    let L : Bool = other.level == dir.level in
+    let Q : Bool = bytes_eq other.path dir.path in
+    let front : (P && L) ≡ true = and_left (P && L) Q is in
+    let program : other.program ≡ dir.program = (bytes_eq-Decides other.program dir.program).0 (and_left P L front) in
+    let level : other.level ≡ dir.level = eqb-true other.level dir.level (and_right P L front) in
+    let path : other.path ≡ dir.path = (bytes_eq-Decides other.path dir.path).0 (and_right (P && L) Q is) in
+    let one : List ℕ → Dir = λ p. record { program = p; level = other.level; path = other.path } in
+    let two : ℕ → Dir = λ n. record { program = dir.program; level = n; path = other.path } in
+    let three : List ℕ → Dir = λ p. record { program = dir.program; level = dir.level; path = p } in
+    ap one program ∙ ap two level ∙ ap three path
+
+none_equal : (dir : Dir) (ds : List Dir) → ((k : ℕ) → slice_get ds k ≡ Some dir → ⊥) → list_any (is_dir dir) ds ≡ false
+none_equal dir [] none = refl
+none_equal dir (d ∷ ds) none = go (is_dir dir d) refl (none_equal dir ds (λ k there. none (suc k) there))
+  where
+    go : (same : Bool) → is_dir dir d ≡ same → list_any (is_dir dir) ds ≡ false → (same || list_any (is_dir dir) ds) ≡ false
+    go true is rest = absurd (none 0 (ap (λ (x : Dir). Some x) (is_same_dir dir d is)))
+    go false is rest = rest
+
+one_equal : (dir : Dir) (ds : List Dir) (k : ℕ) → slice_get ds k ≡ Some dir → list_any (is_dir dir) ds ≡ true
+one_equal dir [] k there = cc
+one_equal dir (d ∷ ds) zero there =
+    let same : d ≡ dir = ap (λ (o : Option Dir). unwrap_or o d) there in
+    let is : is_dir dir d ≡ true = ap (is_dir dir) same ∙ is_itself dir in
+    ap (λ b. b || list_any (is_dir dir) ds) is
+one_equal dir (d ∷ ds) (suc k) there = go (is_dir dir d) (one_equal dir ds k there)
+  where
+    go : (same : Bool) → list_any (is_dir dir) ds ≡ true → (same || list_any (is_dir dir) ds) ≡ true
+    go true found = refl
+    go false found = found
+
+none_goes : (dir : Dir) (ds : List Dir) → list_any (is_dir dir) ds ≡ false → without_last_dir dir ds ≡ ds
+none_goes dir [] none = refl
+none_goes dir (d ∷ ds) none = go (is_dir dir d) (list_any (is_dir dir) ds) none
+  where
+    go : (same later : Bool) → (same || later) ≡ false → (if later then d ∷ without_last_dir dir ds else if same then ds else d ∷ ds) ≡ d ∷ ds
+    go true later is = cc
+    go false true is = cc
+    go false false is = refl
+
+last_goes : (dir : Dir) (ds : List Dir) (k : ℕ) → slice_get ds k ≡ Some dir → ((j : ℕ) → k < j → slice_get ds j ≡ Some dir → ⊥) → without_last_dir dir ds ≡ remove ds k
+last_goes dir [] k there last = cc
+last_goes dir (d ∷ ds) zero there last =
+    let same : d ≡ dir = ap (λ (o : Option Dir). unwrap_or o d) there in
+    let is : is_dir dir d ≡ true = ap (is_dir dir) same ∙ is_itself dir in
+    let later : list_any (is_dir dir) ds ≡ false = none_equal dir ds (λ j here. last (suc j) (omega arith) here) in
+    ap₂ (λ a b. if a then d ∷ without_last_dir dir ds else if b then ds else d ∷ ds) later is
+last_goes dir (d ∷ ds) (suc k) there last =
+    let later : list_any (is_dir dir) ds ≡ true = one_equal dir ds k there in
+    ap (λ a. if a then d ∷ without_last_dir dir ds else if is_dir dir d then ds else d ∷ ds) later
+    ∙ ap (λ (xs : List Dir). d ∷ xs) (last_goes dir ds k there (λ j after here. last (suc j) (omega (arith, after)) here))
+
+pub left_none : (opens : List Dir) (program path : List ℕ) (level : ℕ) → NoneEqual opens program level path → without_last_dir (record { program = program; level = level; path = path }) opens ≡ opens
+left_none opens program path level none =
+    let dir : Dir = record { program = program; level = level; path = path } in
+    none_goes dir opens (none_equal dir opens none)
+
+pub left_last : (opens : List Dir) (program path : List ℕ) (level k : ℕ) → IsLastEqual opens program level path k
+    → without_last_dir (record { program = program; level = level; path = path }) opens ≡ remove opens k
+left_last opens program path level k is = last_goes (record { program = program; level = level; path = path }) opens k is.here is.last
+
+-- ---- the directories behind a line
+
+pub taken_none : (dirs : DirsParts) (line : List ℕ) → None ≡ change_of line → dirs ≡ taken dirs line
+unfolding taken
+taken_none dirs line is = ap (taken_by dirs) is
+
+entered_by : (opens : Bool) (dir : Dir) (dirs : DirsParts) → opens ≡ true → (if opens then entered dir dirs else left dir dirs) ≡ entered dir dirs
+entered_by true dir dirs is = refl
+entered_by false dir dirs is = cc
+
+left_by : (opens : Bool) (dir : Dir) (dirs : DirsParts) → opens ≡ false → (if opens then entered dir dirs else left dir dirs) ≡ left dir dirs
+left_by true dir dirs is = cc
+left_by false dir dirs is = refl
+
+pub taken_entered : (old new : BuildDirs) (line path : List ℕ) (change : Change) → Some (change_parts change) ≡ change_of line → change.opens ≡ true
+    → path ≡ joined (base_of (opens_of old) change.level) change.path.now → IsEntered change.program.now change.level path old new → dirs_parts new ≡ taken (dirs_parts old) line
+unfolding taken
+taken_entered old new line path change is opens path_is enters =
+    let dir : List ℕ → Dir = λ p. record { program = change.program.now; level = change.level; path = p } in
+    ap₂ (λ (o : List Dir) (e : List (List ℕ)). record { opens = o; ever = e }) enters.opens enters.ever
+    ∙ ap (λ p. entered (dir p) (dirs_parts old)) path_is
+    ∙ sym (entered_by change.opens (dir_in (dirs_parts old) (change_parts change)) (dirs_parts old) opens)
+    ∙ ap (taken_by (dirs_parts old)) is
+
+pub taken_left : (old new : BuildDirs) (line path : List ℕ) (change : Change) → Some (change_parts change) ≡ change_of line → change.opens ≡ false
+    → path ≡ joined (base_of (opens_of old) change.level) change.path.now
+    → dirs_parts new ≡ left (record { program = change.program.now; level = change.level; path = path }) (dirs_parts old) → dirs_parts new ≡ taken (dirs_parts old) line
+unfolding taken
+taken_left old new line path change is opens path_is leaves =
+    let dir : List ℕ → Dir = λ p. record { program = change.program.now; level = change.level; path = p } in
+    leaves
+    ∙ ap (λ p. left (dir p) (dirs_parts old)) path_is
+    ∙ sym (left_by change.opens (dir_in (dirs_parts old) (change_parts change)) (dirs_parts old) opens)
+    ∙ ap (taken_by (dirs_parts old)) is

@@ -1,8 +1,10 @@
 -- Lines that say that a build enters or leaves a directory.
-use Rattle.std.specs.Prelude.{◌≡◌, ◌⊎◌, ℕ, ◌==◌, ◌&&◌, ◌||◌, not, Bool, true, false, List, [], ◌∷◌, ◌++◌, length, codes, Some}
+use Rattle.std.specs.Prelude.{◌≡◌, ◌⊎◌, ℕ, ◌==◌, ◌&&◌, ◌||◌, not, if◌then◌else◌, Bool, true, false, List, [], ◌∷◌, ◌++◌, length, codes, Option, Some, None, option_map, option_and_then}
 use Rattle.std.specs.List.{list_all}
+use Rattle.std.specs.Option.{option_or}
 use Rattle.std.specs.Char.{is_ascii_alphanumeric}
-use Rattle.escapes.specs.Cuts.{number_of}
+use Rattle.escapes.specs.Cuts.{behind, cut_at, number_of, without_last}
+use Rattle.build_dirs.specs.declared.changes.Change.{Change}
 
 -- letters, digits, `_`, `.`, `+`, `-` and `/`
 abbrev pub is_program_byte : ℕ → Bool
@@ -76,3 +78,49 @@ pub record IsChange (line program : List ℕ) (level : ℕ) (opens : Bool) (path
 
 abbrev pub IsNoChange : List ℕ → Type 0
 IsNoChange line = (program : List ℕ) (level : ℕ) (opens : Bool) (path : List ℕ) → IsChange line program level opens path → ⊥
+
+-- ---- the same as a value
+
+-- what a line says of a directory
+pub record ChangeParts : Type 0 where
+  pub program : List ℕ
+  pub level : ℕ
+  pub opens : Bool
+  pub path : List ℕ
+
+abbrev pub change_parts : Change → ChangeParts
+change_parts change = record { program = change.program.now; level = change.level; opens = change.opens; path = change.path.now }
+
+abbrev pub head_by : List ℕ → Option (List ℕ × List ℕ) → Option (List ℕ × ℕ)
+head_by head None = if is_program head then Some (head, 0) else None
+head_by head (Some cut) = if is_program cut.0 then option_map (λ level. (cut.0, level)) (option_and_then number_of (without_last 0x5D cut.1)) else None
+
+-- the program and the level that a head says
+unfoldable pub head_of : List ℕ → Option (List ℕ × ℕ)
+head_of head = head_by head (cut_at 0x5B head)
+
+-- whether a directory is entered, and what follows
+unfoldable pub verb_of : List ℕ → Option (Bool × List ℕ)
+verb_of says = option_or (option_map (λ rest. (true, rest)) (behind (verb true) says)) (option_map (λ rest. (false, rest)) (behind (verb false) says))
+
+unfoldable pub opened : List ℕ → Option (List ℕ)
+opened text = option_or (behind (0x27 ∷ []) text) (option_or (behind (0x60 ∷ []) text) (behind (0x22 ∷ []) text))
+
+unfoldable pub closed : List ℕ → Option (List ℕ)
+closed text = option_or (without_last 0x27 text) (without_last 0x22 text)
+
+abbrev pub some_text : List ℕ → Option (List ℕ)
+some_text text = if length text == 0 then None else Some text
+
+-- the path between quotes
+unfoldable pub path_in : List ℕ → Option (List ℕ)
+path_in quoted = option_and_then some_text (option_and_then closed (opened quoted))
+
+abbrev pub change_by : Option (List ℕ × ℕ) → Option (Bool × List ℕ) → Option ChangeParts
+change_by None verb = None
+change_by (Some head) None = None
+change_by (Some head) (Some verb) = option_map (λ path. record { program = head.0; level = head.1; opens = verb.0; path = path }) (path_in verb.1)
+
+-- the change of which a line is the line
+unfoldable pub change_of : List ℕ → Option ChangeParts
+change_of line = option_and_then (λ it. change_by (head_of it.0) (verb_of it.1)) (cut_at 0x3A line)

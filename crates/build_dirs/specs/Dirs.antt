@@ -1,11 +1,12 @@
 -- The directories of a build, and where a name may be.
-use Rattle.std.specs.Prelude.{◌≡◌, ◌⊎◌, ℕ, ◌+◌, ◌<◌, ◌==◌, ◌||◌, nat_lt, if◌then◌else◌, Bool, false, List, [], ◌∷◌, ◌++◌, length, drop, map, reverse, remove, Option, Some, MatchBool, slice_get, option_map, unwrap_or}
-use Rattle.std.specs.List.{find}
+use Rattle.std.specs.Prelude.{◌≡◌, ◌⊎◌, ℕ, ◌+◌, ◌<◌, ◌==◌, ◌||◌, ◌&&◌, nat_lt, if◌then◌else◌, Bool, false, List, [], ◌∷◌, ◌++◌, length, drop, map, reverse, remove, Option, Some, None, MatchBool, slice_get, option_map, unwrap_or}
+use Rattle.std.specs.List.{find, list_any}
+use Rattle.std.specs.Str.{bytes_eq}
 use Rattle.std.specs.String.{string_bytes}
 use Rattle.build_dirs.specs.declared.dirs.TheConstants.{LIMIT}
 use Rattle.build_dirs.specs.declared.dirs.OpenDir.{OpenDir}
 use Rattle.build_dirs.specs.declared.dirs.BuildDirs.{BuildDirs}
-use Rattle.build_dirs.specs.Changes.{IsChange}
+use Rattle.build_dirs.specs.Changes.{ChangeParts, IsChange, change_of}
 
 pub record Dir : Type 0 where
   pub program : List ℕ
@@ -72,9 +73,53 @@ pub record IsTaken (line : List ℕ) (old new : BuildDirs) : Type 0 where
   pub says : IsChange line program level opens path
   pub becomes : MatchBool opens (IsEntered program level (joined (base_of (opens_of old) level) path) old new) (IsLeft program level (joined (base_of (opens_of old) level) path) old new)
 
+-- ---- the same as values
+
+-- the directories that are open, and the paths of those that ever were
+pub record DirsParts : Type 0 where
+  pub opens : List Dir
+  pub ever : List (List ℕ)
+
+abbrev pub dirs_parts : BuildDirs → DirsParts
+dirs_parts dirs = record { opens = opens_of dirs; ever = ever_of dirs }
+
+abbrev pub no_dirs : DirsParts
+no_dirs = record { opens = []; ever = [] }
+
+abbrev pub is_dir : Dir → Dir → Bool
+is_dir dir other = bytes_eq other.program dir.program && other.level == dir.level && bytes_eq other.path dir.path
+
+-- directories without the last that is equal to this one
+abbrev pub without_last_dir : Dir → List Dir → List Dir
+without_last_dir dir [] = []
+without_last_dir dir (d ∷ ds) = if list_any (is_dir dir) ds then d ∷ without_last_dir dir ds else if is_dir dir d then ds else d ∷ ds
+
+abbrev pub entered : Dir → DirsParts → DirsParts
+entered dir dirs = record { opens = appended dirs.opens dir; ever = appended dirs.ever dir.path }
+
+abbrev pub left : Dir → DirsParts → DirsParts
+left dir dirs = record dirs { opens = without_last_dir dir dirs.opens }
+
+-- the directory that a change is about
+abbrev pub dir_in : DirsParts → ChangeParts → Dir
+dir_in dirs change = record { program = change.program; level = change.level; path = joined (base_of dirs.opens change.level) change.path }
+
+abbrev pub taken_by : DirsParts → Option ChangeParts → DirsParts
+taken_by dirs None = dirs
+taken_by dirs (Some change) = if change.opens then entered (dir_in dirs change) dirs else left (dir_in dirs change) dirs
+
+-- the directories behind a line
+unfoldable pub taken : DirsParts → List ℕ → DirsParts
+taken dirs line = taken_by dirs (change_of line)
+
+-- ---- where a name may be
+
 -- the directories below which a name may be: those that are open, the last first; the start; all that ever were, the last first
+abbrev pub in_order : DirsParts → List (List ℕ)
+in_order dirs = reverse (map (λ dir. dir.path) dirs.opens) ++ [] ∷ reverse dirs.ever
+
 abbrev pub dirs_in_order : BuildDirs → List (List ℕ)
-dirs_in_order dirs = reverse (map (λ dir. dir.path) (opens_of dirs)) ++ [] ∷ reverse (ever_of dirs)
+dirs_in_order dirs = in_order (dirs_parts dirs)
 
 abbrev pub place_of : BuildDirs → List ℕ → ℕ → Option (List ℕ)
 place_of dirs name k = if is_absolute name then slice_get (name ∷ []) k else option_map (λ dir. joined dir name) (slice_get (dirs_in_order dirs) k)

@@ -1,10 +1,13 @@
 //! Lines that say that a build enters or leaves a directory.
-ghost use Rattle.std.specs.Prelude.{◌≡◌, MatchOption};
+ghost use Rattle.std.specs.Prelude.{◌≡◌, MatchOption, option_map};
+ghost use Rattle.std.specs.Option.{option_copied};
 ghost use Rattle.std.specs.List.{list_all};
 ghost use Rattle.build_dirs.specs.Changes.{HasNoHead, HasNoPath, HasNoVerb, IsChange, IsHead};
 ghost use Rattle.build_dirs.specs.Changes.{IsNoChange};
 ghost use Rattle.build_dirs.specs.Changes.{IsPath, IsVerb, HasNoClose, HasNoOpen, IsClosed};
 ghost use Rattle.build_dirs.specs.Changes.{IsOpened};
+ghost use Rattle.build_dirs.specs.Changes.{change_of, change_parts, closed, head_of as head_meant};
+ghost use Rattle.build_dirs.specs.Changes.{opened, path_in, verb_of as verb_meant};
 ghost use Rattle.build_dirs.specs.Changes.{is_program as is_program_text};
 ghost use Rattle.build_dirs.specs.Changes.{is_program_byte as is_program_char};
 
@@ -24,9 +27,11 @@ pub struct Change<'a> {
 
 /// What a line says of a directory: `PROGRAM[N]: Entering directory 'D'`, or `Leaving`. There may
 /// be no `[N]`, and other quotes.
+#[tactic(auto, unfolding(crate::specs::Changes::change_of))]
 pub fn change_in(line: &str) -> Option<Change<'_>>
-    ensures { MatchOption result (IsNoChange line.now)
+    ensures says { MatchOption result (IsNoChange line.now)
         (λ c. IsChange line.now c.program.now c.level c.opens c.path.now) }
+    ensures value { option_map change_parts result ≡ change_of line.now }
 {
     let Some((head, says)) = cut(line, ':') else {
         return None;
@@ -49,8 +54,10 @@ pub fn change_in(line: &str) -> Option<Change<'_>>
 }
 
 /// A program and its level.
+#[tactic(auto, unfolding(crate::specs::Changes::head_of))]
 fn head_of(head: &str) -> Option<(&str, usize)>
-    ensures { MatchOption result (HasNoHead head.now) (λ x. IsHead head.now x.0.now x.1) }
+    ensures says { MatchOption result (HasNoHead head.now) (λ x. IsHead head.now x.0.now x.1) }
+    ensures value { option_map (λ x. (x.0.now, x.1)) result ≡ head_meant head.now }
 {
     let Some((program, rest)) = cut(head, '[') else {
         return if is_program(head) {
@@ -95,8 +102,10 @@ fn is_program_byte(byte: u8) -> bool
 }
 
 /// Whether a directory is entered, and what follows.
+#[tactic(auto, unfolding(crate::specs::Changes::verb_of))]
 fn verb_of(says: &str) -> Option<(bool, &str)>
-    ensures { MatchOption result (HasNoVerb says.now) (λ x. IsVerb says.now x.0 x.1.now) }
+    ensures says { MatchOption result (HasNoVerb says.now) (λ x. IsVerb says.now x.0 x.1.now) }
+    ensures value { option_map (λ x. (x.0, x.1.now)) result ≡ verb_meant says.now }
 {
     if let Some(quoted) = behind(says, " Entering directory ") {
         return Some((true, quoted));
@@ -108,8 +117,10 @@ fn verb_of(says: &str) -> Option<(bool, &str)>
 }
 
 /// The path between quotes.
+#[tactic(auto, unfolding(crate::specs::Changes::path_in))]
 fn path_of(quoted: &str) -> Option<&str>
-    ensures { MatchOption result (HasNoPath quoted.now) (λ path. IsPath quoted.now path.now) }
+    ensures says { MatchOption result (HasNoPath quoted.now) (λ path. IsPath quoted.now path.now) }
+    ensures value { option_copied result ≡ path_in quoted.now }
 {
     let Some(inner) = after_quote(quoted) else {
         return None;
@@ -121,8 +132,10 @@ fn path_of(quoted: &str) -> Option<&str>
 }
 
 /// The text after a quote.
+#[tactic(auto, unfolding(crate::specs::Changes::opened))]
 fn after_quote(text: &str) -> Option<&str>
-    ensures { MatchOption result (HasNoOpen text.now) (λ rest. IsOpened text.now rest.now) }
+    ensures says { MatchOption result (HasNoOpen text.now) (λ rest. IsOpened text.now rest.now) }
+    ensures value { option_copied result ≡ opened text.now }
 {
     if let Some(rest) = behind(text, "'") {
         return Some(rest);
@@ -137,8 +150,10 @@ fn after_quote(text: &str) -> Option<&str>
 }
 
 /// The text before a quote at its end.
+#[tactic(auto, unfolding(crate::specs::Changes::closed))]
 fn before_quote(text: &str) -> Option<&str>
-    ensures { MatchOption result (HasNoClose text.now) (λ front. IsClosed text.now front.now) }
+    ensures says { MatchOption result (HasNoClose text.now) (λ front. IsClosed text.now front.now) }
+    ensures value { option_copied result ≡ closed text.now }
 {
     if let Some(front) = without_last(text, '\'') {
         return Some(front);

@@ -6,7 +6,8 @@ ghost use Rattle.std.specs.String.{string_bytes};
 ghost use Rattle.build_dirs.specs.Changes.{IsNoChange};
 ghost use Rattle.build_dirs.specs.Dirs.{IsEntered, IsEqual, IsLastEqual, IsLeft, IsTaken};
 ghost use Rattle.build_dirs.specs.Dirs.{IsUnchanged, NoneEqual};
-ghost use Rattle.build_dirs.specs.Dirs.{appended, base_of, dirs_in_order, ever_of};
+ghost use Rattle.build_dirs.specs.Dirs.{appended, base_of, dirs_in_order, dirs_parts, ever_of};
+ghost use Rattle.build_dirs.specs.Dirs.{left as left_dir, no_dirs, taken as taken_line};
 ghost use Rattle.build_dirs.specs.Dirs.{is_absolute as is_absolute_path};
 ghost use Rattle.build_dirs.specs.Dirs.{joined as joined_path, opens_of, place_of};
 ghost use Rattle.std.specs.List.{slice_get};
@@ -16,7 +17,7 @@ use std::alloc::{AllocError, Global};
 
 /// How many directories are kept at most that are open, and that ever were. Of more the first ones
 /// are forgotten.
-pub const LIMIT: usize = 0x400;
+pub const LIMIT: usize = 0x40;
 
 /// A directory that a program has entered and not left.
 #[derive(Drop)]
@@ -38,8 +39,7 @@ pub struct BuildDirs {
 
 impl BuildDirs {
     pub fn new(alloc: Global) -> BuildDirs
-        ensures opens { opens_of result ≡ [] }
-        ensures ever { ever_of result ≡ [] }
+        ensures { dirs_parts result ≡ no_dirs }
     {
         BuildDirs {
             open: Vec::new(alloc),
@@ -54,9 +54,12 @@ impl BuildDirs {
     /// # Errors
     ///
     /// Out of memory; what is open stays.
+    #[tactic(auto, using(crate::proofs::DirLemmas::taken_none, crate::proofs::DirLemmas::taken_entered, crate::proofs::DirLemmas::taken_left))]
     pub fn take(&mut self, alloc: Global, line: &str) -> Result<bool, AllocError>
         ensures taken { IfOk result (λ taken. MatchBool taken (IsTaken line.now self.old self.new)
             (IsNoChange line.now × IsUnchanged self.old self.new)) }
+        ensures parts { OnOk result (dirs_parts self.new
+            ≡ taken_line (dirs_parts self.old) line.now) }
         ensures err { OnErr result (opens_of self.new ≡ opens_of self.old) }
     {
         let Some(change) = change_in(line) else {
@@ -110,7 +113,12 @@ impl BuildDirs {
     }
 
     fn leave(&mut self, program: &str, level: usize, path: &str)
-        ensures { IsLeft program.now level path.now self.old self.new }
+        ensures left { IsLeft program.now level path.now self.old self.new }
+        ensures parts { dirs_parts self.new ≡ left_dir (record {
+          program = program.now;
+          level = level;
+          path = path.now;
+        }) (dirs_parts self.old) }
     {
         if let Some(k) = self.last_equal(program, level, path) {
             let _left = self.open.remove(k);
@@ -176,7 +184,8 @@ impl BuildDirs {
     }
 }
 
-fn is_absolute(path: &str) -> bool
+/// Whether a path begins at the top.
+pub fn is_absolute(path: &str) -> bool
     ensures { result ≡ is_absolute_path path.now }
 {
     match path.as_bytes() {

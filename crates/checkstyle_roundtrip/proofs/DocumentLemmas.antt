@@ -5,7 +5,7 @@ use Rattle.std.specs.Str.{IsUtf8}
 use Rattle.std.proofs.lemmas.Str.{is_utf8-from_IsUtf8}
 use Rattle.json.proofs.Printed.Utf8.{IsUtf8-are_ascii}
 use Rattle.json.specs.Json.{Json, object, string, member, no_members}
-use Rattle.ci_findings.specs.Finding.{FindingParts}
+use Rattle.ci_formats.specs.Finding.{FindingParts}
 use Rattle.ci_formats.specs.Checkstyle.{checkstyle_of, file_element}
 use Rattle.ci_formats.specs.Files.{is_on, names_of}
 use Rattle.ci_formats.specs.Xml.{xml_head}

@@ -8,7 +8,7 @@ use Rattle.json.proofs.Printed.Utf8.{are_ascii, IsUtf8-are_ascii}
 use Rattle.json.specs.Json.{Json}
 use Rattle.oxc_protocol.specs.declared.protocol.Severity.{Severity}
 use Rattle.oxc_protocol.specs.declared.protocol.Severity.TheVariants.{Error, Warning, Advice}
-use Rattle.ci_findings.specs.Finding.{FindingParts}
+use Rattle.ci_formats.specs.Finding.{FindingParts}
 use Rattle.ci_formats.specs.Checkstyle.{error_element, place_attributes, severity_word, source_attribute}
 use Rattle.ci_formats.specs.Files.{or_zero}
 use Rattle.ci_formats.specs.Xml.{attribute, held, number_attribute, shown}

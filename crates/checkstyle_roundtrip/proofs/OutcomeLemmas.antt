@@ -16,7 +16,7 @@ use Rattle.json_forms.specs.Finding.{arrived, aside, fault_in, fault_of, finding
 use Rattle.json_forms.specs.Place.{posn_fault}
 use Rattle.json_forms.specs.Guard.{all_hold, any_holds, stops}
 use Rattle.json_forms.specs.Said.{Fault, number_fault, number_said, number_wanted, text_fault, text_wanted}
-use Rattle.ci_findings.specs.Finding.{FindingParts}
+use Rattle.ci_formats.specs.Finding.{FindingParts}
 use Rattle.ci_formats.specs.Checkstyle.{severity_word}
 use Rattle.ci_formats.specs.Files.{or_zero}
 use Rattle.ci_formats.specs.Xml.{held}

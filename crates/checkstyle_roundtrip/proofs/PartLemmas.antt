@@ -28,7 +28,7 @@ use Rattle.json_forms.specs.Place.{above, above_number, either, figures_at, file
 use Rattle.json_forms.specs.Rows.{is_said, part}
 use Rattle.json_forms.specs.Said.{bounded, is_below, number_at, number_of, number_said, text_at, text_of, whole}
 use Rattle.json_forms.specs.Severity.{known, known_words, own, severity_said}
-use Rattle.ci_findings.specs.Finding.{FindingParts}
+use Rattle.ci_formats.specs.Finding.{FindingParts}
 use Rattle.ci_formats.specs.Checkstyle.{severity_word}
 use Rattle.ci_formats.specs.Files.{or_zero}
 use Rattle.ci_formats.specs.Xml.{held}

@@ -11,7 +11,7 @@ use Rattle.json_spots.specs.declared.step.Step.TheVariants.{Key, Each}
 use Rattle.json_spots.specs.declared.spot.Arrival.TheVariants.{There}
 use Rattle.json_spots.specs.Spot.{By, root, name, index, child, Crumb, each, ends, gone, inside, item_crumbs, one_told, Reached, Spot, unless_null}
 use Rattle.json_forms.specs.Read.{root_spot}
-use Rattle.ci_findings.specs.Finding.{FindingParts}
+use Rattle.ci_formats.specs.Finding.{FindingParts}
 use Rattle.ci_formats.specs.Files.{is_on, names_of}
 use Rattle.ci_formats.specs.Xml.{held}
 use Rattle.checkstyle_roundtrip.specs.Read.{by_file, IsElementOf, Match, ReachesEach}

@@ -13,7 +13,7 @@ use Rattle.json_spots.specs.Mark.{has, holds, leads_to, some_found}
 use Rattle.json_forms.specs.declared.form.Form.{Form}
 use Rattle.json_forms.specs.declared.told.Forms.{Forms}
 use Rattle.json_forms.specs.Told.{candidates, first_lead, fits, is_open, known_candidates, own_or, row_is_open, steps_open, tool_name, unless_none}
-use Rattle.ci_findings.specs.Finding.{FindingParts}
+use Rattle.ci_formats.specs.Finding.{FindingParts}
 use Rattle.checkstyle_roundtrip.specs.Told.{is_apart, is_of_checkstyle, IsToldAlone, lead_in, lead_past, misses_it, takes_it}
 use Rattle.checkstyle_roundtrip.specs.Value.{checkstyle_value}
 

@@ -8,8 +8,8 @@ use Rattle.std.proofs.lemmas.Str.{encode_ascii, IsUtf8-append, IsUtf8-encode, Is
 use Rattle.json.proofs.Printed.Utf8.{are_ascii, IsUtf8-are_ascii}
 use lib.Utf8.{scalar, scalars}
 use Rattle.escapes.specs.Escape.{escaped, spell}
-use Rattle.ci_findings.specs.declared.finding.Finding.{Finding}
-use Rattle.ci_findings.specs.Finding.{finding_parts, FindingParts}
+use Rattle.ci_formats.specs.declared.finding.Finding.{Finding}
+use Rattle.ci_formats.specs.Finding.{finding_parts, FindingParts}
 use Rattle.oxc_span.specs.Views.{text_bytes}
 use Rattle.ci_formats.specs.Checkstyle.{source_attribute}
 use Rattle.ci_formats.specs.Xml.{attribute, entity, escape, held, held_char, is_held, shown}

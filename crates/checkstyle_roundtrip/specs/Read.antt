@@ -21,7 +21,7 @@ use Rattle.json_forms.specs.Severity.{own}
 use Rattle.json_forms.specs.Finding.{Finding, finding_of, found, is_among, left, message_at, number_keys, Outcome, outcome_of, refused}
 use Rattle.json_forms.specs.Guard.{all_hold, holds}
 use Rattle.json_forms.specs.Read.{elements_in}
-use Rattle.ci_findings.specs.Finding.{FindingParts}
+use Rattle.ci_formats.specs.Finding.{FindingParts}
 use Rattle.ci_formats.specs.Files.{is_on, names_of, or_zero}
 use Rattle.ci_formats.specs.Xml.{held}
 use Rattle.checkstyle_roundtrip.specs.Value.{checkstyle_value, error_value, file_value}

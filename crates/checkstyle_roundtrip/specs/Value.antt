@@ -2,7 +2,7 @@
 use Rattle.std.specs.Prelude.{ℕ, List, [], ◌∷◌, codes, decimal, filter, map, Option, Some, None}
 use Rattle.json.specs.Json.{Json, array, object, string, Members, member, no_members}
 use Rattle.json.specs.Value.{items_of}
-use Rattle.ci_findings.specs.Finding.{FindingParts}
+use Rattle.ci_formats.specs.Finding.{FindingParts}
 use Rattle.ci_formats.specs.Checkstyle.{severity_word}
 use Rattle.ci_formats.specs.Files.{is_on, names_of, or_zero}
 use Rattle.ci_formats.specs.Xml.{held}

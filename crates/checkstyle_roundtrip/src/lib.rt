@@ -10,7 +10,7 @@
 ghost use Rattle.std.specs.Prelude.{◌≡◌, [], map, true, Some};
 ghost use Rattle.std.specs.List.{list_all};
 ghost use Rattle.std.specs.Str.{chars};
-ghost use Rattle.ci_findings.specs.Finding.{finding_parts};
+ghost use Rattle.ci_formats.specs.Finding.{finding_parts};
 ghost use Rattle.ci_formats.specs.Checkstyle.{checkstyle_of};
 ghost use Rattle.ci_formats.specs.Xml.{escape, held, is_held, shown};
 ghost use Rattle.xml_values.specs.Document.{value_of};
@@ -20,7 +20,7 @@ ghost use Rattle.checkstyle_roundtrip.specs.Read.{ReadsOutcome, ReadsParts};
 ghost use Rattle.checkstyle_roundtrip.specs.Told.{IsToldAlone};
 ghost use Rattle.checkstyle_roundtrip.specs.Value.{checkstyle_value};
 
-use ci_findings::Finding;
+use ci_formats::Finding;
 use json_forms::Forms;
 
 /// An escaped text, in quotes, is read as the text. So a text that is written is read as it is,

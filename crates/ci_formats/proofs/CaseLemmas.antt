@@ -1,5 +1,5 @@
 -- The cases of each file, and the suites that are made of them.
-use Rattle.std.proofs.Common.{◌≡◌, ℕ, ◌+◌, ◌<◌, Bool, true, false, cond, List, [], ◌∷◌, ◌++◌, BTreeMap, Bor, append-nil, length, length-append, map, take, get_or, refl, sym, ap, ap₂, ◌∙◌, arith}
+use Rattle.std.proofs.Common.{◌≡◌, ℕ, ◌+◌, ◌<◌, ◌==◌, Bool, true, false, cond, List, [], ◌∷◌, ◌++◌, BTreeMap, Bor, append-nil, length, length-append, map, take, get_or, refl, sym, ap, ap₂, ◌∙◌, arith}
 use Rattle.std.specs.Prelude.{Vec}
 use Rattle.std.specs.BTreeMap.{is_at}
 use Rattle.std.specs.List.{count_by, flat_map}
@@ -12,12 +12,12 @@ use Rattle.std.proofs.lemmas.List.{map_push}
 use Rattle.std.proofs.lemmas.List.Sums.{sum_by-cons}
 use Rattle.std.proofs.lemmas.Map.Text.{is_eq-slice_cmp}
 use Rattle.std.proofs.lemmas.Slice.Eq.{bytes_eq-Decides}
-use Rattle.ci_findings.specs.declared.finding.Finding.{Finding}
-use Rattle.ci_findings.specs.Finding.{FindingParts, finding_parts}
+use Rattle.ci_formats.specs.declared.finding.Finding.{Finding}
+use Rattle.ci_formats.specs.Finding.{FindingParts, finding_parts}
 use Rattle.ci_formats.specs.declared.junit.Case.{Case}
 use Rattle.found_reports.specs.Names.{name_order}
-use Rattle.ci_formats.specs.Files.{along, is_on, own_in}
-use Rattle.ci_formats.specs.Junit.{AreCasesByFile, Numbered, case_on, is_same_case, numbered, numbered_on, numbered_text, own_cases, suite_element, suite_of, suite_with}
+use Rattle.ci_formats.specs.Files.{along, is_on, names_of, own_in}
+use Rattle.ci_formats.specs.Junit.{AreCasesByFile, Numbered, case_on, is_same_case, numbered, numbered_on, numbered_text, own_cases, suite_element, suite_of, suite_with, suites_of}
 use Rattle.ci_formats.proofs.FilesLemmas.{along_more, now_of}
 
 pub no_cases : {Y : Type 0} (files : BTreeMap (Bor (List ℕ)) (Vec Case Y)) → files.entries ≡ [] → AreCasesByFile files []
@@ -83,3 +83,7 @@ pub each_suite : {Y : Type 0} (files : BTreeMap (Bor (List ℕ)) (Vec Case Y)) (
     → (names : List (Bor (List ℕ))) → flat_map (λ name. suite_of name.now (own_cases files name)) names ≡ flat_map (suite_element fs) (map now_of names)
 each_suite files fs known [] = refl
 each_suite files fs known (name ∷ rest) = ap₂ (λ one more. one ++ more) (suite_is name.now fs (own_cases files name) (known name)) (each_suite files fs known rest)
+
+pub some_suites : (fs : List Finding) → (length fs == 0) ≡ false → suites_of (map finding_parts fs) ≡ flat_map (suite_element (map finding_parts fs)) (names_of (map finding_parts fs))
+some_suites [] none = cc
+some_suites (f ∷ rest) none = refl

@@ -14,8 +14,8 @@ use Rattle.std.proofs.lemmas.List.{length-map, length-take-le}
 use Rattle.std.proofs.lemmas.List.Sums.{count_by-le-length, sum_by_push}
 use Rattle.std.proofs.lemmas.Map.Text.{is_eq-slice_cmp}
 use Rattle.std.proofs.lemmas.Slice.Eq.{bytes_eq-Decides}
-use Rattle.ci_findings.specs.declared.finding.Finding.{Finding}
-use Rattle.ci_findings.specs.Finding.{FindingParts, finding_parts}
+use Rattle.ci_formats.specs.declared.finding.Finding.{Finding}
+use Rattle.ci_formats.specs.Finding.{FindingParts, finding_parts}
 use Rattle.ci_formats.specs.declared.gitlab.IssueKey.{IssueKey}
 use Rattle.ci_formats.specs.declared.junit.CaseKey.{CaseKey}
 use Rattle.ci_formats.specs.Gitlab as gitlab

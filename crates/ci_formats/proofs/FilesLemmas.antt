@@ -14,8 +14,8 @@ use Rattle.std.proofs.lemmas.List.Folds.{list_any-append}
 use Rattle.std.proofs.lemmas.List.Elements.{filter-append}
 use Rattle.std.proofs.lemmas.Map.Text.{is_eq-slice_cmp}
 use Rattle.std.proofs.lemmas.Slice.Eq.{bytes_eq-Decides}
-use Rattle.ci_findings.specs.declared.finding.Finding.{Finding}
-use Rattle.ci_findings.specs.Finding.{FindingParts, finding_parts}
+use Rattle.ci_formats.specs.declared.finding.Finding.{Finding}
+use Rattle.ci_formats.specs.Finding.{FindingParts, finding_parts}
 use Rattle.found_reports.specs.Names.{name_order}
 use Rattle.ci_formats.specs.Files.{AreByFile, Knows, along, is_on, names_of, own_in, own_parts, with_name}
 

@@ -1,11 +1,12 @@
 -- The issues of a report, one at a time.
-use Rattle.std.proofs.Common.{◌≡◌, ℕ, ◌+◌, ◌<◌, List, [], ◌∷◌, ◌++◌, length, map, take, get_or, sym, ap, ap₂, ◌∙◌}
+use Rattle.std.proofs.Common.{◌≡◌, ℕ, ◌+◌, ◌<◌, List, [], ◌∷◌, ◌++◌, length, map, take, get_or, Bor, Option, Some, None, unwrap_or, refl, sym, ap, ap₂, ◌∙◌}
 use Rattle.std.specs.List.{count_by}
+use Rattle.std.specs.Option.{option_copied}
 use Rattle.std.proofs.lemmas.List.{map_push}
 use Rattle.serde_json.specs.View.{view}
 use Rattle.serde_json.specs.declared.value.Value.{Value}
-use Rattle.ci_findings.specs.declared.finding.Finding.{Finding}
-use Rattle.ci_findings.specs.Finding.{finding_parts}
+use Rattle.ci_formats.specs.declared.finding.Finding.{Finding}
+use Rattle.ci_formats.specs.Finding.{finding_parts}
 use Rattle.ci_formats.specs.Files.{along}
 use Rattle.ci_formats.specs.Gitlab.{is_same_issue, issue_value, one_issue}
 use Rattle.ci_formats.proofs.FilesLemmas.{along_more}
@@ -19,3 +20,8 @@ more_issues usual done values value before fs i x within is pushed written count
     ap (map view) pushed ∙ map_push view done value
     ∙ ap₂ (λ l d. l ++ d ∷ []) so_far (written ∙ ap (λ n. issue_value usual n (finding_parts x)) counted)
     ∙ sym (along_more (one_issue usual) fs i x within is)
+
+-- what is lent, else the other
+pub copied_or : (o : Option (Bor (List ℕ))) (d : Bor (List ℕ)) → (unwrap_or o d).now ≡ unwrap_or (option_copied o) d.now
+copied_or None d = refl
+copied_or (Some x) d = refl

@@ -3,7 +3,7 @@ use Rattle.std.specs.Prelude.{ℕ, List, [], ◌++◌, filter, Option, Some, Non
 use Rattle.std.specs.List.{flat_map}
 use Rattle.oxc_protocol.specs.declared.protocol.Severity.{Severity}
 use Rattle.oxc_protocol.specs.declared.protocol.Severity.TheVariants.{Error, Warning, Advice}
-use Rattle.ci_findings.specs.Finding.{FindingParts}
+use Rattle.ci_formats.specs.Finding.{FindingParts}
 use Rattle.ci_formats.specs.Files.{is_on, names_of, or_zero}
 use Rattle.ci_formats.specs.Xml.{attribute, number_attribute, xml_head}
 

@@ -7,8 +7,8 @@ use Rattle.std.specs.List.{list_any}
 use Rattle.std.specs.Option.{option_map_or}
 use Rattle.std.specs.Str.{bytes_eq}
 use Rattle.found_reports.specs.Names.{name_order}
-use Rattle.ci_findings.specs.declared.finding.Finding.{Finding}
-use Rattle.ci_findings.specs.Finding.{FindingParts, finding_parts}
+use Rattle.ci_formats.specs.declared.finding.Finding.{Finding}
+use Rattle.ci_formats.specs.Finding.{FindingParts, finding_parts}
 
 -- a finding is on the file of this name
 abbrev pub is_on : List ℕ → FindingParts → Bool

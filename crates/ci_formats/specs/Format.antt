@@ -1,7 +1,7 @@
 -- The text of findings in each format.
 use Rattle.std.specs.Prelude.{ℕ, List, None}
-use Rattle.ci_findings.specs.Finding.{FindingParts}
-use Rattle.github_lines.specs.Annotation.{text_of}
+use Rattle.ci_formats.specs.Finding.{FindingParts}
+use Rattle.ci_formats.specs.Annotation.{text_of}
 use Rattle.ci_formats.specs.declared.format.CiFormat.{CiFormat}
 use Rattle.ci_formats.specs.declared.format.CiFormat.TheVariants.{Github, Gitlab, Checkstyle, Junit, Stylish, Problems}
 use Rattle.ci_formats.specs.Checkstyle.{checkstyle_of}

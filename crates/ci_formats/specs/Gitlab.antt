@@ -8,7 +8,7 @@ use Rattle.serde_json.specs.Written.{compact_text}
 use Rattle.oxc_protocol.specs.declared.protocol.Severity.{Severity}
 use Rattle.oxc_protocol.specs.declared.protocol.Severity.TheVariants.{Error, Warning, Advice}
 use Rattle.escapes.specs.Cuts.{behind}
-use Rattle.ci_findings.specs.Finding.{FindingParts}
+use Rattle.ci_formats.specs.Finding.{FindingParts}
 use Rattle.ci_formats.specs.declared.gitlab.IssueKey.{IssueKey}
 use Rattle.ci_formats.specs.Files.{along}
 use Rattle.ci_formats.specs.Fingerprint.{fingerprint}

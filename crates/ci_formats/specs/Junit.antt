@@ -4,7 +4,7 @@ use Rattle.std.specs.Borrow.{Bor}
 use Rattle.std.specs.BTreeMap.{BTreeMap}
 use Rattle.std.specs.List.{count_by, flat_map, list_any}
 use Rattle.std.specs.Str.{bytes_eq}
-use Rattle.ci_findings.specs.Finding.{FindingParts, finding_parts}
+use Rattle.ci_formats.specs.Finding.{FindingParts, finding_parts}
 use Rattle.ci_formats.specs.declared.junit.Case.{Case}
 use Rattle.ci_formats.specs.declared.junit.CaseKey.{CaseKey}
 use Rattle.ci_formats.specs.Checkstyle.{severity_word}

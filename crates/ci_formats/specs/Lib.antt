@@ -1,3 +1,8 @@
+pub mod Finding
+pub mod Percent
+pub mod Unescape
+pub mod Annotation
+pub mod Read
 pub mod Files
 pub mod Xml
 pub mod XmlAscii

@@ -4,8 +4,8 @@ use Rattle.std.specs.List.{flat_map}
 use Rattle.oxc_protocol.specs.Info.{InfoParts}
 use Rattle.oxc_protocol.specs.declared.reporter.InfoPosition.{InfoPosition}
 use Rattle.problem_lines.specs.Line.{problem_line}
-use Rattle.ci_findings.specs.declared.finding.Location.{Location}
-use Rattle.ci_findings.specs.Finding.{FindingParts}
+use Rattle.ci_formats.specs.declared.finding.Location.{Location}
+use Rattle.ci_formats.specs.Finding.{FindingParts}
 use Rattle.ci_formats.specs.Files.{or_zero}
 
 abbrev pub position_of : Location → InfoPosition

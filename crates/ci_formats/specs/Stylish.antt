@@ -5,7 +5,7 @@ use Rattle.oxc_protocol.specs.declared.protocol.Severity.{Severity}
 use Rattle.oxc_protocol.specs.declared.protocol.Severity.TheVariants.{Error, Warning, Advice}
 use Rattle.textwrap.specs.Width.{display_width}
 use Rattle.escapes.specs.Cuts.{without_last}
-use Rattle.ci_findings.specs.Finding.{FindingParts}
+use Rattle.ci_formats.specs.Finding.{FindingParts}
 use Rattle.ci_formats.specs.declared.stylish.Measure.{Measure}
 use Rattle.ci_formats.specs.declared.stylish.Measure.TheVariants.{Row, Column, Level, Message}
 use Rattle.ci_formats.specs.declared.stylish.Widths.{Widths}

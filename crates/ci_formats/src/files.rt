@@ -1,16 +1,13 @@
 // The files that findings are on, and the items on each.
-ghost use Rattle.std.specs.Prelude.{◌≡◌, ◌++◌, ◌∷◌, [], ℕ, List, IfOk, OnOk, Some, cond, map};
+ghost use Rattle.std.specs.Prelude.{◌≡◌, ◌++◌, ◌∷◌, [], ℕ, List, IfOk, OnOk, cond, map};
 ghost use Rattle.std.specs.Borrow.{Bor};
-ghost use Rattle.std.specs.BTreeMap.{get};
-ghost use Rattle.std.specs.Option.{option_copied, option_map_or};
 ghost use Rattle.std.specs.Ordering.{is_eq};
-ghost use Rattle.ci_findings.specs.Finding.{finding_parts};
+ghost use Rattle.ci_formats.specs.Finding.{finding_parts};
 ghost use Rattle.found_reports.specs.Names.{name_order};
-ghost use Rattle.ci_formats.specs.Files.{AreByFile, Knows, names_of as names_in};
-ghost use Rattle.ci_formats.specs.Files.{or_zero as number_or_zero};
-ghost use Rattle.ci_formats.specs.Files.{own_in, with_name};
+ghost use Rattle.ci_formats.specs.Files.{AreByFile, Knows, names_of as names_in, own_in};
+ghost use Rattle.ci_formats.specs.Files.{with_name};
 
-use ci_findings::Finding;
+use crate::finding::Finding;
 use std::alloc::{AllocError, Global};
 use std::collections::{BTreeMap, BTreeSet};
 
@@ -79,22 +76,8 @@ pub(crate) fn put_on<'a, T: Drop>(
 pub(crate) fn own<'b, 'a, T>(files: &'b ByFile<'a, T>, name: &'a str) -> &'b [T]
     ensures { result.now ≡ own_in files.entry.now name.entry }
 {
-    listed(files.get(&name))
-}
-
-/// The items of a list; none if there is no list.
-fn listed<'b, T>(list: Option<&'b Vec<T>>) -> &'b [T]
-    ensures { result.now ≡ option_map_or (λ own. own.items) (option_copied list.entry) [] }
-{
-    match list {
+    match files.get(&name) {
         Some(list) => list.as_slice(),
         None => &[],
     }
-}
-
-/// A row or a column; 0 if it isn't known.
-pub(crate) fn or_zero(number: Option<u32>) -> u32
-    ensures { result ≡ number_or_zero number }
-{
-    number.unwrap_or(0)
 }

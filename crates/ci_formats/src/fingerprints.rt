@@ -1,8 +1,7 @@
 // Fingerprints of findings.
 ghost use Rattle.std.specs.Prelude.{◌≡◌, ◌++◌, IfOk, OnOk, string_bytes};
 ghost use Rattle.ci_formats.specs.Fingerprint.{AreToldApart, fingerprint as fingerprint_of};
-ghost use Rattle.ci_formats.specs.Fingerprint.{marked as marked_by, measured};
-ghost use Rattle.sha2.specs.Sha256.{sha256};
+ghost use Rattle.ci_formats.specs.Fingerprint.{measured};
 
 use itoa::Buffer;
 use sha2::{Digest, Sha256};
@@ -14,6 +13,7 @@ use std::alloc::{AllocError, Global};
 /// # Errors
 ///
 /// Out of memory.
+#[tactic(auto, unfolding(crate::specs::Fingerprint::marked))]
 pub fn fingerprint(
     alloc: Global,
     path: &str,
@@ -24,9 +24,14 @@ pub fn fingerprint(
     ensures { IfOk result (λ text. string_bytes text
         ≡ fingerprint_of path.now code.now message.now before) }
 {
-    let text = marked(alloc, path, code, message, before)?;
-    let digest = digest_of(text.as_bytes());
-    hex::encode(alloc, digest.as_slice())
+    let mut text = String::new(alloc);
+    push_measured(&mut text, path)?;
+    push_measured(&mut text, code)?;
+    push_measured(&mut text, message)?;
+    text.push_str(Buffer::new().format(before))?;
+    let mut hasher = Sha256::new();
+    hasher.update(text.as_bytes());
+    hex::encode(alloc, hasher.finalize().as_slice())
 }
 
 /// Two findings have the same hashed text only with the same path, code, message and number of
@@ -34,35 +39,6 @@ pub fn fingerprint(
 pub fn issues_are_told_apart()
     ensures { AreToldApart }
 {}
-
-/// The hash of bytes.
-fn digest_of(bytes: &[u8]) -> [u8; 32]
-    ensures { result ≡ sha256 bytes.now }
-{
-    let mut hasher = Sha256::new();
-    hasher.update(bytes);
-    hasher.finalize()
-}
-
-/// What is hashed.
-#[tactic(auto, unfolding(crate::specs::Fingerprint::marked))]
-fn marked(
-    alloc: Global,
-    path: &str,
-    code: &str,
-    message: &str,
-    before: usize,
-) -> Result<String, AllocError>
-    ensures { IfOk result (λ text. string_bytes text
-        ≡ marked_by path.now code.now message.now before) }
-{
-    let mut text = String::new(alloc);
-    push_measured(&mut text, path)?;
-    push_measured(&mut text, code)?;
-    push_measured(&mut text, message)?;
-    text.push_str(Buffer::new().format(before))?;
-    Ok(text)
-}
 
 /// Appends the length of a text, and the text.
 #[tactic(auto, unfolding(crate::specs::Fingerprint::measured))]

@@ -3,21 +3,21 @@ ghost use Rattle.std.specs.Prelude.{◌≡◌, ◌≤◌, IfOk, IsErrOf, OnErr, 
 ghost use Rattle.std.specs.Io.KnownBytes.{Appends};
 ghost use Rattle.oxc_protocol.specs.Faults.{Rose};
 ghost use Rattle.oxc_protocol.specs.Sink.{AppendsPrefix};
-ghost use Rattle.ci_findings.specs.Finding.{finding_parts};
+ghost use Rattle.ci_formats.specs.Finding.{finding_parts};
 ghost use Rattle.ci_formats.specs.Format.{text_in as text_of_format};
 
+use crate::annotation::github_text;
 use crate::checkstyle::checkstyle_text;
+use crate::finding::Finding;
 use crate::gitlab::gitlab_text;
 use crate::junit::junit_text;
 use crate::problems::problems_text;
 use crate::stylish::stylish_text;
-use ci_findings::Finding;
-use github_lines::github_text;
 use oxc_protocol::{Failed, Sink, write_all};
 use std::alloc::{AllocError, Global};
 
 /// A format that a CI system reads, or a person.
-#[derive(Clone, Copy, PartialEq, Eq)]
+#[derive(Clone, Copy)]
 pub enum CiFormat {
     /// The workflow commands of GitHub.
     Github,
@@ -34,7 +34,7 @@ pub enum CiFormat {
 }
 
 /// Why a text wasn't sent.
-#[derive(Clone, Copy, PartialEq, Eq)]
+#[derive(Drop)]
 pub enum SendError {
     /// The sink failed.
     Failed,

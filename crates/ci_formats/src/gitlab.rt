@@ -3,17 +3,14 @@ ghost use Rattle.std.specs.Prelude.{◌≡◌, IfOk, Some, map, string_bytes};
 ghost use Rattle.std.specs.Option.{option_copied};
 ghost use Rattle.serde_json.specs.Read.{read};
 ghost use Rattle.serde_json.specs.View.{view};
-ghost use Rattle.ci_findings.specs.Finding.{finding_parts};
-ghost use Rattle.ci_formats.specs.Gitlab.{begin_of, check_of, code_of as code_for};
-ghost use Rattle.ci_formats.specs.Gitlab.{gitlab_of, gitlab_value};
-ghost use Rattle.ci_formats.specs.Gitlab.{grade as grade_of};
-ghost use Rattle.ci_formats.specs.Gitlab.{issue_parts, issue_value as issue_of, key_parts};
-ghost use Rattle.ci_formats.specs.Gitlab.{last_of, location_value as location_of};
-ghost use Rattle.ci_formats.specs.Gitlab.{path_of as path_for, usual_check as usual_for};
+ghost use Rattle.ci_formats.specs.Finding.{finding_parts};
+ghost use Rattle.ci_formats.specs.Gitlab.{code_of as code_for, gitlab_of, gitlab_value};
+ghost use Rattle.ci_formats.specs.Gitlab.{grade as grade_of, issue_parts};
+ghost use Rattle.ci_formats.specs.Gitlab.{issue_value as issue_of, key_parts, path_of as path_for};
 
 use crate::counted::count_once;
+use crate::finding::Finding;
 use crate::fingerprints::fingerprint;
-use ci_findings::Finding;
 use escapes::behind;
 use oxc_protocol::Severity;
 use serde_json::{Value, json};
@@ -21,7 +18,7 @@ use std::alloc::{AllocError, Global};
 use std::collections::BTreeMap;
 
 /// What the fingerprint of a finding is made of.
-#[derive(Clone, Copy, PartialEq, Eq, PartialOrd, Ord)]
+#[derive(Drop, PartialEq, Eq, PartialOrd, Ord)]
 pub struct IssueKey<'a> {
     pub message: &'a str,
     pub code: &'a str,
@@ -54,7 +51,7 @@ fn report(alloc: Global, tool: Option<&str>, findings: &[Finding]) -> Result<Val
     ensures { IfOk result (λ value. view value
         ≡ gitlab_value (option_copied tool.entry) (map finding_parts findings.now)) }
 {
-    let usual = usual_check(tool);
+    let usual = tool.unwrap_or("girzohal");
     let mut issues = Vec::with_capacity(alloc, findings.len())?;
     let mut counts = BTreeMap::new(alloc);
     for finding in findings {
@@ -76,44 +73,22 @@ fn issue_key(finding: &Finding) -> IssueKey<'_>
 }
 
 /// A finding as JSON, after `before` findings with the same fingerprint texts.
-#[tactic(auto, unfolding(crate::specs::Gitlab::issue_value))]
+#[tactic(auto, unfolding(crate::specs::Gitlab::issue_value, crate::specs::Gitlab::location_value))]
 fn issue(alloc: Global, usual: &str, before: usize, finding: &Finding) -> Result<Value, AllocError>
     ensures { IfOk result (λ value. view value
         ≡ issue_of usual.now before (finding_parts finding.now)) }
 {
     let (path, code) = (path_of(finding), code_of(finding));
     let print = fingerprint(alloc, path, code, finding.message.as_str(), before)?;
-    let place = location(alloc, finding)?;
+    let begin = finding.start.row.unwrap_or(1);
+    let end = finding.end.row.unwrap_or(begin);
     json!(in alloc; {
         "description": finding.message.as_str(),
-        "check_name": check_name(usual, finding),
+        "check_name": finding.code.as_deref().unwrap_or(usual),
         "fingerprint": print,
         "severity": grade(finding.severity),
-        "location": place
+        "location": {"path": path, "lines": {"begin": begin, "end": end}}
     })
-}
-
-/// The location of a finding, as JSON.
-#[tactic(auto, unfolding(crate::specs::Gitlab::location_value))]
-fn location(alloc: Global, finding: &Finding) -> Result<Value, AllocError>
-    ensures { IfOk result (λ value. view value ≡ location_of (finding_parts finding.now)) }
-{
-    let (begin, end) = (begin_row(finding), end_row(finding));
-    json!(in alloc; {"path": path_of(finding), "lines": {"begin": begin, "end": end}})
-}
-
-/// The first row; 1 if it isn't known.
-fn begin_row(finding: &Finding) -> u32
-    ensures { result ≡ begin_of (finding_parts finding.now) }
-{
-    finding.start.row.unwrap_or(1)
-}
-
-/// The last row; the first row if it isn't known.
-fn end_row(finding: &Finding) -> u32
-    ensures { result ≡ last_of (finding_parts finding.now) }
-{
-    finding.end.row.unwrap_or(begin_row(finding))
 }
 
 /// The path without a leading `./`.
@@ -121,40 +96,14 @@ fn path_of(finding: &Finding) -> &str
     ensures { result.now ≡ path_for (finding_parts finding.now).name }
 {
     let name = finding.name.as_str();
-    match behind(name, "./") {
-        Some(rest) => rest,
-        None => name,
-    }
+    behind(name, "./").unwrap_or(name)
 }
 
 /// The code; empty if there is none.
 fn code_of(finding: &Finding) -> &str
     ensures { result.now ≡ code_for (finding_parts finding.now).code }
 {
-    match &finding.code {
-        Some(code) => code.as_str(),
-        None => "",
-    }
-}
-
-/// The check name of findings without a code: the tool, or the program.
-fn usual_check(tool: Option<&str>) -> &str
-    ensures { result.now ≡ usual_for (option_copied tool.entry) }
-{
-    match tool {
-        Some(tool) => tool,
-        None => "girzohal",
-    }
-}
-
-/// The check name of a finding: its code, or else the default.
-fn check_name<'a>(usual: &'a str, finding: &'a Finding) -> &'a str
-    ensures { result.now ≡ check_of usual.now (finding_parts finding.now) }
-{
-    match &finding.code {
-        Some(code) => code.as_str(),
-        None => usual,
-    }
+    finding.code.as_deref().unwrap_or("")
 }
 
 /// The word for a severity.

@@ -1,28 +1,25 @@
 // The XML of JUnit.
-ghost use Rattle.std.specs.Prelude.{◌≡◌, ◌++◌, ◌≤◌, false, IfOk, OnOk, length, map, string_bytes};
-ghost use Rattle.std.specs.Prelude.{◌<◌, slice_index, take, true};
-ghost use Rattle.std.specs.List.{flat_map, list_any};
-ghost use Rattle.std.specs.Str.{IsCharBoundary};
-ghost use Rattle.ci_findings.specs.Finding.{finding_parts};
-ghost use Rattle.ci_formats.specs.Files.{names_of as names_in};
-ghost use Rattle.ci_formats.specs.Junit.{AreCasesByFile, case_attributes, case_name, case_parts};
-ghost use Rattle.ci_formats.specs.Junit.{case_text, code_or_finding as code_or_word};
-ghost use Rattle.ci_formats.specs.Junit.{ends_stem as ends_stem_by, failure_element, is_part_end};
-ghost use Rattle.ci_formats.specs.Junit.{junit_of, key_parts, number_text, numbered};
-ghost use Rattle.ci_formats.specs.Junit.{numbered_text, own_cases, stem as stem_of_path, suite_of};
-ghost use Rattle.ci_formats.specs.Junit.{suite_element, suites_of, totals};
+ghost use Rattle.std.specs.Prelude.{◌≡◌, ◌++◌, ◌≤◌, ◌<◌, IfOk, OnOk, length, map, slice_index};
+ghost use Rattle.std.specs.Prelude.{string_bytes, take, true};
+ghost use Rattle.std.specs.List.{list_any};
+ghost use Rattle.ci_formats.specs.Finding.{finding_parts};
+ghost use Rattle.ci_formats.specs.Junit.{AreCasesByFile, case_name, case_parts, case_text};
+ghost use Rattle.ci_formats.specs.Junit.{code_or_finding as code_or_word};
+ghost use Rattle.ci_formats.specs.Junit.{ends_stem as ends_stem_by, failure_element};
+ghost use Rattle.ci_formats.specs.Junit.{is_part_end, junit_of, key_parts, number_text, numbered};
+ghost use Rattle.ci_formats.specs.Junit.{stem as stem_of_path, suite_of, suites_of};
 
 use crate::checkstyle::severity_word;
 use crate::counted::count_once;
-use crate::files::{ByFile, names_of, or_zero, own, put_on};
+use crate::files::{ByFile, names_of, own, put_on};
+use crate::finding::Finding;
 use crate::xml::{push_attribute, push_number, push_shown};
-use ci_findings::Finding;
 use itoa::Buffer;
 use std::alloc::{AllocError, Global};
 use std::collections::BTreeMap;
 
 /// What the name and the class of a case are made of.
-#[derive(Clone, Copy, PartialEq, Eq, PartialOrd, Ord)]
+#[derive(Drop, PartialEq, Eq, PartialOrd, Ord)]
 pub struct CaseKey<'a> {
     pub row: u32,
     pub column: u32,
@@ -31,7 +28,7 @@ pub struct CaseKey<'a> {
 }
 
 /// The case of a finding.
-#[derive(Clone, Copy)]
+#[derive(Drop)]
 pub struct Case<'a> {
     pub finding: &'a Finding,
     /// Its number among the cases with its name and class, from 1.
@@ -62,7 +59,7 @@ const PASSING: &str = "\
     <testcase classname=\"girzohal\" name=\"no findings\"/>\n\
     </testsuite>\n";
 
-/// Appends all suites.
+/// Appends the suite of each file, or the one where nothing was found.
 fn push_suites(alloc: Global, out: &mut String, findings: &[Finding]) -> Result<(), AllocError>
     ensures { OnOk result (string_bytes out.new
         ≡ string_bytes out.old ++ suites_of (map finding_parts findings.now)) }
@@ -70,18 +67,12 @@ fn push_suites(alloc: Global, out: &mut String, findings: &[Finding]) -> Result<
     if findings.is_empty() {
         return out.push_str(PASSING);
     }
-    push_found(alloc, out, findings)
-}
-
-/// Appends the suite of each file.
-fn push_found(alloc: Global, out: &mut String, findings: &[Finding]) -> Result<(), AllocError>
-    ensures { OnOk result (string_bytes out.new ≡ string_bytes out.old
-        ++ flat_map (suite_element (map finding_parts findings.now))
-        (names_in (map finding_parts findings.now))) }
-{
     let names = names_of(alloc, findings)?;
     let cases = cases_by_file(alloc, findings)?;
-    push_named(alloc, out, &cases, &names)
+    for name in &names {
+        push_suite(alloc, out, name, own(&cases, name))?;
+    }
+    Ok(())
 }
 
 /// The cases of each file, by its name.
@@ -106,31 +97,15 @@ fn case_key(finding: &Finding) -> CaseKey<'_>
     ensures { key_parts result ≡ case_parts (finding_parts finding.now) }
 {
     CaseKey {
-        row: or_zero(finding.start.row),
-        column: or_zero(finding.start.column),
+        row: finding.start.row.unwrap_or(0),
+        column: finding.start.column.unwrap_or(0),
         code: code_or_finding(finding),
         stem: stem(finding.name.as_str()),
     }
 }
 
-/// Appends the suites of files of these names.
-fn push_named<'a>(
-    alloc: Global,
-    out: &mut String,
-    cases: &ByFile<'a, Case<'a>>,
-    names: &[&'a str],
-) -> Result<(), AllocError>
-    ensures { OnOk result (string_bytes out.new ≡ string_bytes out.old
-        ++ flat_map (λ name. suite_of name.now (own_cases cases.now name)) names.now) }
-{
-    for name in names {
-        push_suite(alloc, out, name, own(cases, name))?;
-    }
-    Ok(())
-}
-
 /// Appends a suite of these cases.
-#[tactic(auto, unfolding(crate::specs::Junit::suite_with))]
+#[tactic(auto, unfolding(crate::specs::Junit::suite_with, crate::specs::Junit::totals))]
 fn push_suite(
     alloc: Global,
     out: &mut String,
@@ -141,37 +116,19 @@ fn push_suite(
         ++ suite_of name.now (map numbered cases.now)) }
 {
     out.push_str("<testsuite")?;
-    push_totals(alloc, out, name, cases.len())?;
-    out.push_str(">\n")?;
-    push_cases(alloc, out, cases)?;
-    out.push_str("</testsuite>\n")
-}
-
-/// Appends the name of a suite and its totals.
-#[tactic(auto, unfolding(crate::specs::Junit::totals))]
-fn push_totals(alloc: Global, out: &mut String, name: &str, count: usize) -> Result<(), AllocError>
-    ensures { OnOk result (string_bytes out.new
-        ≡ string_bytes out.old ++ totals name.now count) }
-{
     push_attribute(alloc, out, "name", name)?;
-    push_number(out, "tests", count)?;
-    push_number(out, "failures", count)?;
-    push_number(out, "errors", 0)
-}
-
-/// Appends cases.
-fn push_cases(alloc: Global, out: &mut String, cases: &[Case<'_>]) -> Result<(), AllocError>
-    ensures { OnOk result (string_bytes out.new ≡ string_bytes out.old
-        ++ flat_map numbered_text (map numbered cases.now)) }
-{
+    push_number(out, "tests", cases.len())?;
+    push_number(out, "failures", cases.len())?;
+    push_number(out, "errors", 0)?;
+    out.push_str(">\n")?;
     for case in cases {
         push_case(alloc, out, case.number, case.finding)?;
     }
-    Ok(())
+    out.push_str("</testsuite>\n")
 }
 
 /// Appends the case of a finding with this number among the cases of its name.
-#[tactic(auto, unfolding(crate::specs::Junit::case_text))]
+#[tactic(auto, unfolding(crate::specs::Junit::case_text, crate::specs::Junit::case_attributes))]
 fn push_case(
     alloc: Global,
     out: &mut String,
@@ -181,66 +138,40 @@ fn push_case(
     ensures { OnOk result (string_bytes out.new
         ≡ string_bytes out.old ++ case_text number (finding_parts finding.now)) }
 {
+    let name = numbered_name(alloc, number, finding)?;
     out.push_str("<testcase")?;
-    push_called(alloc, out, number, finding)?;
+    push_attribute(alloc, out, "classname", stem(finding.name.as_str()))?;
+    push_attribute(alloc, out, "file", finding.name.as_str())?;
+    push_attribute(alloc, out, "name", name.as_str())?;
     out.push_str(">")?;
     push_failure(alloc, out, finding)?;
     out.push_str("</testcase>\n")
 }
 
-/// Appends the class, the file and the name of a case.
-#[tactic(auto, unfolding(crate::specs::Junit::case_attributes))]
-fn push_called(
-    alloc: Global,
-    out: &mut String,
-    number: usize,
-    finding: &Finding,
-) -> Result<(), AllocError>
-    ensures { OnOk result (string_bytes out.new
-        ≡ string_bytes out.old ++ case_attributes number (finding_parts finding.now)) }
-{
-    let name = numbered_name(alloc, number, finding)?;
-    push_attribute(alloc, out, "classname", stem(finding.name.as_str()))?;
-    push_attribute(alloc, out, "file", finding.name.as_str())?;
-    push_attribute(alloc, out, "name", name.as_str())
-}
-
 /// The name of a case with this number among the cases of its name.
-#[tactic(auto, unfolding(crate::specs::Junit::case_name))]
+#[tactic(auto, unfolding(crate::specs::Junit::case_name, crate::specs::Junit::number_text))]
 fn numbered_name(alloc: Global, number: usize, finding: &Finding) -> Result<String, AllocError>
     ensures { IfOk result (λ name. string_bytes name
         ≡ case_name (finding_parts finding.now) ++ number_text number) }
 {
     let mut name = String::from_str(alloc, code_or_finding(finding))?;
     name.push_str(" at ")?;
-    name.push_str(Buffer::new().format(or_zero(finding.start.row)))?;
+    name.push_str(Buffer::new().format(finding.start.row.unwrap_or(0)))?;
     name.push_str(":")?;
-    name.push_str(Buffer::new().format(or_zero(finding.start.column)))?;
-    push_number_text(&mut name, number)?;
-    Ok(name)
-}
-
-/// Appends the number of a case, unless it is the first with its name.
-#[tactic(auto, unfolding(crate::specs::Junit::number_text))]
-fn push_number_text(out: &mut String, number: usize) -> Result<(), AllocError>
-    ensures { OnOk result (string_bytes out.new ≡ string_bytes out.old ++ number_text number) }
-{
-    if number == 1 {
-        return Ok(());
+    name.push_str(Buffer::new().format(finding.start.column.unwrap_or(0)))?;
+    if number != 1 {
+        name.push_str(" (")?;
+        name.push_str(Buffer::new().format(number))?;
+        name.push_str(")")?;
     }
-    out.push_str(" (")?;
-    out.push_str(Buffer::new().format(number))?;
-    out.push_str(")")
+    Ok(name)
 }
 
 /// The code of a finding, or the word `finding`.
 fn code_or_finding(finding: &Finding) -> &str
     ensures { result.now ≡ code_or_word (finding_parts finding.now).code }
 {
-    match &finding.code {
-        Some(code) => code.as_str(),
-        None => "finding",
-    }
+    finding.code.as_deref().unwrap_or("finding")
 }
 
 /// Appends the failure of a case.
@@ -258,19 +189,11 @@ fn push_failure(alloc: Global, out: &mut String, finding: &Finding) -> Result<()
 }
 
 /// A path without its extension.
+#[tactic(auto, using(crate::proofs::StemLemmas::boundary))]
 fn stem(path: &str) -> &str
     ensures { result.now ≡ stem_of_path path.now }
 {
-    &path[..stem_len(path)]
-}
-
-/// The length of a path without its extension.
-fn stem_len(path: &str) -> usize
-    ensures stem { take result path.now ≡ stem_of_path path.now }
-    ensures bound { result ≤ length path.now }
-    ensures boundary { IsCharBoundary path.now result }
-{
-    stem_end(path.as_bytes())
+    &path[..stem_end(path.as_bytes())]
 }
 
 /// The index of the dot of a path's extension; the length if it has no extension.

@@ -1,21 +1,16 @@
 // A table for people.
-ghost use Rattle.std.specs.Prelude.{◌≡◌, ◌++◌, ◌-◌, IfOk, OnOk, length, map, string_bytes};
+ghost use Rattle.std.specs.Prelude.{◌≡◌, ◌++◌, IfOk, OnOk, map, string_bytes};
 ghost use Rattle.std.specs.List.{count_by, flat_map};
-ghost use Rattle.std.specs.Option.{option_copied};
-ghost use Rattle.ci_findings.specs.Finding.{finding_parts};
-ghost use Rattle.ci_formats.specs.Files.{names_of as names_in, own_parts};
-ghost use Rattle.ci_formats.specs.Stylish.{blanks, code_cell, cross, counted as counted_nouns};
-ghost use Rattle.ci_formats.specs.Stylish.{ending};
-ghost use Rattle.ci_formats.specs.Stylish.{file_text, is_error as is_error_by, level_cell};
+ghost use Rattle.ci_formats.specs.Files.{names_of as names_in};
+ghost use Rattle.ci_formats.specs.Finding.{finding_parts};
+ghost use Rattle.ci_formats.specs.Stylish.{blanks, code_cell, counted as counted_nouns, ending};
+ghost use Rattle.ci_formats.specs.Stylish.{file_text, is_error, level_cell};
 ghost use Rattle.ci_formats.specs.Stylish.{level_word as word_of_level, measured as measured_by};
 ghost use Rattle.ci_formats.specs.Stylish.{place_cells, pointless as without_point, row_text};
-ghost use Rattle.ci_formats.specs.Stylish.{rows_text, shares, stylish_of, summary};
-ghost use Rattle.ci_formats.specs.Stylish.{plural as plural_of};
-ghost use Rattle.ci_formats.specs.Stylish.{widest as widest_of, widths_of as widths_in};
-ghost use Rattle.ci_formats.specs.Stylish.{table_text};
+ghost use Rattle.ci_formats.specs.Stylish.{stylish_of, table_text, widest as widest_of};
 
-use crate::files::{ByFile, by_file, names_of, or_zero, own};
-use ci_findings::Finding;
+use crate::files::{by_file, names_of, own};
+use crate::finding::Finding;
 use escapes::without_last;
 use itoa::Buffer;
 use oxc_protocol::Severity;
@@ -56,79 +51,43 @@ pub fn stylish_text(alloc: Global, findings: &[Finding]) -> Result<String, Alloc
         ≡ stylish_of (map finding_parts findings.now)) }
 {
     let mut text = String::new(alloc);
-    push_found(alloc, &mut text, findings)?;
+    push_files(alloc, &mut text, findings)?;
     push_ending(&mut text, findings)?;
     Ok(text)
 }
 
 /// Appends the table of each file.
-fn push_found(alloc: Global, out: &mut String, findings: &[Finding]) -> Result<(), AllocError>
+fn push_files(alloc: Global, out: &mut String, findings: &[Finding]) -> Result<(), AllocError>
     ensures { OnOk result (string_bytes out.new ≡ string_bytes out.old
         ++ flat_map (file_text (map finding_parts findings.now))
         (names_in (map finding_parts findings.now))) }
 {
     let names = names_of(alloc, findings)?;
     let files = by_file(alloc, findings)?;
-    push_files(out, &files, &names)
-}
-
-/// Appends the tables of the files of these names.
-fn push_files<'a>(
-    out: &mut String,
-    files: &ByFile<'a, &'a Finding>,
-    names: &[&'a str],
-) -> Result<(), AllocError>
-    ensures { OnOk result (string_bytes out.new ≡ string_bytes out.old
-        ++ flat_map (λ name. table_text name.now (own_parts files.now name)) names.now) }
-{
-    for name in names {
-        push_file(out, name, own(files, name))?;
+    for name in &names {
+        push_file(out, name, own(&files, name))?;
     }
     Ok(())
 }
 
 /// Appends a file's name and its table.
-#[tactic(auto, unfolding(crate::specs::Stylish::table_text))]
+#[tactic(auto, unfolding(crate::specs::Stylish::table_text, crate::specs::Stylish::rows_text))]
 fn push_file(out: &mut String, name: &str, own: &[&Finding]) -> Result<(), AllocError>
     ensures { OnOk result (string_bytes out.new ≡ string_bytes out.old
         ++ table_text name.now (map (λ it. finding_parts it.now) own.now)) }
 {
+    let widths = Widths {
+        row: widest(own, Measure::Row),
+        column: widest(own, Measure::Column),
+        level: widest(own, Measure::Level),
+        message: widest(own, Measure::Message),
+    };
     out.push_str(name)?;
     out.push_str("\n")?;
-    push_rows(out, own)?;
-    out.push_str("\n")
-}
-
-/// Appends the rows of a table.
-#[tactic(auto, unfolding(crate::specs::Stylish::rows_text))]
-fn push_rows(out: &mut String, findings: &[&Finding]) -> Result<(), AllocError>
-    ensures { OnOk result (string_bytes out.new
-        ≡ string_bytes out.old ++ rows_text (map (λ it. finding_parts it.now) findings.now)) }
-{
-    push_all(out, widths_of(findings), findings)
-}
-
-/// Appends rows of these widths.
-fn push_all(out: &mut String, widths: Widths, findings: &[&Finding]) -> Result<(), AllocError>
-    ensures { OnOk result (string_bytes out.new ≡ string_bytes out.old
-        ++ flat_map (row_text widths) (map (λ it. finding_parts it.now) findings.now)) }
-{
-    for finding in findings {
+    for finding in own {
         push_row(out, widths, finding)?;
     }
-    Ok(())
-}
-
-/// The widths of the columns.
-fn widths_of(findings: &[&Finding]) -> Widths
-    ensures { result ≡ widths_in (map (λ it. finding_parts it.now) findings.now) }
-{
-    Widths {
-        row: widest(findings, Measure::Row),
-        column: widest(findings, Measure::Column),
-        level: widest(findings, Measure::Level),
-        message: widest(findings, Measure::Message),
-    }
+    out.push_str("\n")
 }
 
 /// The width of the widest cell of a column.
@@ -148,8 +107,10 @@ fn measured(finding: &Finding, measure: Measure) -> usize
     ensures { result ≡ measured_by measure (finding_parts finding.now) }
 {
     match measure {
-        Measure::Row => Buffer::new().format(or_zero(finding.start.row)).len(),
-        Measure::Column => Buffer::new().format(or_zero(finding.start.column)).len(),
+        Measure::Row => Buffer::new().format(finding.start.row.unwrap_or(0)).len(),
+        Measure::Column => Buffer::new()
+            .format(finding.start.column.unwrap_or(0))
+            .len(),
         Measure::Level => level_word(finding.severity).len(),
         Measure::Message => display_width(pointless(finding.message.as_str())),
     }
@@ -181,9 +142,9 @@ fn push_place(out: &mut String, widths: Widths, finding: &Finding) -> Result<(),
         out,
         widths.row.saturating_sub(measured(finding, Measure::Row)),
     )?;
-    out.push_str(Buffer::new().format(or_zero(finding.start.row)))?;
+    out.push_str(Buffer::new().format(finding.start.row.unwrap_or(0)))?;
     out.push_str(":")?;
-    out.push_str(Buffer::new().format(or_zero(finding.start.column)))?;
+    out.push_str(Buffer::new().format(finding.start.column.unwrap_or(0)))?;
     push_blanks(
         out,
         widths
@@ -238,10 +199,7 @@ fn push_blanks(out: &mut String, count: usize) -> Result<(), AllocError>
 fn pointless(message: &str) -> &str
     ensures { result.now ≡ without_point message.now }
 {
-    match without_last(message, '.') {
-        Some(front) => front,
-        None => message,
-    }
+    without_last(message, '.').unwrap_or(message)
 }
 
 /// The word for a severity.
@@ -255,7 +213,8 @@ fn level_word(severity: Severity) -> &'static str
     }
 }
 
-/// Appends the number of findings, if there are any.
+/// Appends the number of findings and how many of them are errors, if there are any.
+#[tactic(auto, unfolding(crate::specs::Stylish::summary, crate::specs::Stylish::shares))]
 fn push_ending(out: &mut String, findings: &[Finding]) -> Result<(), AllocError>
     ensures { OnOk result (string_bytes out.new
         ≡ string_bytes out.old ++ ending (map finding_parts findings.now)) }
@@ -263,54 +222,25 @@ fn push_ending(out: &mut String, findings: &[Finding]) -> Result<(), AllocError>
     if findings.is_empty() {
         return Ok(());
     }
+    let all = findings.len();
     let errors = count_errors(findings);
-    push_summary(out, findings.len(), errors)
+    out.push_str("✖ ")?;
+    push_counted(out, all, "problem")?;
+    out.push_str(" (")?;
+    push_counted(out, errors, "error")?;
+    out.push_str(", ")?;
+    push_counted(out, all.saturating_sub(errors), "warning")?;
+    out.push_str(")\n")
 }
 
 /// How many of the findings are errors.
 fn count_errors(findings: &[Finding]) -> usize
-    ensures { result ≡ count_by is_error_by (map finding_parts findings.now) }
+    ensures { result ≡ count_by is_error (map finding_parts findings.now) }
 {
-    findings.iter().filter(|finding| is_error(finding)).count()
-}
-
-/// Whether a finding is an error.
-fn is_error(finding: &Finding) -> bool
-    ensures { result ≡ is_error_by (finding_parts finding.now) }
-{
-    match finding.severity {
-        Severity::Error => true,
-        Severity::Warning | Severity::Advice => false,
-    }
-}
-
-/// Appends the number of findings, and how many of them are errors.
-#[tactic(auto, unfolding(crate::specs::Stylish::summary))]
-fn push_summary(out: &mut String, all: usize, errors: usize) -> Result<(), AllocError>
-    ensures { OnOk result (string_bytes out.new ≡ string_bytes out.old ++ summary all errors) }
-{
-    out.push_str(cross())?;
-    push_counted(out, all, "problem")?;
-    out.push_str(" (")?;
-    push_shares(out, all, errors)?;
-    out.push_str(")\n")
-}
-
-/// The sign before the number of findings.
-fn cross() -> &'static str
-    ensures { result.now ≡ cross }
-{
-    "✖ "
-}
-
-/// Appends how many of the findings are errors, and how many aren't.
-#[tactic(auto, unfolding(crate::specs::Stylish::shares))]
-fn push_shares(out: &mut String, all: usize, errors: usize) -> Result<(), AllocError>
-    ensures { OnOk result (string_bytes out.new ≡ string_bytes out.old ++ shares all errors) }
-{
-    push_counted(out, errors, "error")?;
-    out.push_str(", ")?;
-    push_counted(out, all.saturating_sub(errors), "warning")
+    let errors = findings
+        .iter()
+        .filter(|finding| matches!(finding.severity, Severity::Error));
+    errors.count()
 }
 
 /// Appends a number and the name of what is counted.
@@ -322,12 +252,8 @@ fn push_counted(out: &mut String, count: usize, noun: &str) -> Result<(), AllocE
     out.push_str(Buffer::new().format(count))?;
     out.push_str(" ")?;
     out.push_str(noun)?;
-    out.push_str(plural(count))
-}
-
-/// The plural ending for this number.
-fn plural(count: usize) -> &'static str
-    ensures { result.now ≡ plural_of count }
-{
-    if count == 1 { "" } else { "s" }
+    if count == 1 {
+        return Ok(());
+    }
+    out.push_str("s")
 }

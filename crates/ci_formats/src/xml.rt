@@ -1,9 +1,8 @@
 // Texts in XML.
 ghost use Rattle.std.specs.Prelude.{◌≡◌, ◌++◌, false, IfOk, OnOk, string_bytes};
 ghost use Rattle.std.specs.List.{list_any};
-ghost use Rattle.ci_formats.specs.Xml.{attribute, escape, held as held_text};
-ghost use Rattle.ci_formats.specs.Xml.{held_char as held_for, is_held as can_hold, is_markup};
-ghost use Rattle.ci_formats.specs.Xml.{number_attribute, shown, unescape};
+ghost use Rattle.ci_formats.specs.Xml.{attribute, held as held_text, held_char as held_for};
+ghost use Rattle.ci_formats.specs.Xml.{is_markup, number_attribute, shown, unescape};
 
 use escapes::{Spelling, push_escaped};
 use itoa::Buffer;
@@ -20,13 +19,6 @@ pub fn xml_escape(alloc: Global, text: &str) -> Result<String, AllocError>
     ensures text { IfOk result (λ out. string_bytes out ≡ shown text.now) }
     ensures back { IfOk result (λ out. unescape (string_bytes out) ≡ held_text text.now) }
     ensures free { IfOk result (λ out. list_any is_markup (string_bytes out) ≡ false) }
-{
-    escaped(alloc, text)
-}
-
-/// The same, specified by its text alone.
-fn escaped(alloc: Global, text: &str) -> Result<String, AllocError>
-    ensures { IfOk result (λ out. string_bytes out ≡ shown text.now) }
 {
     let mut out = String::new(alloc);
     push_shown(alloc, &mut out, text)?;
@@ -80,18 +72,15 @@ fn held(alloc: Global, text: &str) -> Result<String, AllocError>
     text.chars().map(held_char).collect(alloc)
 }
 
-/// The character, or U+FFFD if XML can't hold it.
+/// The character, or U+FFFD if XML 1.0 can't hold it.
 fn held_char(c: char) -> char
     ensures { result ≡ held_for c }
 {
-    if is_held(c) { c } else { '\u{FFFD}' }
-}
-
-/// Whether XML 1.0 can hold a character.
-fn is_held(c: char) -> bool
-    ensures { result ≡ can_hold c }
-{
-    (' ' <= c && c < '\u{FFFE}') || c == '\t' || c == '\n' || c == '\r' || '\u{10000}' <= c
+    if (' ' <= c && c < '\u{FFFE}') || c == '\t' || c == '\n' || c == '\r' || '\u{10000}' <= c {
+        c
+    } else {
+        '\u{FFFD}'
+    }
 }
 
 /// Texts with entities instead of characters that would end them.

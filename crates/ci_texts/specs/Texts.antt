@@ -3,7 +3,7 @@ use Rattle.std.specs.Prelude.{ℕ, List, Bool, Option, map}
 use Rattle.harmless.specs.declared.Kind.TheVariants.{Prose, Name}
 use Rattle.found_reports.specs.Found.{Found}
 use Rattle.shown_reports.specs.Shown.{shown_if, shown_text}
-use Rattle.ci_findings.specs.Finding.{FindingParts, finding_of}
+use Rattle.ci_formats.specs.Finding.{FindingParts, finding_of}
 use Rattle.ci_formats.specs.Format.{text_in}
 use Rattle.ci_formats.specs.Gitlab.{gitlab_of}
 use Rattle.ci_formats.specs.declared.format.CiFormat.{CiFormat}

@@ -9,7 +9,6 @@
 //!   have most of them.
 #![tactic(auto)]
 
-mod indexed;
 mod shown;
 
 pub use ci_formats::CiFormat;

@@ -1,7 +1,7 @@
 // The texts of reports for CI systems.
 ghost use Rattle.std.specs.Prelude.{◌≡◌, IfOk, map, string_bytes};
 ghost use Rattle.std.specs.Option.{option_copied};
-ghost use Rattle.ci_findings.specs.Finding.{finding_parts};
+ghost use Rattle.ci_formats.specs.Finding.{finding_parts};
 ghost use Rattle.found_reports.specs.Listed.{held_in};
 ghost use Rattle.indexed_sources.specs.Indexed.{AreTold};
 ghost use Rattle.ci_texts.specs.Texts.{ci_text as ci_text_of, findings_in};
@@ -10,9 +10,7 @@ ghost use Rattle.ci_texts.specs.Texts.{shown_finding as finding_shown};
 ghost use Rattle.finding_summaries.specs.Markdown.{IsMarkdown};
 ghost use Rattle.finding_summaries.specs.Summary.{IsSummary};
 
-use crate::indexed::findings_on;
-use ci_findings::{Finding, findings_of};
-use ci_formats::{CiFormat, text_in};
+use ci_formats::{CiFormat, Finding, findings_of, findings_on, text_in};
 use found_reports::FoundReports;
 use harmless::Kind;
 use indexed_sources::IndexedSources;

@@ -1,9 +1,9 @@
 -- Findings that are printed again, in parts of what was printed.
-use Rattle.std.proofs.Common.{◌≡◌, ℕ, zero, suc, ◌+◌, ◌-◌, ◌&&◌, ◌≤◌, Bor, get_or, not, Bool, true, false, cond, if◌then◌else◌, List, [], ◌∷◌, ◌++◌, length, map, take, drop, replicate, Option, Some, None, refl, sym, ap, ap₂, ◌∙◌, append_assoc, append-nil, arith, length-drop}
-use Rattle.std.specs.Prelude.{⊤, IfSome}
+use Rattle.std.proofs.Common.{◌≡◌, ℕ, zero, suc, ◌+◌, ◌-◌, ◌&&◌, ◌≤◌, Bor, get_or, not, Bool, true, false, if◌then◌else◌, List, [], ◌∷◌, ◌++◌, length, map, take, drop, replicate, None, refl, sym, ap, ap₂, ◌∙◌, append_assoc, append-nil, arith, length-drop}
+use Rattle.std.specs.Prelude.{⊤}
 use Rattle.std.specs.List.{drop-map}
 use Rattle.std.proofs.lemmas.List.{length-append, length-replicate, drop-append-le, take-append-le, take-map, take_rest, drop-drop}
-use Rattle.build_dirs.specs.Again.{Seen, with_seen}
+use Rattle.build_dirs.specs.Again.{Seen}
 use Rattle.tool_lines.specs.declared.lines.Piece.{Piece}
 use Rattle.tool_lines.specs.Lines.{PieceParts, is_kept, piece_parts}
 use Rattle.girzohal_options.specs.declared.Asked.{Asked}

@@ -11,3 +11,4 @@ pub mod NameLemmas
 pub mod ComingLemmas
 pub mod AgainLemmas
 pub mod PartingLemmas
+pub mod NamedLemmas

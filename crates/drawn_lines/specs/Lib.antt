@@ -1,4 +1,5 @@
 pub mod Text
+pub mod Named
 pub mod Lines
 pub mod Counts
 pub mod Walk

@@ -1,5 +1,5 @@
 -- Empty lines that part a finding from what stands before it. A drawing begins with an empty line itself, so that none is written before it.
-use Rattle.std.specs.Prelude.{ℕ, ◌==◌, ◌&&◌, not, Bool, true, false, List, [], ◌∷◌, length, take, drop, None, if◌then◌else◌}
+use Rattle.std.specs.Prelude.{ℕ, ◌==◌, ◌&&◌, not, Bool, false, List, [], ◌∷◌, length, take, drop, None, if◌then◌else◌}
 use Rattle.tool_lines.specs.declared.lines.Sort.TheVariants.{Heading}
 use Rattle.tool_lines.specs.Lines.{PieceParts, is_kept}
 

@@ -1,5 +1,5 @@
 -- Where pieces may be parted, whatever lines come behind them.
-use Rattle.std.specs.Prelude.{◌≡◌, ⊤, ℕ, ◌+◌, ◌-◌, ◌≤◌, IfSome, not, ◌&&◌, List, [], ◌∷◌, ◌++◌, length, take, drop, Option, Some, None, Bool, true, false}
+use Rattle.std.specs.Prelude.{◌≡◌, ⊤, ℕ, ◌+◌, ◌≤◌, IfSome, not, ◌&&◌, List, [], ◌∷◌, ◌++◌, length, take, drop, Option, Some, None, Bool, true, false}
 use Rattle.std.specs.Option.{is_none}
 use Rattle.tool_lines.specs.declared.lines.Sort.{Sort}
 use Rattle.tool_lines.specs.declared.lines.Sort.TheVariants.{Kept, Heading, Below, Announced, Inline, Spaced}
@@ -78,11 +78,12 @@ pub record IsGap (pieces : List PieceParts) (lines : ℕ) (part : Part) : Type 0
   pub within : part.pieces ≤ length pieces
   pub lines_are : part.lines ≡ span (take part.pieces pieces)
 
--- so many pieces are walked
-pub record IsSought (pieces : List PieceParts) (lines at : ℕ) (sought : Sought) : Type 0 where
-  pub left : sought.left ≡ lines - span (take at pieces)
+-- so many pieces are walked, of these lines
+pub record IsSought (lines : List (List ℕ)) (pieces : List PieceParts) (count at : ℕ) (sought : Sought) : Type 0 where
   pub closed : sought.closed ≡ ends_closed true (take at pieces)
-  pub part : IfSome sought.part (IsGap pieces lines)
+  pub blank : sought.blank ≡ waits false lines (take at pieces)
+  pub part : IfSome sought.part (IsGap pieces count)
+  pub full : IfSome sought.part (IsFull lines pieces)
 
 -- a piece is this line alone, which is the end of the piece before it, and no note of it
 pub record IsEnd (shapes : List ShapeParts) (before last : PieceParts) (line : List ℕ) : Type 0 where

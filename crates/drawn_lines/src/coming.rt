@@ -9,8 +9,9 @@ ghost use Rattle.drawn_lines.specs.Coming.{IsComing, IsDrawn, IsLook, Told};
 use crate::count::{ending, none};
 use crate::held::{HeldLines, drop_first, lent};
 use crate::seam::part_of;
-use crate::tally::{Drawn, Tally, draw, reaches};
+use crate::tally::{Drawn, Named, Tally, draw_with, reaches, seek};
 use build_dirs::again::SeenKeys;
+use build_dirs::dirs::BuildDirs;
 use girzohal_options::Asked;
 use line_shapes::shape::Shape;
 use shown_reports::ShownSources;
@@ -65,6 +66,7 @@ impl Coming {
                 again: none(),
                 seen: SeenKeys::new(alloc),
                 sources: ShownSources::empty(alloc),
+                dirs: BuildDirs::new(alloc),
             },
             wait: 0,
         }
@@ -129,7 +131,10 @@ impl Coming {
         let held = held.ended(alloc)?;
         let lines = lent(alloc, &held.lines)?;
         let pieces = pieces_of(alloc, &lines, shapes)?;
-        let drawn = draw(alloc, asked, store, tally, &lines, &held.came, &pieces)?;
+        let named = seek(alloc, asked, store, tally, &lines, &pieces)?;
+        let Named { names, tally } = named;
+        let came = &held.came;
+        let drawn = draw_with(alloc, asked, store, tally, &lines, came, &names, &pieces)?;
         let Drawn {
             mut text,
             aside,
@@ -249,7 +254,9 @@ fn look_at<S: Store>(
     match part_of(shapes, &lines, &pieces) {
         Some(part) => {
             let front = pieces.split_at(part.pieces).0;
-            let drawn = draw(alloc, asked, store, tally, &lines, came, front)?;
+            let named = seek(alloc, asked, store, tally, &lines, front)?;
+            let Named { names, tally } = named;
+            let drawn = draw_with(alloc, asked, store, tally, &lines, came, &names, front)?;
             Ok(Look::Known(drawn, part.lines))
         }
         None => Ok(Look::Nothing(tally)),

@@ -73,7 +73,7 @@ pub(crate) fn waits(lines: &[&[u8]], pieces: &[Piece<'_>]) -> bool
 }
 
 /// Whether a block with these lines is an empty line that is kept.
-fn is_blank(run: &[&[u8]], piece: &Piece<'_>) -> bool
+pub(crate) fn is_blank(run: &[&[u8]], piece: &Piece<'_>) -> bool
     ensures { result ≡ is_blank_piece (map (λ line. line.now) run.now) (piece_parts piece.now) }
 {
     is_kept(piece.begun.sort) && begins_empty(run)

@@ -1,13 +1,15 @@
 // Split points between blocks that stay, whatever follows.
-ghost use Rattle.std.specs.Prelude.{◌≡◌, ◌≤◌, ◌-◌, ◌&&◌, nat_le, true, if◌then◌else◌, IfSome, None};
+ghost use Rattle.std.specs.Prelude.{◌≡◌, ◌-◌, ◌&&◌, nat_le, not, true, if◌then◌else◌, IfSome, None};
 ghost use Rattle.std.specs.Prelude.{Some, length, map, option_map, take};
 ghost use Rattle.line_shapes.specs.Shape.{shape_parts};
 ghost use Rattle.tool_lines.specs.Lines.{ArePieces, finding_parts, piece_parts};
+ghost use Rattle.drawn_lines.specs.Parting.{is_blank as is_blank_piece};
 ghost use Rattle.drawn_lines.specs.Seam.{EndsKnown, IsEnd, IsFull, IsGap, IsPart, OpensAlways};
 ghost use Rattle.drawn_lines.specs.Seam.{closes as closes_sort, opens as opens_there};
 ghost use Rattle.drawn_lines.specs.Seam.{says_aside as says_it_aside};
 
-use crate::parting::waits;
+use crate::kept::{behind, front};
+use crate::parting::{is_blank, waits};
 use fed_lines::ends_at;
 use line_shapes::shape::Shape;
 use tool_lines::lines::{Finding, Piece, Sort, announced, what_begins};
@@ -32,10 +34,10 @@ pub(crate) struct Part {
 pub(crate) struct Sought {
     /// The last split point so far.
     part: Option<Part>,
-    /// How many lines are left.
-    left: usize,
     /// Whether no later line is below the last block's heading.
     closed: bool,
+    /// Whether the last block is an empty line.
+    blank: bool,
 }
 
 /// The first blocks of these lines that stay as they are, whatever follows, so that nothing later
@@ -50,7 +52,7 @@ pub(crate) fn part_of(shapes: &[Shape<'_>], lines: &[&[u8]], pieces: &[Piece<'_>
 {
     match end_part(shapes, lines, pieces) {
         Some(part) => Some(part),
-        None => gap_part(lines, pieces),
+        None => gap_in(lines, pieces),
     }
 }
 
@@ -93,18 +95,6 @@ fn end_part(shapes: &[Shape<'_>], lines: &[&[u8]], pieces: &[Piece<'_>]) -> Opti
         return full_part(lines, pieces, part);
     }
     None
-}
-
-/// The most of the first blocks that have two lines after them.
-fn gap_part(lines: &[&[u8]], pieces: &[Piece<'_>]) -> Option<Part>
-    ensures gap { IfSome result (IsGap (map piece_parts pieces.now) (length lines.now)) }
-    ensures full { IfSome result (IsFull (map (λ line. line.now) lines.now)
-        (map piece_parts pieces.now)) }
-{
-    match gap_in(pieces, lines.len()) {
-        Some(part) => full_part(lines, pieces, part),
-        None => None,
-    }
 }
 
 /// Whether the last line alone is a block, ends the block before it, and is no note of it,
@@ -152,43 +142,49 @@ fn opens_always(shapes: &[Shape<'_>], line: &[u8]) -> bool
     !says_aside(&announced(line, Some(AN_ARROW)))
 }
 
-/// The most of the first blocks that have two lines after them, of which the last block closes,
-/// and before one that is no note.
-fn gap_in(pieces: &[Piece<'_>], lines: usize) -> Option<Part>
-    ensures { IfSome result (IsGap (map piece_parts pieces.now) lines) }
+/// The most of the first blocks that have two lines after them, of which the last block closes and
+/// isn't an empty line, and before one that is no note.
+fn gap_in(lines: &[&[u8]], pieces: &[Piece<'_>]) -> Option<Part>
+    ensures gap { IfSome result (IsGap (map piece_parts pieces.now) (length lines.now)) }
+    ensures full { IfSome result (IsFull (map (λ line. line.now) lines.now)
+        (map piece_parts pieces.now)) }
 {
     let mut sought = Sought {
         part: None,
-        left: lines,
         closed: true,
+        blank: false,
     };
+    let mut left = lines;
     let mut at = 0;
     for piece in pieces {
-        sought = past(sought, at, piece, lines);
+        sought = past(sought, at, left, piece, lines.len());
+        left = behind(left, piece.lines);
         at += 1;
     }
     sought.part
 }
 
-/// Goes on to a block; `at` is the number of blocks before it.
-fn past(sought: Sought, at: usize, piece: &Piece<'_>, lines: usize) -> Sought
-    requires { sought.left ≤ lines }
+/// Goes on to a block, which begins with the first of these lines; `at` is the number of blocks
+/// before it, and `lines` that of all lines.
+fn past(sought: Sought, at: usize, left: &[&[u8]], piece: &Piece<'_>, lines: usize) -> Sought
     ensures part { result.part
-        ≡ (if sought.closed && opens_there (piece_parts piece.now) && nat_le 2 sought.left
-        then Some (record { pieces = at; lines = lines - sought.left })
+        ≡ (if sought.closed && opens_there (piece_parts piece.now) && nat_le 2 (length left.now)
+        && not sought.blank
+        then Some (record { pieces = at; lines = lines - length left.now })
         else sought.part) }
-    ensures left { result.left ≡ sought.left - piece.now.lines }
     ensures closed { result.closed ≡ closes_sort piece.now.begun.sort }
+    ensures blank { result.blank ≡ is_blank_piece
+        (map (λ line. line.now) (take piece.now.lines left.now)) (piece_parts piece.now) }
 {
-    let may = sought.closed && opens(piece) && sought.left >= 2;
+    let may = sought.closed && opens(piece) && left.len() >= 2 && !sought.blank;
     let here = Part {
         pieces: at,
-        lines: lines - sought.left,
+        lines: lines.saturating_sub(left.len()),
     };
     Sought {
         part: if may { Some(here) } else { sought.part },
-        left: sought.left.saturating_sub(piece.lines),
         closed: closes(piece.begun.sort),
+        blank: is_blank(front(left, piece.lines), piece),
     }
 }
 

@@ -1,12 +1,13 @@
 // What was drawn so far, and how more blocks are drawn.
-ghost use Rattle.std.specs.Prelude.{◌≡◌, ◌||◌, ◌++◌, IfOk, map, string_bytes};
+ghost use Rattle.std.specs.Prelude.{◌≡◌, ◌||◌, ◌++◌, IfOk, length, map, string_bytes};
 ghost use Rattle.found_reports.specs.Listed.{held_in};
 ghost use Rattle.tool_lines.specs.Lines.{piece_parts};
 ghost use Rattle.line_reports.specs.Names.{names_in};
 ghost use Rattle.line_reports.specs.Pieces.{read_parts};
 ghost use Rattle.line_reports.specs.Reports.{reports_in};
 ghost use Rattle.drawn_lines.specs.Lines.{columns_of as columns_meant, written as written_of};
-ghost use Rattle.drawn_lines.specs.Coming.{Draws};
+ghost use Rattle.drawn_lines.specs.Coming.{Draws, Seeks};
+ghost use Rattle.drawn_lines.specs.Named.{name_texts, renamed_by};
 ghost use Rattle.drawn_lines.specs.Counts.{count_of as count_meant};
 ghost use Rattle.drawn_lines.specs.Seam.{BarePieces};
 
@@ -14,9 +15,11 @@ use crate::again::sift;
 use crate::count::{Count, added, counted};
 use crate::form::annotates;
 use crate::kept::aside_text;
+use crate::naming::{are_kept, names_between, renamed};
 use crate::reading::columns_of;
 use crate::walk::{Share, drawings, still};
 use build_dirs::again::SeenKeys;
+use build_dirs::dirs::BuildDirs;
 use ci_texts::{CiFormat, ci_text_on};
 use girzohal_options::Asked;
 use line_reports::{ReadPiece, names_of, read_pieces, reports_of};
@@ -36,6 +39,8 @@ pub(crate) struct Tally {
     pub(crate) seen: SeenKeys,
     /// The sources that they are about.
     pub(crate) sources: ShownSources,
+    /// The directories that the build has entered.
+    pub(crate) dirs: BuildDirs,
 }
 
 /// What was written, with the tally.
@@ -49,9 +54,82 @@ pub(crate) struct Drawn {
     pub(crate) tally: Tally,
 }
 
+/// The names of findings from the root, with the tally.
+#[derive(Drop)]
+pub(crate) struct Named {
+    /// For each block the name of its finding, if it isn't the printed one.
+    pub(crate) names: Vec<Option<String>>,
+    /// The tally.
+    pub(crate) tally: Tally,
+}
+
+/// Seeks the names of the findings of blocks.
+#[tactic(auto, using(crate::proofs::NamedLemmas::seeks_by))]
+pub(crate) fn seek<S: Store>(
+    alloc: Global,
+    asked: &Asked,
+    store: &S,
+    tally: Tally,
+    lines: &[&[u8]],
+    pieces: &[Piece<'_>],
+) -> Result<Named, AllocError>
+    ensures seeks { IfOk result (λ it. Seeks (S.told store.now) asked.now tally it.tally
+        (map (λ line. line.now) lines.now) (map piece_parts pieces.now)
+        (renamed_by (name_texts it.names.items) (map piece_parts pieces.now))) }
+    ensures each { IfOk result (λ it. length (name_texts it.names.items)
+        ≡ length (map piece_parts pieces.now)) }
+{
+    let Tally {
+        count,
+        again,
+        seen,
+        mut sources,
+        mut dirs,
+    } = tally;
+    let root = asked.root.as_str();
+    let names = names_between(alloc, root, store, &mut dirs, &mut sources, lines, pieces)?;
+    let tally = Tally {
+        count,
+        again,
+        seen,
+        sources,
+        dirs,
+    };
+    Ok(Named { names, tally })
+}
+
+/// The blocks that these lines begin with, as they are written after others, with these names for
+/// their findings.
+#[tactic(auto, using(crate::proofs::NamedLemmas::renamed_bare))]
+pub(crate) fn draw_with<'p, S: Store>(
+    alloc: Global,
+    asked: &Asked,
+    store: &S,
+    tally: Tally,
+    lines: &[&[u8]],
+    came: &[Vec<u8>],
+    names: &'p [Option<String>],
+    pieces: &[Piece<'p>],
+) -> Result<Drawn, AllocError>
+    requires bare { BarePieces (map piece_parts pieces.now) }
+    requires each { length (name_texts names.now) ≡ length (map piece_parts pieces.now) }
+    ensures { IfOk result (λ it. Draws (S.told store.now) asked.now tally it.tally
+        (map (λ line. line.now) lines.now) (map (λ line. line.items) came.now)
+        (renamed_by (name_texts names.entry.now) (map piece_parts pieces.now))
+        (string_bytes it.text) (string_bytes it.aside)) }
+{
+    if are_kept(names) {
+        let kept = draw(alloc, asked, store, tally, lines, came, pieces)?;
+        return Ok(kept);
+    }
+    let named = renamed(alloc, names, pieces)?;
+    let drawn = draw(alloc, asked, store, tally, lines, came, &named)?;
+    Ok(drawn)
+}
+
 /// The blocks that these lines begin with, as they are written after others.
 #[tactic(auto, using(crate::proofs::AgainLemmas::fresh_bare))]
-pub(crate) fn draw<S: Store>(
+fn draw<S: Store>(
     alloc: Global,
     asked: &Asked,
     store: &S,
@@ -70,6 +148,7 @@ pub(crate) fn draw<S: Store>(
         again,
         mut seen,
         mut sources,
+        dirs,
     } = tally;
     let parts = sift(alloc, asked, &mut seen, lines, pieces)?;
     let most = still(asked.most, count.total);
@@ -85,6 +164,7 @@ pub(crate) fn draw<S: Store>(
         again: added(again, others)?,
         seen,
         sources,
+        dirs,
     };
     Ok(Drawn {
         text: share.text,

@@ -2,17 +2,16 @@
 ghost use Rattle.std.specs.Prelude.{◌≡◌, ◌<◌, All, IfOk, IfSome, IsTrue, OnErr, Some, length};
 ghost use Rattle.std.specs.Prelude.{string_bytes};
 ghost use Rattle.serde_json.specs.Read.{read};
-ghost use Rattle.lsp_diagnostics.specs.Diagnostics.{published_value};
-ghost use Rattle.lsp_diagnostics.specs.Files.{seen};
-ghost use Rattle.lsp_diagnostics.specs.Seen.{StandIn};
-ghost use Rattle.lsp_frames.specs.Ends.{shown};
-ghost use Rattle.lsp_frames.specs.Run.{bodies};
+ghost use Rattle.lsp_server.specs.Diagnostics.{published_value};
+ghost use Rattle.lsp_server.specs.Files.{seen};
+ghost use Rattle.lsp_server.specs.Seen.{StandIn};
+ghost use Rattle.lsp_server.specs.Ends.{shown};
+ghost use Rattle.lsp_server.specs.Run.{bodies};
 ghost use Rattle.lsp_server.specs.Documents.{IsKept};
 
-use lsp_diagnostics::{OpenFile, publish};
-use lsp_frames::{End, Frames};
-use lsp_marks::{Change, move_offset};
-use lsp_server::{Answer, Server, message_in};
+use lsp_server::{
+    Answer, Change, End, Frames, OpenFile, Server, message_in, move_offset, published,
+};
 use oxc_protocol::OxcDiagnostic;
 use std::alloc::{AllocError, Global};
 
@@ -49,7 +48,7 @@ pub fn count_in(alloc: Global, frames: &mut Frames, bytes: &[u8]) -> Option<usiz
     Some(count)
 }
 
-/// What is published to an editor for a file. `all_stand` tests the condition on the labels.
+/// What is published to an editor for a file, as a text. `all_stand` tests the condition on the labels.
 pub fn told(
     alloc: Global,
     file: &OpenFile<'_>,
@@ -59,7 +58,9 @@ pub fn told(
     ensures { IfOk result (λ text. read (string_bytes text)
         ≡ Some (published_value (seen file.now) found.now)) }
 {
-    publish(alloc, file, found)
+    let value = published(alloc, file, found)?;
+    let text = value.to_string(alloc)?;
+    Ok(text)
 }
 
 /// What one body is answered. Without memory all is as it was.

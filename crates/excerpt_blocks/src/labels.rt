@@ -13,6 +13,7 @@ ghost use Rattle.excerpt_blocks.specs.Labels.{extended as extended_by, has_many 
 ghost use Rattle.excerpt_blocks.specs.Labels.{is_hung as is_hung_text, is_least as is_least_in};
 ghost use Rattle.excerpt_blocks.specs.Labels.{is_new as is_new_in};
 ghost use Rattle.excerpt_blocks.specs.Labels.{is_primary as is_primary_in, label_at, labels_in};
+ghost use Rattle.excerpt_blocks.specs.Labels.{labels_from};
 ghost use Rattle.excerpt_blocks.specs.Labels.{overlaid_from};
 ghost use Rattle.excerpt_blocks.specs.Labels.{row_labels, run_labels, runs_from, says as says_so};
 ghost use Rattle.excerpt_blocks.specs.Labels.{shifted as shifted_by};
@@ -142,7 +143,7 @@ fn part<T>(items: &[T], from: usize, to: usize) -> &[T]
 }
 
 /// Adds the labels of a row.
-#[tactic(auto, unfolding(crate::specs::Labels::row_labels))]
+#[tactic(auto, using(crate::proofs::LabelLemmas::few_stay), unfolding(crate::specs::Labels::row_labels))]
 fn push_row(
     alloc: Global,
     labels: &mut Vec<Label>,
@@ -157,10 +158,29 @@ fn push_row(
         ≡ labels.old.items ++ row_labels strong spot row marks.now texts.now) }
 {
     let runs = runs_of(alloc, spot, row, marks, texts)?;
+    if runs.len() < 3 {
+        return push_runs(labels, strong, runs.as_slice(), texts);
+    }
     let runs = overlaid(alloc, runs.as_slice())?;
-    let runs = begun(alloc, runs.as_slice())?;
-    for run in &runs {
-        push_run(labels, strong, *run, texts)?;
+    push_runs(labels, strong, runs.as_slice(), texts)
+}
+
+/// Adds the labels of runs, each of `^` that goes on from one of `-` at the finding's place begun
+/// there.
+fn push_runs(
+    labels: &mut Vec<Label>,
+    strong: bool,
+    runs: &[Run],
+    texts: &[Text],
+) -> Result<(), AllocError>
+    ensures { OnOk result (labels.new.items
+        ≡ labels.old.items ++ labels_from strong texts.now (begun_from None runs.now)) }
+{
+    let mut before = None;
+    for run in runs {
+        let run = shifted(before, *run);
+        push_run(labels, strong, run, texts)?;
+        before = Some(run);
     }
     Ok(())
 }
@@ -303,20 +323,6 @@ fn extended(run: Run, rest: &[Run]) -> Run
         },
         _ => run,
     }
-}
-
-/// The runs, with each of `^` that goes on from one of `-` at the finding's place begun there.
-fn begun(alloc: Global, runs: &[Run]) -> Result<Vec<Run>, AllocError>
-    ensures { IfOk result (λ out. out.items ≡ begun_from None runs.now) }
-{
-    let mut out = Vec::new(alloc);
-    let mut before = None;
-    for run in runs {
-        let run = shifted(before, *run);
-        push_one(&mut out, run)?;
-        before = Some(run);
-    }
-    Ok(out)
 }
 
 /// A run, begun where the one before it begins if it goes on from that.

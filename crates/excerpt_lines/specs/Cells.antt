@@ -1,5 +1,5 @@
 -- The cells that characters take, a tab to the next multiple of 8.
-use Rattle.std.specs.Prelude.{◌≡◌, ℕ, ◌+◌, ◌-◌, ◌%◌, ◌<◌, ◌≤◌, ◌==◌, nat_lt, if◌then◌else◌, Bool, List, [], ◌∷◌, length, take, drop, slice_index, true, false, unwrap_or}
+use Rattle.std.specs.Prelude.{◌≡◌, ℕ, ◌+◌, ◌-◌, ◌%◌, ◌<◌, ◌≤◌, ◌==◌, ◌&&◌, nat_le, nat_lt, if◌then◌else◌, Bool, List, [], ◌∷◌, length, take, drop, slice_index, true, false, unwrap_or}
 use Rattle.std.specs.List.{list_any, prefix_len}
 use Rattle.unicode_width.specs.Width.{char_width}
 
@@ -21,6 +21,10 @@ pub record IsOver (line : List ℕ) (cell k : ℕ) : Type 0 where
   pub begun : k < length line → cell_at line k ≤ cell
   pub covered : k < length line → cell < cell_at line (k + 1)
   pub past : length line ≤ k → k + cell_at line (length line) ≡ length line + cell
+
+-- a character of ASCII that takes one cell
+abbrev pub is_printable : ℕ → Bool
+is_printable c = nat_le 0x20 c && nat_le c 0x7E
 
 -- a character has no cell of its own
 unfoldable pub is_narrow : ℕ → Bool
@@ -59,3 +63,13 @@ places_from cells k cell (c ∷ cs) =
 -- the places of the characters that begin in one of some cells
 unfoldable pub places_of : List ℕ → List ℕ → List ℕ
 places_of cells line = places_from cells 0 0 line
+
+-- each cell is past the one before it, and the first not before one
+abbrev pub ascend : ℕ → List ℕ → Bool
+ascend least [] = true
+ascend least (cell ∷ cells) = nat_le least cell && ascend (cell + 1) cells
+
+-- the cells before the first that isn't below an end
+abbrev pub below : ℕ → List ℕ → List ℕ
+below end [] = []
+below end (cell ∷ cells) = if nat_lt cell end then cell ∷ below end cells else []

@@ -72,6 +72,10 @@ spells text [] = true
 spells [] (small ∷ word) = false
 spells (c ∷ text) (small ∷ word) = if to_ascii_lowercase c == small then spells text word else false
 
+-- a small letter begins the word of a kind
+abbrev pub is_first_of_kind : ℕ → Bool
+is_first_of_kind c = c == 0x6E || c == 0x68 || c == 0x77 || c == 0x65 || c == 0x69 || c == 0x73 || c == 0x61
+
 -- the kind that the word before a colon means
 unfoldable pub kind_of_word : List ℕ → Option NoteKind
 kind_of_word text =

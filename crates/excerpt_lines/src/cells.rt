@@ -1,11 +1,14 @@
 //! The cells that characters take on a screen.
 ghost use Rattle.std.specs.Prelude.{◌≡◌, ◌+◌, ◌*◌, ◌≤◌, ◌<◌, ◌^◌, ◌++◌, ◌∷◌, [], IfOk, OnOk, false};
-ghost use Rattle.std.specs.Prelude.{length, slice_index};
+ghost use Rattle.std.specs.Prelude.{length, slice_index, ◌==◌, true};
+ghost use Rattle.std.specs.List.{list_all, list_any};
 ghost use Rattle.excerpt_lines.specs.Cells.{EachNarrow, IsOver, cell_at as cell_there};
+ghost use Rattle.excerpt_lines.specs.Cells.{is_printable as is_one_cell};
 ghost use Rattle.excerpt_lines.specs.Cells.{end_column as last_column};
 ghost use Rattle.excerpt_lines.specs.Cells.{start_column as first_column};
 ghost use Rattle.excerpt_lines.specs.Cells.{is_narrow as is_narrow_char};
-ghost use Rattle.excerpt_lines.specs.Cells.{cells_of, narrow_end, over_cell, places_of};
+ghost use Rattle.excerpt_lines.specs.Cells.{ascend, below, cells_of, narrow_end, over_cell};
+ghost use Rattle.excerpt_lines.specs.Cells.{places_of};
 ghost use Rattle.excerpt_lines.specs.Cells.{step as cells_taken};
 
 use std::alloc::{AllocError, Global};
@@ -56,6 +59,9 @@ pub fn over(line: &[char], cell: usize) -> usize
     ensures value { result ≡ over_cell line.now cell }
     ensures over { IsOver line.now cell result }
 {
+    if cell < line.len() && are_printable(&line[..cell + 1]) {
+        return cell;
+    }
     let mut begin = 0;
     let mut k = 0;
     while k < line.len() {
@@ -67,6 +73,23 @@ pub fn over(line: &[char], cell: usize) -> usize
         k += 1;
     }
     k + (cell - begin)
+}
+
+/// Whether each character is one of ASCII that takes one cell.
+fn are_printable(text: &[char]) -> bool
+    ensures { result ≡ list_all is_one_cell text.now }
+{
+    let mut all = true;
+    for c in text {
+        all = all & is_printable(*c);
+    }
+    all
+}
+
+fn is_printable(c: char) -> bool
+    ensures { result ≡ is_one_cell c }
+{
+    ' ' <= c && c <= '~'
 }
 
 /// Whether a character has no cell of its own.
@@ -119,20 +142,69 @@ pub fn end_column(row: &[char], text: usize, end_cell: usize) -> usize
 /// # Errors
 ///
 /// Out of memory.
-#[tactic(auto, unfolding(crate::specs::Cells::places_of))]
+#[tactic(auto, using(crate::proofs::CellLemmas::no_places, crate::proofs::HungLemmas::hung_below), unfolding(crate::specs::Cells::places_of))]
 pub fn places_in(alloc: Global, line: &[char], cells: &[usize]) -> Result<Vec<usize>, AllocError>
     requires { length line.now < 2 ^ 32 }
     ensures { IfOk result (λ places. places.items ≡ places_of cells.now line.now) }
 {
     let mut places = Vec::new(alloc);
+    if cells.is_empty() {
+        return Ok(places);
+    }
+    if do_ascend(cells) && are_printable(line) {
+        return cells_below(alloc, cells, line.len());
+    }
     let mut cell = 0;
     for (k, c) in line.iter().enumerate() {
-        if cells.contains(&cell) {
+        if is_among(cells, cell) {
             push_place(&mut places, k)?;
         }
         cell += step(cell, *c);
     }
     Ok(places)
+}
+
+/// Whether each cell is past the one before it.
+fn do_ascend(mut cells: &[usize]) -> bool
+    ensures { result ≡ true → ascend 0 cells.entry.now ≡ true }
+{
+    let mut least = 0;
+    while let [cell, rest @ ..] = cells {
+        if *cell < least {
+            return false;
+        }
+        let Some(next) = cell.checked_add(1) else {
+            return false;
+        };
+        least = next;
+        cells = rest;
+    }
+    true
+}
+
+/// The cells before the first that isn't below an end.
+fn cells_below(alloc: Global, cells: &[usize], end: usize) -> Result<Vec<usize>, AllocError>
+    ensures { IfOk result (λ places. places.items ≡ below end cells.now) }
+{
+    let mut places = Vec::new(alloc);
+    for cell in cells {
+        if *cell >= end {
+            return Ok(places);
+        }
+        push_place(&mut places, *cell)?;
+    }
+    Ok(places)
+}
+
+fn is_among(cells: &[usize], cell: usize) -> bool
+    ensures { result ≡ list_any (λ one. one == cell) cells.now }
+{
+    for one in cells {
+        if *one == cell {
+            return true;
+        }
+    }
+    false
 }
 
 fn push_place(places: &mut Vec<usize>, place: usize) -> Result<(), AllocError>

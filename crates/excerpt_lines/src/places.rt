@@ -1,5 +1,6 @@
 //! Lines that have a location or begin a note.
-ghost use Rattle.std.specs.Prelude.{◌≡◌, ◌≤◌, ◌<◌, IfNone, IfSome, length};
+ghost use Rattle.std.specs.Prelude.{◌≡◌, ◌≤◌, ◌<◌, ◌∷◌, [], IfNone, IfSome, length};
+ghost use Rattle.excerpt_lines.specs.Tables.{begins};
 ghost use Rattle.excerpt_lines.specs.Places.{HasNoName, HasNoNumberBefore, HasNoPlace, IsNamed};
 ghost use Rattle.excerpt_lines.specs.Places.{IsNumberBefore, IsPlace};
 ghost use Rattle.excerpt_lines.specs.Places.{capital_at as capital_there, kind_at as kind_there};
@@ -191,7 +192,7 @@ fn plain_note(line: &[char], start: usize) -> Option<Note>
     requires { start ≤ length line.now }
     ensures { result ≡ plain_note_in line.now start }
 {
-    if start > 0 && line[start..].starts_with(&['=', ' ']) {
+    if start > 0 && is_plain(&line[start..]) {
         Some(Note {
             form: NoteForm::Led,
             kind: NoteKind::Note,
@@ -200,6 +201,17 @@ fn plain_note(line: &[char], start: usize) -> Option<Note>
     } else {
         None
     }
+}
+
+/// Whether a text begins with `= `.
+#[tactic(auto, using(crate::proofs::TableLemmas::no_equals))]
+fn is_plain(text: &[char]) -> bool
+    ensures { result ≡ begins text.now (0x3D ∷ 0x20 ∷ []) }
+{
+    if leader_len(text) == 0 {
+        return false;
+    }
+    text.starts_with(&['=', ' '])
 }
 
 /// The note whose kind is named at a place.

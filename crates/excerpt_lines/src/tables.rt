@@ -1,7 +1,9 @@
 //! What drawings are made of. No row of these tables is for one tool alone.
-ghost use Rattle.std.specs.Prelude.{◌≡◌, ◌==◌, ◌≤◌, IfSome, length, true};
+ghost use Rattle.std.specs.Prelude.{◌≡◌, ◌==◌, ◌||◌, ◌≤◌, IfSome, None, false, length};
+ghost use Rattle.std.specs.Prelude.{true};
 ghost use Rattle.std.specs.List.{list_any};
-ghost use Rattle.excerpt_lines.specs.Tables.{is_frame as frames};
+ghost use Rattle.std.specs.Char.{to_ascii_lowercase};
+ghost use Rattle.excerpt_lines.specs.Tables.{is_first_of_kind, is_frame as frames};
 ghost use Rattle.excerpt_lines.specs.Tables.{arrow_len as arrow_length, class_of as class_meant};
 ghost use Rattle.excerpt_lines.specs.Tables.{hook_of as hook_meant, is_in as belongs};
 ghost use Rattle.excerpt_lines.specs.Tables.{is_capital_note as is_capital};
@@ -117,7 +119,9 @@ pub fn arrow_len(text: &[char]) -> usize
     ensures value { result ≡ arrow_length text.now }
     ensures within { result ≤ length text.now }
 {
-    if text.starts_with(&['-', '-', '>', ' ']) || text.starts_with(&[':', ':', ':', ' ']) {
+    if !may_be_arrow(text) {
+        0
+    } else if text.starts_with(&['-', '-', '>', ' ']) || text.starts_with(&[':', ':', ':', ' ']) {
         4
     } else if text.starts_with(&['╭', '▸', ' '])
         || text.starts_with(&['⸬', ' ', ' '])
@@ -131,13 +135,32 @@ pub fn arrow_len(text: &[char]) -> usize
     }
 }
 
+/// Whether the first character of a text is that of an arrow.
+fn may_be_arrow(text: &[char]) -> bool
+    ensures { result ≡ false → arrow_length text.now ≡ 0 }
+{
+    match text {
+        [c, ..] => is_arrow_head(*c),
+        [] => false,
+    }
+}
+
+fn is_arrow_head(c: char) -> bool
+    ensures { result ≡ (0x2D == c || 0x3A == c || 0x256D == c || 0x2E2C == c || 0x250C == c
+        || 0x2C == c) }
+{
+    matches!(c, '-' | ':' | '╭' | '⸬' | '┌' | ',')
+}
+
 /// The length of the leader of a note that a text begins with, in characters; 0 without one.
 #[tactic(auto, unfolding(crate::specs::Tables::leader_len))]
 pub fn leader_len(text: &[char]) -> usize
     ensures value { result ≡ leader_length text.now }
     ensures within { result ≤ length text.now }
 {
-    if text.starts_with(&['=', ' '])
+    if !may_be_leader(text) {
+        0
+    } else if text.starts_with(&['=', ' '])
         || text.starts_with(&['├', ' '])
         || text.starts_with(&['╰', ' '])
     {
@@ -147,13 +170,46 @@ pub fn leader_len(text: &[char]) -> usize
     }
 }
 
+/// Whether the first character of a text is that of a leader.
+fn may_be_leader(text: &[char]) -> bool
+    ensures { result ≡ false → leader_length text.now ≡ 0 }
+{
+    match text {
+        [c, ..] => is_leader_head(*c),
+        [] => false,
+    }
+}
+
+fn is_leader_head(c: char) -> bool
+    ensures { result ≡ (0x3D == c || 0x251C == c || 0x2570 == c) }
+{
+    matches!(c, '=' | '├' | '╰')
+}
+
 /// Whether a text is a note without a leader in a drawing.
 #[tactic(auto, unfolding(crate::specs::Tables::is_capital_note))]
 pub fn is_capital_note(text: &[char]) -> bool
     ensures { result ≡ is_capital text.now }
 {
-    text.starts_with(&['N', 'o', 't', 'e', ':', ' '])
-        || text.starts_with(&['H', 'e', 'l', 'p', ':', ' '])
+    may_be_capital(text)
+        && (text.starts_with(&['N', 'o', 't', 'e', ':', ' '])
+            || text.starts_with(&['H', 'e', 'l', 'p', ':', ' ']))
+}
+
+/// Whether the first character of a text is that of a note without a leader.
+fn may_be_capital(text: &[char]) -> bool
+    ensures { result ≡ false → is_capital text.now ≡ false }
+{
+    match text {
+        [c, ..] => is_capital_head(*c),
+        [] => false,
+    }
+}
+
+fn is_capital_head(c: char) -> bool
+    ensures { result ≡ (0x4E == c || 0x48 == c) }
+{
+    c == 'N' || c == 'H'
 }
 
 /// A kind of note.
@@ -174,7 +230,9 @@ pub enum NoteKind {
 pub fn kind_of_word(text: &[char]) -> Option<NoteKind>
     ensures { result ≡ kind_meant text.now }
 {
-    if spells(text, &['n', 'o', 't', 'e', ':']) {
+    if !may_be_kind(text) {
+        None
+    } else if spells(text, &['n', 'o', 't', 'e', ':']) {
         Some(NoteKind::Note)
     } else if spells(text, &['h', 'e', 'l', 'p', ':']) {
         Some(NoteKind::Help)
@@ -196,6 +254,25 @@ pub fn kind_of_word(text: &[char]) -> Option<NoteKind>
     } else {
         None
     }
+}
+
+/// Whether the first character of a text is that of a kind's word.
+fn may_be_kind(text: &[char]) -> bool
+    ensures { result ≡ false → kind_meant text.now ≡ None }
+{
+    match text {
+        [c, ..] => is_kind_head(*c),
+        [] => false,
+    }
+}
+
+fn is_kind_head(c: char) -> bool
+    ensures { result ≡ is_first_of_kind (to_ascii_lowercase c) }
+{
+    matches!(
+        c.to_ascii_lowercase(),
+        'n' | 'h' | 'w' | 'e' | 'i' | 's' | 'a'
+    )
 }
 
 /// The length of a kind's word, in characters.

@@ -2,7 +2,7 @@
 use Rattle.std.proofs.Common.{OnOk, Result, Ok, Err, drop, zero, suc, not, ◌&&◌, append-nil, ◌≡◌, ℕ, ◌+◌, ◌-◌, ◌*◌, ◌<◌, ◌≤◌, ◌==◌, if◌then◌else◌, Bool, true, false, List, [], ◌∷◌, ◌++◌, length, take, replicate, slice_index, refl, sym, ap, ◌∙◌, subst, inl, inr, arith, append_assoc, length-append}
 use Rattle.std.proofs.lemmas.Bool.{cases_lt}
 use Rattle.std.proofs.lemmas.Bool.Decides.{nat_tests}
-use Rattle.std.proofs.lemmas.List.{drop_at, take_all, take_more, take_rest, length-replicate, get_or_append_left, get_or-append_right, get_or-replicate}
+use Rattle.std.proofs.lemmas.List.{drop_at, take_all, take_more, take_rest, length-replicate, get_or_append_left, get_or-append_right, get_or_at, get_or-replicate, length-take-le}
 use Rattle.std.proofs.lemmas.List.Sums.{sum_by-append}
 use Rattle.std.specs.Char.{len_utf8}
 use Rattle.unicode_width.proofs.Rules.{width_or_zero-le}
@@ -215,6 +215,46 @@ same_after text (c ∷ cs) = same_after (text ++ c ∷ []) cs ∙ append_assoc t
 
 pub same_is : (row : List ℕ) → expanded Same row ≡ row
 same_is row = same_after [] row
+
+-- ---- places in a row that is printed as it is
+
+-- the offsets of the first `k` characters
+pub record OwnSoFar (row : List ℕ) (k : ℕ) (places : List ℕ) (offset : ℕ) : Type 0 where
+  pub count : length places ≡ k
+  pub each : (j : ℕ) → j < k → slice_index places j ≡ bytes_of (take j row)
+  pub offset_is : offset ≡ bytes_of (take k row)
+
+pub own_begin : (row places : List ℕ) → places ≡ [] → OwnSoFar row 0 places 0
+own_begin row places none = record {
+  count = ap length none;
+  each = λ j less. absurd (omega (arith, less));
+  offset_is = sym bytes_none;
+}
+
+pub own_more : (row : List ℕ) (k c : ℕ) (old new : List ℕ) (offset next : ℕ) → k < length row → c ≡ slice_index row k → new ≡ old ++ offset ∷ []
+    → next ≡ offset + len_utf8 c → OwnSoFar row k old offset → OwnSoFar row (k + 1) new next
+own_more row k c old new offset next within is_c new_is next_is so = record {
+  count = ap length new_is ∙ length-append old (offset ∷ []) ∙ omega (arith, so.count);
+  each = λ j less.
+      elim (cases_lt j k) [
+        | inl before ↦ ap (λ (xs : List ℕ). slice_index xs j) new_is ∙ get_or_append_left old (offset ∷ []) 0 j (omega (arith, before, so.count)) ∙ so.each j before
+        | inr here ↦
+            (let e : j ≡ k = omega (arith, here, less) in
+            ap (λ (xs : List ℕ). slice_index xs j) new_is ∙ get_or_at old offset [] 0 j (omega (arith, e, so.count)) ∙ so.offset_is ∙ ap (λ n. bytes_of (take n row)) (sym e))
+      ];
+  offset_is = next_is ∙ ap (λ n. n + len_utf8 c) so.offset_is ∙ ap (λ d. bytes_of (take k row) + len_utf8 d) is_c ∙ sym (bytes_more row k within);
+}
+
+own_len : (row : List ℕ) (k : ℕ) → k ≤ length row → printed_len Same row k ≡ k
+own_len row k within = ap length (same_is (take k row)) ∙ length-take-le k row within
+
+pub own_end : (row : List ℕ) (k : ℕ) (places : List ℕ) (offset : ℕ) → length row ≤ k → k ≤ length row → OwnSoFar row k places offset → ArePlaces Same row places
+own_end row k places offset past within so = record {
+  count = so.count ∙ omega (arith, past, within, ap length (same_is row));
+  each = λ j at there low high.
+      let e : at ≡ j = omega (arith, low, high, own_len row j (omega (arith, there)), own_len row (j + 1) (omega (arith, there))) in
+      ap (λ n. slice_index places n) e ∙ so.each j (omega (arith, there, past));
+}
 
 -- ---- each printed character is printed for one of the source
 

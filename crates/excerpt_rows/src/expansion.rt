@@ -8,6 +8,7 @@ ghost use Rattle.excerpt_rows.specs.Expansion.{hidden_as, is_as_is as is_as_is_c
 ghost use Rattle.excerpt_rows.specs.Expansion.{is_hidden as is_hidden_char};
 ghost use Rattle.excerpt_rows.specs.Expansion.{is_plain as is_plain_row, last_digits, picture_of};
 ghost use Rattle.excerpt_rows.specs.Expansion.{shown, tab_len as tab_length, width_of};
+ghost use Rattle.excerpt_rows.specs.declared.expansion.Rule.TheVariants.{Same};
 
 use std::alloc::{AllocError, Global};
 use ucd_category::GeneralCategory;
@@ -87,6 +88,38 @@ fn is_as_is(c: char) -> bool
 /// For each character that is printed of a row, the offset in bytes of the row's character that it
 /// is printed for.
 pub(crate) fn places_of(alloc: Global, rule: Rule, row: &[char]) -> Result<Vec<usize>, AllocError>
+    requires { length row.now ≤ 2 ^ 20 }
+    ensures { IfOk result (λ places. ArePlaces rule row.now places.items) }
+{
+    match rule {
+        Rule::Same => own_places(alloc, row),
+        Rule::Expanded(_, _) => shown_places(alloc, rule, row),
+    }
+}
+
+/// The offset in bytes of each character of a row.
+fn own_places(alloc: Global, row: &[char]) -> Result<Vec<usize>, AllocError>
+    requires { length row.now ≤ 2 ^ 20 }
+    ensures { IfOk result (λ places. ArePlaces Same row.now places.items) }
+{
+    let mut places = Vec::with_capacity(alloc, row.len())?;
+    let mut offset = 0;
+    for c in row {
+        push_place(&mut places, offset)?;
+        offset += c.len_utf8();
+    }
+    Ok(places)
+}
+
+fn push_place(places: &mut Vec<usize>, offset: usize) -> Result<(), AllocError>
+    ensures { OnOk result (places.new.items ≡ places.old.items ++ offset ∷ []) }
+{
+    places.push(offset)?;
+    Ok(())
+}
+
+/// The places of what is printed by a rule.
+fn shown_places(alloc: Global, rule: Rule, row: &[char]) -> Result<Vec<usize>, AllocError>
     requires { length row.now ≤ 2 ^ 20 }
     ensures { IfOk result (λ places. ArePlaces rule row.now places.items) }
 {

@@ -56,7 +56,7 @@ fn outlines_of(alloc: Global, lines: &[&[char]]) -> Result<Vec<Outline>, AllocEr
         AreOutlines (map (λ line. line.now) lines.now) outlines.items) }
     ensures same { IfOk result (λ outlines. length outlines.items ≡ length lines.now) }
 {
-    let mut outlines = Vec::new(alloc);
+    let mut outlines = Vec::with_capacity(alloc, lines.len())?;
     for line in lines {
         push_outline(&mut outlines, outline_of(line))?;
     }

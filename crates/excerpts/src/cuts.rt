@@ -1,5 +1,5 @@
 //! A body cut into parts: notes, locations, drawings, suggestions, and lines that are kept.
-ghost use Rattle.std.specs.Prelude.{◌≡◌, ◌≤◌, ◌<◌, IfSome, length, take};
+ghost use Rattle.std.specs.Prelude.{◌≡◌, ◌==◌, ◌||◌, ◌≤◌, ◌<◌, IfSome, false, length, take};
 ghost use Rattle.std.specs.List.{list_all, list_any};
 ghost use Rattle.excerpts.specs.Cuts.{IsOutline, after as after_part, bar_of as bar_in};
 ghost use Rattle.excerpts.specs.Cuts.{bare_sign as bare_sign_in, begins_note as begins_some_note};
@@ -13,6 +13,7 @@ ghost use Rattle.excerpts.specs.Cuts.{is_straight as is_straight_from, line_part
 ghost use Rattle.excerpts.specs.Cuts.{loose_or_kept as loose_or_kept_in, loose_run as loose_run_in};
 ghost use Rattle.excerpts.specs.Cuts.{link_of as link_of_kind, margin_link as margin_link_in};
 ghost use Rattle.excerpts.specs.Cuts.{part_in};
+ghost use Rattle.excerpt_lines.specs.Runs.{first_ink as first_ink_of};
 
 use excerpt_blocks::below::tail;
 use excerpt_blocks::labels::Spot;
@@ -101,11 +102,12 @@ pub fn outline_of(line: &[char]) -> Outline
     ensures { IsOutline line.now result }
 {
     let kind = kind_of(line);
+    let indent = first_ink(line);
     Outline {
         kind,
-        indent: first_ink(line),
+        indent,
         length: line.len(),
-        sign: bare_sign(line),
+        sign: bare_sign(line, indent),
         dots: has_dots(line),
         link: link_in_kind(line, kind),
         alone: stands_alone(line),
@@ -116,7 +118,23 @@ pub fn outline_of(line: &[char]) -> Outline
 fn stands_alone(line: &[char]) -> bool
     ensures { result ≡ is_alone line.now }
 {
-    is_edit(line) || is_include(line)
+    may_stand_alone(line) && (is_edit(line) || is_include(line))
+}
+
+/// Whether the first character of a line is that of one that is alone.
+fn may_stand_alone(line: &[char]) -> bool
+    ensures { result ≡ false → is_alone line.now ≡ false }
+{
+    match line {
+        [c, ..] => is_alone_head(*c),
+        [] => false,
+    }
+}
+
+fn is_alone_head(c: char) -> bool
+    ensures { result ≡ (0x66 == c || 0x49 == c) }
+{
+    c == 'f' || c == 'I'
 }
 
 fn is_edit(line: &[char]) -> bool
@@ -168,10 +186,10 @@ fn margin_link(line: &[char], text: usize) -> Option<usize>
 
 /// The sign of a row without a number and without a bar, after blanks.
 #[tactic(auto, unfolding(crate::specs::Cuts::bare_sign))]
-fn bare_sign(line: &[char]) -> Option<Sign>
+fn bare_sign(line: &[char], start: usize) -> Option<Sign>
+    requires { start ≡ first_ink_of line.now }
     ensures { result ≡ bare_sign_in line.now }
 {
-    let start = first_ink(line);
     let next = char_at(line, start.saturating_add(1));
     if start == 0 || next != ' ' && next != '\0' {
         return None;

@@ -28,7 +28,7 @@ pub fn roles_of(
     ensures same { IfOk result (λ roles. length roles.items ≡ length lines.now) }
 {
     let margin = margin_of(lines);
-    let mut roles = Vec::new(alloc);
+    let mut roles = Vec::with_capacity(alloc, lines.len())?;
     let mut first = true;
     for line in lines {
         push_role(&mut roles, role_of(kind, spot, margin, first, *line))?;

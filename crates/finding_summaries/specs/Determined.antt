@@ -1,6 +1,6 @@
 -- There is one text.
 use Rattle.std.specs.Prelude.{◌≡◌, ℕ, List}
-use Rattle.ci_findings.specs.Finding.{FindingParts}
+use Rattle.ci_formats.specs.Finding.{FindingParts}
 use Rattle.finding_summaries.specs.Markdown.{IsMarkdown}
 use Rattle.finding_summaries.specs.Ranking.{IsRanking, Ranked}
 use Rattle.finding_summaries.specs.Summary.{IsSummary}

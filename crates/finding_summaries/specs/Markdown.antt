@@ -1,7 +1,7 @@
 -- A summary as tables of GitHub's Markdown.
 use Rattle.std.specs.Prelude.{◌≡◌, ℕ, ◌-◌, nat_le, if◌then◌else◌, List, [], ◌∷◌, ◌++◌, length, map, take, codes, decimal}
 use Rattle.std.specs.List.{flat_map, sum_by}
-use Rattle.ci_findings.specs.Finding.{FindingParts}
+use Rattle.ci_formats.specs.Finding.{FindingParts}
 use Rattle.finding_summaries.specs.Cells.{cell}
 use Rattle.finding_summaries.specs.Names.{file_of, rule_of}
 use Rattle.finding_summaries.specs.Ranking.{IsRanking, Ranked}

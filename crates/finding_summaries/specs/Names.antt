@@ -1,6 +1,6 @@
 -- What findings are counted by: their files and their rules.
 use Rattle.std.specs.Prelude.{ℕ, List, [], ◌∷◌, unwrap_or, codes}
-use Rattle.ci_findings.specs.Finding.{FindingParts}
+use Rattle.ci_formats.specs.Finding.{FindingParts}
 
 -- the name of a file; no file has an empty one
 abbrev pub file_named : List ℕ → List ℕ

@@ -1,7 +1,7 @@
 -- A summary for a terminal or a log.
 use Rattle.std.specs.Prelude.{◌≡◌, ℕ, ◌-◌, max, List, [], ◌∷◌, ◌++◌, fold, length, map, codes, decimal, replicate}
 use Rattle.std.specs.List.{flat_map}
-use Rattle.ci_findings.specs.Finding.{FindingParts}
+use Rattle.ci_formats.specs.Finding.{FindingParts}
 use Rattle.finding_summaries.specs.Names.{file_of, rule_of}
 use Rattle.finding_summaries.specs.Ranking.{IsRanking, Ranked}
 use Rattle.finding_summaries.specs.Totals.{totals}

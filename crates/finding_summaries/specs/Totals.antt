@@ -3,7 +3,7 @@ use Rattle.std.specs.Prelude.{ℕ, ◌==◌, if◌then◌else◌, List, ◌++◌
 use Rattle.oxc_protocol.specs.declared.protocol.Severity.TheVariants.{Advice, Warning, Error}
 use Rattle.report_counts.specs.declared.counted.Counts.{Counts}
 use Rattle.report_counts.specs.Counted.{is_of, summary_line}
-use Rattle.ci_findings.specs.Finding.{FindingParts}
+use Rattle.ci_formats.specs.Finding.{FindingParts}
 
 -- how many findings of each severity there are
 abbrev pub counts_in : List FindingParts → Counts

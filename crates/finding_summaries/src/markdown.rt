@@ -1,7 +1,7 @@
 // A summary as tables of GitHub's Markdown.
 ghost use Rattle.std.specs.Prelude.{◌≡◌, ◌++◌, IfOk, OnOk, map, string_bytes, take};
 ghost use Rattle.std.specs.List.{flat_map, sum_by};
-ghost use Rattle.ci_findings.specs.Finding.{finding_parts};
+ghost use Rattle.ci_formats.specs.Finding.{finding_parts};
 ghost use Rattle.finding_summaries.specs.Ranking.{row_parts};
 ghost use Rattle.finding_summaries.specs.Markdown.{IsMarkdown, head_end, head_start, left_out};
 ghost use Rattle.finding_summaries.specs.Markdown.{markdown_of, more_row, row_text, rows_text, table_head, table_text};
@@ -9,7 +9,7 @@ ghost use Rattle.finding_summaries.specs.Markdown.{markdown_of, more_row, row_te
 use crate::cells::push_cell;
 use crate::ranking::{Row, ranked_files, ranked_rules};
 use crate::totals::push_totals;
-use ci_findings::Finding;
+use ci_formats::Finding;
 use itoa::Buffer;
 use std::alloc::{AllocError, Global};
 

@@ -5,12 +5,12 @@ ghost use Rattle.std.specs.Borrow.{Bor};
 ghost use Rattle.std.specs.BTreeMap.{get};
 ghost use Rattle.std.specs.Ordering.{is_eq};
 ghost use Rattle.found_reports.specs.Names.{name_order};
-ghost use Rattle.ci_findings.specs.Finding.{finding_parts};
+ghost use Rattle.ci_formats.specs.Finding.{finding_parts};
 ghost use Rattle.finding_summaries.specs.Ranking.{AreTallied, IsRanking, count_in};
 ghost use Rattle.finding_summaries.specs.Ranking.{row_in, row_parts};
 ghost use Rattle.finding_summaries.specs.Names.{file_of as file_named, rule_of as rule_named};
 
-use ci_findings::Finding;
+use ci_formats::Finding;
 use std::alloc::{AllocError, Global};
 use std::cmp::Reverse;
 use std::collections::BTreeMap;

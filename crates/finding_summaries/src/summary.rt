@@ -1,14 +1,14 @@
 // A summary for a terminal or a log.
 ghost use Rattle.std.specs.Prelude.{◌≡◌, ◌++◌, ◌-◌, IfOk, OnOk, length, decimal, map, string_bytes};
 ghost use Rattle.std.specs.List.{flat_map};
-ghost use Rattle.ci_findings.specs.Finding.{finding_parts};
+ghost use Rattle.ci_formats.specs.Finding.{finding_parts};
 ghost use Rattle.finding_summaries.specs.Ranking.{row_parts};
 ghost use Rattle.finding_summaries.specs.Summary.{IsSummary, blanks, line_text, section_text};
 ghost use Rattle.finding_summaries.specs.Summary.{summary_of, widest as widest_of};
 
 use crate::ranking::{Row, ranked_files, ranked_rules};
 use crate::totals::push_totals;
-use ci_findings::Finding;
+use ci_formats::Finding;
 use itoa::Buffer;
 use std::alloc::{AllocError, Global};
 

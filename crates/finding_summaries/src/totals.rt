@@ -2,10 +2,10 @@
 ghost use Rattle.std.specs.Prelude.{◌≡◌, ◌++◌, OnOk, map, string_bytes};
 ghost use Rattle.std.specs.List.{count_by};
 ghost use Rattle.report_counts.specs.Counted.{is_of as is_of_severity};
-ghost use Rattle.ci_findings.specs.Finding.{finding_parts};
+ghost use Rattle.ci_formats.specs.Finding.{finding_parts};
 ghost use Rattle.finding_summaries.specs.Totals.{counts_in, noun, totals};
 
-use ci_findings::Finding;
+use ci_formats::Finding;
 use itoa::Buffer;
 use oxc_protocol::Severity;
 use report_counts::{Counts, summary_line};

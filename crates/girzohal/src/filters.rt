@@ -4,23 +4,24 @@ use documents::{ReaderSource, Reading, Source, StdinSource, read_all};
 use girzohal_options::Asked;
 use girzohal_run::{Baseline, Fault, LIMIT, Status, read_baseline, refusal_text, rules_of};
 use harmless::{Kind, harmless};
+use source_store::DiskStore;
 use std::alloc::Global;
 use std::fs;
 use std::fs::Files;
 use std::io::ErrorKind;
 
-/// Reads the files of the filters that were asked for, whose names are compared from `root`.
+/// Reads the files of the filters that were asked for, whose names are compared from the root.
 pub(crate) fn read_filters(
     rt: &HostRuntime,
     alloc: Global,
     asked: &mut Asked,
-    root: &str,
+    store: &DiskStore<'_, HostRuntime>,
 ) -> Result<(), Status> {
-    let Ok(names) = Root::at(alloc, root) else {
+    let Ok(names) = Root::at(alloc, asked.root.as_str()) else {
         return Err(Status::OutOfMemory);
     };
     let diff = diff_in(rt, alloc, asked)?;
-    let baseline = baseline_in(rt, alloc, asked, &names)?;
+    let baseline = baseline_in(rt, alloc, asked, &names, store)?;
     match rules_of(alloc, asked, names, diff, baseline) {
         Ok(rules) if rules.is_given() => asked.rules = Some(rules),
         Ok(_) => {}
@@ -51,6 +52,7 @@ fn baseline_in(
     alloc: Global,
     asked: &mut Asked,
     names: &Root,
+    store: &DiskStore<'_, HostRuntime>,
 ) -> Result<Option<Baseline>, Status> {
     let Some(name) = asked.baseline.as_deref() else {
         return Ok(None);
@@ -59,7 +61,7 @@ fn baseline_in(
         return Err(Status::OutOfMemory);
     };
     let bytes = bytes_of(rt, alloc, name.as_str(), LIMIT)?;
-    match read_baseline(alloc, asked, names, &bytes) {
+    match read_baseline(alloc, asked, names, &bytes, store) {
         Ok(baseline) => Ok(Some(baseline)),
         Err(Fault::OutOfMemory) => Err(Status::OutOfMemory),
         Err(Fault::NoForm(said)) => {

@@ -79,10 +79,14 @@ fn obey(rt: &HostRuntime, alloc: Global, mut asked: Asked) -> ExitCode {
     if let Err(status) = read_shapes(rt, alloc, &mut asked) {
         return ExitCode::from(status.code());
     }
-    if let Err(status) = read_filters(rt, alloc, &mut asked, root.as_str()) {
+    asked.root = match root.clone() {
+        Ok(folder) => folder,
+        Err(_) => return ExitCode::from(Status::OutOfMemory.code()),
+    };
+    let store = DiskStore::new(rt, root, asked.anywhere);
+    if let Err(status) = read_filters(rt, alloc, &mut asked, &store) {
         return ExitCode::from(status.code());
     }
-    let store = DiskStore::new(rt, root, asked.anywhere);
     if asked.files.len() > 1 {
         return run_inputs(rt, alloc, &mut asked, in_files, &store);
     }

@@ -1,2 +1,5 @@
 pub mod FoundLemmas
 pub mod ServedLemmas
+pub mod BlockLemmas
+pub mod LogLemmas
+pub mod KeptLemmas

@@ -6,7 +6,7 @@ use Rattle.std.specs.List.{flat_map}
 use Rattle.std.specs.Option.{option_to_list}
 use Rattle.std.proofs.lemmas.List.{drop_all, drop_more}
 use Rattle.oxc_protocol.specs.Parts.{OxcParts}
-use Rattle.lsp_diagnostics.specs.Seen.{StandIn}
+use Rattle.lsp_server.specs.Seen.{StandIn}
 use Rattle.source_store.specs.Named.{path_in}
 use Rattle.source_store.specs.declared.named.Spelling.TheVariants.{Uri}
 use Rattle.lsp_server.proofs.SessionLemmas.{answered_more}
@@ -100,12 +100,12 @@ all_looked_at asked log uris at old new before after past so_far =
 
 -- ---- whether a session runs
 
-pub none_looked_up : (asked : Asked) (runs : Bool) (uris : Option (List (List ℕ))) (server : Server) (before after : List Answer) → runs ≡ false
-    → after ≡ before → IsLookedUp asked (if runs then uris else None) server server before after
-none_looked_up asked runs uris server before after is same =
-    subst (λ (b : Bool). IsLookedUp asked (if b then uris else None) server server before after) (sym is) (refl, same)
+pub none_looked_up : (asked : Asked) (bytes : Option (List ℕ)) (runs : Bool) (uris : Option (List (List ℕ))) (server : Server) (before after : List Answer) → runs ≡ false
+    → after ≡ before → IsLookedUp asked bytes (if runs then uris else None) server server before after
+none_looked_up asked bytes runs uris server before after is same =
+    subst (λ (b : Bool). IsLookedUp asked bytes (if b then uris else None) server server before after) (sym is) (refl, same)
 
-pub those_looked_up : (asked : Asked) (runs : Bool) (uris : Option (List (List ℕ))) (old new : Server) (before after : List Answer) → runs ≡ true
-    → IsLookedUp asked uris old new before after → IsLookedUp asked (if runs then uris else None) old new before after
-those_looked_up asked runs uris old new before after is looks =
-    subst (λ (b : Bool). IsLookedUp asked (if b then uris else None) old new before after) (sym is) looks
+pub those_looked_up : (asked : Asked) (bytes : Option (List ℕ)) (runs : Bool) (uris : Option (List (List ℕ))) (old new : Server) (before after : List Answer) → runs ≡ true
+    → IsLookedUp asked bytes uris old new before after → IsLookedUp asked bytes (if runs then uris else None) old new before after
+those_looked_up asked bytes runs uris old new before after is looks =
+    subst (λ (b : Bool). IsLookedUp asked bytes (if b then uris else None) old new before after) (sym is) looks

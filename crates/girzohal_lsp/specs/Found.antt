@@ -23,7 +23,7 @@ use Rattle.tool_lines.specs.Paint.{unpainted}
 use Rattle.line_reports.specs.Names as lines
 use Rattle.line_reports.specs.Pieces.{AreRead, ReadParts}
 use Rattle.line_reports.specs.Reports as lines_meaning
-use Rattle.lsp_diagnostics.specs.Seen.{StandIn}
+use Rattle.lsp_server.specs.Seen.{StandIn}
 use Rattle.source_store.specs.Matching.{is_named, means_file}
 use Rattle.girzohal_lsp.specs.declared.log.LogFile.{LogFile}
 use Rattle.girzohal_lsp.specs.declared.log.LogFile.TheVariants.{Sarif, Lines, Fault}
@@ -101,7 +101,7 @@ pub record ShowsLines (asked : Asked) (bytes path text : List ℕ) (shown : List
 
 abbrev pub Shows : Asked → LogFile → List ℕ → List ℕ → List OxcParts → Type 0
 Shows asked (Sarif log) path text shown = ShowsLog asked (log_view log) path text shown
-Shows asked (Lines bytes) path text shown = ShowsLines asked bytes.items path text shown
+Shows asked (Lines bytes) path text shown = ShowsLines asked bytes.now path text shown
 Shows asked (Fault why) path text shown = shown ≡ []
 
 -- what is shown in a file whose URI says this path; nothing where it says none

@@ -41,7 +41,7 @@ IsSarif bytes (Fault why) = (HasNoLog bytes × (string_bytes why ≡ codes "no S
 
 abbrev pub IsLines : List ℕ → LogFile → Type 0
 IsLines bytes (Sarif log) = ⊥
-IsLines bytes (Lines text) = text.items ≡ bytes
+IsLines bytes (Lines text) = text.now ≡ bytes
 IsLines bytes (Fault why) = ⊥
 
 -- a fault, of which this is said

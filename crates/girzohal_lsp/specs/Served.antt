@@ -21,9 +21,11 @@ use Rattle.lsp_server.specs.declared.message.Notice.TheVariants.{Exit, Opened, C
 use Rattle.lsp_server.specs.declared.message.Notice.TheVariants as notice
 use Rattle.lsp_server.specs.declared.server.Server.{Server}
 use Rattle.girzohal_lsp.specs.Found.{ShowsAt}
-use Rattle.girzohal_lsp.specs.Logs.{IsFault, IsRead}
+use Rattle.girzohal_lsp.specs.Kept.{IsLogOf}
 use Rattle.girzohal_lsp.specs.declared.log.LogFile.{LogFile}
 use Rattle.girzohal_lsp.specs.declared.log.LogFile.TheVariants.{Sarif, Lines, Fault}
+use Rattle.girzohal_lsp.specs.declared.serve.Handled.{Handled}
+use Rattle.girzohal_lsp.specs.declared.serve.Handled.TheVariants.{Answers, Waits}
 use Rattle.girzohal_lsp.specs.declared.serve.Wanted.{Wanted}
 use Rattle.girzohal_lsp.specs.declared.serve.Wanted.TheVariants as wanted
 use Rattle.girzohal_lsp.specs.declared.words.Asked.{Asked}
@@ -57,10 +59,6 @@ AreRefreshed asked log old (uri ∷ rest) new told =
     (between : Server) × (first : Option Answer) × (later : List Answer)
     × Refreshes asked log uri old between first × AreRefreshed asked log between rest new later × (told ≡ option_to_list first ++ later)
 
--- what the log's file is read as, whatever bytes it holds; or it can't be read
-abbrev pub IsReadLog : Asked → LogFile → Type 0
-IsReadLog asked log = IsFault (codes "it can't be read") log ⊎ ((bytes : List ℕ) × IsRead asked.from bytes log)
-
 abbrev pub IsLogged : List ℕ → Answer → Type 0
 IsLogged text (Capabilities id wanted) = ⊥
 IsLogged text (Null id) = ⊥
@@ -82,18 +80,18 @@ pub record AddsRefreshed (asked : Asked) (log : LogFile) (uris : List (List ℕ)
   pub shows : AreRefreshed asked log old uris new told
   pub all : after ≡ before ++ told
 
--- the log is read anew, what is wrong with it is told, and then what it has for each of these documents is shown
-pub record LooksUp (asked : Asked) (uris : List (List ℕ)) (old new : Server) (before after : List Answer) : Type 0 where
+-- in the log of these bytes is looked up: what is wrong with it is told, and then what it has for each of these documents is shown
+pub record LooksUp (asked : Asked) (bytes : Option (List ℕ)) (uris : List (List ℕ)) (old new : Server) (before after : List Answer) : Type 0 where
   pub log : LogFile
-  pub is_read : IsReadLog asked log
+  pub is_read : IsLogOf asked bytes log
   pub fault : Option Answer
   pub tells : TellsFault asked log fault
   pub shows : AddsRefreshed asked log uris old new (before ++ option_to_list fault) after
 
 -- and where none are asked for nothing is done
-abbrev pub IsLookedUp : Asked → Option (List (List ℕ)) → Server → Server → List Answer → List Answer → Type 0
-IsLookedUp asked None old new before after = (new ≡ old) × (after ≡ before)
-IsLookedUp asked (Some uris) old new before after = LooksUp asked uris old new before after
+abbrev pub IsLookedUp : Asked → Option (List ℕ) → Option (List (List ℕ)) → Server → Server → List Answer → List Answer → Type 0
+IsLookedUp asked bytes None old new before after = (new ≡ old) × (after ≡ before)
+IsLookedUp asked bytes (Some uris) old new before after = LooksUp asked bytes uris old new before after
 
 -- ---- which documents are looked up
 
@@ -123,14 +121,23 @@ looked_up message server = if is_running server.phase then uris_of message serve
 
 -- ---- a message
 
--- a body is read as a message, which the server takes; then findings are looked up that it asks for, where a session runs behind it. If it
+-- the server takes a message; then findings are looked up that it asks for, in the log of these bytes, where a session runs behind it. If it
 -- makes a request, that is answered once, under its id, and nothing else is an answer
-pub record AnswersBody (asked : Asked) (old : Server) (body : List ℕ) (new : Server) (answers : List Answer) : Type 0 where
-  pub message : Message
-  pub is_read : IsReadAs message body
+pub record AnswersMessage (asked : Asked) (bytes : Option (List ℕ)) (old : Server) (message : Message) (new : Server) (answers : List Answer) : Type 0 where
   pub between : Server
   pub told : Option Answer
   pub step : IsStep old message between told
-  pub looks : IsLookedUp asked (looked_up message between) between new (option_to_list told) answers
+  pub looks : IsLookedUp asked bytes (looked_up message between) between new (option_to_list told) answers
   pub once : flat_map answered_by answers ≡ asked_by message
   pub phase : new.phase ≡ next_phase old.phase message
+
+-- a body is read as a message, which is answered
+pub record AnswersBody (asked : Asked) (bytes : Option (List ℕ)) (old : Server) (body : List ℕ) (new : Server) (answers : List Answer) : Type 0 where
+  pub message : Message
+  pub is_read : IsReadAs message body
+  pub answered : AnswersMessage asked bytes old message new answers
+
+-- or it waits until the log is read anew, and nothing is done before
+abbrev pub IsHandled : Asked → Option (List ℕ) → Server → List ℕ → Server → Handled → Type 0
+IsHandled asked bytes old body new (Answers answers) = AnswersBody asked bytes old body new answers.items
+IsHandled asked bytes old body new (Waits message changed) = IsReadAs message body × (new ≡ old)

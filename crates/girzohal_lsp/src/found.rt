@@ -1,30 +1,36 @@
 // The findings that a log has for an open file.
-ghost use Rattle.std.specs.Prelude.{◌≡◌, ◌++◌, ◌<◌, All, IfOk, OnOk, length, map};
-ghost use Rattle.std.specs.List.{filter_map};
-ghost use Rattle.std.specs.Option.{option_to_list};
+ghost use Rattle.std.specs.Prelude.{◌≡◌, ◌<◌, ℕ, List, All, IfOk, length, map};
+ghost use Rattle.std.specs.Prelude.{string_bytes};
+ghost use Rattle.std.specs.List.{filter_map, flat_map};
 ghost use Rattle.found_reports.specs.Kept.{file_view, report_view};
-ghost use Rattle.line_shapes.specs.Shape.{shape_parts};
-ghost use Rattle.lsp_diagnostics.specs.Seen.{StandIn};
+ghost use Rattle.found_reports.specs.Listed.{held_in};
+ghost use Rattle.lsp_server.specs.Seen.{StandIn};
 ghost use Rattle.sarif_log.specs.Log.{log_view};
 ghost use Rattle.source_store.specs.Named.{path_in as path_meant};
 ghost use Rattle.source_store.specs.declared.named.Spelling.TheVariants.{Uri};
+ghost use Rattle.girzohal_lsp.specs.Blocks.{block_parts, is_one_named as is_one_named_by, picked_in};
 ghost use Rattle.girzohal_lsp.specs.Found.{AreFitted, AreShown, IsFitted, IsPicked, ShowsAt, ShowsLines};
 ghost use Rattle.girzohal_lsp.specs.Found.{ShowsLog, columns_of as columns_meant};
 ghost use Rattle.girzohal_lsp.specs.Found.{log_columns as columns_of_log, pick, tool_name as name_of};
+ghost use Rattle.girzohal_lsp.specs.Kept.{IsKept, KeepsLines, KeepsParts};
+ghost use Rattle.girzohal_lsp.specs.declared.log.LogFile.TheVariants.{Sarif};
 
+use crate::block::Block;
+use crate::kept::KeptLog;
 use crate::log::LogFile;
 use crate::words::Asked;
 use found_reports::{FoundFile, FoundReport, FoundReports, Lack, stand_in};
+use indexed_sources::IndexedSources;
+use line_reports::reports_of;
 use line_shapes::tables::Unit;
-use line_shapes::tools::{Columns, columns_of_tool, tool_shapes};
+use line_shapes::tools::{Columns, columns_of_tool};
+use lsp_server::push_some;
 use oxc_protocol::{Diagnostic, OxcDiagnostic};
 use sarif::{ColumnKind, Log};
 use source_store::{
     Fetched, Spelling, Store, gather, gather_indexed, is_named, means_file, path_in,
 };
 use std::alloc::{AllocError, Global};
-use tool_lines::lines::{lines_of, pieces_of};
-use tool_lines::paint::without_paint;
 
 /// The findings of a log in a file with this URI and text. A finding whose labels don't all fit the
 /// text is given without labels.
@@ -34,70 +40,135 @@ use tool_lines::paint::without_paint;
 /// Out of memory.
 pub fn found_in(
     alloc: Global,
-    asked: Asked<'_>,
-    log: &LogFile,
+    kept: &KeptLog<'_>,
     uri: &str,
     text: &str,
 ) -> Result<Vec<OxcDiagnostic>, AllocError>
-    ensures shown { IfOk result (λ shown.
-        ShowsAt asked.entry log.now (path_meant Uri uri.now) text.now shown.items) }
+    requires { IsKept kept.now }
+    ensures shown { IfOk result (λ shown. ShowsAt kept.now.asked kept.now.log.now
+        (path_meant Uri uri.now) text.now shown.items) }
     ensures stand { IfOk result (λ shown. All (StandIn text.now) shown.items) }
 {
     let Some(path) = path_in(alloc, Spelling::Uri, uri)? else {
         return Ok(Vec::new(alloc));
     };
-    match log {
-        LogFile::Sarif(log) => found_in_log(alloc, asked, log, path.as_str(), text),
-        LogFile::Lines(bytes) => found_in_lines(alloc, asked, bytes, path.as_str(), text),
+    let path = path.as_str();
+    match kept.log {
+        LogFile::Sarif(log) => found_in_log(alloc, kept, log, path, text),
+        LogFile::Lines(_) => {
+            let shown = found_in_lines(alloc, kept, path, text)?;
+            Ok(shown)
+        }
         LogFile::Fault(_) => Ok(Vec::new(alloc)),
     }
 }
 
+/// Of a log none of whose names means the file no report is made.
 fn found_in_log(
     alloc: Global,
-    asked: Asked<'_>,
+    kept: &KeptLog<'_>,
     log: &Log,
     path: &str,
     text: &str,
 ) -> Result<Vec<OxcDiagnostic>, AllocError>
-    ensures shown { IfOk result (λ shown.
-        ShowsLog asked.entry (log_view log.now) path.now text.now shown.items) }
+    ensures shown { IfOk result (λ shown. KeepsParts kept.now.asked (Sarif log.now)
+        (map string_bytes kept.now.names.now) (map string_bytes kept.now.paths.now)
+        (map block_parts kept.now.blocks.now)
+        → ShowsLog kept.now.asked (log_view log.now) path.now text.now shown.items) }
     ensures stand { IfOk result (λ shown. All (StandIn text.now) shown.items) }
 {
+    if !is_one_named(path, kept.paths) {
+        return Ok(Vec::new(alloc));
+    }
     let file = OpenFile { path, text };
-    let names = sarif::names_of(alloc, log)?;
-    let sources = gather(alloc, &file, Spelling::Uri, &names)?;
-    let found = sarif::reports_of(alloc, log, &sources, log_columns(asked.columns))?;
+    let sources = gather(alloc, &file, Spelling::Uri, kept.names)?;
+    let found = sarif::reports_of(alloc, log, &sources, log_columns(kept.asked.columns))?;
     let shown = shown_of(alloc, Spelling::Uri, &found, path, text)?;
     Ok(shown)
 }
 
+/// Whether one of these paths is that of the file, or an end of it.
+fn is_one_named(path: &str, paths: &[String]) -> bool
+    ensures { result ≡ is_one_named_by path.now (map string_bytes paths.now) }
+{
+    let mut rest = paths;
+    while let [it, more @ ..] = rest {
+        if is_named(path.as_bytes(), it.as_bytes()) {
+            return true;
+        }
+        rest = more;
+    }
+    false
+}
+
 fn found_in_lines(
     alloc: Global,
-    asked: Asked<'_>,
-    bytes: &[u8],
+    kept: &KeptLog<'_>,
     path: &str,
     text: &str,
 ) -> Result<Vec<OxcDiagnostic>, AllocError>
-    ensures shown { IfOk result (λ shown.
-        ShowsLines asked.entry bytes.now path.now text.now shown.items) }
+    ensures shown { (bytes : List ℕ) → IfOk result (λ shown. KeepsLines (name_of kept.now.asked.tool)
+        bytes (map string_bytes kept.now.names.now) (map block_parts kept.now.blocks.now)
+        → ShowsLines kept.now.asked bytes path.now text.now shown.items) }
     ensures stand { IfOk result (λ shown. All (StandIn text.now) shown.items) }
 {
     let file = OpenFile { path, text };
-    let plain = without_paint(alloc, bytes)?;
-    let lines = lines_of(alloc, &plain)?;
-    let shapes = tool_shapes(alloc, tool_name(asked))?;
-    let pieces = pieces_of(alloc, &lines, &shapes)?;
-    let reads = line_reports::read_pieces(alloc, &lines, &pieces)?;
-    let names = line_reports::names_of(alloc, &lines, &reads)?;
-    let sources = gather_indexed(alloc, &file, Spelling::Path, &names)?;
-    let found = line_reports::reports_of(alloc, &lines, &reads, &sources, columns_of(asked))?;
+    let sources = gather_indexed(alloc, &file, Spelling::Path, kept.names)?;
+    let shown = found_in_blocks(
+        alloc,
+        kept.blocks,
+        &sources,
+        columns_of(kept.asked),
+        path,
+        text,
+    )?;
+    Ok(shown)
+}
+
+/// The findings of blocks in the file, one block after another.
+fn found_in_blocks(
+    alloc: Global,
+    blocks: &[Block<'_>],
+    sources: &IndexedSources,
+    columns: Columns,
+    path: &str,
+    text: &str,
+) -> Result<Vec<OxcDiagnostic>, AllocError>
+    ensures { IfOk result (λ shown. AreFitted text.now (flat_map
+        (λ block. picked_in path.now columns (held_in sources.now.entries.items)
+        (block_parts block)) blocks.now) shown.items) }
+{
+    let mut shown = Vec::new(alloc);
+    for block in blocks {
+        let mut found = found_in_block(alloc, block, sources, columns, path, text)?;
+        shown.append(&mut found)?;
+    }
+    Ok(shown)
+}
+
+/// The findings of a block in the file. If none of its names means the file no report is made.
+fn found_in_block(
+    alloc: Global,
+    block: &Block<'_>,
+    sources: &IndexedSources,
+    columns: Columns,
+    path: &str,
+    text: &str,
+) -> Result<Vec<OxcDiagnostic>, AllocError>
+    ensures { IfOk result (λ shown. AreFitted text.now
+        (picked_in path.now columns (held_in sources.now.entries.items) (block_parts block.now))
+        shown.items) }
+{
+    if !is_one_named(path, &block.paths) {
+        return Ok(Vec::new(alloc));
+    }
+    let found = reports_of(alloc, block.lines, block.reads, sources, columns)?;
     let shown = shown_of(alloc, Spelling::Path, &found, path, text)?;
     Ok(shown)
 }
 
 /// The name of the tool; empty if none is named.
-fn tool_name(asked: Asked<'_>) -> &str
+pub(crate) fn tool_name(asked: Asked<'_>) -> &str
     ensures { result.now ≡ name_of asked.entry.tool }
 {
     match asked.tool {
@@ -192,22 +263,9 @@ fn picked(
     let mut shown = Vec::new(alloc);
     for report in reports {
         let one = picked_one(alloc, spelling, files, report, path, text)?;
-        add(&mut shown, one)?;
+        push_some(&mut shown, one)?;
     }
     Ok(shown)
-}
-
-/// Appends a finding, if there is one.
-fn add(shown: &mut Vec<OxcDiagnostic>, one: Option<OxcDiagnostic>) -> Result<(), AllocError>
-    ensures { OnOk result (shown.new.items ≡ shown.old.items ++ option_to_list one) }
-{
-    match one {
-        None => Ok(()),
-        Some(it) => {
-            shown.push(it)?;
-            Ok(())
-        }
-    }
 }
 
 /// The diagnostic of a report; `None` if it is on another file.

@@ -1,24 +1,54 @@
 // Reads a log.
 ghost use Rattle.std.specs.Prelude.{◌≡◌, IfOk, string_bytes};
+ghost use Rattle.std.specs.Option.{option_copied};
 ghost use Rattle.input_forms.specs.Begun.{behind_mark};
-ghost use Rattle.girzohal_lsp.specs.Logs.{IsLines, IsRead, IsSarif, NamesPlace};
+ghost use Rattle.girzohal_lsp.specs.Kept.{IsLogOf};
+ghost use Rattle.girzohal_lsp.specs.Logs.{IsRead, IsSarif, NamesPlace};
 ghost use Rattle.girzohal_lsp.specs.Logs.{fault_text as fault_meant};
 
-use crate::words::Form;
+use crate::words::{Asked, Form};
 use bytecount::count;
 use input_forms::{Begun, begins_as, without_mark};
 use sarif::{Log, LogError, log_in, read_log};
 use std::alloc::{AllocError, Global};
 
+/// The bytes of a log's file; none if it can't be read.
+#[derive(Drop)]
+pub struct LogBytes {
+    /// The bytes.
+    pub bytes: Option<Vec<u8>>,
+}
+
 /// A log.
 #[derive(Drop)]
-pub enum LogFile {
+pub enum LogFile<'b> {
     /// A SARIF log.
     Sarif(Log),
     /// What a tool printed for people.
-    Lines(Vec<u8>),
+    Lines(&'b [u8]),
     /// Why there is no log.
     Fault(String),
+}
+
+/// The log in the bytes of its file.
+///
+/// # Errors
+///
+/// Out of memory.
+pub fn log_of<'b>(
+    alloc: Global,
+    asked: Asked<'_>,
+    bytes: Option<&'b [u8]>,
+) -> Result<LogFile<'b>, AllocError>
+    ensures { IfOk result (IsLogOf asked.entry (option_copied bytes.entry)) }
+{
+    match bytes {
+        Some(bytes) => read_bytes(alloc, asked.from, bytes),
+        None => {
+            let text = String::from_str(alloc, "it can't be read")?;
+            Ok(LogFile::Fault(text))
+        }
+    }
 }
 
 /// Reads the bytes of a log in a format. One byte order mark before them is skipped.
@@ -26,14 +56,14 @@ pub enum LogFile {
 /// # Errors
 ///
 /// Out of memory.
-pub fn read_bytes(alloc: Global, form: Form, bytes: Vec<u8>) -> Result<LogFile, AllocError>
-    ensures { IfOk result (IsRead form bytes.items) }
+pub fn read_bytes(alloc: Global, form: Form, bytes: &[u8]) -> Result<LogFile<'_>, AllocError>
+    ensures { IfOk result (IsRead form bytes.now) }
 {
     match form {
-        Form::Lines => lines_in(alloc, bytes),
-        Form::Sarif => sarif_in(alloc, without_mark(&bytes)),
-        Form::Auto => match begins_as(&bytes) {
-            Begun::Object => sarif_in(alloc, without_mark(&bytes)),
+        Form::Lines => Ok(LogFile::Lines(without_mark(bytes))),
+        Form::Sarif => sarif_in(alloc, without_mark(bytes)),
+        Form::Auto => match begins_as(bytes) {
+            Begun::Object => sarif_in(alloc, without_mark(bytes)),
             Begun::OtherJson => {
                 let why = "JSON of no known form; SARIF logs and lines are read";
                 Ok(LogFile::Fault(String::from_str(alloc, why)?))
@@ -42,24 +72,13 @@ pub fn read_bytes(alloc: Global, form: Form, bytes: Vec<u8>) -> Result<LogFile, 
                 let why = "XML; SARIF logs and lines are read";
                 Ok(LogFile::Fault(String::from_str(alloc, why)?))
             }
-            Begun::Lines => lines_in(alloc, bytes),
+            Begun::Lines => Ok(LogFile::Lines(without_mark(bytes))),
         },
     }
 }
 
-/// The lines of a log. The bytes are copied if they begin with a byte order mark.
-fn lines_in(alloc: Global, bytes: Vec<u8>) -> Result<LogFile, AllocError>
-    ensures { IfOk result (IsLines (behind_mark bytes.items)) }
-{
-    if !bytes.starts_with(&[0xEF, 0xBB, 0xBF]) {
-        return Ok(LogFile::Lines(bytes));
-    }
-    let rest = Vec::from_slice(alloc, without_mark(&bytes))?;
-    Ok(LogFile::Lines(rest))
-}
-
 /// The SARIF log in the bytes, or why there is none.
-fn sarif_in(alloc: Global, bytes: &[u8]) -> Result<LogFile, AllocError>
+fn sarif_in<'b>(alloc: Global, bytes: &[u8]) -> Result<LogFile<'b>, AllocError>
     ensures { IfOk result (IsSarif bytes.now) }
 {
     let Some(range) = log_in(bytes) else {

@@ -2,22 +2,29 @@
 //! editor what a linter's log says about the open files.
 //!
 //! `girzohal_lsp [--from auto|lines|sarif] [--tool NAME] [--columns bytes|characters|utf16|cells]
-//! [--first-column 0|1] LOG`. LOG is read when a file is opened, and again when one is saved.
+//! [--first-column 0|1] LOG`. LOG's file is looked at when a file is opened, and again when one is
+//! saved. It is read again only if its bytes changed.
 //!
 //! - `words`: the options, as the server uses them
 //! - `log`: reads a log
+//! - `kept`, `block`, `lines`: what is read of a log, once for all documents
 //! - `found`: the findings of a log for an open file
 //! - `serve`: messages in, answers out
 #![tactic(auto)]
 
+mod block;
 mod found;
+mod kept;
+mod lines;
 mod log;
 mod serve;
 mod words;
 
+pub use block::Block;
 pub use found::found_in;
 use girzohal_options::{InputForm, Program, Refusal, Request, message, read_words};
-pub use log::{LogFile, read_bytes};
+pub use kept::KeptLog;
+pub use log::{LogBytes, LogFile, log_of, read_bytes};
 pub use serve::{refresh, serve};
 use std::alloc::Global;
 use std::env;

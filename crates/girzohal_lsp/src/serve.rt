@@ -1,29 +1,51 @@
 // Messages in, answers out.
 ghost use Rattle.std.specs.Prelude.{◌≡◌, [], IfOk, OnErr, OnOk, map, string_bytes};
 ghost use Rattle.std.specs.List.{flat_map};
-ghost use Rattle.lsp_server.specs.Documents.{IsKept, document_of};
+ghost use Rattle.std.specs.Option.{option_copied};
+ghost use Rattle.lsp_server.specs.Documents.{IsKept as AreKept, document_of};
 ghost use Rattle.lsp_server.specs.Session.{answered, answered_by};
 ghost use Rattle.lsp_server.specs.declared.server.Server.{Server as ServerSeen};
-ghost use Rattle.girzohal_lsp.specs.Served.{AddsRefreshed, AnswersBody, IsLookedUp, IsReadLog};
+ghost use Rattle.girzohal_lsp.specs.Kept.{IsKept};
+ghost use Rattle.girzohal_lsp.specs.Served.{AddsRefreshed, AnswersMessage, IsHandled, IsLookedUp};
 ghost use Rattle.girzohal_lsp.specs.Served.{IsRefreshed, LooksUp, TellsFault, uris_of};
 ghost use Rattle.girzohal_lsp.specs.Served.{wanted_uris};
 
-use crate::found::found_in;
-use crate::log::{LogFile, read_bytes};
+use crate::found::{found_in, tool_name};
+use crate::kept::KeptLog;
+use crate::lines::{blocks_of, paths_of, reads_of};
+use crate::log::{LogBytes, LogFile, log_of};
 use crate::words::Asked;
-use lsp_frames::{End, Frames, write_frame};
-use lsp_server::{Answer, Message, Notice, Server, add_told, answer_text, message_in};
+use line_reports::names_of;
+use lsp_server::{
+    Answer, End, Frames, Message, Notice, Server, answer_text, message_in, push_some, write_frame,
+};
+use source_store::Spelling;
 use std::alloc::{Alloc, AllocError, Global};
-use std::fs;
 use std::io::{self, ErrorKind, Read, Write};
 use std::rt::Files;
+use std::{fs, mem};
+use tool_lines::lines::lines_of;
+use tool_lines::paint::without_paint;
 
-/// A session: the server, and the log whose findings it shows.
+/// A session: the server, and its input that waits until the log is read again.
 #[derive(Drop)]
-struct Session<'a> {
+struct Session {
     alloc: Global,
-    asked: Asked<'a>,
     server: Server,
+    frames: Frames,
+    /// The message that waits.
+    waiting: Option<Message>,
+    /// The bytes that came with it.
+    left: Vec<u8>,
+}
+
+/// Why messages are taken no more.
+#[derive(Drop)]
+enum Stop {
+    /// The session is over.
+    Over,
+    /// The log's file has other bytes.
+    Changed(LogBytes),
 }
 
 /// Serves until the client sends `exit` or ends its input, and returns whether `shutdown` came
@@ -41,86 +63,252 @@ pub fn serve<F: Files + Alloc, R: Read, W: Write>(
 ) -> io::Result<bool> {
     let mut session = Session {
         alloc,
-        asked,
         server: Server::new(alloc),
+        frames: Frames::new(alloc),
+        waiting: None,
+        left: Vec::new(alloc),
     };
-    let mut frames = Frames::new(alloc);
+    let mut log = LogBytes { bytes: None };
+    for _ in 0..u64::MAX {
+        match serve_log(rt, &mut session, asked, log.bytes.as_deref(), input, out)? {
+            Stop::Over => break,
+            Stop::Changed(changed) => log = changed,
+        }
+    }
+    Ok(session.server.is_well_ended())
+}
+
+/// Serves while the log's file has these bytes. The log is read here, once.
+fn serve_log<F: Files + Alloc, R: Read, W: Write>(
+    rt: &F,
+    session: &mut Session,
+    asked: Asked<'_>,
+    bytes: Option<&[u8]>,
+    input: &mut R,
+    out: &mut W,
+) -> io::Result<Stop> {
+    let alloc = session.alloc;
+    let log = log_of(alloc, asked, bytes)?;
+    match &log {
+        LogFile::Sarif(it) => {
+            let names = sarif::names_of(alloc, it)?;
+            let paths = paths_of(alloc, Spelling::Uri, &names)?;
+            let kept = KeptLog {
+                asked,
+                bytes,
+                log: &log,
+                names: &names,
+                paths: &paths,
+                blocks: &[],
+            };
+            serve_kept(rt, session, &kept, input, out)
+        }
+        LogFile::Lines(text) => {
+            let plain = without_paint(alloc, text)?;
+            let lines = lines_of(alloc, &plain)?;
+            let reads = reads_of(alloc, tool_name(asked), &lines)?;
+            let names = names_of(alloc, &lines, &reads)?;
+            let blocks = blocks_of(alloc, &lines, &reads)?;
+            let kept = KeptLog {
+                asked,
+                bytes,
+                log: &log,
+                names: &names,
+                paths: &[],
+                blocks: &blocks,
+            };
+            serve_kept(rt, session, &kept, input, out)
+        }
+        LogFile::Fault(_) => {
+            let kept = KeptLog {
+                asked,
+                bytes,
+                log: &log,
+                names: &[],
+                paths: &[],
+                blocks: &[],
+            };
+            serve_kept(rt, session, &kept, input, out)
+        }
+    }
+}
+
+/// Serves while the log's file has the bytes of this log.
+fn serve_kept<F: Files + Alloc, R: Read, W: Write>(
+    rt: &F,
+    session: &mut Session,
+    kept: &KeptLog<'_>,
+    input: &mut R,
+    out: &mut W,
+) -> io::Result<Stop>
+    requires { IsKept kept.now }
+{
+    if let Some(stop) = take_waiting(rt, session, kept, out)? {
+        return Ok(stop);
+    }
     let mut buffer = [0u8; 8192];
     for _ in 0..u64::MAX {
         match input.read(&mut buffer) {
             Ok(0) => break,
             Ok(count) => {
-                if !take_all(rt, &mut frames, &mut session, &buffer[..count], out)? {
-                    break;
+                if let Some(stop) = take_all(rt, session, kept, &buffer[..count], out)? {
+                    return Ok(stop);
                 }
             }
             Err(fault) if fault.kind() == ErrorKind::Interrupted => {}
             Err(fault) => return Err(fault),
         }
     }
-    Ok(session.server.is_well_ended())
+    Ok(Stop::Over)
 }
 
-/// Takes the messages that end in these bytes; false once the session is over.
+/// Takes the message that waits, and those that end in the bytes that came with it.
+fn take_waiting<F: Files + Alloc, W: Write>(
+    rt: &F,
+    session: &mut Session,
+    kept: &KeptLog<'_>,
+    out: &mut W,
+) -> io::Result<Option<Stop>>
+    requires { IsKept kept.now }
+{
+    let Some(message) = session.waiting.take() else {
+        return Ok(None);
+    };
+    let answers = answers_to(session.alloc, kept, &mut session.server, message)?;
+    send_all(session.alloc, answers, out)?;
+    let left = mem::replace(&mut session.left, Vec::new(session.alloc));
+    take_all(rt, session, kept, &left, out)
+}
+
+/// Takes the messages that end in these bytes, and returns why the rest isn't taken.
 fn take_all<F: Files + Alloc, W: Write>(
     rt: &F,
-    frames: &mut Frames,
-    session: &mut Session<'_>,
+    session: &mut Session,
+    kept: &KeptLog<'_>,
     bytes: &[u8],
     out: &mut W,
-) -> io::Result<bool> {
+) -> io::Result<Option<Stop>>
+    requires { IsKept kept.now }
+{
     let mut used = 0;
     while used < bytes.len() {
-        let taken = frames.next(session.alloc, &bytes[used..]);
+        let taken = session.frames.next(session.alloc, &bytes[used..]);
         used += taken.used;
         match taken.end {
-            End::More => return Ok(true),
+            End::More => return Ok(None),
             End::Message(body) => {
-                if !handle(rt, session, body.as_slice(), out)? {
-                    return Ok(false);
+                let stop = take(rt, session, kept, body.as_slice(), out)?;
+                if stop.is_some() {
+                    session.left = Vec::from_slice(session.alloc, &bytes[used..])?;
+                    return Ok(stop);
                 }
             }
             End::Refused(_) => return Err(io::Error::from(ErrorKind::InvalidData)),
             End::OutOfMemory => return Err(io::Error::from(ErrorKind::OutOfMemory)),
         }
     }
-    Ok(true)
+    Ok(None)
 }
 
-/// Takes one message; false once the session is over.
-fn handle<F: Files + Alloc, W: Write>(
+/// Takes the message in a body, and returns why no further one is taken.
+fn take<F: Files + Alloc, W: Write>(
     rt: &F,
-    session: &mut Session<'_>,
+    session: &mut Session,
+    kept: &KeptLog<'_>,
     body: &[u8],
     out: &mut W,
-) -> io::Result<bool> {
-    let answers = answers_to(rt, session, body)?;
-    for answer in answers {
-        send(session.alloc, answer, out)?;
+) -> io::Result<Option<Stop>>
+    requires { IsKept kept.now }
+{
+    match handle(rt, session.alloc, kept, &mut session.server, body)? {
+        Handled::Answers(answers) => send_all(session.alloc, answers, out)?,
+        Handled::Waits(message, changed) => {
+            session.waiting = Some(message);
+            return Ok(Some(Stop::Changed(changed)));
+        }
     }
-    Ok(!session.server.is_ended())
+    if session.server.is_ended() {
+        return Ok(Some(Stop::Over));
+    }
+    Ok(None)
 }
 
-/// Takes the message in a body, looks up the findings that it needs if the session runs, and
-/// returns what to send.
-fn answers_to<F: Files + Alloc>(
+/// What became of a message.
+#[derive(Drop)]
+enum Handled {
+    /// It was taken, and this is to be sent.
+    Answers(Vec<Answer>),
+    /// It waits, for the log's file has other bytes.
+    Waits(Message, LogBytes),
+}
+
+/// Takes the message in a body, unless it needs findings of a log whose file has other bytes now.
+fn handle<F: Files + Alloc>(
     rt: &F,
-    session: &mut Session<'_>,
+    alloc: Global,
+    kept: &KeptLog<'_>,
+    server: &mut Server,
     body: &[u8],
-) -> Result<Vec<Answer>, AllocError>
-    ensures { IfOk result (λ answers. AnswersBody session.old.asked
-        session.old.server body.now session.new.server answers.items) }
+) -> Result<Handled, AllocError>
+    requires { IsKept kept.now }
+    ensures { IfOk result (IsHandled kept.now.asked (option_copied kept.now.bytes)
+        server.old body.now server.new) }
 {
-    let alloc = session.alloc;
     let message = message_in(alloc, body)?;
+    let looks_up = matches!(
+        &message,
+        Message::Notification(Notice::Opened(_, _, _) | Notice::Saved)
+    );
+    if server.is_running() && looks_up {
+        if let Some(changed) = changed_bytes(rt, alloc, kept)? {
+            return Ok(Handled::Waits(message, changed));
+        }
+    }
+    let answers = answers_to(alloc, kept, server, message)?;
+    Ok(Handled::Answers(answers))
+}
+
+/// The bytes of the log's file, if they are others than those that were read.
+fn changed_bytes<F: Files + Alloc>(
+    rt: &F,
+    alloc: Global,
+    kept: &KeptLog<'_>,
+) -> Result<Option<LogBytes>, AllocError> {
+    match fs::read(rt, kept.asked.log) {
+        Ok(now) => match kept.bytes {
+            Some(bytes) if bytes == now.as_slice() => Ok(None),
+            _ => {
+                let bytes = Vec::from_slice(alloc, now.as_slice())?;
+                Ok(Some(LogBytes { bytes: Some(bytes) }))
+            }
+        },
+        Err(_) => match kept.bytes {
+            None => Ok(None),
+            Some(_) => Ok(Some(LogBytes { bytes: None })),
+        },
+    }
+}
+
+/// Takes a message, looks up the findings that it needs if the session runs, and returns what to
+/// send.
+fn answers_to(
+    alloc: Global,
+    kept: &KeptLog<'_>,
+    server: &mut Server,
+    message: Message,
+) -> Result<Vec<Answer>, AllocError>
+    requires { IsKept kept.now }
+    ensures { IfOk result (λ answers. AnswersMessage kept.now.asked
+        (option_copied kept.now.bytes) server.old message server.new answers.items) }
+{
     let wanted = wanted_by(alloc, &message)?;
     let mut answers = Vec::new(alloc);
-    let answer = session.server.take(alloc, message)?;
-    add_told(&mut answers, answer)?;
-    if !session.server.is_running() {
+    let answer = server.take(alloc, message)?;
+    push_some(&mut answers, answer)?;
+    if !server.is_running() {
         return Ok(answers);
     }
-    look_up(rt, session, wanted, &mut answers)?;
+    look_up(alloc, kept, server, wanted, &mut answers)?;
     Ok(answers)
 }
 
@@ -148,52 +336,54 @@ fn wanted_by(alloc: Global, message: &Message) -> Result<Wanted, AllocError>
 }
 
 /// Looks up the findings in these documents, and appends what to send.
-fn look_up<F: Files + Alloc>(
-    rt: &F,
-    session: &mut Session<'_>,
+fn look_up(
+    alloc: Global,
+    kept: &KeptLog<'_>,
+    server: &mut Server,
     wanted: Wanted,
     answers: &mut Vec<Answer>,
 ) -> Result<(), AllocError>
-    ensures looks { OnOk result (IsLookedUp session.old.asked
-        (wanted_uris wanted session.old.server) session.old.server session.new.server
+    requires { IsKept kept.now }
+    ensures looks { OnOk result (IsLookedUp kept.now.asked (option_copied kept.now.bytes)
+        (wanted_uris wanted server.old) server.old server.new
         answers.old.items answers.new.items) }
     ensures none { OnOk result (flat_map answered_by answers.new.items
         ≡ flat_map answered_by answers.old.items) }
-    ensures phase { OnOk result (session.new.server.phase ≡ session.old.server.phase) }
+    ensures phase { OnOk result (server.new.phase ≡ server.old.phase) }
 {
     match wanted {
         Wanted::None => Ok(()),
         Wanted::Of(uri) => {
-            let mut uris = Vec::new(session.alloc);
+            let mut uris = Vec::new(alloc);
             uris.push(uri)?;
-            show_all(rt, session, &uris, answers)
+            show_all(alloc, kept, server, &uris, answers)
         }
         Wanted::All => {
-            let uris = session.server.uris(session.alloc)?;
-            show_all(rt, session, &uris, answers)
+            let uris = server.uris(alloc)?;
+            show_all(alloc, kept, server, &uris, answers)
         }
     }
 }
 
-/// Reads the log, shows its findings in each of these documents, and appends what to send.
-fn show_all<F: Files + Alloc>(
-    rt: &F,
-    session: &mut Session<'_>,
+/// Shows the log's findings in each of these documents, and appends what to send.
+fn show_all(
+    alloc: Global,
+    kept: &KeptLog<'_>,
+    server: &mut Server,
     uris: &[String],
     answers: &mut Vec<Answer>,
 ) -> Result<(), AllocError>
-    ensures looks { OnOk result (LooksUp session.old.asked (map string_bytes uris.now)
-        session.old.server session.new.server answers.old.items answers.new.items) }
+    requires { IsKept kept.now }
+    ensures looks { OnOk result (LooksUp kept.now.asked (option_copied kept.now.bytes)
+        (map string_bytes uris.now) server.old server.new
+        answers.old.items answers.new.items) }
     ensures none { OnOk result (flat_map answered_by answers.new.items
         ≡ flat_map answered_by answers.old.items) }
-    ensures phase { OnOk result (session.new.server.phase ≡ session.old.server.phase) }
+    ensures phase { OnOk result (server.new.phase ≡ server.old.phase) }
 {
-    let alloc = session.alloc;
-    let asked = session.asked;
-    let log = log_file(rt, alloc, asked)?;
-    let fault = told_of_fault(alloc, asked, &log)?;
-    add_told(answers, fault)?;
-    refresh_all(alloc, asked, &log, &mut session.server, uris, answers)?;
+    let fault = told_of_fault(alloc, kept.asked, kept.log)?;
+    push_some(answers, fault)?;
+    refresh_all(alloc, kept, server, uris, answers)?;
     Ok(())
 }
 
@@ -201,7 +391,7 @@ fn show_all<F: Files + Alloc>(
 fn told_of_fault(
     alloc: Global,
     asked: Asked<'_>,
-    log: &LogFile,
+    log: &LogFile<'_>,
 ) -> Result<Option<Answer>, AllocError>
     ensures tells { IfOk result (TellsFault asked.entry log.now) }
     ensures none { IfOk result (λ told. answered told ≡ []) }
@@ -218,21 +408,22 @@ fn told_of_fault(
 /// Shows the findings of a log in each of these documents, and appends what to send.
 fn refresh_all(
     alloc: Global,
-    asked: Asked<'_>,
-    log: &LogFile,
+    kept: &KeptLog<'_>,
     server: &mut Server,
     uris: &[String],
     answers: &mut Vec<Answer>,
 ) -> Result<(), AllocError>
-    ensures shows { OnOk result (AddsRefreshed asked.entry log.now (map string_bytes uris.now)
+    requires { IsKept kept.now }
+    ensures shows { OnOk result (AddsRefreshed kept.now.asked kept.now.log.now
+        (map string_bytes uris.now)
         server.old server.new answers.old.items answers.new.items) }
     ensures none { OnOk result (flat_map answered_by answers.new.items
         ≡ flat_map answered_by answers.old.items) }
     ensures phase { OnOk result (server.new.phase ≡ server.old.phase) }
 {
     for uri in uris {
-        let told = refresh(alloc, asked, log, server, uri.as_str())?;
-        add_told(answers, told)?;
+        let told = refresh(alloc, kept, server, uri.as_str())?;
+        push_some(answers, told)?;
     }
     Ok(())
 }
@@ -245,46 +436,34 @@ fn refresh_all(
 /// Out of memory: nothing that contracts see of the server changes.
 pub fn refresh(
     alloc: Global,
-    asked: Asked<'_>,
-    log: &LogFile,
+    kept: &KeptLog<'_>,
     server: &mut Server,
     uri: &str,
 ) -> Result<Option<Answer>, AllocError>
-    ensures shown { IfOk result (IsRefreshed asked.entry log.now server.old.agreed uri.now
-        (document_of server.old uri.now)
+    requires { IsKept kept.now }
+    ensures shown { IfOk result (IsRefreshed kept.now.asked kept.now.log.now
+        server.old.agreed uri.now (document_of server.old uri.now)
         (document_of server.old) (document_of server.new)) }
     ensures none { IfOk result (λ told. answered told ≡ []) }
     ensures phase { server.new.phase ≡ server.old.phase }
     ensures agreed { server.new.agreed ≡ server.old.agreed }
-    ensures err { OnErr result (IsKept server.old server.new) }
+    ensures err { OnErr result (AreKept server.old server.new) }
 {
     let Some(document) = server.document(uri) else {
         return Ok(None);
     };
     let text = document.client().to_text(alloc)?;
-    let found = found_in(alloc, asked, log, uri, text.as_str())?;
+    let found = found_in(alloc, kept, uri, text.as_str())?;
     let told = server.show(alloc, uri, found)?;
     Ok(told)
 }
 
-/// Reads the log's file. If that fails, the result says so, and the session goes on.
-fn log_file<F: Files + Alloc>(
-    rt: &F,
-    alloc: Global,
-    asked: Asked<'_>,
-) -> Result<LogFile, AllocError>
-    ensures { IfOk result (IsReadLog asked.entry) }
-{
-    match fs::read(rt, asked.log) {
-        Ok(bytes) => {
-            let bytes = Vec::from_slice(alloc, bytes.as_slice())?;
-            read_bytes(alloc, asked.from, bytes)
-        }
-        Err(_) => {
-            let text = String::from_str(alloc, "it can't be read")?;
-            Ok(LogFile::Fault(text))
-        }
+/// Writes answers as frames.
+fn send_all<W: Write>(alloc: Global, answers: Vec<Answer>, out: &mut W) -> io::Result<()> {
+    for answer in answers {
+        send(alloc, answer, out)?;
     }
+    Ok(())
 }
 
 /// Writes an answer as a frame.

@@ -7,3 +7,4 @@ pub mod XmlLemmas
 pub mod ListedLemmas
 pub mod OwnedLemmas
 pub mod SeveralLemmas
+pub mod NamedLemmas

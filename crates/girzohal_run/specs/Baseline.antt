@@ -16,6 +16,7 @@ use Rattle.report_filters.specs.Entries.{entries_of}
 use Rattle.girzohal_options.specs.declared.Asked.{Asked}
 use Rattle.girzohal_options.specs.declared.InputForm.TheVariants as form
 use Rattle.girzohal_options.specs.declared.OutputForm.TheVariants as to
+use Rattle.girzohal_run.specs.Lines.{ListsOld}
 use Rattle.girzohal_run.specs.Told.{Told}
 use Rattle.girzohal_run.specs.Made.{IsMade}
 use Rattle.girzohal_run.specs.Reads.{part_of}
@@ -29,24 +30,29 @@ no_source path = Some (lacks Missing)
 abbrev pub as_document : Asked → Asked
 as_document asked = record asked { from = form.Auto; to = to.Document; raw = true; rules = None }
 
--- the document that an input is with the sources that it has itself
-pub record IsRead (asked : Asked) (bytes : List ℕ) (document : code.Document) : Type 0 where
+abbrev pub is_lines : List ℕ → Bool
+is_lines bytes = begins_lines (begins_as bytes)
+
+-- what is made of an input with the sources that it has itself; in lines a finding has the name that it has from the root, by what is told of places
+abbrev pub IsMadeOld : Bool → Told → Asked → List ℕ → List ℕ → List ℕ → Bool → Type 0
+IsMadeOld true told asked bytes text aside reached = ListsOld told no_source asked bytes text aside reached
+IsMadeOld false told asked bytes text aside reached = IsMade no_source asked bytes text aside reached
+
+-- the document that an input is so
+pub record IsRead (told : Told) (asked : Asked) (bytes : List ℕ) (document : code.Document) : Type 0 where
   pub text : List ℕ
   pub aside : List ℕ
   pub reached : Bool
-  pub made : IsMade no_source asked bytes text aside reached
+  pub made : IsMadeOld (is_lines bytes) told asked bytes text aside reached
   pub is : document_of text ≡ Some (document_view document)
 
 abbrev pub IsBaselineRead : List ℕ → Bool → code.Document → List FindingParts → Type 0
 IsBaselineRead front notes document entries = entries ≡ entries_of front true notes (found_document (document_view document)).found
 
-abbrev pub is_lines : List ℕ → Bool
-is_lines bytes = begins_lines (begins_as bytes)
-
 -- the findings of an input, with the texts of their rows where it has them
-pub record IsBaseline (asked : Asked) (front bytes : List ℕ) (entries : List FindingParts) : Type 0 where
+pub record IsBaseline (told : Told) (asked : Asked) (front bytes : List ℕ) (entries : List FindingParts) : Type 0 where
   pub document : code.Document
-  pub read : IsRead (as_document asked) bytes document
+  pub read : IsRead told (as_document asked) bytes document
   pub entries_are : IsBaselineRead front (is_lines bytes) document entries
 
 -- ---- whether it says the scopes of codes

@@ -1,18 +1,17 @@
 -- What is found in an input.
-use Rattle.std.specs.Prelude.{◌≡◌, ℕ, List, Bool, true, false, None}
+use Rattle.std.specs.Prelude.{◌≡◌, ℕ, List, Bool, true, false}
 use Rattle.std.specs.declared.ops.Range.{Range}
 use Rattle.found_reports.specs.Found.{Found}
 use Rattle.found_reports.specs.Held.{Held}
 use Rattle.found_reports.specs.Kept.{FoundParts}
-use Rattle.source_store.specs.Given.{IsGiven}
-use Rattle.source_store.specs.declared.named.Spelling.TheVariants.{Path}
-use Rattle.tool_lines.specs.Lines.{ArePieces, PieceParts}
-use Rattle.line_reports.specs.Names.{names_in}
+use Rattle.found_reports.specs.Listed.{held_in}
+use Rattle.found_reports.specs.declared.sources.Source.{Source}
+use Rattle.tool_lines.specs.Lines.{PieceParts}
 use Rattle.line_reports.specs.Pieces.{ReadParts}
 use Rattle.line_reports.specs.Reports.{reports_in}
 use Rattle.drawn_lines.specs.Text.{lines_of}
-use Rattle.drawn_lines.specs.Lines.{columns_of, kept_text, shapes_of}
-use Rattle.drawn_lines.specs.Coming.{Reads}
+use Rattle.drawn_lines.specs.Lines.{columns_of, kept_text}
+use Rattle.girzohal_run.specs.Lines.{NamesLines, ReadsNamed}
 use Rattle.input_forms.specs.Begun.{begins_as}
 use Rattle.input_forms.specs.Object.{IsJsonPart}
 use Rattle.input_forms.specs.declared.begun.Begun.{Begun}
@@ -35,15 +34,20 @@ pub record FindsPieces (asked : Asked) (given : List ℕ → Held) (lines : List
   pub reports : found ≡ reports_in (columns_of asked) given lines reads
   pub kept : aside ≡ kept_text asked lines pieces
 
--- those of the pieces of a text's lines, with what was given of the names in them
-pub record FindsLines (told : Told) (asked : Asked) (bytes : List ℕ) (found : List Found) (aside : List ℕ) : Type 0 where
-  pub pieces : List PieceParts
-  pub are : ArePieces (shapes_of asked) None (lines_of bytes) pieces
+-- those of pieces of lines, for whose names more sources of a store were added
+pub record FindsNamed (told : Told) (asked : Asked) (before : List Source) (lines : List (List ℕ)) (pieces : List PieceParts) (found : List Found) (aside : List ℕ) : Type 0 where
+  pub now : List Source
   pub reads : List ReadParts
-  pub reads_are : Reads (lines_of bytes) pieces reads
+  pub named : ReadsNamed told before now lines pieces reads
+  pub finds : FindsPieces asked (held_in now) lines pieces reads found aside
+
+-- those of the pieces of a text's lines, with what was given of the names in them; a finding has the name that it has from the root
+pub record FindsLines (told : Told) (asked : Asked) (bytes : List ℕ) (found : List Found) (aside : List ℕ) : Type 0 where
   pub given : List ℕ → Held
-  pub told_so : IsGiven told Path (names_in (lines_of bytes) reads) given
-  pub finds : FindsPieces asked given (lines_of bytes) pieces reads found aside
+  pub named : List PieceParts
+  pub reads : List ReadParts
+  pub names : NamesLines told asked bytes given named reads
+  pub finds : FindsPieces asked given (lines_of bytes) named reads found aside
 
 -- the reports of the JSON object among other lines, and what stands around it
 pub record FindsObject (how : ObjectForm) (told : Told) (asked : Asked) (bytes : List ℕ) (found : List Found) (aside : List ℕ) : Type 0 where

@@ -1,9 +1,11 @@
 -- What is made of lines that a tool prints for people.
-use Rattle.std.specs.Prelude.{◌≡◌, ◌||◌, ◌&&◌, ℕ, List, None, Bool, true, false, is_none}
+use Rattle.std.specs.Prelude.{◌≡◌, ◌||◌, ◌&&◌, ℕ, List, [], None, Bool, true, false, is_none}
 use Rattle.found_reports.specs.Files.{files_of}
 use Rattle.found_reports.specs.Held.{Held}
 use Rattle.found_reports.specs.Kept.{FoundParts}
-use Rattle.source_store.specs.Given.{IsGiven}
+use Rattle.found_reports.specs.Listed.{held_in}
+use Rattle.found_reports.specs.declared.sources.Source.{Source}
+use Rattle.source_store.specs.Given.{AddsAll, IsGiven}
 use Rattle.source_store.specs.declared.named.Spelling.TheVariants.{Path}
 use Rattle.tool_lines.specs.Lines.{ArePieces, PieceParts}
 use Rattle.line_reports.specs.Names.{names_in}
@@ -14,7 +16,7 @@ use Rattle.girzohal_options.specs.declared.OutputForm.{OutputForm}
 use Rattle.girzohal_options.specs.declared.OutputForm.TheVariants.{Drawing, Json, Document, Sarif, Problems, Github, Gitlab, Checkstyle, Junit, Stylish, Summary, Markdown, Html}
 use Rattle.drawn_lines.specs.Text.{lines_of}
 use Rattle.drawn_lines.specs.Lines.{annotates, columns_of, kept_text, shapes_of}
-use Rattle.drawn_lines.specs.Coming.{IsDrawn, Reads}
+use Rattle.drawn_lines.specs.Coming.{IsDrawn, Reads, named_whole, tried_whole}
 use Rattle.girzohal_run.specs.Filtering.{IsWritten, with_line}
 use Rattle.girzohal_run.specs.Told.{Told}
 
@@ -47,15 +49,50 @@ pub record WritesPieces (asked : Asked) (given : List ℕ → Held) (lines : Lis
   pub written : IsWritten asked true parts text line reached
   pub kept : aside ≡ with_line (kept_text asked lines pieces) line
 
--- those of the pieces of a text's lines, with what was given of the names in them
-pub record ListsLines (told : Told) (asked : Asked) (bytes text aside : List ℕ) (reached : Bool) : Type 0 where
+-- the names of the findings of these pieces were sought with more sources of a store, and then the pieces are these
+pub record AreSought (told : Told) (asked : Asked) (before now : List Source) (lines : List (List ℕ)) (pieces named : List PieceParts) : Type 0 where
+  pub tried : AddsAll told Path before now (tried_whole asked (held_in now) lines pieces)
+  pub named_is : named ≡ named_whole asked (held_in now) lines pieces
+
+-- the bodies of these pieces were read, and for the names in them more sources of a store were added
+pub record ReadsNamed (told : Told) (before now : List Source) (lines : List (List ℕ)) (pieces : List PieceParts) (reads : List ReadParts) : Type 0 where
+  pub reads_are : Reads lines pieces reads
+  pub adds : AddsAll told Path before now (names_in lines reads)
+
+-- then the text and the level of their reports are these
+pub record ListsNamed (told : Told) (asked : Asked) (before : List Source) (lines : List (List ℕ)) (pieces : List PieceParts) (text aside : List ℕ) (reached : Bool) : Type 0 where
+  pub now : List Source
+  pub reads : List ReadParts
+  pub named : ReadsNamed told before now lines pieces reads
+  pub writes : WritesPieces asked (held_in now) lines pieces reads text aside reached
+
+-- the pieces of a text's lines, where a finding has the name that it has from the root, by what was given of places
+pub record AreNamed (told : Told) (asked : Asked) (bytes : List ℕ) (given : List ℕ → Held) (named : List PieceParts) : Type 0 where
   pub pieces : List PieceParts
   pub are : ArePieces (shapes_of asked) None (lines_of bytes) pieces
-  pub reads : List ReadParts
-  pub reads_are : Reads (lines_of bytes) pieces reads
-  pub given : List ℕ → Held
+  pub tried_so : IsGiven told Path (tried_whole asked given (lines_of bytes) pieces) given
+  pub named_is : named ≡ named_whole asked given (lines_of bytes) pieces
+
+-- the same with what was given of the names in them
+pub record NamesLines (told : Told) (asked : Asked) (bytes : List ℕ) (given : List ℕ → Held) (named : List PieceParts) (reads : List ReadParts) : Type 0 where
+  pub are : AreNamed told asked bytes given named
+  pub reads_are : Reads (lines_of bytes) named reads
   pub told_so : IsGiven told Path (names_in (lines_of bytes) reads) given
-  pub writes : WritesPieces asked given (lines_of bytes) pieces reads text aside reached
+
+-- the text and the level of the reports of the pieces of a text's lines
+pub record ListsLines (told : Told) (asked : Asked) (bytes text aside : List ℕ) (reached : Bool) : Type 0 where
+  pub given : List ℕ → Held
+  pub named : List PieceParts
+  pub reads : List ReadParts
+  pub names : NamesLines told asked bytes given named reads
+  pub writes : WritesPieces asked given (lines_of bytes) named reads text aside reached
+
+-- the same, where places are told by one store and texts by another
+pub record ListsOld (places told : Told) (asked : Asked) (bytes text aside : List ℕ) (reached : Bool) : Type 0 where
+  pub given : List ℕ → Held
+  pub named : List PieceParts
+  pub are : AreNamed places asked bytes given named
+  pub lists : ListsNamed told asked [] (lines_of bytes) named text aside reached
 
 -- so are those of lines, unless there are filters: these read the whole input first
 abbrev pub may_come : Asked → Bool

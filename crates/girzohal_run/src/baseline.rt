@@ -1,12 +1,13 @@
 // The findings of a baseline.
 ghost use Rattle.std.specs.Prelude.{◌≡◌, IfOk, None, map, string_bytes};
 ghost use Rattle.report_filters.specs.Entries.{entry_parts};
-ghost use Rattle.girzohal_run.specs.Baseline.{HasKeyFiles, IsBaseline, IsBaselineRead, IsRead};
-ghost use Rattle.girzohal_run.specs.Baseline.{SaysScopes, as_document};
+ghost use Rattle.girzohal_run.specs.Baseline.{HasKeyFiles, IsBaseline, IsBaselineRead};
+ghost use Rattle.girzohal_run.specs.Baseline.{IsMadeOld, IsRead, SaysScopes, as_document};
 ghost use Rattle.girzohal_run.specs.Baseline.{is_lines as is_lines_input};
 
 use crate::fault::{Fault, no_form};
-use crate::making::make;
+use crate::lines::list_old;
+use crate::making::{Made, make};
 use changed_rows::Root;
 use documents::{Document, read_document};
 use found_reports::ListedSources;
@@ -14,7 +15,7 @@ use girzohal_options::{Asked, InputForm, OutputForm};
 use input_forms::{Begun, begins_as, has_files, json_part};
 use report_filters::{Entry, entries_of};
 use shown_reports::document_reports;
-use source_store::MapStore;
+use source_store::{MapStore, Store};
 use std::alloc::{AllocError, Global};
 
 /// What a baseline has.
@@ -28,19 +29,21 @@ pub struct Baseline {
 }
 
 /// The findings of an input of any form, for a baseline. Rows have the texts that the input has
-/// itself: sources may have changed since. The options are as before, without filters.
+/// itself: sources may have changed since. In lines, names of findings are sought in the store. The
+/// options are as before, without filters.
 ///
 /// # Errors
 ///
 /// The input is of no form; and out of memory.
-pub fn read_baseline(
+pub fn read_baseline<S: Store>(
     alloc: Global,
     asked: &mut Asked,
     root: &Root,
     bytes: &[u8],
+    store: &S,
 ) -> Result<Baseline, Fault>
-    ensures read { IfOk result (λ it. IsBaseline asked.old (string_bytes root.now.front)
-        bytes.now (map entry_parts it.findings.items)) }
+    ensures read { IfOk result (λ it. IsBaseline (S.told store.now) asked.old
+        (string_bytes root.now.front) bytes.now (map entry_parts it.findings.items)) }
     ensures scopes { IfOk result (λ it. SaysScopes bytes.now it.says_scopes) }
     ensures kept { asked.new ≡ record asked.old { rules = None } }
 {
@@ -49,7 +52,7 @@ pub fn read_baseline(
     asked.from = InputForm::Auto;
     asked.to = OutputForm::Document;
     asked.raw = true;
-    let read = document_of(alloc, asked, bytes);
+    let read = document_of(alloc, asked, bytes, store);
     asked.from = from;
     asked.to = to;
     asked.raw = raw;
@@ -61,18 +64,36 @@ pub fn read_baseline(
     })
 }
 
-/// An input as a document, with no more sources than it has itself.
-fn document_of(alloc: Global, asked: &Asked, bytes: &[u8]) -> Result<Document, Fault>
-    ensures { IfOk result (IsRead asked.now bytes.now) }
+/// An input as a document.
+fn document_of<S: Store>(
+    alloc: Global,
+    asked: &Asked,
+    bytes: &[u8],
+    store: &S,
+) -> Result<Document, Fault>
+    ensures { IfOk result (IsRead (S.told store.now) asked.now bytes.now) }
 {
-    let store = MapStore {
-        listed: ListedSources::empty(alloc),
-    };
-    let made = make(alloc, asked, bytes, &store)?;
+    let made = made_of(alloc, asked, bytes, store)?;
     match read_document(alloc, made.written.text.as_bytes())? {
         Some(document) => Ok(document),
         None => Err(no_form(alloc, "input is no document")),
     }
+}
+
+/// What is made of an input with no more sources than it has itself.
+fn made_of<S: Store>(alloc: Global, asked: &Asked, bytes: &[u8], store: &S) -> Result<Made, Fault>
+    ensures { IfOk result (λ it. IsMadeOld (is_lines_input bytes.now) (S.told store.now) asked.now
+        bytes.now (string_bytes it.written.text) it.aside.items it.written.reached) }
+{
+    let none = MapStore {
+        listed: ListedSources::empty(alloc),
+    };
+    if is_lines(bytes) {
+        let made = list_old(alloc, asked, bytes, store, &none)?;
+        return Ok(made);
+    }
+    let made = make(alloc, asked, bytes, &none)?;
+    Ok(made)
 }
 
 /// The findings of a document.

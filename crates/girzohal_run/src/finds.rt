@@ -3,8 +3,8 @@ ghost use Rattle.std.specs.Prelude.{IfErr, IfOk, map};
 ghost use Rattle.found_reports.specs.Listed.{held_in};
 ghost use Rattle.tool_lines.specs.Lines.{piece_parts};
 ghost use Rattle.line_reports.specs.Pieces.{read_parts};
-ghost use Rattle.girzohal_run.specs.Finds.{FindsBraced, FindsLines, FindsObject, FindsPieces};
-ghost use Rattle.girzohal_run.specs.Finds.{FindsOther, IsFound};
+ghost use Rattle.girzohal_run.specs.Finds.{FindsBraced, FindsLines, FindsNamed, FindsObject};
+ghost use Rattle.girzohal_run.specs.Finds.{FindsOther, FindsPieces, IsFound};
 ghost use Rattle.input_forms.specs.Begun.{begins_as as begins_so};
 ghost use Rattle.girzohal_run.specs.Logs.{IsNoLog, ReadsLog, log_columns as columns_meant};
 ghost use Rattle.girzohal_run.specs.Made.{HasCause, IsFree, IsNoObject, IsNoOther, IsNoneBraced};
@@ -14,7 +14,7 @@ ghost use Rattle.girzohal_run.specs.Reads.{ReadsDocument, ReadsKeyed, ReadsPart}
 ghost use Rattle.input_forms.specs.Object.{has_files as key_files};
 
 use crate::fault::{Fault, no_form};
-use crate::lines::text_lines;
+use crate::lines::{first_names, text_lines};
 use crate::logs::{log_columns, log_of};
 use crate::making::object_form;
 use crate::object::{ObjectForm, around, no_document, refused, told_behind};
@@ -22,15 +22,15 @@ use crate::owned::OwnedReports;
 use crate::values::find_values;
 use crate::xml::find_xml;
 use documents::read_document;
-use drawn_lines::{columns_of, kept_text, shapes_of};
+use drawn_lines::{are_kept, columns_of, kept_text, renamed, shapes_of};
 use girzohal_options::{Asked, InputForm};
 use indexed_sources::IndexedSources;
 use input_forms::{Begun, begins_as, has_files, json_part, without_mark};
 use json_inputs::is_report_object;
 use line_reports::{ReadPiece, names_of, read_pieces, reports_of};
 use render_files::ReportError;
-use shown_reports::document_reports;
-use source_store::{Spelling, Store, gather, gather_indexed};
+use shown_reports::{ShownSources, document_reports};
+use source_store::{Spelling, Store, gather, gather_more};
 use std::alloc::Global;
 use tool_lines::lines::{Piece, pieces_of};
 use tool_lines::paint::without_paint;
@@ -122,10 +122,36 @@ fn find_lines<S: Store>(
     let lines = text_lines(alloc, &text)?;
     let shapes = shapes_of(alloc, asked)?;
     let pieces = pieces_of(alloc, &lines, &shapes)?;
-    let reads = read_pieces(alloc, &lines, &pieces)?;
-    let names = names_of(alloc, &lines, &reads)?;
-    let sources = gather_indexed(alloc, store, Spelling::Path, &names)?;
-    find_pieces(alloc, asked, &lines, &pieces, &reads, &sources)
+    let mut sources = ShownSources::empty(alloc);
+    let names = first_names(alloc, asked, store, &mut sources, &lines, &pieces)?;
+    if are_kept(&names) {
+        let finds = find_named(alloc, asked, store, sources, &lines, &pieces)?;
+        return Ok(finds);
+    }
+    let named = renamed(alloc, &names, &pieces)?;
+    let finds = find_named(alloc, asked, store, sources, &lines, &named)?;
+    Ok(finds)
+}
+
+/// The same for blocks whose findings have their names from the root.
+fn find_named<S: Store>(
+    alloc: Global,
+    asked: &Asked,
+    store: &S,
+    sources: ShownSources,
+    lines: &[&[u8]],
+    pieces: &[Piece<'_>],
+) -> Result<Finds, Fault>
+    ensures found { IfOk result (λ it. FindsNamed (S.told store.now) asked.now
+        sources.entries.items (map (λ line. line.now) lines.now) (map piece_parts pieces.now)
+        it.reports.found it.aside.items) }
+    ensures cause { IfErr result IsFree }
+{
+    let mut sources = sources;
+    let reads = read_pieces(alloc, lines, pieces)?;
+    let names = names_of(alloc, lines, &reads)?;
+    gather_more(alloc, store, Spelling::Path, &mut sources, &names)?;
+    find_pieces(alloc, asked, lines, pieces, &reads, sources.indexed())
 }
 
 /// What the blocks of lines have, with these sources.

@@ -1,11 +1,13 @@
 // What is made of lines that a tool prints for people.
-ghost use Rattle.std.specs.Prelude.{◌≡◌, IfErr, IfOk, map, string_bytes};
+ghost use Rattle.std.specs.Prelude.{◌≡◌, IfErr, IfOk, length, map, string_bytes};
 ghost use Rattle.found_reports.specs.Listed.{held_in};
 ghost use Rattle.tool_lines.specs.Lines.{piece_parts};
 ghost use Rattle.line_reports.specs.Pieces.{read_parts};
 ghost use Rattle.drawn_lines.specs.Coming.{IsDrawn};
+ghost use Rattle.drawn_lines.specs.Named.{name_texts, renamed_by};
 ghost use Rattle.drawn_lines.specs.Text.{lines_in_text, without_lf as lf_less};
-ghost use Rattle.girzohal_run.specs.Lines.{ListsLines, MakesLines, WritesPieces};
+ghost use Rattle.girzohal_run.specs.Lines.{AreSought, ListsLines, ListsNamed, ListsOld};
+ghost use Rattle.girzohal_run.specs.Lines.{MakesLines, WritesPieces};
 ghost use Rattle.girzohal_run.specs.Lines.{is_drawing as is_drawn};
 ghost use Rattle.girzohal_run.specs.Lines.{is_live as is_live_form, may_come as may_come_so};
 ghost use Rattle.girzohal_run.specs.Made.{IsFree};
@@ -13,13 +15,18 @@ ghost use Rattle.girzohal_run.specs.Made.{IsFree};
 use crate::fault::Fault;
 use crate::filtering::{push_line, write_left};
 use crate::making::{Made, Written};
-use drawn_lines::{Come, Coming, Ended, annotates, columns_of, kept_text, shapes_of};
+use build_dirs::dirs::BuildDirs;
+use drawn_lines::{
+    Come, Coming, Ended, annotates, are_kept, columns_of, kept_text, names_between, renamed,
+    shapes_of,
+};
 use girzohal_options::{Asked, OutputForm};
 use indexed_sources::IndexedSources;
 use input_forms::without_mark;
 use line_reports::{ReadPiece, names_of, read_pieces, reports_of};
 use line_shapes::bytes::before_last;
-use source_store::{Spelling, Store, gather_indexed};
+use shown_reports::ShownSources;
+use source_store::{Spelling, Store, gather_more};
 use std::alloc::{AllocError, Global};
 use tool_lines::lines::{Piece, lines_of, pieces_of};
 use tool_lines::paint::without_paint;
@@ -124,10 +131,82 @@ fn list_lines<S: Store>(
     let lines = text_lines(alloc, &text)?;
     let shapes = shapes_of(alloc, asked)?;
     let pieces = pieces_of(alloc, &lines, &shapes)?;
-    let reads = read_pieces(alloc, &lines, &pieces)?;
-    let names = names_of(alloc, &lines, &reads)?;
-    let sources = gather_indexed(alloc, store, Spelling::Path, &names)?;
-    write_pieces(alloc, asked, &lines, &pieces, &reads, &sources)
+    let mut sources = ShownSources::empty(alloc);
+    let names = first_names(alloc, asked, store, &mut sources, &lines, &pieces)?;
+    if are_kept(&names) {
+        let made = list_named(alloc, asked, store, sources, &lines, &pieces)?;
+        return Ok(made);
+    }
+    let named = renamed(alloc, &names, &pieces)?;
+    let made = list_named(alloc, asked, store, sources, &lines, &named)?;
+    Ok(made)
+}
+
+/// The same, with the texts of `store`, where the names of findings are sought in `places`.
+pub(crate) fn list_old<P: Store, S: Store>(
+    alloc: Global,
+    asked: &Asked,
+    bytes: &[u8],
+    places: &P,
+    store: &S,
+) -> Result<Made, Fault>
+    ensures made { IfOk result (λ it. ListsOld (P.told places.now) (S.told store.now) asked.now
+        bytes.now (string_bytes it.written.text) it.aside.items it.written.reached) }
+    ensures cause { IfErr result IsFree }
+{
+    let text = without_paint(alloc, without_mark(bytes))?;
+    let lines = text_lines(alloc, &text)?;
+    let shapes = shapes_of(alloc, asked)?;
+    let pieces = pieces_of(alloc, &lines, &shapes)?;
+    let mut tried = ShownSources::empty(alloc);
+    let names = first_names(alloc, asked, places, &mut tried, &lines, &pieces)?;
+    let named = renamed(alloc, &names, &pieces)?;
+    let none = ShownSources::empty(alloc);
+    let made = list_named(alloc, asked, store, none, &lines, &named)?;
+    Ok(made)
+}
+
+/// What is made of blocks whose findings have their names from the root.
+fn list_named<S: Store>(
+    alloc: Global,
+    asked: &Asked,
+    store: &S,
+    sources: ShownSources,
+    lines: &[&[u8]],
+    pieces: &[Piece<'_>],
+) -> Result<Made, Fault>
+    ensures made { IfOk result (λ it. ListsNamed (S.told store.now) asked.now
+        sources.entries.items (map (λ line. line.now) lines.now) (map piece_parts pieces.now)
+        (string_bytes it.written.text) it.aside.items it.written.reached) }
+    ensures cause { IfErr result IsFree }
+{
+    let mut sources = sources;
+    let reads = read_pieces(alloc, lines, pieces)?;
+    let names = names_of(alloc, lines, &reads)?;
+    gather_more(alloc, store, Spelling::Path, &mut sources, &names)?;
+    write_pieces(alloc, asked, lines, pieces, &reads, sources.indexed())
+}
+
+/// The names of the findings of all blocks from the root, as [`names_between`] gives them.
+pub(crate) fn first_names<S: Store>(
+    alloc: Global,
+    asked: &Asked,
+    store: &S,
+    sources: &mut ShownSources,
+    lines: &[&[u8]],
+    pieces: &[Piece<'_>],
+) -> Result<Vec<Option<String>>, AllocError>
+    ensures sought { IfOk result (λ names. AreSought (S.told store.now) asked.now
+        sources.old.entries.items sources.new.entries.items (map (λ line. line.now) lines.now)
+        (map piece_parts pieces.now)
+        (renamed_by (name_texts names.items) (map piece_parts pieces.now))) }
+    ensures each { IfOk result (λ names. length (name_texts names.items)
+        ≡ length (map piece_parts pieces.now)) }
+{
+    let mut dirs = BuildDirs::new(alloc);
+    let root = asked.root.as_str();
+    let names = names_between(alloc, root, store, &mut dirs, sources, lines, pieces)?;
+    Ok(names)
 }
 
 /// The lines of a whole text: a last LF ends a line, and begins none.

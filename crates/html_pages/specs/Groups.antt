@@ -2,8 +2,8 @@
 use Rattle.std.specs.Prelude.{ℕ, ◌==◌, ◌&&◌, if◌then◌else◌, Bool, false, List, [], ◌∷◌, ◌++◌, slice_get, Option, Some, None, codes, decimal}
 use Rattle.std.specs.List.{prefix_len}
 use Rattle.std.specs.Str.{bytes_eq}
-use Rattle.ci_findings.specs.Finding.{FindingParts}
-use Rattle.ci_findings.specs.declared.finding.Location.{Location}
+use Rattle.ci_formats.specs.Finding.{FindingParts}
+use Rattle.ci_formats.specs.declared.finding.Location.{Location}
 use Rattle.finding_summaries.specs.Names.{file_of}
 use Rattle.html_pages.specs.Escaped.{escaped_text}
 use Rattle.html_pages.specs.Spans.{spans_text}

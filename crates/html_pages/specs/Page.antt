@@ -1,6 +1,6 @@
 -- The page.
 use Rattle.std.specs.Prelude.{◌≡◌, ℕ, List, [], ◌∷◌, ◌++◌, None, codes}
-use Rattle.ci_findings.specs.Finding.{FindingParts}
+use Rattle.ci_formats.specs.Finding.{FindingParts}
 use Rattle.finding_summaries.specs.Totals.{totals}
 use Rattle.html_pages.specs.Groups.{groups_from}
 use Rattle.html_pages.specs.Spots.{AreSpots, SpotParts}

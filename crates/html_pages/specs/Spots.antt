@@ -6,7 +6,7 @@ use Rattle.std.specs.Ordering.{nat_cmp, ordering_then}
 use Rattle.std.specs.declared.cmp.Ordering.{Ordering}
 use Rattle.oxc_protocol.specs.declared.protocol.Severity.{Severity}
 use Rattle.oxc_protocol.specs.declared.protocol.Severity.TheVariants.{Advice, Error, Warning}
-use Rattle.ci_findings.specs.Finding.{FindingParts}
+use Rattle.ci_formats.specs.Finding.{FindingParts}
 use Rattle.finding_summaries.specs.Names.{file_of, rule_of}
 use Rattle.html_pages.specs.declared.spots.Part.{Part}
 use Rattle.html_pages.specs.declared.spots.Part.TheVariants.{Files, Rules}

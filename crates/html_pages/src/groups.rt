@@ -1,7 +1,7 @@
 // Findings below their headings.
 ghost use Rattle.std.specs.Prelude.{◌≡◌, ◌++◌, OnOk, None, map, option_map, string_bytes};
 ghost use Rattle.std.specs.List.{prefix_len};
-ghost use Rattle.ci_findings.specs.Finding.{finding_parts};
+ghost use Rattle.ci_formats.specs.Finding.{finding_parts};
 ghost use Rattle.html_pages.specs.Groups.{drawing_text, end_after, goes_on, group_end, group_start};
 ghost use Rattle.html_pages.specs.Groups.{groups_from, heading, heading_after, heading_name};
 ghost use Rattle.html_pages.specs.Groups.{item_text, link_open, link_start, link_text};
@@ -12,7 +12,7 @@ ghost use Rattle.html_pages.specs.Spots.{spot_parts};
 use crate::escaped::push_text;
 use crate::spans::push_drawing;
 use crate::spots::{Part, Spot};
-use ci_findings::{Finding, Location};
+use ci_formats::{Finding, Location};
 use finding_summaries::file_of;
 use itoa::Buffer;
 use std::alloc::AllocError;

@@ -1,6 +1,6 @@
 // The page.
 ghost use Rattle.std.specs.Prelude.{◌≡◌, ◌++◌, IfOk, OnOk, map, string_bytes};
-ghost use Rattle.ci_findings.specs.Finding.{finding_parts};
+ghost use Rattle.ci_formats.specs.Finding.{finding_parts};
 ghost use Rattle.html_pages.specs.Page.{IsPage, files_title, head_end, headline, page_end};
 ghost use Rattle.html_pages.specs.Page.{page_head, page_of, page_start, parts_text};
 ghost use Rattle.html_pages.specs.Page.{rules_title, sections_text, title_end};
@@ -9,7 +9,7 @@ ghost use Rattle.html_pages.specs.Spots.{spot_parts};
 
 use crate::groups::push_groups;
 use crate::spots::{Part, Spot, spots_of};
-use ci_findings::Finding;
+use ci_formats::Finding;
 use finding_summaries::push_totals;
 use std::alloc::{AllocError, Global};
 

@@ -1,9 +1,9 @@
 // Findings in the order of their headings.
 ghost use Rattle.std.specs.Prelude.{◌≡◌, IfOk, map};
-ghost use Rattle.ci_findings.specs.Finding.{finding_parts};
+ghost use Rattle.ci_formats.specs.Finding.{finding_parts};
 ghost use Rattle.html_pages.specs.Spots.{AreSpots, IsInOrder, rank_of, spot_in, spot_parts};
 
-use ci_findings::Finding;
+use ci_formats::Finding;
 use finding_summaries::{file_of, rule_of};
 use oxc_protocol::Severity;
 use std::alloc::{AllocError, Global};

@@ -1,7 +1,6 @@
 -- The reports of labels in other files, one after another.
-use Rattle.std.proofs.Common.{◌≡◌, ℕ, zero, suc, Bor, ◌-◌, ◌<◌, ◌≤◌, List, [], ◌∷◌, ◌++◌, length, map, option_map, take, drop, get_or, Option, None, Some, String, true, refl, sym, ap, ap₂, ◌∙◌, subst, append_assoc, arith}
+use Rattle.std.proofs.Common.{◌≡◌, ℕ, zero, suc, Bor, ◌-◌, ◌<◌, ◌≤◌, List, [], ◌∷◌, ◌++◌, length, map, option_map, take, drop, get_or, Option, None, String, true, sym, ap, ap₂, ◌∙◌, subst, append_assoc, arith}
 use Rattle.std.specs.Prelude.{IfSome}
-use Rattle.std.specs.List.{All}
 use Rattle.std.specs.declared.alloc.Global.{Global}
 use Rattle.std.proofs.lemmas.List.{drop-map, take_rest}
 use Rattle.std.proofs.lemmas.List.Elements.{All-append, All-cons, All-head, All-nil, All-tail}
@@ -9,7 +8,7 @@ use Rattle.oxc_span.specs.Views.{text_bytes}
 use Rattle.excerpts.specs.Body.{block_of}
 use Rattle.excerpts.specs.declared.body.Block.{Block}
 use Rattle.excerpt_texts.specs.Lines.{line_at}
-use Rattle.found_reports.specs.Found.{Found, LabelsStand, NamedHeld}
+use Rattle.found_reports.specs.Found.{Found, LabelsStand}
 use Rattle.found_reports.specs.Held.{Held}
 use Rattle.line_shapes.specs.declared.tools.Columns.{Columns}
 use Rattle.line_reports.specs.declared.asides.Aside.{Aside}
@@ -17,7 +16,7 @@ use Rattle.line_reports.specs.declared.labels.Mark.{Mark}
 use Rattle.line_reports.specs.declared.placed.Placed.{Placed}
 use Rattle.line_reports.specs.declared.told.Told.{Told}
 use Rattle.line_reports.specs.Asides.{AsideParts, AsidesStand, PlacedHeld, aside_at, aside_parts, asides_from, first_name}
-use Rattle.line_reports.specs.Drawings.{PlacedParts, placed_parts}
+use Rattle.line_reports.specs.Drawings.{placed_parts}
 use Rattle.line_reports.specs.Gathered.{MarksAside, mark_parts}
 use Rattle.line_reports.specs.Pieces.{line_chars}
 use Rattle.line_reports.specs.Reports.{MarkParts, aside_report, aside_reports, block_reports, each_alone, label_at, mark_report, mark_reports, reports_alone}

@@ -9,6 +9,7 @@ use Rattle.oxc_protocol.specs.Source.{Fits}
 use Rattle.found_reports.specs.Found.{StandsIn}
 use Rattle.excerpt_texts.specs.Labels.{DrawnParts}
 use Rattle.sarif_spans.specs.Rows.{IsRowOf}
+use Rattle.line_reports.specs.declared.aim.Aim.{Aim}
 use Rattle.line_reports.specs.declared.drawings.Laid.{Laid}
 use Rattle.excerpt_texts.specs.Lines.{first_flag}
 use Rattle.excerpts.specs.declared.body.Block.{Block}
@@ -16,9 +17,9 @@ use Rattle.excerpts.specs.Body.{block_of}
 use Rattle.line_reports.specs.Drawings.{DrawingsParts, LaidParts, LaidStand, PlacedParts, PlacedStand, laid_parts, other_label, placed_from, placed_if, shown_from, with_block}
 
 -- after one that has no place none counts
-pub none_placed : (text : List ℕ) (laid : List (Option LaidParts)) (labels : List DrawnParts) → placed_from text laid None labels ≡ None
-none_placed text laid [] = refl
-none_placed text laid (label ∷ labels) = none_placed text laid labels
+pub none_placed : (text : List ℕ) (aim : Option Aim) (laid : List (Option LaidParts)) (labels : List DrawnParts) → placed_from text aim laid None labels ≡ None
+none_placed text aim laid [] = refl
+none_placed text aim laid (label ∷ labels) = none_placed text aim laid labels
 
 -- a row that is laid is one of the text
 pub row_stands : (text : List ℕ) (laid : List (Option Laid)) (k : ℕ) (o : Option Laid) (it : Laid) → LaidStand text (map (option_map laid_parts) laid) → k < length laid → o ≡ get_or laid k o → o ≡ Some it → IsRowOf text it.row
@@ -65,10 +66,10 @@ block_stands text old new None put stand some = subst (λ (d : DrawingsParts). P
 block_stands text old new (Some labels) put stand some =
     subst (λ (d : DrawingsParts). PlacedStand text d.labels) (sym put) (All-append (λ (it : PlacedParts). StandsIn text (other_label it)) old.labels labels stand some)
 
-pub drawn_more : (text : List ℕ) (lines : List (List ℕ)) (flags next : List Bool) (rest : List Block) (block : Block) (old new all : DrawingsParts) (more : Option (List PlacedParts)) → 1 ≤ length rest → block ≡ get_or rest 0 block
-    → more ≡ placed_if (first_flag flags) text lines (block_of block) → new ≡ with_block old more → next ≡ drop 1 flags → shown_from text lines old flags (map block_of rest) ≡ all
-    → shown_from text lines new next (map block_of (take (length rest - 1) (drop 1 rest))) ≡ all
-drawn_more text lines flags next [] block old new all more some is made put step before = absurd (omega (arith, some))
-drawn_more text lines flags next (x ∷ rest) block old new all more some is made put step before =
-    ap (λ bs. shown_from text lines new next (map block_of bs)) (take_rest (x ∷ rest) 1)
-    ∙ (ap₂ (λ d fs. shown_from text lines d fs (map block_of rest)) (put ∙ ap (with_block old) (made ∙ ap (λ (b : Block). placed_if (first_flag flags) text lines (block_of b)) is)) step ∙ before)
+pub drawn_more : (text : List ℕ) (aim : Option Aim) (lines : List (List ℕ)) (flags next : List Bool) (rest : List Block) (block : Block) (old new all : DrawingsParts) (more : Option (List PlacedParts)) → 1 ≤ length rest → block ≡ get_or rest 0 block
+    → more ≡ placed_if (first_flag flags) text aim lines (block_of block) → new ≡ with_block old more → next ≡ drop 1 flags → shown_from text aim lines old flags (map block_of rest) ≡ all
+    → shown_from text aim lines new next (map block_of (take (length rest - 1) (drop 1 rest))) ≡ all
+drawn_more text aim lines flags next [] block old new all more some is made put step before = absurd (omega (arith, some))
+drawn_more text aim lines flags next (x ∷ rest) block old new all more some is made put step before =
+    ap (λ bs. shown_from text aim lines new next (map block_of bs)) (take_rest (x ∷ rest) 1)
+    ∙ (ap₂ (λ d fs. shown_from text aim lines d fs (map block_of rest)) (put ∙ ap (with_block old) (made ∙ ap (λ (b : Block). placed_if (first_flag flags) text aim lines (block_of b)) is)) step ∙ before)

@@ -1,5 +1,5 @@
 -- Drawings of rows of other files than the finding's.
-use Rattle.std.specs.Prelude.{◌≡◌, ℕ, ◌||◌, if◌then◌else◌, Bool, true, false, List, [], ◌∷◌, ◌++◌, drop, map, slice_range, string_bytes, Option, Some, None, IfSome}
+use Rattle.std.specs.Prelude.{◌≡◌, ℕ, ◌||◌, if◌then◌else◌, Bool, false, List, [], ◌∷◌, ◌++◌, drop, map, slice_range, string_bytes, Option, Some, None, IfSome}
 use Rattle.std.specs.List.{All, list_any}
 use Rattle.std.specs.Option.{is_some}
 use Rattle.std.specs.Str.{bytes_eq, encode_utf8_all}
@@ -79,7 +79,7 @@ first_name [] = None
 first_name (name ∷ names) = name
 
 abbrev pub placed_there : Held → List (List ℕ) → BlockRead → Option (List PlacedParts)
-placed_there (holds text) lines block = block_placed text lines block
+placed_there (holds text) lines block = block_placed text None lines block
 placed_there (lacks why) lines block = None
 
 abbrev pub aside_with : List ℕ → Option (List PlacedParts) → Option AsideParts

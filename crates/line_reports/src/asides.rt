@@ -9,7 +9,7 @@ ghost use Rattle.excerpts.specs.Body.{block_of};
 ghost use Rattle.found_reports.specs.Listed.{held_in};
 ghost use Rattle.line_reports.specs.Asides.{AsidesStand, PlacedHeld, aside_at as aside_there};
 ghost use Rattle.line_reports.specs.Asides.{aside_parts, aside_with as aside_if, asides_by};
-ghost use Rattle.line_reports.specs.Asides.{asides_from, asides_in as asides_if, asides_of};
+ghost use Rattle.line_reports.specs.Asides.{asides_from, asides_of};
 ghost use Rattle.line_reports.specs.Asides.{block_name, either as either_of};
 ghost use Rattle.line_reports.specs.Asides.{elsewhere as elsewhere_in, first_is_aside};
 ghost use Rattle.line_reports.specs.Asides.{first_name as first_name_of, part_name as part_name_of};
@@ -330,7 +330,7 @@ fn labels_there(
         (λ it. PlacedHeld (held_in sources.now.entries.items name.now) (map placed_parts it.items))) }
 {
     match sources.rows(name) {
-        Ok(source) => labels_placed(alloc, &source, lines, block),
+        Ok(source) => labels_placed(alloc, &source, None, lines, block),
         Err(_) => Ok(None),
     }
 }

@@ -1,28 +1,31 @@
 //! The drawings of an excerpt, laid over the source.
-ghost use Rattle.std.specs.Prelude.{◌≡◌, ◌++◌, ◌∷◌, [], IfOk, IfSome, None, OnOk, map, option_map};
-ghost use Rattle.std.specs.Prelude.{All, slice_range, string_bytes};
-ghost use Rattle.std.specs.Str.{IsCharBoundary, chars};
+ghost use Rattle.std.specs.Prelude.{◌≡◌, ◌++◌, ◌∷◌, [], ◌<◌, ◌^◌, IfOk, IfSome, None, OnOk, length};
+ghost use Rattle.std.specs.Prelude.{map, option_map};
+ghost use Rattle.std.specs.Str.{IsCharBoundary};
 ghost use Rattle.excerpt_texts.specs.Labels.{drawn_parts};
 ghost use Rattle.excerpts.specs.Body.{block_of};
 ghost use Rattle.sarif_spans.specs.Rows.{IsRowOf};
 ghost use Rattle.found_reports.specs.Found.{StandsIn};
 ghost use Rattle.oxc_protocol.specs.Source.{Fits};
-ghost use Rattle.line_reports.specs.Drawings.{other_label};
+ghost use Rattle.line_reports.specs.Drawings.{counted_in, counted_on as counted_there};
+ghost use Rattle.line_reports.specs.Drawings.{is_at as is_at_so, meant as meant_so, other_label};
 ghost use Rattle.line_reports.specs.Drawings.{all_laid as are_all_laid, begun_with, block_placed};
 ghost use Rattle.line_reports.specs.Drawings.{is_near as is_near_row, laid_at as laid_there};
 ghost use Rattle.line_reports.specs.Drawings.{laid_over as laid_over_row, laid_parts};
 ghost use Rattle.line_reports.specs.Drawings.{laid_row as row_laid, place_on as place_there};
 ghost use Rattle.line_reports.specs.Drawings.{placed_by, placed_from, placed_if as placed_so};
-ghost use Rattle.line_reports.specs.Drawings.{LaidStand, PlacedStand, drawings_parts};
+ghost use Rattle.line_reports.specs.Drawings.{AimStands, LaidStand, PlacedStand, drawings_parts};
 ghost use Rattle.line_reports.specs.Drawings.{no_drawings as none_drawn, placed_parts};
 ghost use Rattle.line_reports.specs.Drawings.{printed_text as text_printed, shown_in, with_block};
 
+use crate::aim::Aim;
 use crate::labels::copied;
 use crate::pieces::text_characters;
 use crate::placed::Placed;
 use crate::rows::row;
 use crate::spans::place_in;
 use excerpt_blocks::below::{Row as PrintedRow, tail};
+use excerpt_lines::cells::over;
 use excerpt_rows::alignment::{Alignment, aligned};
 use excerpt_texts::labels::{DrawnLabel, labels_in};
 use excerpt_texts::lines::{flag, line_at};
@@ -37,6 +40,9 @@ use std::alloc::{AllocError, Global};
 pub struct Laid {
     alignment: Alignment,
     row: Row,
+    /// The character over the cell that has the number of the finding's column, if the finding is in
+    /// the row.
+    counted: Option<usize>,
 }
 
 /// The drawings of an excerpt.
@@ -60,6 +66,7 @@ pub(crate) fn no_drawings(alloc: Global) -> Drawings
 }
 
 /// Blocks; one with a flag is shown by its labels, if each of its printed rows is a row of the source.
+/// A mark that was set by the number of the finding's column is over the finding.
 ///
 /// # Errors
 ///
@@ -68,20 +75,22 @@ pub(crate) fn no_drawings(alloc: Global) -> Drawings
 pub(crate) fn drawings_of(
     alloc: Global,
     source: &RowText<'_>,
+    aim: Option<Aim>,
     lines: &[&[char]],
     flags: &[bool],
     blocks: &[Block],
 ) -> Result<Drawings, AllocError>
+    requires { IfSome aim (AimStands source.now.text.now) }
     ensures stand { IfOk result (λ it.
         PlacedStand source.now.text.now (drawings_parts it).labels) }
-    ensures shown { IfOk result (λ it. drawings_parts it ≡ shown_in source.now.text.now
+    ensures shown { IfOk result (λ it. drawings_parts it ≡ shown_in source.now.text.now aim
         (map (λ line. line.now) lines.now) flags.now (map block_of blocks.now)) }
 {
     let mut drawings = no_drawings(alloc);
     let mut flags_left = flags;
     let mut rest = blocks;
     while let [block, more @ ..] = rest {
-        let labels = placed_if(alloc, flag(flags_left), source, lines, block)?;
+        let labels = placed_if(alloc, flag(flags_left), source, aim, lines, block)?;
         drawings.add(labels)?;
         flags_left = tail(flags_left, 1);
         rest = more;
@@ -110,16 +119,19 @@ fn placed_if(
     alloc: Global,
     shown: bool,
     source: &RowText<'_>,
+    aim: Option<Aim>,
     lines: &[&[char]],
     block: &Block,
 ) -> Result<Option<Vec<Placed>>, AllocError>
+    requires { IfSome aim (AimStands source.now.text.now) }
     ensures stand { IfOk result (λ all.
         IfSome all (λ it. PlacedStand source.now.text.now (map placed_parts it.items))) }
     ensures placed { IfOk result (λ all. option_map (λ it. map placed_parts it.items) all
-        ≡ placed_so shown source.now.text.now (map (λ line. line.now) lines.now) (block_of block.now)) }
+        ≡ placed_so shown source.now.text.now aim (map (λ line. line.now) lines.now)
+        (block_of block.now)) }
 {
     if shown {
-        labels_placed(alloc, source, lines, block)
+        labels_placed(alloc, source, aim, lines, block)
     } else {
         Ok(None)
     }
@@ -134,34 +146,38 @@ fn placed_if(
 pub(crate) fn labels_placed(
     alloc: Global,
     source: &RowText<'_>,
+    aim: Option<Aim>,
     lines: &[&[char]],
     block: &Block,
 ) -> Result<Option<Vec<Placed>>, AllocError>
+    requires { IfSome aim (AimStands source.now.text.now) }
     ensures stand { IfOk result (λ all.
         IfSome all (λ it. PlacedStand source.now.text.now (map placed_parts it.items))) }
     ensures placed { IfOk result (λ all. option_map (λ it. map placed_parts it.items) all
-        ≡ block_placed source.now.text.now (map (λ line. line.now) lines.now) (block_of block.now)) }
+        ≡ block_placed source.now.text.now aim (map (λ line. line.now) lines.now)
+        (block_of block.now)) }
 {
-    let laid = laid_rows(alloc, source, lines, block.below.rows.as_slice())?;
+    let laid = laid_rows(alloc, source, aim, lines, block.below.rows.as_slice())?;
     let labels = labels_in(alloc, lines, block)?;
-    placed_all(alloc, source.text, laid.as_slice(), labels.as_slice())
+    placed_all(alloc, source.text, aim, laid.as_slice(), labels.as_slice())
 }
 
 /// Printed rows, each laid over the row of its number.
 fn laid_rows(
     alloc: Global,
     source: &RowText<'_>,
+    aim: Option<Aim>,
     lines: &[&[char]],
     mut rows: &[PrintedRow],
 ) -> Result<Vec<Option<Laid>>, AllocError>
     ensures stand { IfOk result (λ all.
         LaidStand source.now.text.now (map (option_map laid_parts) all.items)) }
     ensures laid { IfOk result (λ all. map (option_map laid_parts) all.items
-        ≡ map (row_laid source.now.text.now (map (λ line. line.now) lines.now)) rows.entry.now) }
+        ≡ map (row_laid source.now.text.now aim (map (λ line. line.now) lines.now)) rows.entry.now) }
 {
     let mut all = Vec::new(alloc);
     while let [row, rest @ ..] = rows {
-        let laid = laid_row(alloc, source, lines, *row)?;
+        let laid = laid_row(alloc, source, aim, lines, *row)?;
         all.push(laid)?;
         rows = rest;
     }
@@ -173,16 +189,17 @@ fn laid_rows(
 fn laid_row(
     alloc: Global,
     source: &RowText<'_>,
+    aim: Option<Aim>,
     lines: &[&[char]],
     printed: PrintedRow,
 ) -> Result<Option<Laid>, AllocError>
     ensures stands { IfOk result (λ laid.
         IfSome (option_map laid_parts laid) (λ it. IsRowOf source.now.text.now it.row)) }
     ensures laid { IfOk result (λ laid. option_map laid_parts laid
-        ≡ row_laid source.now.text.now (map (λ line. line.now) lines.now) printed) }
+        ≡ row_laid source.now.text.now aim (map (λ line. line.now) lines.now) printed) }
 {
     match row(source.text, source.index, printed.number) {
-        Some(row) => laid_over(alloc, source.text, printed_text(lines, printed), row),
+        Some(row) => laid_over(alloc, source.text, aim, printed_text(lines, printed), row),
         None => Ok(None),
     }
 }
@@ -198,6 +215,7 @@ pub(crate) fn printed_text<'l>(lines: &[&'l [char]], row: PrintedRow) -> &'l [ch
 fn laid_over(
     alloc: Global,
     text: &str,
+    aim: Option<Aim>,
     printed: &[char],
     row: Row,
 ) -> Result<Option<Laid>, AllocError>
@@ -205,15 +223,33 @@ fn laid_over(
     ensures stands { IfOk result (λ laid.
         IfSome (option_map laid_parts laid) (λ it. IsRowOf text.now it.row)) }
     ensures laid { IfOk result (λ laid. option_map laid_parts laid
-        ≡ laid_over_row text.now printed.now row) }
+        ≡ laid_over_row text.now aim printed.now row) }
 {
     if !is_near(row, printed) {
         return Ok(None);
     }
     let source = text_characters(alloc, &text[row.start..row.end])?;
     match aligned(alloc, printed, source.as_slice())? {
-        Some(alignment) => Ok(Some(Laid { alignment, row })),
+        Some(alignment) => Ok(Some(Laid {
+            alignment,
+            row,
+            counted: counted(aim, printed, row),
+        })),
         None => Ok(None),
+    }
+}
+
+/// Where a mark below a row is that was set by the number of the finding's column, as if each column
+/// were a cell, if the finding is in the row.
+fn counted(aim: Option<Aim>, printed: &[char], row: Row) -> Option<usize>
+    requires { length printed.now < 2 ^ 32 }
+    ensures { result ≡ counted_in aim printed.now row }
+{
+    match aim {
+        Some(aim) if row.start <= aim.start && aim.start <= row.end => {
+            Some(over(printed, aim.count as usize))
+        }
+        _ => None,
     }
 }
 
@@ -229,15 +265,17 @@ pub(crate) fn is_near(row: Row, printed: &[char]) -> bool
 fn placed_all(
     alloc: Global,
     text: &str,
+    aim: Option<Aim>,
     laid: &[Option<Laid>],
     mut labels: &[DrawnLabel],
 ) -> Result<Option<Vec<Placed>>, AllocError>
     requires short { Fits text.now }
+    requires aim { IfSome aim (AimStands text.now) }
     requires laid { LaidStand text.now (map (option_map laid_parts) laid.now) }
     ensures stand { IfOk result (λ all.
         IfSome all (λ it. PlacedStand text.now (map placed_parts it.items))) }
     ensures placed { IfOk result (λ all. option_map (λ it. map placed_parts it.items) all
-        ≡ placed_from text.now (map (option_map laid_parts) laid.now)
+        ≡ placed_from text.now aim (map (option_map laid_parts) laid.now)
         (begun_with (are_all_laid (map (option_map laid_parts) laid.now))) (map drawn_parts labels.entry.now)) }
 {
     if !all_laid(laid) {
@@ -245,7 +283,7 @@ fn placed_all(
     }
     let mut all = Vec::new(alloc);
     while let [label, rest @ ..] = labels {
-        let Some(placed) = placed_label(alloc, text, laid, label)? else {
+        let Some(placed) = placed_label(alloc, text, aim, laid, label)? else {
             return Ok(None);
         };
         push_placed(&mut all, placed)?;
@@ -279,15 +317,17 @@ fn all_laid(mut laid: &[Option<Laid>]) -> bool
 fn placed_label(
     alloc: Global,
     text: &str,
+    aim: Option<Aim>,
     laid: &[Option<Laid>],
     label: &DrawnLabel,
 ) -> Result<Option<Placed>, AllocError>
     requires short { Fits text.now }
+    requires aim { IfSome aim (AimStands text.now) }
     requires laid { LaidStand text.now (map (option_map laid_parts) laid.now) }
     ensures stands { IfOk result (λ placed.
         IfSome placed (λ it. StandsIn text.now (other_label (placed_parts it)))) }
     ensures value { IfOk result (λ placed. option_map placed_parts placed
-        ≡ placed_by text.now (map (option_map laid_parts) laid.now) (drawn_parts label.now)) }
+        ≡ placed_by text.now aim (map (option_map laid_parts) laid.now) (drawn_parts label.now)) }
 {
     let Some((start, row)) = place_on(text, laid, label.start_row, label.start) else {
         return Ok(None);
@@ -295,6 +335,8 @@ fn placed_label(
     let Some((end, _)) = place_on(text, laid, label.row, label.end) else {
         return Ok(None);
     };
+    let counted = label.primary && is_at(counted_on(laid, label.start_row), label.start);
+    let (start, end) = meant(text, aim, counted, (start, end));
     Ok(Some(Placed {
         start: start as u32,
         len: end.saturating_sub(start) as u32,
@@ -316,5 +358,40 @@ fn place_on(text: &str, laid: &[Option<Laid>], row: usize, column: usize) -> Opt
             Some((at, laid.row))
         }
         _ => None,
+    }
+}
+
+/// Where a mark is, below a printed row, that was set by the number of the finding's column.
+fn counted_on(laid: &[Option<Laid>], row: usize) -> Option<usize>
+    ensures { result ≡ counted_there (laid_there (map (option_map laid_parts) laid.now) row) }
+{
+    match laid.get(row) {
+        Some(Some(laid)) => laid.counted,
+        _ => None,
+    }
+}
+
+fn is_at(counted: Option<usize>, column: usize) -> bool
+    ensures { result ≡ is_at_so counted column }
+{
+    match counted {
+        Some(counted) => counted == column,
+        None => false,
+    }
+}
+
+/// From where to where a mark is meant: one that was set by the number of the finding's column is
+/// over the finding, if that begins before it.
+fn meant(text: &str, aim: Option<Aim>, counted: bool, ends: (usize, usize)) -> (usize, usize)
+    requires aim { IfSome aim (AimStands text.now) }
+    requires start { IsCharBoundary text.now ends.0 }
+    requires end { IsCharBoundary text.now ends.1 }
+    ensures value { result ≡ meant_so aim counted ends }
+    ensures start { IsCharBoundary text.now result.0 }
+    ensures end { IsCharBoundary text.now result.1 }
+{
+    match aim {
+        Some(aim) if counted && aim.start < ends.0 => (aim.start, aim.end),
+        _ => ends,
     }
 }

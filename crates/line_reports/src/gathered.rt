@@ -2,8 +2,7 @@
 ghost use Rattle.std.specs.Prelude.{◌≡◌, ◌++◌, ◌∷◌, [], ◌<◌, IfOk, IfSome, OnOk, None, Some, map};
 ghost use Rattle.std.specs.Prelude.{length, option_map, string_bytes, true};
 ghost use Rattle.std.specs.Str.Lossy.{utf8_lossy};
-ghost use Rattle.found_reports.specs.Files.{files_of, with_file};
-ghost use Rattle.found_reports.specs.Fixes.{fix_view};
+ghost use Rattle.found_reports.specs.Files.{files_of};
 ghost use Rattle.found_reports.specs.Found.{LabelsStand, file_at, found_on};
 ghost use Rattle.found_reports.specs.Held.{held_of};
 ghost use Rattle.indexed_sources.specs.Indexed.{AreTold, text_held};
@@ -17,10 +16,10 @@ ghost use Rattle.line_reports.specs.Reports.{all_reports, group_by, group_report
 ghost use Rattle.line_reports.specs.Drawings.{drawings_parts, placed_parts};
 ghost use Rattle.line_reports.specs.Asides.{AsidesStand, PlacedHeld, aside_parts};
 ghost use Rattle.line_reports.specs.Gathered.{MarksAside};
-ghost use Rattle.line_reports.specs.Reports.{drawings_on as drawings_if, held_drawings};
+ghost use Rattle.line_reports.specs.Reports.{drawings_on as drawings_if};
 ghost use Rattle.line_reports.specs.Reports.{kept_place as place_kept, marks_of, named_file};
 ghost use Rattle.line_reports.specs.Reports.{aside_report, aside_reports, asides_on as asides_if};
-ghost use Rattle.line_reports.specs.Reports.{block_reports, each_alone, head_report, held_fixes};
+ghost use Rattle.line_reports.specs.Reports.{block_reports, each_alone};
 ghost use Rattle.line_reports.specs.Reports.{label_at};
 ghost use Rattle.line_reports.specs.Reports.{mark_report, mark_reports, note_span};
 ghost use Rattle.line_reports.specs.Reports.{own_labels as labels_by, report_in, reports_alone};
@@ -30,14 +29,13 @@ ghost use Rattle.line_reports.specs.Told.{told_parts};
 
 use crate::asides::{Aside, either};
 use crate::drawings::{Drawings, no_drawings};
-use crate::fixes::fixes_with;
 use crate::groups::{Group, joined};
-use crate::labels::{Mark, aside_diagnostic, diagnostic, labels, lines};
-use crate::pieces::ReadPiece;
+use crate::labels::{Mark, aside_diagnostic, diagnostic, labels};
+use crate::pieces::{ReadPiece, lent as lent_lines};
 use crate::placed::Placed;
 use crate::rows::span_at;
 use crate::told::Told;
-use found_reports::{FoundFix, FoundReports, GivenPlace, Lack};
+use found_reports::{FoundReports, GivenPlace, Lack};
 use indexed_sources::{IndexedSources, RowText};
 use line_shapes::tools::Columns;
 use oxc_protocol::{LabeledSpan, OxcDiagnostic};
@@ -75,12 +73,12 @@ pub fn reports_of<'s>(
 
 /// The reports so far, with the rows of their files' texts.
 #[derive(Drop)]
-struct Gathered<'s> {
-    found: FoundReports<'s>,
+pub(crate) struct Gathered<'s> {
+    pub found: FoundReports<'s>,
     /// For each file its text with its rows, if it has one.
-    texts: Vec<Option<RowText<'s>>>,
+    pub texts: Vec<Option<RowText<'s>>>,
     /// The numbers of files by their names.
-    numbers: BTreeMap<String, usize>,
+    pub numbers: BTreeMap<String, usize>,
 }
 
 impl<'s> Gathered<'s> {
@@ -179,6 +177,7 @@ impl<'s> Gathered<'s> {
         let marks = self.marks(alloc, sources, columns, file, group.notes.as_slice())?;
         self.push_head(
             alloc,
+            columns,
             file,
             group,
             range,
@@ -187,40 +186,6 @@ impl<'s> Gathered<'s> {
         )?;
         self.push_asides(alloc, sources, &group.head, asides.as_slice())?;
         self.push_marks(alloc, sources, columns, marks.as_slice())
-    }
-
-    /// Adds the report of a finding that has this span in this file, with its notes.
-    #[tactic(auto, using(crate::proofs::NumberLemmas::marked_rules))]
-    fn push_head(
-        &mut self,
-        alloc: Global,
-        file: usize,
-        group: &Group<'_>,
-        range: &Range<usize>,
-        asides: &[Option<Aside>],
-        marks: &[Mark<'_, '_>],
-    ) -> Result<(), AllocError>
-        requires texts { AreTexts self.old.texts.items self.old.found.files }
-        requires file { file < length self.old.found.files }
-        requires range { StandsHeld (file_at self.old.found.files file).held range.now }
-        requires marks { MarksStand (file_at self.old.found.files file).held
-            (map mark_parts marks.now) }
-        requires listed { IsListedWith self.old.numbers self.old.found file }
-        ensures texts { OnOk result (AreTexts self.new.texts.items self.new.found.files) }
-        ensures files { self.new.found.files ≡ self.old.found.files }
-        ensures listed { OnOk result (IsListed self.new.numbers self.new.found) }
-        ensures found { OnOk result (self.new.found.found ≡ self.old.found.found
-            ++ head_report (file_at self.old.found.files file) (group_parts group.now).head
-            (map (option_map aside_parts) asides.now) range.now (map mark_parts marks.now) ∷ []) }
-    {
-        let drawings = self.drawings(alloc, file, &group.head)?;
-        let labels = labels(alloc, range, drawings.labels.as_slice(), marks)?;
-        let shown = either(alloc, drawings.shown.as_slice(), asides)?;
-        let lines = lines(alloc, &group.head, shown.as_slice(), marks)?;
-        let diagnostic = diagnostic(alloc, &group.head, labels, lines.as_slice())?;
-        let fixes = self.fixes(alloc, file, &group.head, marks)?;
-        self.found.push_fixed(file, diagnostic, None, fixes)?;
-        Ok(())
     }
 
     /// Adds the reports of the notes that are no labels, and of the labels of notes in other files.
@@ -503,10 +468,12 @@ impl<'s> Gathered<'s> {
             (map (option_map aside_parts) asides.now) ∷ []) }
     {
         let span = self.span(columns, file, told);
-        let drawings = self.drawings_on(alloc, file, told, &span)?;
+        let drawings = self.drawings_on(alloc, columns, file, told, &span)?;
         let labels = own_labels(alloc, &span, drawings.labels.as_slice())?;
         let shown = either(alloc, drawings.shown.as_slice(), asides)?;
-        let lines = told.lines(alloc, shown.as_slice())?;
+        let body = told.characters(alloc)?;
+        let body = lent_lines(alloc, body.as_slice())?;
+        let lines = told.lines(alloc, body.as_slice(), shown.as_slice())?;
         let diagnostic = diagnostic(alloc, told, labels, lines.as_slice())?;
         self.found.push(file, diagnostic, kept_place(told, &span))?;
         Ok(())
@@ -535,7 +502,7 @@ impl<'s> Gathered<'s> {
         let mut marks = Vec::new(alloc);
         while let [note, rest @ ..] = notes {
             let span = self.note_span(alloc, columns, file, note)?;
-            let drawings = self.drawings_on(alloc, file, note, &span)?;
+            let drawings = self.drawings_on(alloc, columns, file, note, &span)?;
             let asides = asides_on(alloc, sources, note, &span)?;
             marks.push(Mark {
                 note,
@@ -592,64 +559,32 @@ impl<'s> Gathered<'s> {
     fn drawings_on(
         &self,
         alloc: Global,
+        columns: Columns,
         file: usize,
         told: &Told<'_>,
         span: &Option<Range<usize>>,
     ) -> Result<Drawings, AllocError>
         requires texts { AreTexts self.now.texts.items self.now.found.files }
         requires file { file < length self.now.found.files }
+        requires span { IfSome span.now (StandsHeld (file_at self.now.found.files file).held) }
         ensures drawings { IfOk result (λ it. drawings_parts it
-            ≡ drawings_if (file_at self.now.found.files file).held (told_parts told.now) span.now) }
+            ≡ drawings_if columns (file_at self.now.found.files file).held (told_parts told.now)
+            span.now) }
         ensures stand { IfOk result (λ it.
             PlacedHeld (file_at self.now.found.files file).held (drawings_parts it).labels) }
     {
         match span {
-            Some(_) => self.drawings(alloc, file, told),
-            None => Ok(no_drawings(alloc)),
-        }
-    }
-
-    /// The drawings of a finding's excerpt in a file.
-    #[tactic(auto, using(crate::proofs::LabelLemmas::held_rules))]
-    fn drawings(&self, alloc: Global, file: usize, told: &Told<'_>) -> Result<Drawings, AllocError>
-        requires texts { AreTexts self.now.texts.items self.now.found.files }
-        requires file { file < length self.now.found.files }
-        ensures drawings { IfOk result (λ it. drawings_parts it
-            ≡ held_drawings (file_at self.now.found.files file).held (told_parts told.now)) }
-        ensures stand { IfOk result (λ it.
-            PlacedHeld (file_at self.now.found.files file).held (drawings_parts it).labels) }
-    {
-        match self.text(file) {
-            Some(text) => {
-                let drawings = told.drawings(alloc, text)?;
-                Ok(drawings)
+            Some(range) => {
+                let body = told.characters(alloc)?;
+                let body = lent_lines(alloc, body.as_slice())?;
+                self.drawings(alloc, columns, file, told, range, body.as_slice())
             }
             None => Ok(no_drawings(alloc)),
         }
     }
 
-    /// The exact edits of a file that a finding and its notes suggest.
-    fn fixes(
-        &self,
-        alloc: Global,
-        file: usize,
-        head: &Told<'_>,
-        marks: &[Mark<'_, '_>],
-    ) -> Result<Vec<FoundFix>, AllocError>
-        requires texts { AreTexts self.now.texts.items self.now.found.files }
-        requires file { file < length self.now.found.files }
-        ensures { IfOk result (λ it. map fix_view it.items
-            ≡ held_fixes (file_at self.now.found.files file).held (told_parts head.now)
-            (map mark_parts marks.now)) }
-    {
-        match self.text(file) {
-            Some(text) => fixes_with(alloc, text, head, marks),
-            None => Ok(Vec::new(alloc)),
-        }
-    }
-
     /// The text of a file with its rows, if it has one.
-    fn text(&self, file: usize) -> Option<&RowText<'s>>
+    pub(crate) fn text(&self, file: usize) -> Option<&RowText<'s>>
         requires texts { AreTexts self.now.texts.items self.now.found.files }
         requires file { file < length self.now.found.files }
         ensures { option_map (λ it. it.now.text.now) result

@@ -6,11 +6,13 @@
 //! - [`span_at`]: the span of a [`Spot`] in a text with the index of its rows.
 #![tactic(auto)]
 
+mod aim;
 mod asides;
 mod drawings;
 mod fixes;
 mod gathered;
 mod groups;
+mod head;
 mod labels;
 mod names;
 mod pieces;

@@ -1,12 +1,10 @@
 //! Blocks with what was read of their lines.
-ghost use Rattle.std.specs.Prelude.{◌≡◌, ◌++◌, ◌∷◌, [], IfOk, IfSome, IfNone, OnOk, map, take, drop};
-ghost use Rattle.std.specs.Prelude.{option_map};
-ghost use Rattle.std.specs.Str.{chars};
-ghost use Rattle.excerpts.specs.Body.{IsKept, IsRead};
+ghost use Rattle.std.specs.Prelude.{◌≡◌, ◌++◌, ◌∷◌, [], IfNone, IfOk, IfSome, OnOk, map, option_map};
+ghost use Rattle.std.specs.Str.{IsAscii, chars};
 ghost use Rattle.line_shapes.specs.Part.{seen};
-ghost use Rattle.tool_lines.specs.Lines.{finding_parts, piece_parts};
-ghost use Rattle.line_reports.specs.Pieces.{AreRead, BodyRead, FindingRead, IsPieceRead, body_chars};
-ghost use Rattle.line_reports.specs.Pieces.{excerpt_parts, line_chars, read_parts, spot_in};
+ghost use Rattle.tool_lines.specs.Lines.{piece_parts};
+ghost use Rattle.line_reports.specs.Pieces.{AreRead, BodyRead, IsPieceRead, excerpt_parts};
+ghost use Rattle.line_reports.specs.Pieces.{line_chars, read_parts, spot_in};
 
 use crate::groups::{back, front};
 use crate::told::after_first;
@@ -14,7 +12,7 @@ use excerpt_blocks::labels::Spot;
 use excerpts::body::{Excerpt, read};
 use line_shapes::part::Found;
 use std::alloc::{AllocError, Global};
-use tool_lines::lines::{Finding, Piece};
+use tool_lines::lines::Piece;
 
 /// A block with what was read of its lines after the first.
 #[derive(Drop)]
@@ -98,7 +96,7 @@ pub(crate) fn characters(alloc: Global, mut lines: &[&[u8]]) -> Result<Vec<Vec<c
     ensures { IfOk result (λ all. map (λ line. line.items) all.items
         ≡ map line_chars (map (λ line. line.now) lines.entry.now)) }
 {
-    let mut all = Vec::new(alloc);
+    let mut all = Vec::with_capacity(alloc, lines.len())?;
     while let [line, rest @ ..] = lines {
         let line = line_characters(alloc, line)?;
         all.push(line)?;
@@ -107,18 +105,49 @@ pub(crate) fn characters(alloc: Global, mut lines: &[&[u8]]) -> Result<Vec<Vec<c
     Ok(all)
 }
 
+#[tactic(auto, using(crate::proofs::CharacterLemmas::ascii_rules))]
 pub(crate) fn line_characters(alloc: Global, line: &[u8]) -> Result<Vec<char>, AllocError>
     ensures { IfOk result (λ all. all.items ≡ line_chars line.now) }
 {
+    if let Some(all) = ascii_characters(alloc, line)? {
+        return Ok(all);
+    }
     let text = String::from_utf8_lossy(alloc, line)?;
-    text_characters(alloc, text.as_str())
+    all_characters(alloc, text.as_str())
 }
 
-#[tactic(auto, using(std::proofs::lemmas::Str::chars_from_encodes))]
+#[tactic(auto, using(crate::proofs::CharacterLemmas::ascii_rules))]
 pub(crate) fn text_characters(alloc: Global, text: &str) -> Result<Vec<char>, AllocError>
     ensures { IfOk result (λ all. all.items ≡ chars text.now) }
 {
+    if let Some(all) = ascii_characters(alloc, text.as_bytes())? {
+        return Ok(all);
+    }
+    all_characters(alloc, text)
+}
+
+#[tactic(auto, using(std::proofs::lemmas::Str::chars_from_encodes))]
+fn all_characters(alloc: Global, text: &str) -> Result<Vec<char>, AllocError>
+    ensures { IfOk result (λ all. all.items ≡ chars text.now) }
+{
     text.chars().collect(alloc)
+}
+
+/// Each byte of ASCII as a character; nothing if a byte isn't ASCII.
+#[tactic(auto, using(crate::proofs::CharacterLemmas::ascii_more))]
+fn ascii_characters(alloc: Global, line: &[u8]) -> Result<Option<Vec<char>>, AllocError>
+    ensures ascii { IfOk result (λ it. IfSome it (λ all. IsAscii line.now)) }
+    ensures items { IfOk result (λ it. IfSome it (λ all. all.items ≡ line.now)) }
+    ensures other { IfOk result (λ it. IfNone it (IsAscii line.now → ⊥)) }
+{
+    let mut all = Vec::with_capacity(alloc, line.len())?;
+    for byte in line {
+        if *byte >= 0x80 {
+            return Ok(None);
+        }
+        all.push_reserved(*byte as char);
+    }
+    Ok(Some(all))
 }
 
 /// Lines, lent.
@@ -126,7 +155,7 @@ pub(crate) fn lent(alloc: Global, mut lines: &[Vec<char>]) -> Result<Vec<&[char]
     ensures { IfOk result (λ all. map (λ line. line.now) all.items
         ≡ map (λ line. line.items) lines.entry.now) }
 {
-    let mut all = Vec::new(alloc);
+    let mut all = Vec::with_capacity(alloc, lines.len())?;
     while let [line, rest @ ..] = lines {
         all.push(line.as_slice())?;
         lines = rest;

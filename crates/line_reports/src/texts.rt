@@ -1,17 +1,18 @@
 //! The lines of text that a finding has beside its labels.
 ghost use Rattle.std.specs.Prelude.{◌≡◌, ◌<◌, IfOk, IfSome, length, map};
 ghost use Rattle.std.specs.Option.{option_copied};
-ghost use Rattle.excerpt_texts.specs.Lines.{drawings_in, kept_in, line_parts, own_parts, said_in};
+ghost use Rattle.excerpt_texts.specs.Lines.{drawings_in, line_parts, own_parts, said_in};
 ghost use Rattle.excerpts.specs.Body.{block_of};
-ghost use Rattle.line_reports.specs.Drawings.{PlacedStand, drawings_parts, shown_in};
+ghost use Rattle.line_reports.specs.Drawings.{AimStands, PlacedStand, drawings_parts, shown_in};
 ghost use Rattle.line_reports.specs.Told.{bare_text as bare_text_of, body_lines};
 ghost use Rattle.line_reports.specs.Told.{drawings_of as drawings_there};
 ghost use Rattle.line_reports.specs.Told.{lines_of as lines_there, own_of, tells as tells_so};
 ghost use Rattle.line_reports.specs.Told.{lines_by, told_from, told_parts, without_told};
 ghost use Rattle.line_reports.specs.Told.{without_line as without_line_there};
 
+use crate::aim::Aim;
 use crate::drawings::{Drawings, drawings_of, no_drawings};
-use crate::pieces::{characters, lent};
+use crate::pieces::characters;
 use crate::told::Told;
 use excerpt_texts::lines::{Own, TextLine, Use, drawings, is_use, kept_lines, lines_of};
 use excerpts::body::Excerpt;
@@ -22,32 +23,46 @@ use std::alloc::{AllocError, Global};
 
 impl<'a> Told<'a> {
     /// The lines of text of its report: what its excerpt says beside the blocks that are shown, or
-    /// its other lines as they are; not again the line that has its message.
+    /// its other lines as they are; not again the line that has its message. `body` has the
+    /// characters of its other lines.
     ///
     /// # Errors
     ///
     /// Out of memory.
     #[tactic(auto, unfolding(crate::specs::Told::lines_of))]
-    pub(crate) fn lines(&self, alloc: Global, shown: &[bool]) -> Result<Vec<TextLine>, AllocError>
+    pub(crate) fn lines(
+        &self,
+        alloc: Global,
+        body: &[&[char]],
+        shown: &[bool],
+    ) -> Result<Vec<TextLine>, AllocError>
+        requires { map (λ line. line.now) body.now ≡ body_lines (told_parts self.now) }
         ensures { IfOk result (λ it. map line_parts it.items
             ≡ lines_there (told_parts self.now) shown.now) }
     {
-        let lines = self.all_lines(alloc, shown)?;
+        let lines = self.all_lines(alloc, body, shown)?;
         untold(alloc, lines, self.below)
     }
 
     /// The same, with the line that has its message.
-    fn all_lines(&self, alloc: Global, shown: &[bool]) -> Result<Vec<TextLine>, AllocError>
+    fn all_lines(
+        &self,
+        alloc: Global,
+        body: &[&[char]],
+        shown: &[bool],
+    ) -> Result<Vec<TextLine>, AllocError>
+        requires { map (λ line. line.now) body.now ≡ body_lines (told_parts self.now) }
         ensures { IfOk result (λ it. map line_parts it.items
             ≡ lines_by (told_parts self.now) shown.now (told_parts self.now).excerpt) }
     {
         match self.excerpt {
-            Some(excerpt) => self.excerpt_lines(alloc, excerpt, shown),
-            None => self.kept_lines(alloc),
+            Some(excerpt) => self.excerpt_lines(alloc, body, excerpt, shown),
+            None => kept_lines(alloc, body),
         }
     }
 
-    /// The drawings of its excerpt in a text of its file.
+    /// The drawings of its excerpt in a text of its file. `body` has the characters of its other
+    /// lines.
     ///
     /// # Errors
     ///
@@ -57,50 +72,49 @@ impl<'a> Told<'a> {
         &self,
         alloc: Global,
         source: &RowText<'_>,
+        aim: Option<Aim>,
+        body: &[&[char]],
     ) -> Result<Drawings, AllocError>
+        requires aim { IfSome aim (AimStands source.now.text.now) }
+        requires body { map (λ line. line.now) body.now ≡ body_lines (told_parts self.now) }
         ensures stand { IfOk result (λ it.
             PlacedStand source.now.text.now (drawings_parts it).labels) }
         ensures drawings { IfOk result (λ it. drawings_parts it
-            ≡ drawings_there source.now.text.now (told_parts self.now)) }
+            ≡ drawings_there source.now.text.now aim (told_parts self.now)) }
     {
         match self.excerpt {
-            Some(excerpt) => self.excerpt_drawings(alloc, source, excerpt),
+            Some(excerpt) => self.excerpt_drawings(alloc, source, aim, body, excerpt),
             None => Ok(no_drawings(alloc)),
         }
     }
 
-    /// Its other lines, as they are.
-    fn kept_lines(&self, alloc: Global) -> Result<Vec<TextLine>, AllocError>
-        ensures { IfOk result (λ it. map line_parts it.items
-            ≡ kept_in (body_lines (told_parts self.now))) }
+    /// The characters of its other lines.
+    ///
+    /// # Errors
+    ///
+    /// Out of memory.
+    pub(crate) fn characters(&self, alloc: Global) -> Result<Vec<Vec<char>>, AllocError>
+        ensures { IfOk result (λ it. map (λ line. line.items) it.items
+            ≡ body_lines (told_parts self.now)) }
     {
-        let lines = characters(alloc, self.body)?;
-        let lines = lent(alloc, lines.as_slice())?;
-        kept_lines(alloc, lines.as_slice())
+        characters(alloc, self.body)
     }
 
     /// The lines of text of an excerpt.
     fn excerpt_lines(
         &self,
         alloc: Global,
+        body: &[&[char]],
         excerpt: &Excerpt,
         shown: &[bool],
     ) -> Result<Vec<TextLine>, AllocError>
         ensures { IfOk result (λ it. map line_parts it.items
-            ≡ said_in (own_of (told_parts self.now)) (body_lines (told_parts self.now))
+            ≡ said_in (own_of (told_parts self.now)) (map (λ line. line.now) body.now)
             shown.now excerpt.now.parts.items) }
     {
-        let lines = characters(alloc, self.body)?;
-        let lines = lent(alloc, lines.as_slice())?;
         let name = String::from_utf8_lossy(alloc, self.finding.place.name)?;
         let own = own(name.as_str(), self.place());
-        lines_of(
-            alloc,
-            own,
-            lines.as_slice(),
-            excerpt.parts.as_slice(),
-            shown,
-        )
+        lines_of(alloc, own, body, excerpt.parts.as_slice(), shown)
     }
 
     /// The drawings of an excerpt.
@@ -108,24 +122,26 @@ impl<'a> Told<'a> {
         &self,
         alloc: Global,
         source: &RowText<'_>,
+        aim: Option<Aim>,
+        body: &[&[char]],
         excerpt: &Excerpt,
     ) -> Result<Drawings, AllocError>
+        requires { IfSome aim (AimStands source.now.text.now) }
         ensures stand { IfOk result (λ it.
             PlacedStand source.now.text.now (drawings_parts it).labels) }
-        ensures drawings { IfOk result (λ it. drawings_parts it ≡ shown_in source.now.text.now
-            (body_lines (told_parts self.now))
-            (drawings_in (own_of (told_parts self.now)) (body_lines (told_parts self.now)) excerpt.now.parts.items)
-            (map block_of excerpt.now.blocks.items)) }
+        ensures drawings { IfOk result (λ it. drawings_parts it ≡ shown_in source.now.text.now aim
+            (map (λ line. line.now) body.now)
+            (drawings_in (own_of (told_parts self.now)) (map (λ line. line.now) body.now)
+            excerpt.now.parts.items) (map block_of excerpt.now.blocks.items)) }
     {
-        let lines = characters(alloc, self.body)?;
-        let lines = lent(alloc, lines.as_slice())?;
         let name = String::from_utf8_lossy(alloc, self.finding.place.name)?;
         let own = own(name.as_str(), self.place());
-        let flags = drawings(alloc, own, lines.as_slice(), excerpt.parts.as_slice())?;
+        let flags = drawings(alloc, own, body, excerpt.parts.as_slice())?;
         drawings_of(
             alloc,
             source,
-            lines.as_slice(),
+            aim,
+            body,
             flags.as_slice(),
             excerpt.blocks.as_slice(),
         )

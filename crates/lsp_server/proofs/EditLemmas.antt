@@ -16,10 +16,10 @@ use Rattle.client_text.specs.declared.change.Change.{Change}
 use Rattle.client_text.specs.declared.change.Fault.{Fault}
 use Rattle.client_text.proofs.ChangeLemmas.{AreMade, made_more}
 use Rattle.oxc_protocol.specs.Parts.{OxcParts}
-use Rattle.lsp_marks.specs.Moved.{changed}
-use Rattle.lsp_marks.specs.declared.Change.{Change as Moving}
-use Rattle.lsp_marks.proofs.Texts.{changed_text}
-use Rattle.lsp_diagnostics.specs.Seen.{StandIn}
+use Rattle.lsp_server.specs.Marks.{changed}
+use Rattle.lsp_server.specs.declared.marks.Change.{Change as Moving}
+use Rattle.lsp_server.proofs.MarkLemmas.{changed_text}
+use Rattle.lsp_server.specs.Seen.{StandIn}
 use Rattle.lsp_server.specs.Moved.{moved_diagnostic}
 use Rattle.lsp_server.specs.Views.{IsSpareOf, OpenView, open_view}
 use Rattle.lsp_server.specs.Edits.{Holds, IsWhere, MovesAll, MovesOne, moving}

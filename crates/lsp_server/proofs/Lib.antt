@@ -3,3 +3,9 @@ pub mod EditLemmas
 pub mod MovedLemmas
 pub mod SessionLemmas
 pub mod ToldLemmas
+pub mod Runs
+pub mod Endings
+pub mod WrittenLemmas
+pub mod MarkLemmas
+pub mod ShallowLemmas
+pub mod OrderLemmas

@@ -8,12 +8,12 @@ use Rattle.std.proofs.lemmas.List.Elements.{All-nil, All-cons, All-head, All-tai
 use Rattle.oxc_span.specs.Label.{Label, label_end}
 use Rattle.oxc_protocol.specs.Parts.{OxcParts}
 use Rattle.found_reports.specs.Found.{StandsIn}
-use Rattle.lsp_marks.specs.declared.Change.{Change}
-use Rattle.lsp_marks.specs.declared.Mark.{Mark}
-use Rattle.lsp_marks.specs.Moved.{CutsNone, changed, moved_end, moved_mark, moved_start}
-use Rattle.lsp_marks.proofs.Texts.{keeps_marks, marks_in_order}
+use Rattle.lsp_server.specs.declared.marks.Change.{Change}
+use Rattle.lsp_server.specs.declared.marks.Mark.{Mark}
+use Rattle.lsp_server.specs.Marks.{CutsNone, changed, moved_end, moved_mark, moved_start}
+use Rattle.lsp_server.proofs.MarkLemmas.{keeps_marks, marks_in_order}
 use Rattle.source_location.specs.Index.{Fits}
-use Rattle.lsp_diagnostics.specs.Seen.{StandIn}
+use Rattle.lsp_server.specs.Seen.{StandIn}
 use Rattle.lsp_server.specs.Moved.{CanMove, CanMoveAll, head_goes, mark_of, moved_diagnostic, moved_label, placed}
 
 -- ---- lists without what goes

@@ -8,9 +8,9 @@ use Rattle.text_places.specs.declared.place.Place.{Place}
 use Rattle.client_text.specs.Changes.{IsRefusal}
 use Rattle.client_text.specs.Document.{Document, IsEdited}
 use Rattle.client_text.specs.declared.change.Change.{Change}
-use Rattle.lsp_marks.specs.declared.Change.{Change as Moving}
+use Rattle.lsp_server.specs.declared.marks.Change.{Change as Moving}
 use Rattle.oxc_protocol.specs.Parts.{OxcParts}
-use Rattle.lsp_diagnostics.specs.Seen.{StandIn}
+use Rattle.lsp_server.specs.Seen.{StandIn}
 use Rattle.lsp_server.specs.Moved.{moved_diagnostic}
 use Rattle.lsp_server.specs.Views.{OpenView, open_view}
 use Rattle.lsp_server.specs.declared.documents.Edit.{Edit}

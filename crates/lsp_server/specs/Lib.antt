@@ -8,3 +8,13 @@ pub mod Told
 pub mod Steps
 pub mod Meant
 pub mod Bodies
+pub mod Written
+pub mod Frame
+pub mod Ends
+pub mod Run
+pub mod Marks
+pub mod Seen
+pub mod Diagnostics
+pub mod Files
+pub mod Messages
+pub mod Ordered

@@ -3,10 +3,10 @@ use Rattle.std.specs.Prelude.{◌-◌, ◌^◌, ◌<◌, ◌≤◌, Bool, false,
 use Rattle.std.specs.List.{filter_map}
 use Rattle.oxc_span.specs.Label.{Label, label_end}
 use Rattle.oxc_protocol.specs.Parts.{OxcParts}
-use Rattle.lsp_diagnostics.specs.Seen.{head_label}
-use Rattle.lsp_marks.specs.declared.Change.{Change}
-use Rattle.lsp_marks.specs.declared.Mark.{Mark}
-use Rattle.lsp_marks.specs.Moved.{moved_end, moved_mark}
+use Rattle.lsp_server.specs.Seen.{head_label}
+use Rattle.lsp_server.specs.declared.marks.Change.{Change}
+use Rattle.lsp_server.specs.declared.marks.Mark.{Mark}
+use Rattle.lsp_server.specs.Marks.{moved_end, moved_mark}
 
 abbrev pub mark_of : Label → Mark
 mark_of label = record { start = label.offset; end = label_end label }

@@ -6,8 +6,8 @@ use Rattle.source_location.specs.Index.{Fits}
 use Rattle.client_text.specs.Changes.{IsRefusal}
 use Rattle.client_text.specs.declared.change.Change.{Change}
 use Rattle.oxc_protocol.specs.Parts.{OxcParts}
-use Rattle.lsp_diagnostics.specs.Seen.{Seen, StandIn}
-use Rattle.lsp_diagnostics.specs.Diagnostics.{published_value}
+use Rattle.lsp_server.specs.Seen.{Seen, StandIn}
+use Rattle.lsp_server.specs.Diagnostics.{published_value}
 use Rattle.lsp_server.specs.Edits.{MovesAll, opened, with_version}
 use Rattle.lsp_server.specs.Views.{OpenView}
 use Rattle.lsp_server.specs.declared.message.Agreed.{Agreed}

@@ -3,17 +3,18 @@ ghost use Rattle.std.specs.Prelude.{◌≡◌, ◌∷◌, [], All, IfNone, IfOk,
 ghost use Rattle.std.specs.Prelude.{OnOk, Some};
 ghost use Rattle.source_location.specs.Index.{Fits};
 ghost use Rattle.client_text.specs.Changes.{AllChange, Changes, IsFault};
-ghost use Rattle.lsp_diagnostics.specs.Seen.{StandIn};
+ghost use Rattle.lsp_server.specs.Seen.{StandIn};
 ghost use Rattle.lsp_server.specs.Edits.{Holds, HoldsMade, IsEdit, IsWhere, MovesOne, opened};
 ghost use Rattle.lsp_server.specs.Session.{answered, answered_by};
 ghost use Rattle.lsp_server.specs.Told.{IsShown, IsTextChanged};
 ghost use Rattle.lsp_server.specs.Views.{IsSpareOf, open_view};
 
+use crate::marks;
 use crate::message::{Agreed, Answer, Refused};
 use crate::moved::{copied_all, moved_all};
-use crate::published::published_open;
+use crate::publishing::published_open;
+use crate::told::all_stand;
 use client_text::{Change, ClientText, Fault, Refusal};
-use lsp_diagnostics::all_stand;
 use oxc_protocol::OxcDiagnostic;
 use std::alloc::{AllocError, Global};
 use std::marker::Model;
@@ -263,7 +264,7 @@ fn edit_one(
         Ok(()) => {}
         Err(refusal) => return cause_of(refusal),
     }
-    let moving = lsp_marks::Change {
+    let moving = marks::Change {
         start: start.to_u32() as usize,
         end: end.to_u32() as usize,
         inserted: change.text.as_str().len(),

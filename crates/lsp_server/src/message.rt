@@ -28,7 +28,7 @@ pub enum Id {
 }
 
 /// What a client asks for in `initialize`.
-#[derive(Clone, Copy)]
+#[derive(Drop)]
 pub struct Wanted {
     /// The position encoding: the first of its list that is known, or else UTF-16.
     pub encoding: Encoding,
@@ -48,7 +48,7 @@ pub struct Agreed {
 }
 
 /// The method of a request.
-#[derive(Clone, Copy)]
+#[derive(Drop)]
 pub enum Method {
     /// `initialize`.
     Initialize(Wanted),
@@ -103,7 +103,7 @@ pub struct Params {
 }
 
 /// Why a notification had no effect.
-#[derive(Clone, Copy, PartialEq, Eq)]
+#[derive(Drop)]
 pub enum Refused {
     /// Its document isn't open.
     NotOpen,

@@ -1,15 +1,15 @@
 // Findings that move with the text.
-ghost use Rattle.std.specs.Prelude.{◌≡◌, ◌<◌, ◌≤◌, ◌^◌, ◌++◌, All, IfOk, IfSome, OnOk};
-ghost use Rattle.std.specs.Option.{option_to_list};
+ghost use Rattle.std.specs.Prelude.{◌≡◌, ◌<◌, ◌≤◌, ◌^◌, All, IfOk, IfSome};
 ghost use Rattle.std.specs.List.{filter_map};
 ghost use Rattle.oxc_span.specs.Label.{label_end};
-ghost use Rattle.lsp_marks.specs.Moved.{moved_mark};
+ghost use Rattle.lsp_server.specs.Marks.{moved_mark};
 ghost use Rattle.lsp_server.specs.Moved.{CanMove, CanMoveAll, head_goes as head_goes_in};
 ghost use Rattle.lsp_server.specs.Moved.{mark_of as mark_in, moved_diagnostic as moved_in};
 ghost use Rattle.lsp_server.specs.Moved.{moved_label as moved_to};
 
-use lsp_diagnostics::head_label;
-use lsp_marks::{Change, Mark, move_mark};
+use crate::heads::head_label;
+use crate::marks::{Change, Mark, move_mark};
+use crate::server::push_some;
 use oxc_protocol::{Diagnostic, OxcDiagnostic};
 use oxc_span::LabeledSpan;
 use std::alloc::{AllocError, Global};
@@ -77,29 +77,10 @@ fn moved_labels(
 {
     let mut moved = Vec::with_capacity(alloc, labels.len())?;
     for label in labels {
-        push_label(alloc, change, label, &mut moved)?;
+        let label = moved_label(alloc, change, label)?;
+        push_some(&mut moved, label)?;
     }
     Ok(moved)
-}
-
-/// Appends a label as it is after a change, unless it became empty.
-fn push_label(
-    alloc: Global,
-    change: Change,
-    label: &LabeledSpan,
-    moved: &mut Vec<LabeledSpan>,
-) -> Result<(), AllocError>
-    requires { CanMove change label.now }
-    ensures { OnOk result (moved.new.items
-        ≡ moved.old.items ++ option_to_list (moved_to change label.now)) }
-{
-    match moved_label(alloc, change, label)? {
-        None => Ok(()),
-        Some(label) => {
-            moved.push(label)?;
-            Ok(())
-        }
-    }
 }
 
 /// Whether the head label becomes empty.
@@ -153,29 +134,10 @@ pub fn moved_all(
 {
     let mut moved = Vec::with_capacity(alloc, found.len())?;
     for diagnostic in found {
-        push_diagnostic(alloc, change, diagnostic, &mut moved)?;
+        let diagnostic = moved_diagnostic(alloc, change, diagnostic)?;
+        push_some(&mut moved, diagnostic)?;
     }
     Ok(moved)
-}
-
-/// Appends a finding as it is after a change, unless it is dropped.
-fn push_diagnostic(
-    alloc: Global,
-    change: Change,
-    diagnostic: &OxcDiagnostic,
-    moved: &mut Vec<OxcDiagnostic>,
-) -> Result<(), AllocError>
-    requires { CanMoveAll change diagnostic.now }
-    ensures { OnOk result (moved.new.items
-        ≡ moved.old.items ++ option_to_list (moved_in change diagnostic.now)) }
-{
-    match moved_diagnostic(alloc, change, diagnostic)? {
-        None => Ok(()),
-        Some(diagnostic) => {
-            moved.push(diagnostic)?;
-            Ok(())
-        }
-    }
 }
 
 /// Copies of findings.

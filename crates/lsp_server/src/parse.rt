@@ -50,33 +50,14 @@ fn message_of(alloc: Global, value: &Value) -> Result<Message, AllocError>
     };
     let params = value.get("params");
     match value.get("id") {
-        None => notification(alloc, method, params),
-        Some(id) => request(alloc, id, method, params),
-    }
-}
-
-/// A notification of this method.
-fn notification(alloc: Global, method: &str, params: Option<&Value>) -> Result<Message, AllocError>
-    ensures { IfOk result (λ message. said_by message ≡ Some (tells
-        (event_in method.now (option_map view (option_copied params.entry))))) }
-{
-    let notice = notice_of(alloc, method, params)?;
-    Ok(Message::Notification(notice))
-}
-
-/// A request of this method, if its id is valid.
-fn request(
-    alloc: Global,
-    id: &Value,
-    method: &str,
-    params: Option<&Value>,
-) -> Result<Message, AllocError>
-    ensures { IfOk result (λ message. said_by message ≡ Some (asked_by
-        (name_in (view id.now)) method.now (option_map view (option_copied params.entry)))) }
-{
-    match id_of(alloc, id)? {
-        Some(id) => Ok(Message::Request(id, method_of(method, params))),
-        None => Ok(Message::Notification(Notice::Unknown)),
+        None => {
+            let notice = notice_of(alloc, method, params)?;
+            Ok(Message::Notification(notice))
+        }
+        Some(id) => match id_of(alloc, id)? {
+            Some(id) => Ok(Message::Request(id, method_of(method, params))),
+            None => Ok(Message::Notification(Notice::Unknown)),
+        },
     }
 }
 
@@ -240,22 +221,14 @@ fn changed(
     let Some(uri) = text_at(document, "uri") else {
         return Ok(Notice::Malformed);
     };
-    let Some(changes) = changes_at(alloc, params)? else {
+    let Some(values) = member(params, "contentChanges").and_then(Value::as_array) else {
+        return Ok(Notice::Malformed);
+    };
+    let Some(changes) = changes_of(alloc, values)? else {
         return Ok(Notice::Malformed);
     };
     let uri = String::from_str(alloc, uri)?;
     Ok(Notice::Changed(uri, version_in(document), changes))
-}
-
-/// The changes of a notification; `None` if they are malformed.
-fn changes_at(alloc: Global, params: Option<&Value>) -> Result<Option<Vec<Change>>, AllocError>
-    ensures { IfOk result (λ it. option_map (λ changes. map change_said changes.items) it
-        ≡ changes_under (option_map view (option_copied params.entry))) }
-{
-    match member(params, "contentChanges").and_then(Value::as_array) {
-        Some(values) => changes_of(alloc, values),
-        None => Ok(None),
-    }
 }
 
 /// The changes of a list; `None` if one is malformed.
@@ -338,18 +311,7 @@ fn version_in(document: Option<&Value>) -> i32
     ensures { result ≡ version_under (option_map view (option_copied document.entry)) }
 {
     match member(document, "version").and_then(Value::as_i64) {
-        Some(number) => small_version(number),
-        None => 0,
-    }
-}
-
-/// A number if it has 32 bits, else 0.
-fn small_version(number: i64) -> i32
-    ensures { result ≡ small number }
-{
-    if i32::MIN as i64 <= number && number <= i32::MAX as i64 {
-        number as i32
-    } else {
-        0
+        Some(number) if i32::MIN as i64 <= number && number <= i32::MAX as i64 => number as i32,
+        _ => 0,
     }
 }

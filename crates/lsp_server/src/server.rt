@@ -12,7 +12,7 @@ ghost use Rattle.lsp_server.specs.Told.{ShowsAs};
 
 use crate::documents::OpenText;
 use crate::message::{Agreed, Answer, Code, Id, Message, Method, Notice, Refused};
-use crate::published::published_none;
+use crate::publishing::published_none;
 use client_text::Change;
 use oxc_protocol::OxcDiagnostic;
 use source_location::fits;
@@ -99,7 +99,7 @@ impl Server {
         let mut answers = Vec::new(alloc);
         for message in messages {
             let told = self.take(alloc, message)?;
-            add_told(&mut answers, told)?;
+            push_some(&mut answers, told)?;
         }
         Ok(answers)
     }
@@ -323,18 +323,18 @@ impl Server {
     }
 }
 
-/// Appends what to send, if there is anything.
+/// Appends a value, if there is one.
 ///
 /// # Errors
 ///
 /// Out of memory.
-pub fn add_told(answers: &mut Vec<Answer>, told: Option<Answer>) -> Result<(), AllocError>
-    ensures { OnOk result (answers.new.items ≡ answers.old.items ++ option_to_list told) }
+pub fn push_some<T: Drop>(list: &mut Vec<T>, one: Option<T>) -> Result<(), AllocError>
+    ensures { OnOk result (list.new.items ≡ list.old.items ++ option_to_list one) }
 {
-    match told {
+    match one {
         None => Ok(()),
-        Some(answer) => {
-            answers.push(answer)?;
+        Some(it) => {
+            list.push(it)?;
             Ok(())
         }
     }

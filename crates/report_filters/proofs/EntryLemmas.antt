@@ -2,8 +2,8 @@
 use Rattle.std.proofs.Common.{◌≡◌, ℕ, ◌+◌, ◌&&◌, Bool, true, false, List, [], ◌∷◌, ◌++◌, map, refl, sym, ap, subst, ◌∙◌, append_assoc}
 use Rattle.std.specs.List.{All, prefix_len}
 use Rattle.std.proofs.lemmas.List.Elements.{All-head, All-tail}
-use Rattle.ci_findings.specs.Finding.{finding_of, finding_parts}
-use Rattle.ci_findings.specs.declared.finding.Finding.{Finding}
+use Rattle.ci_formats.specs.Finding.{finding_of, finding_parts}
+use Rattle.ci_formats.specs.declared.finding.Finding.{Finding}
 use Rattle.finding_filters.specs.Finding.{FindingParts}
 use Rattle.found_reports.specs.Found.{Found, NamedHeld}
 use Rattle.found_reports.specs.Kept.{Stands, report_view}

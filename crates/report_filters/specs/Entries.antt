@@ -11,8 +11,8 @@ use Rattle.oxc_protocol.specs.declared.protocol.Severity.TheVariants.{Advice, Wa
 use Rattle.found_reports.specs.Found.{Found}
 use Rattle.found_reports.specs.Held.{Held, holds, lacks}
 use Rattle.found_reports.specs.declared.reports.FoundReport.{FoundReport}
-use Rattle.ci_findings.specs.Finding.{finding_of}
-use Rattle.ci_findings.specs.declared.finding.Location.{Location}
+use Rattle.ci_formats.specs.Finding.{finding_of}
+use Rattle.ci_formats.specs.declared.finding.Location.{Location}
 use Rattle.changed_rows.specs.Names.{plain_name}
 use Rattle.finding_filters.specs.Finding.{FindingParts}
 use Rattle.finding_filters.specs.declared.finding.Spot.{Spot}

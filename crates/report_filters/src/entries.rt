@@ -8,7 +8,7 @@ ghost use Rattle.oxc_protocol.specs.Views.{code_parts};
 ghost use Rattle.found_reports.specs.Found.{LabelsStand};
 ghost use Rattle.found_reports.specs.Held.{held_of};
 ghost use Rattle.found_reports.specs.Kept.{Stands, file_view, report_view};
-ghost use Rattle.ci_findings.specs.Finding.{finding_of, finding_parts as finding_told};
+ghost use Rattle.ci_formats.specs.Finding.{finding_of, finding_parts as finding_told};
 ghost use Rattle.finding_filters.specs.Finding.{finding_parts};
 ghost use Rattle.report_filters.specs.Entries.{entries_of as entries_in, new_entry};
 ghost use Rattle.report_filters.specs.Entries.{entry_of, entry_parts, has_none, is_advice as is_advice_level};
@@ -16,7 +16,7 @@ ghost use Rattle.report_filters.specs.Entries.{is_inner as is_inner_byte, is_mor
 ghost use Rattle.report_filters.specs.Entries.{row_if, row_near as row_near_in, spot_of};
 
 use changed_rows::Root;
-use ci_findings::{Finding, Location, findings_of};
+use ci_formats::{Finding, Location, findings_of};
 use finding_filters::{FindingView, Spot};
 use found_reports::{FoundFile, FoundReport, FoundReports, Lack};
 use oxc_protocol::{Diagnostic, LabeledSpan, OxcCode, Severity};

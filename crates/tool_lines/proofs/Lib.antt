@@ -1,4 +1,5 @@
 pub mod LinesLemmas
+pub mod InsetLemmas
 pub mod PlainLemmas
 pub mod PaintLemmas
 pub mod DetailsLemmas

@@ -2,17 +2,14 @@
 use Rattle.std.specs.Prelude.{ℕ, ◌+◌, ◌-◌, ◌==◌, ◌||◌, ◌&&◌, not, nat_le, nat_lt, if◌then◌else◌, Bool, false, List, [], ◌∷◌, ◌++◌, length, take, drop, slice_index, Option, Some, None, codes, unwrap_or}
 use Rattle.std.specs.Option.{is_none, is_some}
 use Rattle.std.specs.List.{prefix_len, filter_map}
-use Rattle.line_shapes.specs.declared.bytes.Kind.TheVariants.{Blank, Digit}
+use Rattle.line_shapes.specs.declared.bytes.Kind.TheVariants.{Digit}
 use Rattle.tool_lines.specs.declared.details.Way.{Way}
 use Rattle.tool_lines.specs.declared.details.Way.TheVariants.{Plain, Symbol, Noted, Unrowed}
 use Rattle.tool_lines.specs.declared.lines.Sort.{Sort}
 use Rattle.tool_lines.specs.declared.lines.Sort.TheVariants.{Kept, Heading, Below, Announced, Inline, Spaced}
 use Rattle.line_shapes.specs.Bytes.{is_in, trimmed}
+pub use Rattle.tool_lines.specs.Marks.{unled}
 use Rattle.tool_lines.specs.Marks.{are_marks, gutter, is_fix}
-
--- a text without the blanks at its beginning
-abbrev pub unled : List ℕ → List ℕ
-unled text = drop (prefix_len (is_in Blank) text) text
 
 abbrev pub is_bare_behind : List ℕ → Option ℕ → Bool
 is_bare_behind line None = false

@@ -16,7 +16,7 @@ use Rattle.tool_lines.specs.declared.lines.Begun.{Begun}
 use Rattle.tool_lines.specs.declared.lines.Piece.{Piece}
 use Rattle.line_shapes.specs.Bytes.{is_in, before_last}
 use Rattle.tool_lines.specs.Columns.{with_column}
-use Rattle.tool_lines.specs.Marks.{are_marks, begins_blank, is_fix, is_include, is_numbered, is_text, stands_apart, wraps}
+use Rattle.tool_lines.specs.Marks.{are_marks, begins_blank, is_fix, is_include, is_inset, is_numbered, is_text, stands_apart, wraps}
 use Rattle.tool_lines.specs.Speaks.{speaks}
 use Rattle.line_shapes.specs.Part.{Seen, before, may_begin}
 use Rattle.line_shapes.specs.Place.{Place, placed, first_some, has_figure, place}
@@ -144,6 +144,11 @@ coded_below place =
 unfoldable pub spoken : List ℕ → Place → Option FindingParts
 spoken line place = option_and_then (λ it. if speaks line place it.0 it.1 then Some (finding_from place.name it.0 it.1) else None) (said place.found)
 
+-- one of the two; the flag says whether there is more below
+abbrev pub spoken_or_below : Bool → List ℕ → Place → Option FindingParts
+spoken_or_below false line place = spoken line place
+spoken_or_below true line place = option_or (coded_below place) (spoken line place)
+
 abbrev pub told : Bool → List ℕ → Place → Option FindingParts
 told false line place = spoken line place
 told true line place = option_or (bare place) (option_or (coded_below place) (spoken line place))
@@ -187,9 +192,9 @@ abbrev pub is_placing : Option (List ℕ) → Bool
 is_placing None = false
 is_placing (Some next) = may_begin ARROW (uncoloned next) || may_begin UNDER next || is_some (other_arrow next)
 
--- a line that has this one behind it has no figure, and the place of nothing is behind it: nothing begins there but what shapes of one's own find
+-- a line that has this one behind it has no figure or no name with a place, and the place of nothing is behind it: nothing begins there but what shapes of one's own find
 abbrev pub is_plain : List ℕ → Option (List ℕ) → Bool
-is_plain line next = not (has_figure line) && not (is_placing next)
+is_plain line next = (is_inset line || not (has_figure line)) && not (is_placing next)
 
 abbrev pub is_kept : Sort → Bool
 is_kept Kept = true

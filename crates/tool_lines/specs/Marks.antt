@@ -1,15 +1,49 @@
 -- Lines that belong to others: marks, gutters, and what is indented.
-use Rattle.std.specs.Prelude.{ℕ, ◌+◌, ◌-◌, ◌==◌, ◌&&◌, ◌||◌, not, nat_eq, nat_le, nat_lt, if◌then◌else◌, Bool, false, List, [], ◌∷◌, length, take, drop, slice_index, Option, Some, None, codes}
+use Rattle.std.specs.Prelude.{ℕ, ◌+◌, ◌-◌, ◌==◌, ◌&&◌, ◌||◌, not, nat_eq, nat_le, nat_lt, if◌then◌else◌, Bool, false, List, [], ◌∷◌, length, drop, slice_index, Option, Some, None, codes}
 use Rattle.std.specs.List.{prefix_len, list_all, list_any, starts_with}
 use Rattle.line_shapes.specs.declared.bytes.Kind.TheVariants.{Blank, Digit, Space}
 use Rattle.line_shapes.specs.Bytes.{is_in}
+use Rattle.line_shapes.specs.Name.{is_angle}
 use Rattle.line_shapes.specs.Part.{before}
+use Rattle.line_shapes.specs.Place.{is_mark}
 use Rattle.line_shapes.specs.Said.{code_behind, said}
 use Rattle.std.specs.Option.{is_some, option_and_then}
 
 abbrev pub begins_blank : List ℕ → Bool
 begins_blank [] = false
 begins_blank (x ∷ xs) = is_in Blank x
+
+-- a text without the blanks at its beginning
+abbrev pub unled : List ℕ → List ℕ
+unled text = drop (prefix_len (is_in Blank) text) text
+
+-- the first byte of a line that is no blank, or 0
+abbrev pub first_ink : List ℕ → ℕ
+first_ink line = slice_index (unled line) 0
+
+-- an arrow other than `-->` may begin with a byte
+abbrev pub may_lead : ℕ → Bool
+may_lead byte = byte == 0xE2 || byte == 0x2C || byte == 0x3A
+
+-- an arrow may begin with a byte
+abbrev pub may_point : ℕ → Bool
+may_point byte = byte == 0x2D || may_lead byte
+
+-- what has the location of the line before it may begin with a byte
+abbrev pub may_place : ℕ → Bool
+may_place byte = is_in Digit byte || may_point byte
+
+-- a byte of a word that is no mark of what stands behind a name
+abbrev pub is_inner : ℕ → Bool
+is_inner byte = not (is_in Blank byte) && not (is_mark byte)
+
+-- the first word of a text is no name with a place: it has no angle at its beginning, and no such mark
+abbrev pub names_nothing : List ℕ → Bool
+names_nothing text = not (is_angle text) && not (is_mark (slice_index text (prefix_len is_inner text)))
+
+-- an indented line whose first word is no name with a place
+abbrev pub is_inset : List ℕ → Bool
+is_inset line = begins_blank line && names_nothing (unled line)
 
 -- how long blanks, digits, blanks and a `|` are that a line begins with
 abbrev pub gutter : List ℕ → Option ℕ

@@ -14,11 +14,11 @@ ghost use Rattle.tool_lines.specs.Details.{is_small as small_letter, note_text a
 ghost use Rattle.tool_lines.specs.Details.{plain_text as text_of_plain};
 ghost use Rattle.tool_lines.specs.Details.{is_drawn as drawn, symbol_text as text_of_symbol};
 ghost use Rattle.tool_lines.specs.Details.{unrowed_text as text_of_unrowed};
-ghost use Rattle.tool_lines.specs.Details.{unequalled as without_equals, unled as without_lead};
+ghost use Rattle.tool_lines.specs.Details.{unequalled as without_equals};
 
 use crate::lines::Sort;
-use crate::marks::{are_marks, gutter, is_fix};
-use line_shapes::bytes::{Kind, byte_at, is_in, run, trimmed};
+use crate::marks::{are_marks, gutter, is_fix, unled};
+use line_shapes::bytes::{Kind, byte_at, is_in, trimmed};
 use std::alloc::{AllocError, Global};
 
 /// Which lines add something, and what.
@@ -257,13 +257,6 @@ fn note_of(text: &[u8]) -> Option<&[u8]>
         [b'h', b'e', b'l', b'p', b':', b' ', rest @ ..] => Some(rest),
         _ => None,
     }
-}
-
-/// A text without the blanks at its beginning.
-fn unled(text: &[u8]) -> &[u8]
-    ensures { result.now ≡ without_lead text.now }
-{
-    text.split_at(run(Kind::Blank, text)).1
 }
 
 /// The column of the first `^` below the row that a trail shows, from 0, in characters, if neither

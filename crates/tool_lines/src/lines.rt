@@ -17,21 +17,22 @@ ghost use Rattle.tool_lines.specs.Lines.{inline_sort as sort_of_inline};
 ghost use Rattle.tool_lines.specs.Marks.{stands_apart as comes_apart};
 ghost use Rattle.tool_lines.specs.Lines.{behind as behind_there, below as below_there};
 ghost use Rattle.tool_lines.specs.Lines.{below_at as below_name, begun as begun_there, begun_parts};
-ghost use Rattle.tool_lines.specs.Lines.{coded_below as coded_there, finding_from, finding_parts};
+ghost use Rattle.tool_lines.specs.Lines.{finding_from, finding_parts};
 ghost use Rattle.tool_lines.specs.Lines.{head, in_brackets, is_ruled as stands_ruled, is_tag};
 ghost use Rattle.tool_lines.specs.Lines.{in_trail as trails, inline as inline_there};
 ghost use Rattle.tool_lines.specs.Lines.{is_heading as heads, name_behind, next_is_marks};
 ghost use Rattle.tool_lines.specs.Lines.{may_trail as may_trail_there};
 ghost use Rattle.tool_lines.specs.Lines.{piece as piece_there, piece_parts, runs};
 ghost use Rattle.tool_lines.specs.Lines.{is_placing as places, is_plain as plain};
-ghost use Rattle.tool_lines.specs.Lines.{spoken as spoken_there, tagged, text_below};
+ghost use Rattle.tool_lines.specs.Lines.{spoken_or_below as spoken_there, tagged, text_below};
 ghost use Rattle.tool_lines.specs.Lines.{told as told_by};
 ghost use Rattle.tool_lines.specs.Lines.{trail_len as trail_length, uncoloned as without_colon};
 ghost use Rattle.tool_lines.specs.Lines.{whole_among as whole_in, without_cr as without_last_cr};
 
 use crate::columns::with_column;
 use crate::marks::{
-    are_marks, begins_blank, is_fix, is_include, is_numbered, is_text, stands_apart, wraps,
+    are_marks, begins_blank, first_ink, is_fix, is_include, is_inset, is_numbered, is_text,
+    may_lead, may_place, may_point, stands_apart, wraps,
 };
 use crate::speaks::speaks;
 use line_shapes::bytes::{Kind, before_last, end_run};
@@ -372,7 +373,7 @@ pub fn what_begins<'a>(shapes: &[Shape<'_>], line: &'a [u8], next: Option<&'a [u
 fn is_plain(line: &[u8], next: Option<&[u8]>) -> bool
     ensures { result ≡ plain line.now (option_copied next.entry) }
 {
-    !has_figure(line) && !is_placing(next)
+    (is_inset(line) || !has_figure(line)) && !is_placing(next)
 }
 
 /// Whether a line may have the location of the line above, judged by how it begins, or is another
@@ -381,11 +382,20 @@ fn is_placing(next: Option<&[u8]>) -> bool
     ensures { result ≡ places (option_copied next.entry) }
 {
     match next {
-        Some(next) => {
-            begins(&ARROW, uncoloned(next)) || begins(&UNDER, next) || other_arrow(next).is_some()
-        }
+        Some(next) => places_above(next),
         None => false,
     }
+}
+
+/// The same for a line.
+#[tactic(auto, using(crate::proofs::PlainLemmas::not_placing))]
+fn places_above(next: &[u8]) -> bool
+    ensures { result ≡ places (Some next.now) }
+{
+    if !may_place(first_ink(next)) {
+        return false;
+    }
+    begins(&ARROW, uncoloned(next)) || begins(&UNDER, next) || other_arrow(next).is_some()
 }
 
 /// The same for any lines.
@@ -444,9 +454,13 @@ fn announced_by<'a>(line: &'a [u8], next: &'a [u8]) -> Option<Finding<'a>>
 }
 
 /// The location in a line that is an arrow.
+#[tactic(auto, using(crate::proofs::PlainLemmas::no_arrow_there))]
 fn arrow(line: &[u8]) -> Option<Placed<'_>>
     ensures { option_map placed_parts result ≡ arrow_in line.now }
 {
+    if !may_point(first_ink(line)) {
+        return None;
+    }
     match named(&ARROW, NameKind::Any, &ARROW_PLACE, uncoloned(line)) {
         Some(place) => Some(place),
         None => other_arrow(line),
@@ -455,10 +469,13 @@ fn arrow(line: &[u8]) -> Option<Placed<'_>>
 
 /// The location in a line that is an arrow other than `-->`. A line that has a location before its
 /// message is none.
-#[tactic(auto, unfolding(crate::specs::Lines::arrows))]
+#[tactic(auto, unfolding(crate::specs::Lines::arrows), using(crate::proofs::PlainLemmas::no_other_arrow))]
 fn other_arrow(line: &[u8]) -> Option<Placed<'_>>
     ensures { option_map placed_parts result ≡ other_arrow_in line.now }
 {
+    if !may_lead(first_ink(line)) {
+        return None;
+    }
     let there = first_arrow(&ARROWS, line)?;
     if place(line).is_some() {
         None
@@ -614,11 +631,8 @@ fn told<'a>(place: Placed<'a>, line: &[u8], below: bool) -> Option<Finding<'a>>
         if let Some(finding) = bare(place) {
             return Some(finding);
         }
-        if let Some(finding) = coded_below(place) {
-            return Some(finding);
-        }
     }
-    spoken(place, line)
+    spoken(place, line, below)
 }
 
 /// The same if its message is below, and a level, a code or both are in this line.
@@ -636,23 +650,6 @@ fn finding_of<'a>(name: &'a [u8], found: Found<'a>, manner: Manner) -> Finding<'
     Finding {
         place: Placed { name, found },
         says: meant(found, manner),
-    }
-}
-
-/// The same if its message is below a level, a code, and another code in brackets.
-#[tactic(auto, unfolding(crate::specs::Lines::coded_below))]
-fn coded_below<'a>(place: Placed<'a>) -> Option<Finding<'a>>
-    ensures { option_map finding_parts result ≡ coded_there (placed_parts place.entry) }
-{
-    let (found, manner) = said(place.found)?;
-    if is_ruled(manner) && is_tagged(found) {
-        let untold = Found {
-            message: None,
-            ..found
-        };
-        Some(finding_of(place.name, untold, Manner::Plain))
-    } else {
-        None
     }
 }
 
@@ -688,12 +685,21 @@ fn is_ruled(manner: Manner) -> bool
     matches!(manner, Manner::Ruled)
 }
 
-/// The same if its message is after the location.
-#[tactic(auto, unfolding(crate::specs::Lines::spoken))]
-fn spoken<'a>(place: Placed<'a>, line: &[u8]) -> Option<Finding<'a>>
-    ensures { option_map finding_parts result ≡ spoken_there line.now (placed_parts place.entry) }
+/// The same if its message is after the location; or below a level, a code, and another code in
+/// brackets.
+#[tactic(auto, unfolding(crate::specs::Lines::coded_below, crate::specs::Lines::spoken))]
+fn spoken<'a>(place: Placed<'a>, line: &[u8], below: bool) -> Option<Finding<'a>>
+    ensures { option_map finding_parts result
+        ≡ spoken_there below line.now (placed_parts place.entry) }
 {
     let (found, manner) = said(place.found)?;
+    if below && is_ruled(manner) && is_tagged(found) {
+        let untold = Found {
+            message: None,
+            ..found
+        };
+        return Some(finding_of(place.name, untold, Manner::Plain));
+    }
     if speaks(line, place, found, manner) {
         Some(finding_of(place.name, found, manner))
     } else {

@@ -1,7 +1,8 @@
 //! Lines that belong to others: markers, gutters, and indented lines.
 ghost use Rattle.std.specs.Prelude.{◌≡◌, ◌≤◌, IfSome, length};
 ghost use Rattle.std.specs.Option.{option_copied};
-ghost use Rattle.std.specs.List.{list_all, list_any};
+ghost use Rattle.std.specs.List.{list_all, list_any, prefix_len};
+ghost use Rattle.line_shapes.specs.Place.{is_mark as marks_place};
 ghost use Rattle.tool_lines.specs.Marks.{are_marks as are_marks_there, body as body_of};
 ghost use Rattle.tool_lines.specs.Marks.{begins_blank as begins_with_blank, gutter as gutter_there};
 ghost use Rattle.tool_lines.specs.Marks.{is_caret as is_caret_byte, is_text as is_text_there};
@@ -11,10 +12,15 @@ ghost use Rattle.tool_lines.specs.Marks.{is_boxed as stands_boxed, is_deep as de
 ghost use Rattle.tool_lines.specs.Marks.{is_include as includes, wraps as wraps_there};
 ghost use Rattle.tool_lines.specs.Marks.{is_numbered as begins_numbered, is_row as is_row_there};
 ghost use Rattle.tool_lines.specs.Marks.{row_follows as row_comes, says_level as level_said};
-ghost use Rattle.tool_lines.specs.Marks.{stands_apart as apart_there};
+ghost use Rattle.tool_lines.specs.Marks.{stands_apart as apart_there, unled as without_lead};
+ghost use Rattle.tool_lines.specs.Marks.{first_ink as ink_of, is_inner as in_word};
+ghost use Rattle.tool_lines.specs.Marks.{is_inset as is_inset_line, names_nothing as names_none};
+ghost use Rattle.tool_lines.specs.Marks.{may_lead as may_lead_there, may_place as may_place_there};
+ghost use Rattle.tool_lines.specs.Marks.{may_point as may_point_there};
 ghost use Rattle.tool_lines.specs.Marks.{starts_marks as starts_as_marks};
 
 use line_shapes::bytes::{Kind, byte_at, is_in, run};
+use line_shapes::name::is_angle;
 use line_shapes::part::Found;
 use line_shapes::said::{code_behind, said};
 
@@ -26,6 +32,74 @@ pub fn begins_blank(line: &[u8]) -> bool
         [first, ..] => is_in(Kind::Blank, *first),
         [] => false,
     }
+}
+
+/// The first byte of a line that is no blank, or NUL.
+pub fn first_ink(line: &[u8]) -> u8
+    ensures { result ≡ ink_of line.now }
+{
+    byte_at(unled(line), 0)
+}
+
+/// A text without the blanks at its beginning.
+pub fn unled(text: &[u8]) -> &[u8]
+    ensures { result.now ≡ without_lead text.now }
+{
+    text.split_at(run(Kind::Blank, text)).1
+}
+
+/// Whether what has the location of the line above it may begin with this byte.
+pub fn may_place(byte: u8) -> bool
+    ensures { result ≡ may_place_there byte }
+{
+    is_in(Kind::Digit, byte) || may_point(byte)
+}
+
+/// Whether an arrow may begin with this byte.
+pub fn may_point(byte: u8) -> bool
+    ensures { result ≡ may_point_there byte }
+{
+    byte == b'-' || may_lead(byte)
+}
+
+/// Whether an arrow other than `-->` may begin with this byte.
+pub fn may_lead(byte: u8) -> bool
+    ensures { result ≡ may_lead_there byte }
+{
+    byte == 0xE2 || byte == b',' || byte == b':'
+}
+
+/// Whether a line is indented, and its first word can't be a name with its location: it begins with
+/// no angle, and it has no byte that comes after a name.
+pub fn is_inset(line: &[u8]) -> bool
+    ensures { result ≡ is_inset_line line.now }
+{
+    begins_blank(line) && names_nothing(unled(line))
+}
+
+fn names_nothing(text: &[u8]) -> bool
+    ensures { result ≡ names_none text.now }
+{
+    !is_angle(text) && !is_mark(byte_at(text, inner_run(text)))
+}
+
+fn inner_run(text: &[u8]) -> usize
+    ensures { result ≡ prefix_len in_word text.now }
+{
+    text.iter().take_while(|byte| is_inner(**byte)).count()
+}
+
+fn is_inner(byte: u8) -> bool
+    ensures { result ≡ in_word byte }
+{
+    !is_in(Kind::Blank, byte) && !is_mark(byte)
+}
+
+/// Whether what comes after a name may begin with this byte.
+fn is_mark(byte: u8) -> bool
+    ensures { result ≡ marks_place byte }
+{
+    byte == b':' || byte == b'(' || byte == b'['
 }
 
 /// The length of the gutter: blanks, digits, blanks, and a `|`.

@@ -1,5 +1,5 @@
 use Rattle.std.proofs.Common.{map}
-use Rattle.ci_findings.specs.Finding.{finding_parts}
+use Rattle.ci_formats.specs.Finding.{finding_parts}
 use Rattle.checkstyle_roundtrip.proofs.ToldLemmas.{told_alone}
 use Rattle.checkstyle_roundtrip.proofs.checkstyle_is_told.Goals as goal
 

@@ -1,5 +1,5 @@
 use Rattle.std.proofs.Common.{map}
-use Rattle.ci_findings.specs.Finding.{finding_parts}
+use Rattle.ci_formats.specs.Finding.{finding_parts}
 use Rattle.checkstyle_roundtrip.proofs.OutcomeLemmas.{reads_outcome}
 use Rattle.checkstyle_roundtrip.proofs.PartLemmas.{reads_conditions, reads_message, reads_parts}
 use Rattle.checkstyle_roundtrip.proofs.SpotLemmas.{reaches_each}

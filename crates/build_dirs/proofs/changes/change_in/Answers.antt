@@ -3,20 +3,20 @@ use Rattle.std.proofs.Common.{sym}
 use Rattle.build_dirs.proofs.ChangeLemmas.{is_change, no_colon, not_head, not_path, not_verb}
 use Rattle.build_dirs.proofs.changes.change_in.Goals as goal
 
-pub returns-in_default : goal.returns-in_default
-returns-in_default c = no_colon c.args.line.now (sym c.in_default.ensures)
+pub returns-in_default-clause-says : goal.returns-in_default-clause-says
+returns-in_default-clause-says c = no_colon c.args.line.now (sym c.in_default.ensures)
 
-pub returns-in_default-head_of : goal.returns-in_default-head_of
-returns-in_default-head_of c = not_head c.args.line.now c.in-Some.head.now c.in-Some.says.now (sym c.in-Some.ensures) c.in_default-head_of.ensures
+pub returns-in_default-head_of-clause-says : goal.returns-in_default-head_of-clause-says
+returns-in_default-head_of-clause-says c = not_head c.args.line.now c.in-Some.head.now c.in-Some.says.now (sym c.in-Some.ensures) c.in_default-head_of.ensures.says
 
-pub returns-in_default-verb_of : goal.returns-in_default-verb_of
-returns-in_default-verb_of c = not_verb c.args.line.now c.in-Some.head.now c.in-Some.says.now (sym c.in-Some.ensures) c.in_default-verb_of.ensures
+pub returns-in_default-verb_of-clause-says : goal.returns-in_default-verb_of-clause-says
+returns-in_default-verb_of-clause-says c = not_verb c.args.line.now c.in-Some.head.now c.in-Some.says.now (sym c.in-Some.ensures) c.in_default-verb_of.ensures.says
 
-pub returns-in_default-path_of : goal.returns-in_default-path_of
-returns-in_default-path_of c =
-    not_path c.args.line.now c.in-Some.head.now c.in-Some.says.now c.in-Some-verb_of.quoted.now c.in-Some-verb_of.opens (sym c.in-Some.ensures) c.in-Some-verb_of.ensures c.in_default-path_of.ensures
+pub returns-in_default-path_of-clause-says : goal.returns-in_default-path_of-clause-says
+returns-in_default-path_of-clause-says c =
+    not_path c.args.line.now c.in-Some.head.now c.in-Some.says.now c.in-Some-verb_of.quoted.now c.in-Some-verb_of.opens (sym c.in-Some.ensures) c.in-Some-verb_of.ensures.says c.in_default-path_of.ensures.says
 
-pub returns : goal.returns
-returns c =
+pub returns-clause-says : goal.returns-clause-says
+returns-clause-says c =
     is_change c.args.line.now c.in-Some.head.now c.in-Some.says.now c.in-Some-verb_of.quoted.now c.in-Some-head_of.program.now c.in-Some-path_of.path.now c.in-Some-head_of.level c.in-Some-verb_of.opens
-    (sym c.in-Some.ensures) c.in-Some-head_of.ensures c.in-Some-verb_of.ensures c.in-Some-path_of.ensures
+    (sym c.in-Some.ensures) c.in-Some-head_of.ensures.says c.in-Some-verb_of.ensures.says c.in-Some-path_of.ensures.says

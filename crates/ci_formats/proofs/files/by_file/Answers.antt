@@ -1,6 +1,6 @@
 use Rattle.std.proofs.Common.{◌∙◌, ap, filter, map, refl}
 use Rattle.std.proofs.lemmas.List.{take_all}
-use Rattle.ci_findings.specs.Finding.{finding_parts}
+use Rattle.ci_formats.specs.Finding.{finding_parts}
 use Rattle.ci_formats.specs.Files.{is_on}
 use Rattle.ci_formats.proofs.FilesLemmas.{more_by_file, none_by_file}
 use Rattle.ci_formats.proofs.files.by_file.Goals as goal

@@ -1,6 +1,6 @@
 -- The names so far, and of those to come the new ones.
 use Rattle.std.proofs.Common.{◌∙◌, ◌+◌, ap, drop, map, subst, sym}
-use Rattle.ci_findings.specs.Finding.{finding_parts}
+use Rattle.ci_formats.specs.Finding.{finding_parts}
 use Rattle.ci_formats.specs.Files.{Knows, with_name}
 use Rattle.ci_formats.proofs.FilesLemmas.{all_gathered, gathered, knows_none, none_gathered, now_of, with_step}
 use Rattle.ci_formats.proofs.files.names_of.Goals as goal

@@ -1,5 +1,5 @@
 use Rattle.std.proofs.Common.{◌≡◌, map, drop}
-use Rattle.ci_findings.specs.Finding.{finding_parts}
+use Rattle.ci_formats.specs.Finding.{finding_parts}
 use Rattle.ci_formats.specs.Files.{Knows, names_of}
 use Rattle.ci_formats.proofs.FilesLemmas.{gathered, now_of}
 use Rattle.ci_formats.proofs.files.names_of.Given as goal

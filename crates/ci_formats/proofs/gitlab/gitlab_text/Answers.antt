@@ -4,7 +4,7 @@ use Rattle.std.specs.Option.{option_copied}
 use Rattle.serde_json.specs.Data.{depth}
 use Rattle.serde_json.specs.View.{view}
 use Rattle.serde_json.specs.Written.{compact_text, has_float}
-use Rattle.ci_findings.specs.Finding.{finding_parts}
+use Rattle.ci_formats.specs.Finding.{finding_parts}
 use Rattle.ci_formats.proofs.PlainLemmas.{no_float, shallow}
 use Rattle.ci_formats.proofs.gitlab.gitlab_text.Goals as goal
 

@@ -3,11 +3,11 @@ use Rattle.serde_json.specs.Data.{array}
 use Rattle.serde_json.specs.View.{items_of, view}
 use Rattle.serde_json.proofs.Views.{view-Array}
 use Rattle.std.proofs.lemmas.List.{take_all}
-use Rattle.ci_findings.specs.Finding.{finding_parts}
+use Rattle.ci_formats.specs.Finding.{finding_parts}
 use Rattle.ci_formats.specs.Files.{along}
 use Rattle.ci_formats.specs.Gitlab.{gitlab_value, one_issue}
 use Rattle.ci_formats.proofs.CountLemmas.{count_room, is_like_issue, issue_order, issues_before, more_issues_counted, none_counted}
-use Rattle.ci_formats.proofs.ReportLemmas.{more_issues}
+use Rattle.ci_formats.proofs.ReportLemmas.{copied_or, more_issues}
 use Rattle.ci_formats.proofs.gitlab.report.Goals as goal
 
 pub loop-finding-init : goal.loop-finding-init
@@ -25,7 +25,7 @@ loop-finding-preserved c =
     let x = c.finding-item.result in
     let counted = c.loop-finding.invariant.1 in
     let before = issues_before c.loop-finding.counts c.issue_key.result (finding_parts x) (map finding_parts (take at fs)) c.in_ok-before.before c.issue_key.ensures counted c.in_ok-before.ensures.before in (
-      more_issues c.usual_check-usual.result.now c.loop-finding.issues.items c.push.new.self.items c.in_ok-issue.field-0 c.in_ok-before.before fs at x c.loop-finding-test.true c.finding-item.is c.in_ok-push.ensures.items
+      more_issues c.unwrap_or-usual.result.now c.loop-finding.issues.items c.push.new.self.items c.in_ok-issue.field-0 c.in_ok-before.before fs at x c.loop-finding-test.true c.finding-item.is c.in_ok-push.ensures.items
           c.in_ok-issue.ensures before c.loop-finding.invariant.0,
       more_issues_counted c.loop-finding.counts c.count_once.new.counts c.issue_key.result fs at x c.in_ok-before.before c.loop-finding-test.true c.finding-item.is c.issue_key.ensures counted
           c.in_ok-before.ensures.before c.in_ok-before.ensures.counted,
@@ -37,5 +37,5 @@ returns c =
     view-Array c.loop-finding.issues
     ∙ ap (λ l. array (items_of l))
     (c.loop-finding.invariant.0
-    ∙ ap (λ l. along (one_issue c.usual_check-usual.result.now) [] (map finding_parts l)) (take_all c.loop-finding.finding-index c.args.findings.now c.loop-finding-test.false)
-    ∙ ap (λ usual. along (one_issue usual) [] (map finding_parts c.args.findings.now)) c.usual_check-usual.ensures)
+    ∙ ap (λ l. along (one_issue c.unwrap_or-usual.result.now) [] (map finding_parts l)) (take_all c.loop-finding.finding-index c.args.findings.now c.loop-finding-test.false)
+    ∙ ap (λ usual. along (one_issue usual) [] (map finding_parts c.args.findings.now)) (ap (λ it. it.now) c.unwrap_or-usual.ensures ∙ copied_or c.args.tool _))

@@ -1,6 +1,6 @@
 use Rattle.std.proofs.Common.{◌≡◌, [], map, take}
 use Rattle.serde_json.specs.View.{view}
-use Rattle.ci_findings.specs.Finding.{finding_parts}
+use Rattle.ci_formats.specs.Finding.{finding_parts}
 use Rattle.ci_formats.specs.Files.{along}
 use Rattle.ci_formats.specs.Gitlab.{one_issue}
 use Rattle.ci_formats.proofs.CountLemmas.{IssuesCounted}

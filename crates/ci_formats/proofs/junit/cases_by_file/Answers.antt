@@ -1,7 +1,7 @@
 use Rattle.std.proofs.Common.{◌≡◌, ◌<◌, ◌∙◌, [], ap, arith, map, rules, refl, take, unwrap_or}
 use Rattle.std.specs.BTreeMap.{get}
 use Rattle.std.proofs.lemmas.List.{take_all}
-use Rattle.ci_findings.specs.Finding.{finding_parts}
+use Rattle.ci_formats.specs.Finding.{finding_parts}
 use Rattle.ci_formats.specs.Files.{along}
 use Rattle.ci_formats.specs.Junit.{numbered_on}
 use Rattle.ci_formats.proofs.CaseLemmas.{more_cases, no_cases}

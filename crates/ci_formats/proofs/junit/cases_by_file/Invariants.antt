@@ -1,5 +1,5 @@
 use Rattle.std.proofs.Common.{map, take}
-use Rattle.ci_findings.specs.Finding.{finding_parts}
+use Rattle.ci_formats.specs.Finding.{finding_parts}
 use Rattle.ci_formats.specs.Junit.{AreCasesByFile}
 use Rattle.ci_formats.proofs.CountLemmas.{CasesCounted}
 use Rattle.ci_formats.proofs.junit.cases_by_file.Given as goal

@@ -5,4 +5,4 @@ use Rattle.ci_formats.specs.Stylish.{table_text}
 use Rattle.ci_formats.proofs.stylish.push_files.Given as goal
 
 abbrev pub invariant-loop-name : goal.invariant-loop-name
-invariant-loop-name l = string_bytes l.out ≡ string_bytes l.initial.out ++ flat_map (λ name. table_text name.now (own_parts l.files name)) (take l.name-index l.names)
+invariant-loop-name l = string_bytes l.out ≡ string_bytes l.initial.out ++ flat_map (λ name. table_text name.now (own_parts l.files name)) (take l.name-index l.name-items)

@@ -1,6 +1,6 @@
 -- The findings before are there, and the others come next.
 use Rattle.std.proofs.Common.{◌≡◌, ◌++◌, drop, map}
-use Rattle.ci_findings.specs.Finding.{finding_parts}
+use Rattle.ci_formats.specs.Finding.{finding_parts}
 use Rattle.ci_texts.specs.Texts.{shown_finding}
 use Rattle.ci_texts.proofs.shown.shown_findings.Given as goal
 

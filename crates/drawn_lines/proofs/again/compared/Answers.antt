@@ -1,8 +1,7 @@
 -- One piece more is compared, and in the end all are.
-use Rattle.std.proofs.Common.{◌≡◌, ◌∙◌, ◌++◌, [], Bor, ℕ, List, IfOk, map, sym, ap, arith}
+use Rattle.std.proofs.Common.{◌∙◌, ◌++◌, Bor, ℕ, List, map, sym, ap, arith}
 use Rattle.std.proofs.lemmas.Bool.Decides.{nat_tests}
 use Rattle.build_dirs.specs.Again.{seen_in}
-use Rattle.tool_lines.specs.Lines.{piece_parts}
 use Rattle.drawn_lines.specs.Again.{flags_from, run_parts, seen_from}
 use Rattle.drawn_lines.proofs.AgainLemmas.{flags_done, seen_done, signs_next, signs_none}
 use Rattle.drawn_lines.proofs.again.compared.Goals as goal

@@ -1,5 +1,5 @@
 -- A block is a note of the finding before it, or ends its run.
-use Rattle.std.proofs.Common.{◌≡◌, ◌++◌, ◌∷◌, ◌&&◌, Bor, ℕ, List, map, replicate, true, false, sym, ap, ap₂, ◌∙◌, append_assoc}
+use Rattle.std.proofs.Common.{◌++◌, Bor, ℕ, List, map, replicate, true, false, sym, ap, ap₂, ◌∙◌, append_assoc}
 use Rattle.std.proofs.lemmas.Bool.{and_parts}
 use Rattle.std.proofs.lemmas.Result.{IfOk-weaker}
 use Rattle.build_dirs.specs.Again.{Seen, seen_in}

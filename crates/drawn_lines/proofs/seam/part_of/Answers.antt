@@ -13,5 +13,5 @@ returns-in-None-clause-part c = λ are.
     let shapes = map shape_parts c.args.shapes.now in
     let lines = map (λ (line : Bor (List ℕ)). line.now) c.args.lines.now in
     let pieces = map piece_parts c.args.pieces.now in
-    gap_found shapes lines pieces c.gap_part.result are
-    (subst (λ n. IfSome c.gap_part.result (IsGap pieces n)) (sym (length-map c.args.lines.now (λ (line : Bor (List ℕ)). line.now))) c.gap_part.ensures.gap)
+    gap_found shapes lines pieces c.gap_in.result are
+    (subst (λ n. IfSome c.gap_in.result (IsGap pieces n)) (sym (length-map c.args.lines.now (λ (line : Bor (List ℕ)). line.now))) c.gap_in.ensures.gap)

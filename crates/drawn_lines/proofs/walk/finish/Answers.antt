@@ -1,4 +1,4 @@
-use Rattle.std.proofs.Common.{◌≡◌, ◌∙◌, ◌++◌, ap, map, string_bytes, refl}
+use Rattle.std.proofs.Common.{◌∙◌, ◌++◌, ap, map, string_bytes, refl}
 use Rattle.found_reports.specs.Listed.{held_in}
 use Rattle.line_reports.specs.Pieces.{read_parts}
 use Rattle.drawn_lines.specs.Lines.{drawings_before, reports_before}

@@ -1,4 +1,4 @@
-use Rattle.std.proofs.Common.{◌≡◌, ◌++◌, [], map, string_bytes, ap, refl, ◌∙◌}
+use Rattle.std.proofs.Common.{◌++◌, [], map, string_bytes, ap, refl, ◌∙◌}
 use Rattle.found_reports.specs.Listed.{held_in}
 use Rattle.tool_lines.specs.Lines.{piece_parts}
 use Rattle.line_reports.specs.Pieces.{read_parts}

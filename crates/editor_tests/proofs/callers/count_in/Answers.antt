@@ -1,9 +1,9 @@
 use Rattle.std.proofs.Common.{◌≡◌, ℕ, ◌+◌, ◌<◌, ◌≤◌, ◌∙◌, List, [], ◌∷◌, length, take, drop, sym, ap, ap₂, subst, arith}
 use Rattle.std.proofs.lemmas.List.{length-append, length-drop, take-append-drop, drop-drop, take_rest}
-use Rattle.lsp_frames.specs.Ends.{shown, Ends, IsMessage, Read}
-use Rattle.lsp_frames.specs.Run.{Machine, after, bodies}
-use Rattle.lsp_frames.specs.declared.frames.End.{End}
-use Rattle.lsp_frames.proofs.Runs.{bodies-append}
+use Rattle.lsp_server.specs.Ends.{shown, Ends, IsMessage, Read}
+use Rattle.lsp_server.specs.Run.{Machine, after, bodies}
+use Rattle.lsp_server.specs.declared.frames.End.{End}
+use Rattle.lsp_server.proofs.Runs.{bodies-append}
 use Rattle.editor_tests.proofs.callers.count_in.Goals as goal
 
 -- the bodies that are read, and those to come

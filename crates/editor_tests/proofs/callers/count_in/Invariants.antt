@@ -1,7 +1,7 @@
 -- Each message used a byte at least, and what is counted and what is to come are all bodies.
 use Rattle.std.proofs.Common.{◌≡◌, ◌+◌, ◌-◌, ◌≤◌, length, drop}
-use Rattle.lsp_frames.specs.Ends.{shown}
-use Rattle.lsp_frames.specs.Run.{bodies}
+use Rattle.lsp_server.specs.Ends.{shown}
+use Rattle.lsp_server.specs.Run.{bodies}
 use Rattle.editor_tests.proofs.callers.count_in.Given as goal
 
 abbrev pub invariant-loop-used : goal.invariant-loop-used

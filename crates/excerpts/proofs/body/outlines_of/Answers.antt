@@ -1,8 +1,17 @@
 -- One line after another.
-use Rattle.std.proofs.Common.{◌<◌, ◌≤◌, ap, ◌∙◌, arith, length, map}
+use Rattle.std.proofs.Common.{◌<◌, ◌≤◌, List, ap, subst, sym, ◌∙◌, arith, length, map}
 use Rattle.std.proofs.lemmas.List.{length-map, length_push}
-use Rattle.excerpts.proofs.BodyLemmas.{now_at, outlines_end, outlines_go_on}
+use Rattle.excerpts.specs.declared.cuts.Outline.{Outline}
+use Rattle.excerpts.proofs.BodyLemmas.{OutlinesSoFar, now_at, outlines_begin, outlines_end, outlines_go_on}
 use Rattle.excerpts.proofs.body.outlines_of.Goals as goal
+
+pub loop-line-init : goal.loop-line-init
+loop-line-init c =
+    let lines = map (λ line. line.now) c.args.lines.now in
+    record {
+      all = subst (λ (all : List Outline). OutlinesSoFar lines lines all) (sym c.in_ok-outlines.ensures.items) (outlines_begin lines);
+      same = ap length c.in_ok-outlines.ensures.items;
+    }
 
 pub loop-line-preserved : goal.loop-line-preserved
 loop-line-preserved c =

@@ -1,5 +1,5 @@
 use Rattle.std.proofs.Common.{◌≡◌, map, take}
-use Rattle.ci_findings.specs.Finding.{finding_parts}
+use Rattle.ci_formats.specs.Finding.{finding_parts}
 use Rattle.finding_summaries.specs.Names.{rule_of}
 use Rattle.finding_summaries.proofs.ranking.ranked_rules.Given as goal
 

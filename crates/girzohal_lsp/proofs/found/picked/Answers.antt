@@ -13,7 +13,7 @@ pub loop-report-preserved : goal.loop-report-preserved
 loop-report-preserved c =
     let i = c.loop-report.report-index in
     let f = (λ (r : FoundReport). pick c.args.spelling c.args.path.now (report_view (map file_view c.args.files.now) r)) in
-    subst (AreSoFar c.args.text.now f c.args.reports.now (i + 1)) (sym c.in_ok-add.ensures)
+    subst (AreSoFar c.args.text.now f c.args.reports.now (i + 1)) (sym c.in_ok-push_some.ensures)
     (one_more c.args.text.now f c.args.reports.now i c.report-item.result c.in_ok-one.one c.loop-report.shown.items
     c.loop-report-test.true c.report-item.is c.in_ok-one.ensures c.loop-report.invariant)
 

@@ -1,6 +1,6 @@
 -- The document that is looked up is open, and what is found stands in its text.
 use Rattle.std.proofs.Common.{rules, ◌≡◌, All, Option, Some, sym, subst}
-use Rattle.lsp_diagnostics.specs.Seen.{StandIn}
+use Rattle.lsp_server.specs.Seen.{StandIn}
 use Rattle.source_store.specs.Named.{path_in}
 use Rattle.source_store.specs.declared.named.Spelling.TheVariants.{Uri}
 use Rattle.lsp_server.specs.Documents.{document_of}
@@ -22,11 +22,11 @@ returns-clause-shown c =
     let told = c.in_ok-told.told in
     let known : old uri ≡ Some document = search rules in
     let text : c.as_str.result.now ≡ document.client.text = search rules in
-    let finds = subst (λ t. ShowsAt c.args.asked c.args.log.now (path_in Uri uri) t found) text c.in_ok-found.ensures.shown in
+    let finds = subst (λ t. ShowsAt c.args.kept.now.asked c.args.kept.now.log.now (path_in Uri uri) t found) text c.in_ok-found.ensures.shown in
     let stand = subst (λ t. All (StandIn t) found) text c.in_ok-found.ensures.stand in
     let shows = subst (λ (o : Option OpenView). ShowsAs agreed uri found o old new told) known c.in_ok-told.ensures.shown in
-    subst (λ (o : Option OpenView). IsRefreshed c.args.asked c.args.log.now agreed uri o old new told) (sym known)
-    (refreshed c.args.asked c.args.log.now agreed uri document old new told found finds stand shows)
+    subst (λ (o : Option OpenView). IsRefreshed c.args.kept.now.asked c.args.kept.now.log.now agreed uri o old new told) (sym known)
+    (refreshed c.args.kept.now.asked c.args.kept.now.log.now agreed uri document old new told found finds stand shows)
 
 pub returns-clause-none : goal.returns-clause-none
 returns-clause-none c =

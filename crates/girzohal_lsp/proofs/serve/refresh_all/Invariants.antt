@@ -7,7 +7,7 @@ use Rattle.girzohal_lsp.proofs.serve.refresh_all.Given as goal
 
 abbrev pub invariant-loop-uri : goal.invariant-loop-uri
 invariant-loop-uri l = record {
-  so_far : AreSoFar l.asked l.log l.uris l.uri-index l.initial.server l.server l.initial.answers.items l.answers.items;
+  so_far : AreSoFar l.kept.asked l.kept.log.now l.uris l.uri-index l.initial.server l.server l.initial.answers.items l.answers.items;
   none : flat_map answered_by l.answers.items ≡ flat_map answered_by l.initial.answers.items;
   phase : l.server.phase ≡ l.initial.server.phase;
 }

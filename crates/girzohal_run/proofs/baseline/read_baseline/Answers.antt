@@ -5,7 +5,7 @@ use Rattle.girzohal_run.specs.Baseline.{IsBaselineRead}
 use Rattle.girzohal_run.proofs.baseline.read_baseline.Goals as goal
 
 pub returns-clause-read : goal.returns-clause-read
-returns-clause-read c =
+returns-clause-read g c =
     let front = string_bytes c.args.root.now.front in
     let document = c.in_ok-read.field-0 in
     let entries = map entry_parts c.in_ok-findings.findings.items in record {

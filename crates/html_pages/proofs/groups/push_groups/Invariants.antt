@@ -1,6 +1,6 @@
 -- What is left comes next.
 use Rattle.std.proofs.Common.{◌≡◌, ◌++◌, None, length, map, option_map, string_bytes}
-use Rattle.ci_findings.specs.Finding.{finding_parts}
+use Rattle.ci_formats.specs.Finding.{finding_parts}
 use Rattle.html_pages.specs.Groups.{groups_from}
 use Rattle.html_pages.specs.Spots.{spot_parts}
 use Rattle.html_pages.proofs.groups.push_groups.Given as goal

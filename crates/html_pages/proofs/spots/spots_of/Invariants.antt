@@ -1,6 +1,6 @@
 -- The spots so far are there, and the others come next.
 use Rattle.std.proofs.Common.{◌≡◌, ◌++◌, drop, map}
-use Rattle.ci_findings.specs.Finding.{finding_parts}
+use Rattle.ci_formats.specs.Finding.{finding_parts}
 use Rattle.html_pages.specs.Spots.{spot_parts, spots_from}
 use Rattle.html_pages.proofs.spots.spots_of.Given as goal
 

@@ -1,6 +1,5 @@
 -- One block more.
 use Rattle.std.proofs.Common.{ℕ, List, Option, Bor, map, option_map, ◌++◌, ◌∷◌, [], ap, ◌∙◌}
-use Rattle.oxc_span.specs.Views.{text_bytes}
 use Rattle.excerpts.specs.Body.{block_of}
 use Rattle.found_reports.specs.Listed.{held_in}
 use Rattle.line_reports.specs.Asides.{AsideParts, aside_at, aside_parts}

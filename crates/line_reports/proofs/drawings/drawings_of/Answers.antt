@@ -15,6 +15,6 @@ loop-rest-preserved c =
     record {
       stand = block_stands text (drawings_parts c.loop-rest.drawings) (drawings_parts c.add.new.self) _ c.in_ok-add.ensures c.loop-rest.invariant.stand
           (mapped (λ (it : Vec Placed Global). map placed_parts it.items) (PlacedStand text) c.in_ok-labels.labels c.in_ok-labels.ensures.stand);
-      shown = drawn_more text lines c.loop-rest.flags_left.now c.tail-flags_left.result.now c.loop-rest.rest.now c.block-item.result (drawings_parts c.loop-rest.drawings) (drawings_parts c.add.new.self) _ _
-          c.in-len1-up.len_at_least c.block-item.is (c.in_ok-labels.ensures.placed ∙ ap (λ flag. placed_if flag text lines (block_of c.block-item.result)) c.flag.ensures) c.in_ok-add.ensures c.tail-flags_left.ensures c.loop-rest.invariant.shown;
+      shown = drawn_more text c.args.aim lines c.loop-rest.flags_left.now c.tail-flags_left.result.now c.loop-rest.rest.now c.block-item.result (drawings_parts c.loop-rest.drawings) (drawings_parts c.add.new.self) _ _
+          c.in-len1-up.len_at_least c.block-item.is (c.in_ok-labels.ensures.placed ∙ ap (λ flag. placed_if flag text c.args.aim lines (block_of c.block-item.result)) c.flag.ensures) c.in_ok-add.ensures c.tail-flags_left.ensures c.loop-rest.invariant.shown;
     }

@@ -5,7 +5,7 @@ use Rattle.line_reports.proofs.drawings.laid_rows.Given as goal
 abbrev pub invariant-loop-rows : goal.invariant-loop-rows
 invariant-loop-rows l = let lines = map (λ line. line.now) l.lines in record {
   stand : LaidStand l.source.text.now (map (option_map laid_parts) l.all.items);
-  laid : map (option_map laid_parts) l.all.items ++ map (laid_row l.source.text.now lines) l.rows ≡ map (laid_row l.source.text.now lines) l.initial.rows;
+  laid : map (option_map laid_parts) l.all.items ++ map (laid_row l.source.text.now l.aim lines) l.rows ≡ map (laid_row l.source.text.now l.aim lines) l.initial.rows;
 }
 
 abbrev pub decreases-loop-rows : goal.decreases-loop-rows

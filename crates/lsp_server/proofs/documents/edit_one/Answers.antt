@@ -3,7 +3,7 @@ use Rattle.std.proofs.Common.{List, length, ap, ap₂, sym, subst, ◌∙◌, st
 use Rattle.std.specs.List.{All, filter_map}
 use Rattle.client_text.specs.Changes.{AllChange}
 use Rattle.client_text.specs.declared.change.Change.{Change}
-use Rattle.lsp_marks.specs.declared.Change.{Change as Moving}
+use Rattle.lsp_server.specs.declared.marks.Change.{Change as Moving}
 use Rattle.oxc_protocol.specs.Parts.{OxcParts}
 use Rattle.lsp_server.specs.Edits.{moving}
 use Rattle.lsp_server.specs.Moved.{CanMoveAll, moved_diagnostic}

@@ -1,7 +1,7 @@
 -- The findings of the reports that are left come next.
 use Rattle.std.proofs.Common.{◌≡◌, ◌++◌, All, length, map, string_bytes}
 use Rattle.found_reports.specs.Kept.{Stands, file_view, report_view}
-use Rattle.ci_findings.specs.Finding.{finding_of, finding_parts}
+use Rattle.ci_formats.specs.Finding.{finding_of, finding_parts}
 use Rattle.report_filters.specs.Entries.{entries_from, entries_of, entry_parts}
 use Rattle.report_filters.proofs.entries.entries_of.Given as goal
 

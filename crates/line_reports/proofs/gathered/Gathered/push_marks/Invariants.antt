@@ -1,4 +1,4 @@
-use Rattle.std.proofs.Common.{◌≡◌, ◌++◌, map, option_map, length}
+use Rattle.std.proofs.Common.{◌≡◌, ◌++◌, map, length}
 use Rattle.indexed_sources.specs.Indexed.{AreTold}
 use Rattle.found_reports.specs.Listed.{held_in}
 use Rattle.line_reports.specs.Gathered.{AreTexts, IsListed, MarksAside, mark_parts}

@@ -1,7 +1,0 @@
-use Rattle.std.proofs.Common.{◌≡◌, map, take}
-use Rattle.found_reports.specs.Kept.{file_view, report_view}
-use Rattle.ci_findings.specs.Finding.{finding_of, finding_parts}
-use Rattle.ci_findings.proofs.located.findings_in.Given as goal
-
-abbrev pub invariant-loop-report : goal.invariant-loop-report
-invariant-loop-report l = map finding_parts l.findings.items ≡ map finding_of (map (report_view (map file_view l.files)) (take l.report-index l.reports))

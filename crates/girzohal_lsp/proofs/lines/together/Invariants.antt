@@ -1,0 +1,11 @@
+use Rattle.std.proofs.Common.{◌-◌, ◌<◌, ◌≤◌, length}
+use Rattle.girzohal_lsp.proofs.lines.together.Given as goal
+
+abbrev pub invariant-loop-count : goal.invariant-loop-count
+invariant-loop-count l = record {
+  some : 0 < l.count;
+  within : l.count ≤ length l.reads;
+}
+
+abbrev pub decreases-loop-count : goal.decreases-loop-count
+decreases-loop-count l = length l.reads - l.count

@@ -1,2 +1,0 @@
-pub mod PercentLemmas
-pub mod BackLemmas

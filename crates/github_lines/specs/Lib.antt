@@ -1,4 +1,0 @@
-pub mod Percent
-pub mod Unescape
-pub mod Annotation
-pub mod Read
