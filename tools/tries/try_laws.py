@@ -106,9 +106,9 @@ class Laws(try_filters.Tries):
         self.write("old.txt", self.as_text(form, entries, texts))
         return self.left(given, "--baseline", "old.txt", *words)
 
-    def is_unique(self, form):
-        """Whether repetitions are left out; a log without texts may say other places."""
-        return not form.without and self.random.random() < 0.3
+    def is_unique(self):
+        """Whether repetitions are left out."""
+        return self.random.random() < 0.3
 
     # ---- counts of lines, by what their findings have in common
 
@@ -143,7 +143,7 @@ class Laws(try_filters.Tries):
     def law_own(self, given, texts):
         """Findings as their own baseline leave nothing, whichever of both lacks rows."""
         form = Form(self.random.choice(FORMS), tuple(name for name in ("a.c", "b/c.py") if self.random.random() < 0.3))
-        unique = self.is_unique(form) and (form.name == "lines") == (given.form.name == "lines")
+        unique = self.is_unique() and (form.name == "lines") == (given.form.name == "lines")
         left, told = self.left_by(given, texts, form, given.made, *(["--unique"] if unique else []))
         self.law("its own baseline leaves nothing", left == [] and "gone" not in told, given.form, form, unique, given.text, left, told)
 
@@ -162,7 +162,7 @@ class Laws(try_filters.Tries):
 
     def law_order(self, given, texts, form, old):
         """Entries in another order; with --unique those that are repetitions of one another keep theirs."""
-        unique = self.is_unique(form)
+        unique = self.is_unique()
         mixed = self.random.sample(old, len(old))
         if unique:
             exact = [reader.exact_of(it, self.root) for it in self.as_said(form, mixed)]
@@ -177,7 +177,7 @@ class Laws(try_filters.Tries):
         """With a diff: of each kind the lesser of those on changed rows and of those that are more than the entries. By kinds if no
         finding or no entry knows its row; by rows if each entry does."""
         words, files, mode = changes
-        unique = self.is_unique(form)
+        unique = self.is_unique()
         entries = self.once(self.as_said(form, old), unique)
         findings = self.once(given.seen, unique)
         by_row = bool(entries) and all(it["row"] is not None for it in entries)

@@ -20,8 +20,8 @@ use Rattle.drawn_lines.specs.Lines.{shapes_of}
 use Rattle.drawn_lines.specs.Named.{Agrees, named_in, names_for, renamed_by, tried_in}
 use Rattle.drawn_lines.specs.Text.{lines_of}
 use Rattle.drawn_lines.proofs.NamedLemmas.{adds_both, agrees_added, all_left, all_right, named_same, renamed_none, tried_in_same}
-use Rattle.girzohal_run.specs.Finds.{FindsLines, FindsNamed, FindsPieces}
-use Rattle.girzohal_run.specs.Lines.{AreNamed, AreSought, ListsLines, ListsNamed, ListsOld, NamesLines, ReadsNamed, WritesPieces}
+use Rattle.girzohal_run.specs.Finds.{FindsLines, FindsNamed, FindsOld, FindsPieces}
+use Rattle.girzohal_run.specs.Lines.{AreNamed, AreSought, ListsLines, ListsNamed, NamesLines, ReadsNamed, WritesPieces}
 use Rattle.girzohal_run.specs.Told.{Told}
 
 pub sought_all : (told : Told) (asked : Asked) (before now : List Source) (lines : List (List ℕ)) (pieces : List PieceParts) (names : List (Option (List ℕ))) (dirs : DirsParts)
@@ -86,10 +86,10 @@ lists_lines told asked bytes text aside reached first middle lines pieces named 
     }
 
 -- the names were sought with one store, and the sources of all were added by another
-pub lists_old : (places told : Told) (asked : Asked) (bytes text aside : List ℕ) (reached : Bool) (first middle none : List Source) (lines : List (List ℕ)) (pieces named : List PieceParts)
+pub finds_old : (places told : Told) (asked : Asked) (bytes : List ℕ) (found : List Found) (aside : List ℕ) (first middle none : List Source) (lines : List (List ℕ)) (pieces named : List PieceParts)
     → first ≡ [] → none ≡ [] → lines ≡ lines_of bytes → ArePieces (shapes_of asked) None lines pieces → AreSought places asked first middle lines pieces named
-    → ListsNamed told asked none lines named text aside reached → ListsOld places told asked bytes text aside reached
-lists_old places told asked bytes text aside reached first middle none lines pieces named no_first no_source lines_are are sought lists =
+    → FindsNamed told asked none lines named found aside → FindsOld places told asked bytes found aside
+finds_old places told asked bytes found aside first middle none lines pieces named no_first no_source lines_are are sought finds =
     let given : List ℕ → Held = held_in middle in
     let tried : List (List ℕ) = tried_whole asked given lines pieces in
     let said : IsGiven places Path tried given = given_all places Path first middle tried no_first sought.tried in
@@ -102,7 +102,7 @@ lists_old places told asked bytes text aside reached first middle none lines pie
         tried_so = subst (λ ls. IsGiven places Path (tried_whole asked given ls pieces) given) lines_are said;
         named_is = subst (λ ls. named ≡ named_whole asked given ls pieces) lines_are sought.named_is;
       };
-      lists = subst (λ ls. ListsNamed told asked [] ls named text aside reached) lines_are (subst (λ sources. ListsNamed told asked sources lines named text aside reached) no_source lists);
+      finds = subst (λ ls. FindsNamed told asked [] ls named found aside) lines_are (subst (λ sources. FindsNamed told asked sources lines named found aside) no_source finds);
     }
 
 pub finds_lines : (told : Told) (asked : Asked) (bytes : List ℕ) (found : List Found) (aside : List ℕ) (first middle : List Source) (lines : List (List ℕ)) (pieces named : List PieceParts)

@@ -1,59 +1,44 @@
 -- The findings of a baseline.
-use Rattle.std.specs.Prelude.{◌≡◌, ℕ, Bool, true, false, List, Option, Some, None}
+use Rattle.std.specs.Prelude.{◌≡◌, ℕ, Bool, true, false, List, Some, None}
 use Rattle.std.specs.declared.ops.Range.{Range}
-use Rattle.documents.specs.Document.{document_of}
-use Rattle.documents.specs.Views.{document_view}
-use Rattle.documents.specs.declared.document.Document as code
 use Rattle.input_forms.specs.Begun.{begins_as}
 use Rattle.input_forms.specs.Object.{IsJsonPart, has_files}
 use Rattle.input_forms.specs.declared.begun.Begun.{Begun}
 use Rattle.input_forms.specs.declared.begun.Begun.TheVariants.{Object, OtherJson, Xml, Lines}
-use Rattle.found_reports.specs.Held.{Held, lacks}
+use Rattle.found_reports.specs.Found.{Found}
+use Rattle.found_reports.specs.Held.{lacks}
 use Rattle.found_reports.specs.declared.sources.Lack.TheVariants.{Missing}
-use Rattle.shown_reports.specs.Given.{found_document}
 use Rattle.finding_filters.specs.Finding.{FindingParts}
 use Rattle.report_filters.specs.Entries.{entries_of}
 use Rattle.girzohal_options.specs.declared.Asked.{Asked}
 use Rattle.girzohal_options.specs.declared.InputForm.TheVariants as form
-use Rattle.girzohal_options.specs.declared.OutputForm.TheVariants as to
-use Rattle.girzohal_run.specs.Lines.{ListsOld}
-use Rattle.girzohal_run.specs.Told.{Told}
-use Rattle.girzohal_run.specs.Made.{IsMade}
+use Rattle.girzohal_run.specs.Finds.{FindsOld, IsFound}
 use Rattle.girzohal_run.specs.Reads.{part_of}
 use Rattle.girzohal_run.specs.Run.{begins_lines}
+use Rattle.girzohal_run.specs.Told.{Told}
 
 -- a store without sources
 abbrev pub no_source : Told
 no_source path = Some (lacks Missing)
 
--- an input of any form is read as a document, with what it has itself
-abbrev pub as_document : Asked → Asked
-as_document asked = record asked { from = form.Auto; to = to.Document; raw = true; rules = None }
-
 abbrev pub is_lines : List ℕ → Bool
 is_lines bytes = begins_lines (begins_as bytes)
 
--- what is made of an input with the sources that it has itself; in lines a finding has the name that it has from the root, by what is told of places
-abbrev pub IsMadeOld : Bool → Told → Asked → List ℕ → List ℕ → List ℕ → Bool → Type 0
-IsMadeOld true told asked bytes text aside reached = ListsOld told no_source asked bytes text aside reached
-IsMadeOld false told asked bytes text aside reached = IsMade no_source asked bytes text aside reached
+-- what an input has with the texts that it has itself; in lines a finding has the name that it has from the root, by what is told of places
+abbrev pub FindsItself : Bool → Told → Asked → List ℕ → List Found → List ℕ → Type 0
+FindsItself true told asked bytes found aside = FindsOld told no_source asked bytes found aside
+FindsItself false told asked bytes found aside = IsFound no_source asked bytes found aside
 
--- the document that an input is so
-pub record IsRead (told : Told) (asked : Asked) (bytes : List ℕ) (document : code.Document) : Type 0 where
-  pub text : List ℕ
-  pub aside : List ℕ
-  pub reached : Bool
-  pub made : IsMadeOld (is_lines bytes) told asked bytes text aside reached
-  pub is : document_of text ≡ Some (document_view document)
-
-abbrev pub IsBaselineRead : List ℕ → Bool → code.Document → List FindingParts → Type 0
-IsBaselineRead front notes document entries = entries ≡ entries_of front true notes (found_document (document_view document)).found
+-- an input of any form, without filters
+abbrev pub as_any : Asked → Asked
+as_any asked = record asked { from = form.Auto; rules = None }
 
 -- the findings of an input, with the texts of their rows where it has them
 pub record IsBaseline (told : Told) (asked : Asked) (front bytes : List ℕ) (entries : List FindingParts) : Type 0 where
-  pub document : code.Document
-  pub read : IsRead told (as_document asked) bytes document
-  pub entries_are : IsBaselineRead front (is_lines bytes) document entries
+  pub found : List Found
+  pub aside : List ℕ
+  pub finds : FindsItself (is_lines bytes) told (as_any asked) bytes found aside
+  pub entries_are : entries ≡ entries_of front true (is_lines bytes) found
 
 -- ---- whether it says the scopes of codes
 

@@ -1,5 +1,5 @@
 -- What is found in an input.
-use Rattle.std.specs.Prelude.{◌≡◌, ℕ, List, Bool, true, false}
+use Rattle.std.specs.Prelude.{◌≡◌, ℕ, List, [], Bool, true, false}
 use Rattle.std.specs.declared.ops.Range.{Range}
 use Rattle.found_reports.specs.Found.{Found}
 use Rattle.found_reports.specs.Held.{Held}
@@ -11,7 +11,7 @@ use Rattle.line_reports.specs.Pieces.{ReadParts}
 use Rattle.line_reports.specs.Reports.{reports_in}
 use Rattle.drawn_lines.specs.Text.{lines_of}
 use Rattle.drawn_lines.specs.Lines.{columns_of, kept_text}
-use Rattle.girzohal_run.specs.Lines.{NamesLines, ReadsNamed}
+use Rattle.girzohal_run.specs.Lines.{AreNamed, NamesLines, ReadsNamed}
 use Rattle.input_forms.specs.Begun.{begins_as}
 use Rattle.input_forms.specs.Object.{IsJsonPart}
 use Rattle.input_forms.specs.declared.begun.Begun.{Begun}
@@ -48,6 +48,13 @@ pub record FindsLines (told : Told) (asked : Asked) (bytes : List ℕ) (found : 
   pub reads : List ReadParts
   pub names : NamesLines told asked bytes given named reads
   pub finds : FindsPieces asked given (lines_of bytes) named reads found aside
+
+-- the same, where places are told by one store and texts by another
+pub record FindsOld (places told : Told) (asked : Asked) (bytes : List ℕ) (found : List Found) (aside : List ℕ) : Type 0 where
+  pub given : List ℕ → Held
+  pub named : List PieceParts
+  pub are : AreNamed places asked bytes given named
+  pub finds : FindsNamed told asked [] (lines_of bytes) named found aside
 
 -- the reports of the JSON object among other lines, and what stands around it
 pub record FindsObject (how : ObjectForm) (told : Told) (asked : Asked) (bytes : List ℕ) (found : List Found) (aside : List ℕ) : Type 0 where

@@ -87,13 +87,6 @@ pub record ListsLines (told : Told) (asked : Asked) (bytes text aside : List ℕ
   pub names : NamesLines told asked bytes given named reads
   pub writes : WritesPieces asked given (lines_of bytes) named reads text aside reached
 
--- the same, where places are told by one store and texts by another
-pub record ListsOld (places told : Told) (asked : Asked) (bytes text aside : List ℕ) (reached : Bool) : Type 0 where
-  pub given : List ℕ → Held
-  pub named : List PieceParts
-  pub are : AreNamed places asked bytes given named
-  pub lists : ListsNamed told asked [] (lines_of bytes) named text aside reached
-
 -- so are those of lines, unless there are filters: these read the whole input first
 abbrev pub may_come : Asked → Bool
 may_come asked = is_live asked.to && is_none asked.rules

@@ -1,20 +1,16 @@
 // The findings of a baseline.
-ghost use Rattle.std.specs.Prelude.{◌≡◌, IfOk, None, map, string_bytes};
-ghost use Rattle.report_filters.specs.Entries.{entry_parts};
-ghost use Rattle.girzohal_run.specs.Baseline.{HasKeyFiles, IsBaseline, IsBaselineRead};
-ghost use Rattle.girzohal_run.specs.Baseline.{IsMadeOld, IsRead, SaysScopes, as_document};
+ghost use Rattle.std.specs.Prelude.{◌≡◌, IfOk, None, map, string_bytes, true};
+ghost use Rattle.report_filters.specs.Entries.{entries_of as entries_are, entry_parts};
+ghost use Rattle.girzohal_run.specs.Baseline.{FindsItself, HasKeyFiles, IsBaseline, SaysScopes};
 ghost use Rattle.girzohal_run.specs.Baseline.{is_lines as is_lines_input};
 
-use crate::fault::{Fault, no_form};
-use crate::lines::list_old;
-use crate::making::{Made, make};
+use crate::fault::Fault;
+use crate::finds::{Finds, find, find_old};
 use changed_rows::Root;
-use documents::{Document, read_document};
-use found_reports::ListedSources;
-use girzohal_options::{Asked, InputForm, OutputForm};
+use found_reports::{FoundReports, ListedSources};
+use girzohal_options::{Asked, InputForm};
 use input_forms::{Begun, begins_as, has_files, json_part};
 use report_filters::{Entry, entries_of};
-use shown_reports::document_reports;
 use source_store::{MapStore, Store};
 use std::alloc::{AllocError, Global};
 
@@ -47,16 +43,12 @@ pub fn read_baseline<S: Store>(
     ensures scopes { IfOk result (λ it. SaysScopes bytes.now it.says_scopes) }
     ensures kept { asked.new ≡ record asked.old { rules = None } }
 {
-    let (from, to, raw) = (asked.from, asked.to, asked.raw);
+    let from = asked.from;
     asked.rules = None;
     asked.from = InputForm::Auto;
-    asked.to = OutputForm::Document;
-    asked.raw = true;
-    let read = document_of(alloc, asked, bytes, store);
+    let finds = finds_of(alloc, asked, bytes, store);
     asked.from = from;
-    asked.to = to;
-    asked.raw = raw;
-    let findings = findings_of(alloc, root, is_lines(bytes), &read?)?;
+    let findings = entries_in(alloc, root, is_lines(bytes), &finds?)?;
     let says_scopes = says_scopes(alloc, bytes)?;
     Ok(Baseline {
         findings,
@@ -64,52 +56,35 @@ pub fn read_baseline<S: Store>(
     })
 }
 
-/// An input as a document.
-fn document_of<S: Store>(
-    alloc: Global,
-    asked: &Asked,
-    bytes: &[u8],
-    store: &S,
-) -> Result<Document, Fault>
-    ensures { IfOk result (IsRead (S.told store.now) asked.now bytes.now) }
-{
-    let made = made_of(alloc, asked, bytes, store)?;
-    match read_document(alloc, made.written.text.as_bytes())? {
-        Some(document) => Ok(document),
-        None => Err(no_form(alloc, "input is no document")),
-    }
-}
-
-/// What is made of an input with no more sources than it has itself.
-fn made_of<S: Store>(alloc: Global, asked: &Asked, bytes: &[u8], store: &S) -> Result<Made, Fault>
-    ensures { IfOk result (λ it. IsMadeOld (is_lines_input bytes.now) (S.told store.now) asked.now
-        bytes.now (string_bytes it.written.text) it.aside.items it.written.reached) }
+/// What an input has, with no more texts than it has itself.
+fn finds_of<S: Store>(alloc: Global, asked: &Asked, bytes: &[u8], store: &S) -> Result<Finds, Fault>
+    ensures { IfOk result (λ it. FindsItself (is_lines_input bytes.now) (S.told store.now) asked.now
+        bytes.now it.reports.found it.aside.items) }
 {
     let none = MapStore {
         listed: ListedSources::empty(alloc),
     };
     if is_lines(bytes) {
-        let made = list_old(alloc, asked, bytes, store, &none)?;
-        return Ok(made);
+        let finds = find_old(alloc, asked, bytes, store, &none)?;
+        return Ok(finds);
     }
-    let made = make(alloc, asked, bytes, &none)?;
-    Ok(made)
+    let finds = find(alloc, asked, bytes, &none)?;
+    Ok(finds)
 }
 
-/// The findings of a document.
-fn findings_of(
+/// The findings of reports.
+fn entries_in(
     alloc: Global,
     root: &Root,
     notes: bool,
-    document: &Document,
-) -> Result<Vec<Entry>, Fault>
-    ensures { IfOk result (λ entries. IsBaselineRead (string_bytes root.now.front) notes
-        document.now (map entry_parts entries.items)) }
+    finds: &Finds,
+) -> Result<Vec<Entry>, AllocError>
+    ensures { IfOk result (λ entries. map entry_parts entries.items
+        ≡ entries_are (string_bytes root.now.front) true notes finds.now.reports.found) }
 {
-    match document_reports(alloc, document) {
-        Ok(found) => Ok(entries_of(alloc, root, &found, notes, true)?),
-        Err(_) => Err(Fault::OutOfMemory),
-    }
+    let mut found = FoundReports::new(alloc);
+    finds.reports.append_to(alloc, &mut found)?;
+    entries_of(alloc, root, &found, notes, true)
 }
 
 /// Whether an input says scopes: only a document does.

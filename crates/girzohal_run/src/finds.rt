@@ -4,7 +4,7 @@ ghost use Rattle.found_reports.specs.Listed.{held_in};
 ghost use Rattle.tool_lines.specs.Lines.{piece_parts};
 ghost use Rattle.line_reports.specs.Pieces.{read_parts};
 ghost use Rattle.girzohal_run.specs.Finds.{FindsBraced, FindsLines, FindsNamed, FindsObject};
-ghost use Rattle.girzohal_run.specs.Finds.{FindsOther, FindsPieces, IsFound};
+ghost use Rattle.girzohal_run.specs.Finds.{FindsOld, FindsOther, FindsPieces, IsFound};
 ghost use Rattle.input_forms.specs.Begun.{begins_as as begins_so};
 ghost use Rattle.girzohal_run.specs.Logs.{IsNoLog, ReadsLog, log_columns as columns_meant};
 ghost use Rattle.girzohal_run.specs.Made.{HasCause, IsFree, IsNoObject, IsNoOther, IsNoneBraced};
@@ -130,6 +130,30 @@ fn find_lines<S: Store>(
     }
     let named = renamed(alloc, &names, &pieces)?;
     let finds = find_named(alloc, asked, store, sources, &lines, &named)?;
+    Ok(finds)
+}
+
+/// What lines have, with the texts of `store`, where the names of findings are sought in `places`.
+pub(crate) fn find_old<P: Store, S: Store>(
+    alloc: Global,
+    asked: &Asked,
+    bytes: &[u8],
+    places: &P,
+    store: &S,
+) -> Result<Finds, Fault>
+    ensures found { IfOk result (λ it. FindsOld (P.told places.now) (S.told store.now) asked.now
+        bytes.now it.reports.found it.aside.items) }
+    ensures cause { IfErr result IsFree }
+{
+    let text = without_paint(alloc, without_mark(bytes))?;
+    let lines = text_lines(alloc, &text)?;
+    let shapes = shapes_of(alloc, asked)?;
+    let pieces = pieces_of(alloc, &lines, &shapes)?;
+    let mut tried = ShownSources::empty(alloc);
+    let names = first_names(alloc, asked, places, &mut tried, &lines, &pieces)?;
+    let named = renamed(alloc, &names, &pieces)?;
+    let none = ShownSources::empty(alloc);
+    let finds = find_named(alloc, asked, store, none, &lines, &named)?;
     Ok(finds)
 }
 

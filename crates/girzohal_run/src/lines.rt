@@ -6,7 +6,7 @@ ghost use Rattle.line_reports.specs.Pieces.{read_parts};
 ghost use Rattle.drawn_lines.specs.Coming.{IsDrawn};
 ghost use Rattle.drawn_lines.specs.Named.{name_texts, renamed_by};
 ghost use Rattle.drawn_lines.specs.Text.{lines_in_text, without_lf as lf_less};
-ghost use Rattle.girzohal_run.specs.Lines.{AreSought, ListsLines, ListsNamed, ListsOld};
+ghost use Rattle.girzohal_run.specs.Lines.{AreSought, ListsLines, ListsNamed};
 ghost use Rattle.girzohal_run.specs.Lines.{MakesLines, WritesPieces};
 ghost use Rattle.girzohal_run.specs.Lines.{is_drawing as is_drawn};
 ghost use Rattle.girzohal_run.specs.Lines.{is_live as is_live_form, may_come as may_come_so};
@@ -139,30 +139,6 @@ fn list_lines<S: Store>(
     }
     let named = renamed(alloc, &names, &pieces)?;
     let made = list_named(alloc, asked, store, sources, &lines, &named)?;
-    Ok(made)
-}
-
-/// The same, with the texts of `store`, where the names of findings are sought in `places`.
-pub(crate) fn list_old<P: Store, S: Store>(
-    alloc: Global,
-    asked: &Asked,
-    bytes: &[u8],
-    places: &P,
-    store: &S,
-) -> Result<Made, Fault>
-    ensures made { IfOk result (λ it. ListsOld (P.told places.now) (S.told store.now) asked.now
-        bytes.now (string_bytes it.written.text) it.aside.items it.written.reached) }
-    ensures cause { IfErr result IsFree }
-{
-    let text = without_paint(alloc, without_mark(bytes))?;
-    let lines = text_lines(alloc, &text)?;
-    let shapes = shapes_of(alloc, asked)?;
-    let pieces = pieces_of(alloc, &lines, &shapes)?;
-    let mut tried = ShownSources::empty(alloc);
-    let names = first_names(alloc, asked, places, &mut tried, &lines, &pieces)?;
-    let named = renamed(alloc, &names, &pieces)?;
-    let none = ShownSources::empty(alloc);
-    let made = list_named(alloc, asked, store, none, &lines, &named)?;
     Ok(made)
 }
 
