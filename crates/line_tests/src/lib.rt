@@ -1,6 +1,6 @@
 //! Tests of lines that tools print: small tables, and callers that are proved from contracts
 //! alone, of `line_shapes`, `tool_lines`, `fed_lines`, `line_reports`, `problem_lines` and
-//! `problem_roundtrip`. What the program writes of lines is tried by `tools/tries/try_lines.py`.
+//! `finding_laws`. What the program writes of lines is tried by `tools/tries/try_lines.py`.
 #![tactic(auto)]
 
 #[cfg(test)]
@@ -8,12 +8,12 @@ mod callers;
 #[cfg(test)]
 mod of_fed_lines;
 #[cfg(test)]
+mod of_finding_laws;
+#[cfg(test)]
 mod of_line_reports;
 #[cfg(test)]
 mod of_line_shapes;
 #[cfg(test)]
 mod of_problem_lines;
-#[cfg(test)]
-mod of_problem_roundtrip;
 #[cfg(test)]
 mod of_tool_lines;

@@ -1,9 +1,0 @@
-pub mod GreedyLemmas
-pub mod OwnLemmas
-pub mod LongerLemmas
-pub mod RowLemmas
-pub mod FindingLemmas
-pub mod RoundLemmas
-pub mod LateLemmas
-pub mod OrderLemmas
-pub mod PartLemmas

@@ -1,7 +1,0 @@
-use Rattle.std.proofs.Common.{map}
-use Rattle.ci_formats.specs.Finding.{finding_parts}
-use Rattle.checkstyle_roundtrip.proofs.ToldLemmas.{told_alone}
-use Rattle.checkstyle_roundtrip.proofs.checkstyle_is_told.Goals as goal
-
-pub returns : goal.returns
-returns c = told_alone c.args._forms.now (map finding_parts c.args._findings.now)

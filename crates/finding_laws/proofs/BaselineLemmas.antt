@@ -1,0 +1,9 @@
+pub mod Greedy
+pub mod Own
+pub mod Longer
+pub mod Row
+pub mod Finding
+pub mod Round
+pub mod Late
+pub mod Order
+pub mod Part

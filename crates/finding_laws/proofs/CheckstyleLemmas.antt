@@ -1,0 +1,17 @@
+pub mod Run
+pub mod TextBack
+pub mod Held
+pub mod Attribute
+pub mod Children
+pub mod Value
+pub mod Blank
+pub mod Char
+pub mod Quiet
+pub mod Utf8
+pub mod Error
+pub mod File
+pub mod Document
+pub mod Told
+pub mod Part
+pub mod Spot
+pub mod Outcome

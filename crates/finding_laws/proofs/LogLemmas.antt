@@ -1,0 +1,13 @@
+pub mod Number
+pub mod List
+pub mod Part
+pub mod Result
+pub mod Rule
+pub mod Report
+pub mod ReadBack
+pub mod Small
+pub mod Row
+pub mod Span
+pub mod RulePlace
+pub mod LabelBack
+pub mod ReportBack

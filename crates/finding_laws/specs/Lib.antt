@@ -1,0 +1,4 @@
+pub mod Baselines
+pub mod Checkstyle
+pub mod Problems
+pub mod Logs

@@ -1,6 +1,0 @@
-use Rattle.oxc_protocol.specs.Info.{info_parts}
-use Rattle.problem_roundtrip.proofs.TextBackLemmas.{read_back}
-use Rattle.problem_roundtrip.proofs.problem_is_read_back.Goals as goal
-
-pub returns : goal.returns
-returns c = read_back (info_parts c.args._info.now) c.requires
