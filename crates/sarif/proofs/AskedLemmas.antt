@@ -18,8 +18,8 @@ use Rattle.found_reports.specs.Held.{Held}
 use Rattle.found_reports.specs.Names.{name_order}
 use Rattle.sarif_log.specs.declared.log.ColumnKind.{ColumnKind}
 use Rattle.sarif_log.specs.Log.{ArtifactLocation, Invocation, Location, Log, LogResult, Names, Notification, Run}
-use Rattle.sarif_findings.specs.Findings.{Finding, Spot, driver_strings, findings_in, found_by, found_in, is_finding, noted_by, noted_in, notes_of, spot_at, strings_of}
-use Rattle.sarif_findings.specs.Rules.{Strings}
+use Rattle.sarif.specs.Findings.{Finding, Spot, driver_strings, findings_in, found_by, found_in, is_finding, noted_by, noted_in, notes_of, spot_at, strings_of}
+use Rattle.sarif.specs.Rules.{Strings}
 use Rattle.sarif.specs.Asked.{DecideReports, Knows, and_name, and_names, asked_at, asked_by, finding_names, invocation_names, location_names, names_in, note_names, result_names, run_names, spot_names}
 use Rattle.sarif.specs.Labels.{Placed, placed}
 use Rattle.sarif.specs.Meaning.{finding_reports, reports_among, reports_in, run_reports}
@@ -47,6 +47,28 @@ once_more names i name once within here before =
 pub added_both : {Y : Type 0} (f : Y → List (List ℕ)) (start mid new : List (List ℕ)) (xs ys : List Y) → mid ≡ start ++ flat_map f xs → new ≡ mid ++ flat_map f ys → new ≡ start ++ flat_map f (xs ++ ys)
 added_both f start mid new xs ys first second =
     second ∙ ap (λ zs. zs ++ flat_map f ys) first ∙ append_assoc start (flat_map f xs) (flat_map f ys) ∙ ap (λ zs. start ++ zs) (sym (flat_map-append f xs ys))
+
+-- one item more
+pub one_item : {X Y : Type 0} (view : X → Y) (f : Y → List (List ℕ)) (start before after : List (List ℕ)) (its : List X) (i : ℕ) (it : X) → i < length its → it ≡ get_or its i it
+    → before ≡ start ++ flat_map f (map view (take i its)) → after ≡ before ++ f (view it) → after ≡ start ++ flat_map f (map view (take (i + 1) its))
+one_item view f start before after its i it within here first second =
+    let those = flat_map f (map view (take i its)) in
+    let one : take (i + 1) its ≡ take i its ++ it ∷ [] = take_more its i it within ∙ ap (λ x. take i its ++ x ∷ []) (sym here) in
+    let parts : flat_map f (map view (take (i + 1) its)) ≡ those ++ f (view it) =
+    ap (λ xs. flat_map f (map view xs)) one
+    ∙ ap (flat_map f) (map-append view (take i its) (it ∷ []))
+    ∙ flat_map-append f (map view (take i its)) (view it ∷ [])
+    ∙ ap (λ xs. those ++ xs) (append-nil (f (view it))) in
+    second ∙ ap (λ xs. xs ++ f (view it)) first ∙ append_assoc start those (f (view it)) ∙ ap (λ xs. start ++ xs) (sym parts)
+
+-- a result's names, if it is a finding
+pub result_named : (names : Names) (it : LogResult) → is_finding it ≡ true → result_names names it ≡ flat_map (location_names names) (it.locations ++ it.related)
+unfolding result_names
+result_named names it is = rw is refl
+
+pub result_unnamed : (names : Names) (it : LogResult) → is_finding it ≡ false → result_names names it ≡ []
+unfolding result_names
+result_unnamed names it none = rw none refl
 
 -- ---- names that are known
 
