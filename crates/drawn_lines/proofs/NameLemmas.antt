@@ -12,7 +12,7 @@ use Rattle.line_reports.proofs.NamesLemmas.{all_front, all_rest, asked_all, aske
 use Rattle.line_reports.proofs.PieceLemmas.{drop_on, lines_in}
 use Rattle.report_texts.specs.Texts.{first_drawings}
 use Rattle.ci_formats.specs.declared.format.CiFormat.TheVariants as ci
-use Rattle.ci_texts.specs.Texts.{ci_text}
+use Rattle.report_texts.specs.CiTexts.{ci_text}
 use Rattle.girzohal_options.specs.declared.Asked.{Asked}
 use Rattle.drawn_lines.specs.Lines.{annotates, columns_of, has_colors, in_place, kept_if, shown_of, still, written}
 

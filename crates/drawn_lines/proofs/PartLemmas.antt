@@ -20,7 +20,7 @@ use Rattle.line_reports.proofs.NamesLemmas.{never_aside}
 use Rattle.std.proofs.lemmas.Bool.{not-true}
 use Rattle.report_texts.specs.Texts.{drawing_of, drawings, drawn_count, first_drawings, look_of}
 use Rattle.ci_formats.specs.declared.format.CiFormat.TheVariants as ci
-use Rattle.ci_texts.specs.Texts.{ci_text}
+use Rattle.report_texts.specs.CiTexts.{ci_text}
 use Rattle.girzohal_options.specs.declared.Asked.{Asked}
 use Rattle.drawn_lines.specs.Lines.{annotates, columns_of, has_colors, in_place, kept_if, shown_of, still, written}
 use Rattle.drawn_lines.specs.Seam.{BarePieces, all_open, opens, says_aside, span}

@@ -8,7 +8,7 @@ use Rattle.harmless.specs.Harmless.{harmless}
 use Rattle.harmless.specs.Paint.{harmless_line}
 use Rattle.shown_reports.specs.Shown.{shown_text}
 use Rattle.ci_formats.specs.declared.format.CiFormat.TheVariants as ci
-use Rattle.ci_texts.specs.Texts.{ci_text}
+use Rattle.report_texts.specs.CiTexts.{ci_text}
 use Rattle.found_reports.specs.Held.{Held}
 use Rattle.found_reports.specs.Found.{Found}
 use Rattle.line_shapes.specs.declared.tools.Columns.{Columns}

@@ -1,7 +1,7 @@
 -- The page of reports.
 use Rattle.std.specs.Prelude.{ℕ, List, map}
 use Rattle.found_reports.specs.Kept.{FoundParts}
-use Rattle.ci_texts.specs.Texts.{findings_in}
+use Rattle.report_texts.specs.CiTexts.{findings_in}
 use Rattle.html_pages.specs.Page.{IsPage}
 use Rattle.report_texts.specs.Each.{page_look}
 use Rattle.report_texts.specs.Texts.{drawing_of}

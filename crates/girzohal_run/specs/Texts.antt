@@ -3,7 +3,7 @@ use Rattle.std.specs.Prelude.{◌≡◌, ℕ, List}
 use Rattle.found_reports.specs.Kept.{FoundParts}
 use Rattle.report_texts.specs.Texts.{IsDocumentText, IsSarifText, drawing_text, json_text, named_tool}
 use Rattle.ci_formats.specs.declared.format.CiFormat.TheVariants as ci
-use Rattle.ci_texts.specs.Texts.{ci_text, findings_in, gitlab_text}
+use Rattle.report_texts.specs.CiTexts.{ci_text, findings_in, gitlab_text}
 use Rattle.finding_summaries.specs.Markdown.{IsMarkdown}
 use Rattle.finding_summaries.specs.Summary.{IsSummary}
 use Rattle.girzohal_run.specs.Html.{IsReportPage}

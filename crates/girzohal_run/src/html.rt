@@ -4,11 +4,10 @@ ghost use Rattle.girzohal_run.specs.Html.{IsReportPage};
 ghost use Rattle.girzohal_run.specs.Made.{IsFree};
 
 use crate::fault::Fault;
-use ci_texts::found_findings;
 use found_reports::FoundReports;
 use girzohal_options::Asked;
 use html_pages::page_text;
-use report_texts::each_drawing;
+use report_texts::{each_drawing, found_findings};
 use std::alloc::Global;
 
 /// The page of the reports' findings, sanitized, with the drawing of each report.

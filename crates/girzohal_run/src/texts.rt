@@ -5,10 +5,12 @@ ghost use Rattle.girzohal_run.specs.Texts.{IsText};
 
 use crate::fault::Fault;
 use crate::html::html_text;
-use ci_texts::{CiFormat, ci_text, gitlab_text, markdown_text, summary_text};
 use found_reports::FoundReports;
 use girzohal_options::{Asked, OutputForm};
-use report_texts::{document_text, drawing_text, json_text, named_tool, sarif_text};
+use report_texts::{
+    CiFormat, ci_text, document_text, drawing_text, gitlab_text, json_text, markdown_text,
+    named_tool, sarif_text, summary_text,
+};
 use std::alloc::Global;
 
 /// The text of reports in the form that was asked for.

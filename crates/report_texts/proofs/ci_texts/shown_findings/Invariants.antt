@@ -1,8 +1,8 @@
 -- The findings before are there, and the others come next.
 use Rattle.std.proofs.Common.{◌≡◌, ◌++◌, drop, map}
 use Rattle.ci_formats.specs.Finding.{finding_parts}
-use Rattle.ci_texts.specs.Texts.{shown_finding}
-use Rattle.ci_texts.proofs.shown.shown_findings.Given as goal
+use Rattle.report_texts.specs.CiTexts.{shown_finding}
+use Rattle.report_texts.proofs.ci_texts.shown_findings.Given as goal
 
 abbrev pub invariant-loop-finding : goal.invariant-loop-finding
 invariant-loop-finding l =

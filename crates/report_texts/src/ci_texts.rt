@@ -4,9 +4,9 @@ ghost use Rattle.std.specs.Option.{option_copied};
 ghost use Rattle.ci_formats.specs.Finding.{finding_parts};
 ghost use Rattle.found_reports.specs.Listed.{held_in};
 ghost use Rattle.indexed_sources.specs.Indexed.{AreTold};
-ghost use Rattle.ci_texts.specs.Texts.{ci_text as ci_text_of, findings_in};
-ghost use Rattle.ci_texts.specs.Texts.{gitlab_text as gitlab_text_of};
-ghost use Rattle.ci_texts.specs.Texts.{shown_finding as finding_shown};
+ghost use Rattle.report_texts.specs.CiTexts.{ci_text as ci_text_of, findings_in};
+ghost use Rattle.report_texts.specs.CiTexts.{gitlab_text as gitlab_text_of};
+ghost use Rattle.report_texts.specs.CiTexts.{shown_finding as finding_shown};
 ghost use Rattle.finding_summaries.specs.Markdown.{IsMarkdown};
 ghost use Rattle.finding_summaries.specs.Summary.{IsSummary};
 
@@ -22,7 +22,7 @@ use std::alloc::{AllocError, Global};
 /// # Errors
 ///
 /// Out of memory.
-#[tactic(auto, unfolding(crate::specs::Texts::ci_text))]
+#[tactic(auto, unfolding(crate::specs::CiTexts::ci_text))]
 pub fn ci_text(
     alloc: Global,
     format: CiFormat,
@@ -41,7 +41,7 @@ pub fn ci_text(
 /// # Errors
 ///
 /// Out of memory.
-#[tactic(auto, unfolding(crate::specs::Texts::ci_text))]
+#[tactic(auto, unfolding(crate::specs::CiTexts::ci_text))]
 pub fn ci_text_on(
     alloc: Global,
     format: CiFormat,
@@ -63,7 +63,7 @@ pub fn ci_text_on(
 /// # Errors
 ///
 /// Out of memory.
-#[tactic(auto, unfolding(crate::specs::Texts::gitlab_text))]
+#[tactic(auto, unfolding(crate::specs::CiTexts::gitlab_text))]
 pub fn gitlab_text(
     alloc: Global,
     tool: Option<&str>,
@@ -146,7 +146,7 @@ fn shown_findings(
 }
 
 /// A finding with its texts sanitized.
-#[tactic(auto, unfolding(crate::specs::Texts::shown_finding))]
+#[tactic(auto, unfolding(crate::specs::CiTexts::shown_finding))]
 fn shown_finding(alloc: Global, raw: bool, finding: &Finding) -> Result<Finding, AllocError>
     ensures { IfOk result (λ shown. finding_parts shown
         ≡ finding_shown raw (finding_parts finding.now)) }
