@@ -21,3 +21,9 @@ either_ascii (x ∷ xs) (y ∷ ys) e h =
 -- ASCII behind ASCII
 pub more_ascii : (n m : ℕ) (bytes : List ℕ) → IsAscii (take n bytes) → IsAscii (take m (drop n bytes)) → IsAscii (take (n + m) bytes)
 more_ascii n m bytes front next = subst IsAscii (sym (take-add n m bytes)) (IsAscii-append _ _ front next)
+
+-- two halves of a block behind ASCII
+pub more_halves : (n : ℕ) (bytes : List ℕ) → IsAscii (take n bytes) → IsAscii (take 256 (drop n bytes)) → IsAscii (take 256 (drop (n + 256) bytes))
+    → IsAscii (take (n + 512) bytes)
+more_halves n bytes front first second =
+    subst (λ k. IsAscii (take k bytes)) (omega arith) (more_ascii (n + 256) 256 bytes (more_ascii n 256 bytes front first) second)

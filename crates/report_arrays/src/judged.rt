@@ -6,10 +6,11 @@ ghost use Rattle.report_arrays.specs.Labels.{has_labels};
 ghost use Rattle.report_arrays.specs.Wrong.{is_file, has_texts, is_report, is_label, wrong_file};
 ghost use Rattle.report_arrays.specs.Wrong.{wrong_report, wrong_label, wrong_in, wrong_of};
 
-use crate::bytes::as_text;
+use crate::bytes::is_utf8_by_parts;
 use crate::labels::has_labels;
 use crate::shapes::{File, Label, Report};
-use crate::texts::{is_filled, is_optional, is_short_text, is_text};
+use crate::texts::{is_filled, is_optional, is_text};
+use std::str::from_utf8_unchecked;
 
 /// The first wrong argument. The arrays are checked in this order, each in the order of its
 /// elements.
@@ -34,6 +35,7 @@ pub enum Wrong {
 ///
 /// The first wrong argument: the texts, then the files, the reports and the labels, whether a
 /// report names them or not. A label's range in its file's source isn't checked here.
+#[tactic(auto, unfolding(crate::specs::Wrong::wrong_in))]
 pub fn read_texts<'a>(
     texts: &'a [u8],
     files: &[File],
@@ -45,39 +47,23 @@ pub fn read_texts<'a>(
         (λ text. (text.now ≡ texts.now) × (wrong ≡ None))
         (λ first. wrong ≡ Some first) }
 {
-    let Some(text) = as_text(texts) else {
+    if !is_utf8_by_parts(texts) {
         return Err(Wrong::InTexts);
-    };
-    match first_wrong(text, files, reports, labels) {
-        None => Ok(text),
-        Some(wrong) => Err(wrong),
     }
-}
-
-#[tactic(auto, unfolding(crate::specs::Wrong::wrong_in))]
-fn first_wrong(texts: &str, files: &[File], reports: &[Report], labels: &[Label]) -> Option<Wrong>
-    ensures { result ≡ wrong_in texts.now files.now reports.now labels.now }
-{
-    if let Some(at) = wrong_file(texts, files) {
-        return Some(Wrong::InFile(at));
-    }
-    if let Some(at) = wrong_report(texts, files.len(), labels.len(), reports) {
-        return Some(Wrong::InReport(at));
-    }
-    match wrong_label(texts, labels) {
-        Some(at) => Some(Wrong::InLabel(at)),
-        None => None,
-    }
-}
-
-/// More than `u32::MAX` files are wrong as a whole: the last ones have no number.
-fn wrong_file(texts: &str, files: &[File]) -> Option<usize>
-    ensures { result ≡ wrong_file texts.now files.now }
-{
+    let text = unsafe { from_utf8_unchecked(texts) };
+    // the last ones of more files would have no number
     if files.len() > u32::MAX as usize {
-        Some(usize::MAX)
-    } else {
-        first_wrong_file(texts, files)
+        return Err(Wrong::InFile(usize::MAX));
+    }
+    if let Some(at) = first_wrong_file(text, files) {
+        return Err(Wrong::InFile(at));
+    }
+    if let Some(at) = wrong_report(text, files.len(), labels.len(), reports) {
+        return Err(Wrong::InReport(at));
+    }
+    match wrong_label(text, labels) {
+        Some(at) => Err(Wrong::InLabel(at)),
+        None => Ok(text),
     }
 }
 
@@ -103,10 +89,13 @@ fn wrong_label(texts: &str, labels: &[Label]) -> Option<usize>
         .position(|label| !is_optional(texts, label.text))
 }
 
+#[tactic(auto, unfolding(crate::specs::Texts::is_text))]
 fn is_file(texts: &str, file: &File) -> bool
     ensures { result ≡ is_file texts.now file.now }
 {
-    is_text(texts, file.name) && is_short_text(texts, file.source)
+    is_text(texts, file.name)
+        && is_text(texts, file.source)
+        && file.source.end - file.source.start < u32::MAX as usize
 }
 
 #[tactic(auto, unfolding(crate::specs::Wrong::is_report))]
@@ -115,17 +104,11 @@ fn is_report(texts: &str, files: usize, labels: usize, report: &Report) -> bool
 {
     (report.file as usize) < files
         && report.severity < 3
-        && has_texts(texts, report)
-        && has_labels(labels, report)
-}
-
-fn has_texts(texts: &str, report: &Report) -> bool
-    ensures { result ≡ has_texts texts.now report.now }
-{
-    is_text(texts, report.message)
+        && is_text(texts, report.message)
         && is_filled(texts, report.scope)
         && is_filled(texts, report.number)
         && is_optional(texts, report.help)
         && is_optional(texts, report.note)
         && is_optional(texts, report.url)
+        && has_labels(labels, report)
 }

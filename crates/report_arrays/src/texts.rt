@@ -2,7 +2,7 @@
 ghost use Rattle.std.specs.Prelude.{◌≡◌, ◌≤◌, length};
 ghost use Rattle.std.specs.Option.{option_copied};
 ghost use Rattle.report_arrays.specs.Texts.{is_boundary, is_text, is_none, is_optional, is_filled};
-ghost use Rattle.report_arrays.specs.Texts.{is_short_text, text_of, optional_of};
+ghost use Rattle.report_arrays.specs.Texts.{text_of, optional_of};
 
 use crate::shapes::Text;
 
@@ -48,14 +48,6 @@ pub(crate) fn is_filled(texts: &str, range: Text) -> bool
     ensures { result ≡ is_filled texts.now range }
 {
     is_none(range) || is_text(texts, range) && range.start < range.end
-}
-
-/// Whether it is a text of fewer than `u32::MAX` bytes.
-#[tactic(auto, unfolding(crate::specs::Texts::is_text))]
-pub(crate) fn is_short_text(texts: &str, range: Text) -> bool
-    ensures { result ≡ is_short_text texts.now range }
-{
-    is_text(texts, range) && range.end - range.start < u32::MAX as usize
 }
 
 /// The text at a range; the empty text if the range is wrong.
