@@ -8,7 +8,7 @@ use Rattle.report_arrays.specs.declared.shapes.Label.{Label}
 use Rattle.report_arrays.specs.Wrong.{wrong_of}
 use Rattle.render_files.specs.Given.{GivenReport}
 use Rattle.documents.specs.Document.{Document, document_of}
-use Rattle.array_texts.specs.Values.{named, report as report_of}
+use Rattle.report_arrays.specs.Values.{named, report as report_of}
 use Rattle.girzohal_c.specs.declared.shapes.Look.{Look}
 use Rattle.girzohal_c.specs.declared.drawing.Argument.{Argument}
 use Rattle.girzohal_c.specs.declared.drawing.Argument.TheVariants.{InAbi, InArrays, InLook}

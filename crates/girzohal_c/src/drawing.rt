@@ -1,7 +1,7 @@
 // The text of what the arguments mean, or the reason that there is none.
 ghost use Rattle.std.specs.Prelude.{map};
 ghost use Rattle.render_files.specs.Given.{given_report};
-ghost use Rattle.array_texts.specs.Values.{named, report as report_of};
+ghost use Rattle.report_arrays.specs.Values.{named, report as report_of};
 ghost use Rattle.girzohal_c.specs.Meaning.{arrays, document_meaning, meaning};
 ghost use Rattle.girzohal_c.specs.Replies.{IsTextOf, Makes};
 
@@ -9,11 +9,10 @@ use crate::abi::is_right;
 use crate::shapes::Look;
 use crate::style::{Form, Style, style_of};
 use crate::values::{files_of, reports_of};
-use array_texts::arrays_text;
 use codespan::Files;
 use documents::read_document;
 use render_files::{FileReport, ReportError, files_json, files_text};
-use report_arrays::{File, Label, Report, Wrong, read_texts};
+use report_arrays::{File, Label, Report, Wrong, arrays_text, read_texts};
 use std::alloc::Global;
 
 /// A wrong argument.

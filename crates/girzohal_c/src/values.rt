@@ -6,8 +6,8 @@ ghost use Rattle.report_arrays.specs.Texts.{text_of, optional_of};
 ghost use Rattle.report_arrays.specs.Labels.{labels_of};
 ghost use Rattle.oxc_protocol.specs.Views.{inner_parts};
 ghost use Rattle.render_files.specs.Given.{given_label, given_report};
-ghost use Rattle.array_texts.specs.Values.{named, label as label_of, severity as severity_of, said};
-ghost use Rattle.array_texts.specs.Values.{report as report_of};
+ghost use Rattle.report_arrays.specs.Values.{named, label as label_of, severity as severity_of, said};
+ghost use Rattle.report_arrays.specs.Values.{report as report_of};
 
 use codespan::{FileId, Files};
 use oxc_protocol::{Labels, OxcCode, OxcDiagnostic, OxcDiagnosticInner, Severity};
@@ -64,7 +64,7 @@ pub(crate) fn reports_of(
     Ok(made)
 }
 
-#[tactic(auto, unfolding(array_texts::specs::Values::report))]
+#[tactic(auto, unfolding(report_arrays::specs::Values::report))]
 fn report_of(
     alloc: Global,
     texts: &str,

@@ -1,3 +1,4 @@
 pub mod Texts
 pub mod Labels
 pub mod Wrong
+pub mod Values

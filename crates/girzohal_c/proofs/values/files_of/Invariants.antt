@@ -1,6 +1,6 @@
 -- The files so far and those to come are all files.
 use Rattle.std.proofs.Common.{◌≡◌, ◌++◌, drop, map}
-use Rattle.array_texts.specs.Values.{named}
+use Rattle.report_arrays.specs.Values.{named}
 use Rattle.girzohal_c.proofs.values.files_of.Given as goal
 
 abbrev pub invariant-loop-file : goal.invariant-loop-file

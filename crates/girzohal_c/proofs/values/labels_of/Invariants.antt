@@ -1,7 +1,7 @@
 -- The labels so far and those to come are all labels.
 use Rattle.std.proofs.Common.{◌≡◌, ◌++◌, drop, map}
 use Rattle.render_files.specs.Given.{given_label}
-use Rattle.array_texts.specs.Values.{label}
+use Rattle.report_arrays.specs.Values.{label}
 use Rattle.girzohal_c.proofs.values.labels_of.Given as goal
 
 abbrev pub invariant-loop-label : goal.invariant-loop-label

@@ -1,7 +1,7 @@
 -- The reports so far and those to come are all reports.
 use Rattle.std.proofs.Common.{◌≡◌, ◌++◌, drop, map}
 use Rattle.render_files.specs.Given.{given_report}
-use Rattle.array_texts.specs.Values.{report}
+use Rattle.report_arrays.specs.Values.{report}
 use Rattle.girzohal_c.proofs.values.reports_of.Given as goal
 
 abbrev pub invariant-loop-report : goal.invariant-loop-report

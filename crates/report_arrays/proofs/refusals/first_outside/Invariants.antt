@@ -1,0 +1,10 @@
+-- No label so far is at fault.
+use Rattle.std.proofs.Common.{◌≡◌, drop, map}
+use Rattle.render_files.specs.Refusal.{first_at, outside}
+use Rattle.report_arrays.specs.Values.{label}
+use Rattle.report_arrays.proofs.refusals.first_outside.Given as goal
+
+abbrev pub invariant-loop-at : goal.invariant-loop-at
+invariant-loop-at l =
+    first_at (outside l.source l.report) l.at (map (label l.texts) (drop l.at l.labels))
+    ≡ first_at (outside l.source l.report) 0 (map (label l.texts) l.labels)
