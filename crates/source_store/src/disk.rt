@@ -99,7 +99,12 @@ fn read_file<R: Files>(rt: &R, alloc: Global, path: &str) -> Fetched {
     let mut chunk = [0u8; CHUNK];
     for _ in 0..u64::MAX {
         match file.read(&mut chunk) {
-            Ok(0) => return text_of(bytes),
+            Ok(0) => {
+                return match String::from_utf8(bytes) {
+                    Ok(text) => Fetched::Text(text),
+                    Err(_) => Fetched::Lacking(Lack::NoText),
+                };
+            }
             Ok(count) => {
                 if count > LIMIT.saturating_sub(bytes.len()) {
                     return Fetched::Lacking(Lack::TooLong);
@@ -113,12 +118,4 @@ fn read_file<R: Files>(rt: &R, alloc: Global, path: &str) -> Fetched {
         }
     }
     Fetched::Lacking(Lack::Unreadable)
-}
-
-/// The text that bytes are.
-fn text_of(bytes: Vec<u8>) -> Fetched {
-    match String::from_utf8(bytes) {
-        Ok(text) => Fetched::Text(text),
-        Err(_) => Fetched::Lacking(Lack::NoText),
-    }
 }

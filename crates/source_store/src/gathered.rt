@@ -86,25 +86,12 @@ fn add<S: Store, L: SourceList>(
         (L.entries sources.new) name.now) }
 {
     if !sources.is_listed(name) {
-        sources.push(alloc, source_of(alloc, store, spelling, name)?)?;
+        let path = path_in(alloc, spelling, name)?;
+        let text = kept(alloc, store, &path)?;
+        let name = String::from_str(alloc, name)?;
+        sources.push(alloc, Source { name, text })?;
     }
     Ok(())
-}
-
-/// The source of a name.
-fn source_of<S: Store>(
-    alloc: Global,
-    store: &S,
-    spelling: Spelling,
-    name: &str,
-) -> Result<Source, AllocError>
-    ensures name { IfOk result (λ source. string_bytes source.name ≡ name.now) }
-    ensures told { IfOk result (MeetsTold (S.told store.now) spelling) }
-{
-    let path = path_in(alloc, spelling, name)?;
-    let text = kept(alloc, store, &path)?;
-    let name = String::from_str(alloc, name)?;
-    Ok(Source { name, text })
 }
 
 /// The source of a path, or of none.

@@ -1,7 +1,7 @@
 // Which names mean a file.
-ghost use Rattle.std.specs.Prelude.{◌≡◌, ◌≤◌, IfOk, length};
+ghost use Rattle.std.specs.Prelude.{◌≡◌, IfOk};
 ghost use Rattle.source_store.specs.Matching.{is_named as is_named_by, means_file as file_meant};
-ghost use Rattle.source_store.specs.Matching.{plain_name, stands_apart};
+ghost use Rattle.source_store.specs.Matching.{plain_name};
 
 use crate::named::{Spelling, path_in};
 use std::alloc::{AllocError, Global};
@@ -36,15 +36,7 @@ pub fn is_named(path: &[u8], name: &[u8]) -> bool
     !name.is_empty()
         && name.len() <= path.len()
         && path.ends_with(name)
-        && is_apart(path, name.len())
-}
-
-/// Whether the last `len` bytes of a path are all of it or come after a slash.
-fn is_apart(path: &[u8], len: usize) -> bool
-    requires { len ≤ length path.now }
-    ensures { result ≡ stands_apart path.now len }
-{
-    path.len() == len || path[path.len() - len - 1] == b'/'
+        && (path.len() == name.len() || path[path.len() - name.len() - 1] == b'/')
 }
 
 /// A name without the `./` before it.

@@ -1,10 +1,8 @@
 // The path that a name in a tool's output means.
-ghost use Rattle.std.specs.Prelude.{◌≡◌, IfOk, unwrap_or};
+ghost use Rattle.std.specs.Prelude.{◌≡◌, IfOk};
 ghost use Rattle.std.specs.Option.{option_copied};
-ghost use Rattle.source_store.specs.Named.{absolute as absolute_in, behind as behind_front};
-ghost use Rattle.source_store.specs.Named.{decoded as decoded_of, file_path as file_path_of};
-ghost use Rattle.source_store.specs.Named.{path_in as path_meant, spelled as spelled_as};
-ghost use Rattle.source_store.specs.Named.{without_host as hostless};
+ghost use Rattle.source_store.specs.Named.{behind as behind_front, decoded as decoded_of};
+ghost use Rattle.source_store.specs.Named.{file_path as file_path_of, path_in as path_meant};
 ghost use Rattle.source_store.specs.Place.{text_bytes};
 
 use percent_encoding::percent_decode;
@@ -12,7 +10,7 @@ use std::alloc::{AllocError, Global};
 use std::str;
 
 /// How a tool spells the names of files.
-#[derive(Clone, Copy, PartialEq, Eq)]
+#[derive(Clone, Copy)]
 pub enum Spelling {
     /// As paths: without escapes.
     Path,
@@ -36,17 +34,10 @@ pub fn path_in(alloc: Global, spelling: Spelling, name: &str) -> Result<Option<S
             Some(path) => decoded(alloc, path),
             None => Ok(None),
         },
-        None => spelled(alloc, spelling, name),
-    }
-}
-
-/// A name that is no `file:` URI, as a path.
-fn spelled(alloc: Global, spelling: Spelling, name: &str) -> Result<Option<String>, AllocError>
-    ensures { IfOk result (λ path. text_bytes path ≡ spelled_as spelling name.now) }
-{
-    match spelling {
-        Spelling::Path => Ok(Some(String::from_str(alloc, name)?)),
-        Spelling::Uri => decoded(alloc, name.as_bytes()),
+        None => match spelling {
+            Spelling::Path => Ok(Some(String::from_str(alloc, name)?)),
+            Spelling::Uri => decoded(alloc, name.as_bytes()),
+        },
     }
 }
 
@@ -56,28 +47,12 @@ fn spelled(alloc: Global, spelling: Spelling, name: &str) -> Result<Option<Strin
 fn file_path(rest: &[u8]) -> Option<&[u8]>
     ensures { option_copied result ≡ file_path_of rest.now }
 {
-    match behind(rest, b"//") {
-        Some(hosted) => absolute(without_host(hosted)),
-        None => Some(rest),
-    }
-}
-
-/// A text without the name of this machine before it.
-fn without_host(text: &[u8]) -> &[u8]
-    ensures { result.now ≡ hostless text.now }
-{
-    match behind(text, b"localhost") {
-        Some(rest) => rest,
-        None => text,
-    }
-}
-
-/// A text that begins with a slash.
-fn absolute(text: &[u8]) -> Option<&[u8]>
-    ensures { option_copied result ≡ absolute_in text.now }
-{
-    if text.first() == Some(&b'/') {
-        Some(text)
+    let Some(hosted) = behind(rest, b"//") else {
+        return Some(rest);
+    };
+    let path = behind(hosted, b"localhost").unwrap_or(hosted);
+    if path.first() == Some(&b'/') {
+        Some(path)
     } else {
         None
     }

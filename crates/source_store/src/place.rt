@@ -1,12 +1,9 @@
 // Where a path leads.
-ghost use Rattle.std.specs.Prelude.{◌≡◌, ◌++◌, ◌∷◌, [], map, IfOk, IfSome, OnOk, true, false, string_bytes};
-ghost use Rattle.std.specs.Option.{option_copied};
-ghost use Rattle.std.specs.List.{list_any, slice_split};
+ghost use Rattle.std.specs.Prelude.{◌≡◌, map, IfOk, IfSome, OnOk, false, string_bytes};
+ghost use Rattle.std.specs.List.{list_any};
 ghost use Rattle.source_store.specs.Place.{IsBelow, begins_with as begins_with_parts, entered};
-ghost use Rattle.source_store.specs.Place.{goes_up as goes_up_by, is_absolute as begins_at_slash};
-ghost use Rattle.source_store.specs.Place.{is_end, is_line as is_one_line};
-ghost use Rattle.source_store.specs.Place.{left, located as located_at, parts_of, path_of, resolved};
-ghost use Rattle.source_store.specs.Place.{stays as stays_by, text_bytes, walked};
+ghost use Rattle.source_store.specs.Place.{is_end, is_line as is_one_line, located as located_at};
+ghost use Rattle.source_store.specs.Place.{parts_of, path_of, resolved, text_bytes, walked};
 
 use std::alloc::{AllocError, Global};
 
@@ -70,19 +67,12 @@ fn resolve<'a>(alloc: Global, root: &'a str, path: &'a str) -> Result<Vec<&'a st
     ensures { IfOk result (λ parts. map (λ part. part.now) parts.items
         ≡ resolved root.entry.now path.entry.now) }
 {
-    if is_absolute(path) {
+    if path.as_bytes().first() == Some(&b'/') {
         walk(alloc, Vec::new(alloc), path)
     } else {
         let top = walk(alloc, Vec::new(alloc), root)?;
         walk(alloc, top, path)
     }
-}
-
-/// Whether a path begins at the top.
-fn is_absolute(path: &str) -> bool
-    ensures { result ≡ begins_at_slash path.now }
-{
-    path.as_bytes().first() == Some(&b'/')
 }
 
 /// The parts of the absolute path of a path from a folder.
@@ -107,51 +97,20 @@ fn cut<'a>(alloc: Global, path: &'a str) -> Result<Vec<&'a str>, AllocError>
 }
 
 /// Goes from a folder on by one part of a path.
-#[tactic(auto, unfolding(crate::specs::Place::entered))]
+#[tactic(auto, unfolding(crate::specs::Place::entered), using(crate::proofs::PlaceLemmas::map_left, crate::proofs::PlaceLemmas::map_added))]
 fn enter<'a>(at: &mut Vec<&'a str>, part: &'a str) -> Result<(), AllocError>
     ensures { OnOk result (map (λ part. part.now) at.new.items
         ≡ entered (map (λ part. part.now) at.old.items) part.entry.now) }
 {
-    if stays(part) {
+    if part.is_empty() || part == "." {
         Ok(())
-    } else if goes_up(part) {
-        leave(at);
+    } else if part == ".." {
+        let _last = at.pop();
         Ok(())
     } else {
-        add(at, part)
+        at.push(part)?;
+        Ok(())
     }
-}
-
-/// Whether a part leads nowhere.
-fn stays(part: &str) -> bool
-    ensures { result ≡ stays_by part.now }
-{
-    part.is_empty() || part == "."
-}
-
-/// Whether a part leads to the parent folder.
-fn goes_up(part: &str) -> bool
-    ensures { result ≡ goes_up_by part.now }
-{
-    part == ".."
-}
-
-/// Drops the last part.
-#[tactic(auto, using(crate::proofs::PlaceLemmas::map_left))]
-fn leave(at: &mut Vec<&str>)
-    ensures { map (λ part. part.now) at.new.items ≡ left (map (λ part. part.now) at.old.items) }
-{
-    let _last = at.pop();
-}
-
-/// Appends a part.
-#[tactic(auto, using(crate::proofs::PlaceLemmas::map_added))]
-fn add<'a>(at: &mut Vec<&'a str>, part: &'a str) -> Result<(), AllocError>
-    ensures { OnOk result (map (λ part. part.now) at.new.items
-        ≡ map (λ part. part.now) at.old.items ++ part.entry.now ∷ []) }
-{
-    at.push(part)?;
-    Ok(())
 }
 
 /// Whether the first parts of a path are those of a folder.
