@@ -12,7 +12,7 @@ import re
 import sys
 
 TOP = os.path.dirname(os.path.dirname(os.path.abspath(__file__)))
-APART = r"excerpt\w*|json_\w+|xml_\w+|build_dirs|changed_rows|finding_filters|filtered_findings|report_filters|html_pages|finding_summaries|whole_files"
+APART = r"excerpt\w*|json_\w+|xml_\w+|build_dirs|changed_rows|finding_filters|filtered_findings|report_filters|html_pages|finding_summaries"
 MOST = {"functions": 2200, "derives": 800, "crates": 50, "functions on the way": 25, "crates on the way": 15, "functions on the way that aren't there": 0}
 
 

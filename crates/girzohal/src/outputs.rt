@@ -5,10 +5,9 @@ use girzohal_options::{Asked, Output, OutputForm, ThemeChoice};
 use girzohal_run::{Input, Made, Status, Wanted, run_each, run_several};
 use harmless::{Kind, harmless};
 use oxc_protocol::write_all;
-use source_store::DiskStore;
+use source_store::{DiskStore, Text, WriteError, replace_all};
 use std::alloc::{AllocError, Global};
 use std::process::ExitCode;
-use whole_files::{Text, WriteError, replace_all};
 
 /// Whether an output is a file.
 pub(crate) fn has_files(asked: &Asked) -> bool {

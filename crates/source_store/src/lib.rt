@@ -1,4 +1,4 @@
-//! Where the texts of sources come from.
+//! Texts read from files, and files written whole.
 //!
 //! - [`Store`]: the text of a path, or why it has none. [`MapStore`] has texts in memory,
 //!   [`DiskStore`] reads the files below a folder.
@@ -8,6 +8,7 @@
 //! - [`gather`]: the sources of many names; [`gather_indexed`]: with the indexes of their rows;
 //!   [`gather_more`]: of more names.
 //! - [`locate`]: the absolute path of a path from a folder, resolved in the text.
+//! - [`replace_all`]: writes texts to files, all or none as far as the disk lets it.
 #![tactic(auto)]
 
 mod disk;
@@ -17,6 +18,7 @@ mod map;
 mod matching;
 mod named;
 mod place;
+mod written;
 
 pub use disk::DiskStore;
 pub use fetched::{Fetched, Store};
@@ -25,3 +27,4 @@ pub use map::MapStore;
 pub use matching::{is_named, means_file};
 pub use named::{Spelling, path_in};
 pub use place::locate;
+pub use written::{Text, WriteError, replace_all};

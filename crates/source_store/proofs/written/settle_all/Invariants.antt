@@ -1,6 +1,6 @@
 use Rattle.std.proofs.Common.{length}
 use Rattle.std.specs.Prelude.{⊤}
-use Rattle.whole_files.proofs.settle_all.Given as goal
+use Rattle.source_store.proofs.written.settle_all.Given as goal
 
 abbrev pub invariant-loop-rest : goal.invariant-loop-rest
 invariant-loop-rest g l = ⊤

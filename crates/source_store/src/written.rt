@@ -1,8 +1,4 @@
-//! Files that are written whole, or stay as they were.
-//!
-//! - [`replace_all`]: writes texts to files, all or none as far as the disk lets it.
-#![tactic(auto)]
-
+// Files that are written whole, or stay as they were.
 use std::alloc::{AllocError, Global};
 use std::fs::{self, Files, OpenOptions};
 use std::io::{ErrorKind, Write};
@@ -30,7 +26,7 @@ pub enum WriteError<'a> {
 
 impl<'a> From<AllocError> for WriteError<'a> {
     ghost use Rattle.std.specs.Prelude.{◌≡◌};
-    ghost use Rattle.whole_files.specs.declared.WriteError.TheVariants.{OutOfMemory};
+    ghost use Rattle.source_store.specs.declared.written.WriteError.TheVariants.{OutOfMemory};
 
     ghost from_gives = { λ _ error. error ≡ OutOfMemory };
 
@@ -94,7 +90,11 @@ fn draft_of<'a, R: Files>(
     rt: &R,
     text: Text<'a>,
 ) -> Result<Draft<'a>, WriteError<'a>> {
-    let target = target_of(alloc, rt, text.path)?;
+    // through links
+    let target = match rt.canonicalize(alloc, text.path) {
+        Ok(real) => real.into_string(),
+        Err(_) => String::from_str(alloc, text.path)?,
+    };
     let beside = match rt.metadata(target.as_str()) {
         Ok(about) if about.is_dir() => return Err(WriteError::File(text.path)),
         Ok(about) if !about.is_file() => None,
@@ -105,14 +105,6 @@ fn draft_of<'a, R: Files>(
         target,
         beside,
     })
-}
-
-/// The file that a path leads to, through links.
-fn target_of<R: Files>(alloc: Global, rt: &R, path: &str) -> Result<String, AllocError> {
-    match rt.canonicalize(alloc, path) {
-        Ok(real) => Ok(real.into_string()),
-        Err(_) => String::from_str(alloc, path),
-    }
 }
 
 /// Writes a text to a new file beside its file, and returns the path of the new one.
@@ -147,21 +139,18 @@ fn write_beside<'a, R: Files>(
 fn settle_all<'a, R: Files>(rt: &R, drafts: &[Draft<'a>]) -> Result<(), WriteError<'a>> {
     let mut rest = drafts;
     while let [draft, more @ ..] = rest {
-        if !settle(rt, draft) {
+        let target = draft.target.as_str();
+        let settled = match &draft.beside {
+            Some(beside) => rt.rename(beside.as_str(), target).is_ok(),
+            None => fs::write(rt, target, draft.text.text).is_ok(),
+        };
+        if !settled {
             remove_all(rt, rest);
             return Err(WriteError::File(draft.text.path));
         }
         rest = more;
     }
     Ok(())
-}
-
-/// Puts a text into its file, and returns whether it is there.
-fn settle<R: Files>(rt: &R, draft: &Draft<'_>) -> bool {
-    match &draft.beside {
-        Some(beside) => rt.rename(beside.as_str(), draft.target.as_str()).is_ok(),
-        None => fs::write(rt, draft.target.as_str(), draft.text.text).is_ok(),
-    }
 }
 
 /// Removes the files that were written beside others.
