@@ -20,6 +20,9 @@ use oxc_protocol::{LabeledSpan, Severity, SourceRef};
 use render_files::ReportError;
 use std::alloc::{AllocError, Global};
 
+/// How many bytes are reserved for each drawing.
+const GUESS: usize = 256;
+
 /// The drawings of the reports in arrays, one after another.
 ///
 /// Every number means something, so the arrays have no condition. A source of `u32::MAX` bytes or
@@ -48,9 +51,6 @@ pub fn arrays_text(
     }
 }
 
-/// How many bytes are reserved for each drawing.
-const GUESS: usize = 256;
-
 /// The drawings of reports without errors.
 fn draw_all(
     alloc: Global,
@@ -65,7 +65,7 @@ fn draw_all(
     ensures { IfOk result (λ text. string_bytes text ≡ drawn_reports handler.now sources.now
         (map (report_of texts.now labels.now) reports.now)) }
 {
-    let mut readers = readers_for(alloc, sources, reports, labels)?;
+    let mut readers = Readers::new(alloc, sources, reports, labels)?;
     let mut text = String::with_capacity(alloc, reports.len().saturating_mul(GUESS))?;
     for report in reports {
         push_drawing(
@@ -80,25 +80,6 @@ fn draw_all(
         )?;
     }
     Ok(text)
-}
-
-/// Readers that know where the labels of reports start.
-fn readers_for<'a>(
-    alloc: Global,
-    sources: &'a Sources<'a>,
-    reports: &[Report],
-    labels: &[Label],
-) -> Result<Readers<'a>, AllocError>
-    ensures { IfOk result (λ readers. readers ≡ sources.now) }
-{
-    let mut readers = Readers::new(alloc, sources);
-    for report in reports {
-        let labels = report_labels(labels, report);
-        if let Some(start) = labels.iter().map(|label| label.start).min() {
-            readers.tell(report.file, start)?;
-        }
-    }
-    Ok(readers)
 }
 
 /// Appends the drawing of a report without an error. A source of `u32::MAX` bytes or more, which
@@ -159,7 +140,8 @@ fn code_of(alloc: Global, texts: &str, report: &Report) -> Result<Option<String>
     Ok(Some(code))
 }
 
-fn severity_of(number: u32) -> Severity
+/// The severity that a number stands for; checked arrays have none above 2.
+pub(crate) fn severity_of(number: u32) -> Severity
     ensures { result ≡ severity_by number }
 {
     match number {

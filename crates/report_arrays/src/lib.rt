@@ -3,9 +3,9 @@
 //!
 //! Callers in C pass numbers. All texts are in one buffer of bytes; files, reports and labels have
 //! ranges of it. [`read_texts`] checks the arrays. [`text`], [`optional_text`] and
-//! [`report_labels`] read them, and [`arrays_text`] returns what `render_files` would draw of them,
-//! with the same errors, and copies only the texts of labels and the codes. Every number means
-//! something, so these calls have no condition.
+//! [`report_labels`] read them. [`arrays_text`] and [`arrays_json`] return what `render_files` would
+//! draw of them, or write as JSON, with the same errors. Every number means something, so these
+//! calls have no condition.
 //!
 //! Modules, in the order in which data uses them:
 //!
@@ -18,10 +18,12 @@
 //! - `refusals`: the first report with an error;
 //! - `spans`: labels at their offsets;
 //! - `readers`: reports drawn by one scanner for each file;
-//! - `drawn`: the drawings of all reports.
+//! - `drawn`: the drawings of all reports: only texts of labels and codes are copied;
+//! - `copied`: files and reports, copied and written as JSON.
 #![tactic(auto)]
 
 mod bytes;
+mod copied;
 mod drawn;
 mod judged;
 mod labels;
@@ -32,6 +34,7 @@ mod sources;
 mod spans;
 mod texts;
 
+pub use crate::copied::arrays_json;
 pub use crate::drawn::arrays_text;
 pub use crate::judged::{Wrong, read_texts};
 pub use crate::labels::report_labels;

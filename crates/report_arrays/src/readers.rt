@@ -6,6 +6,8 @@ ghost use Rattle.oxc_span.specs.Label.{label_end};
 ghost use Rattle.oxc_handlers.specs.Report.{drawn, plan_of, view_parts};
 ghost use Rattle.render_files.specs.Readers.{Reads};
 
+use crate::labels::report_labels;
+use crate::shapes::{Label, Report};
 use crate::sources::Sources;
 use oxc_handlers::{DiagnosticView, GraphicalReportHandler};
 use oxc_span::Span;
@@ -41,28 +43,32 @@ impl<'a> Model for Readers<'a> {
 }
 
 impl<'a> Readers<'a> {
-    /// No scanner is made yet.
-    pub(crate) fn new(alloc: Global, sources: &'a Sources<'a>) -> Self
-        ensures { result ≡ sources.now }
+    /// Readers that know where the labels of reports start. No scanner is made yet.
+    pub(crate) fn new(
+        alloc: Global,
+        sources: &'a Sources<'a>,
+        reports: &[Report],
+        labels: &[Label],
+    ) -> Result<Self, AllocError>
+        ensures { IfOk result (λ readers. readers ≡ sources.now) }
     {
-        Readers {
+        let mut starts = BTreeMap::new(alloc);
+        for report in reports {
+            let labels = report_labels(labels, report);
+            if let Some(start) = labels.iter().map(|label| label.start).min() {
+                let least = match starts.get(&report.file) {
+                    Some(least) => start.min(*least),
+                    None => start,
+                };
+                starts.insert(report.file, least)?;
+            }
+        }
+        Ok(Readers {
             sources,
-            starts: BTreeMap::new(alloc),
+            starts,
             scanners: BTreeMap::new(alloc),
             alloc,
-        }
-    }
-
-    /// Notes that a label of a file starts there.
-    pub(crate) fn tell(&mut self, file: u32, start: u32) -> Result<(), AllocError>
-        ensures { self.new ≡ self.old }
-    {
-        let least = match self.starts.get(&file) {
-            Some(least) => start.min(*least),
-            None => start,
-        };
-        self.starts.insert(file, least)?;
-        Ok(())
+        })
     }
 
     /// Appends the drawing of a report on a file.

@@ -7,7 +7,7 @@ ghost use Rattle.render_files.specs.Refusal.{refusal_in as in_report, reversed a
 use crate::labels::report_labels;
 use crate::shapes::{Label, Report};
 use crate::sources::Sources;
-use crate::spans::{end_of, start_of};
+use crate::spans::boundary_at;
 use render_files::ReportError;
 
 /// The error of the first report that has one.
@@ -55,34 +55,22 @@ fn first_outside(source: &str, texts: &str, report: usize, labels: &[Label]) -> 
         (map (label_of texts.now) labels.now) }
 {
     for (at, label) in labels.iter().enumerate() {
-        if let Some(refusal) = outside(source, texts, report, at, label) {
-            return Some(refusal);
+        if boundary_at(source, label.start).is_none() {
+            return Some(ReportError::PositionOutside {
+                report,
+                label: at,
+                at_end: false,
+            });
+        }
+        if boundary_at(source, label.end).is_none() {
+            return Some(ReportError::PositionOutside {
+                report,
+                label: at,
+                at_end: true,
+            });
         }
     }
     None
-}
-
-fn outside(
-    source: &str,
-    texts: &str,
-    report: usize,
-    at: usize,
-    label: &Label,
-) -> Option<ReportError>
-    ensures { result ≡ outside_of source.now report at (label_of texts.now label.now) }
-{
-    let at_end = if start_of(source, label).is_none() {
-        false
-    } else if end_of(source, label).is_none() {
-        true
-    } else {
-        return None;
-    };
-    Some(ReportError::PositionOutside {
-        report,
-        label: at,
-        at_end,
-    })
 }
 
 /// The first label that ends before it starts.
@@ -91,31 +79,16 @@ fn first_reversed(source: &str, texts: &str, report: usize, labels: &[Label]) ->
         (map (label_of texts.now) labels.now) }
 {
     for (at, label) in labels.iter().enumerate() {
-        if let Some(refusal) = reversed(source, texts, report, at, label) {
-            return Some(refusal);
+        let start = boundary_at(source, label.start).unwrap_or(0);
+        let end = boundary_at(source, label.end).unwrap_or(0);
+        if end < start {
+            return Some(ReportError::LabelReversed {
+                report,
+                label: at,
+                start,
+                end,
+            });
         }
     }
     None
-}
-
-fn reversed(
-    source: &str,
-    texts: &str,
-    report: usize,
-    at: usize,
-    label: &Label,
-) -> Option<ReportError>
-    ensures { result ≡ reversed_of source.now report at (label_of texts.now label.now) }
-{
-    let start = start_of(source, label).unwrap_or(0);
-    let end = end_of(source, label).unwrap_or(0);
-    if end >= start {
-        return None;
-    }
-    Some(ReportError::LabelReversed {
-        report,
-        label: at,
-        start,
-        end,
-    })
 }

@@ -1,10 +1,12 @@
 // Texts, which are ranges of one buffer.
-ghost use Rattle.std.specs.Prelude.{◌≡◌, ◌≤◌, length};
+ghost use Rattle.std.specs.Prelude.{◌≡◌, ◌≤◌, IfOk, length, option_map, string_bytes};
 ghost use Rattle.std.specs.Option.{option_copied};
+ghost use Rattle.oxc_span.specs.Views.{text_bytes};
 ghost use Rattle.report_arrays.specs.Texts.{is_boundary, is_text, is_none, is_optional, is_filled};
 ghost use Rattle.report_arrays.specs.Texts.{text_of, optional_of};
 
 use crate::shapes::Text;
+use std::alloc::{AllocError, Global};
 
 #[tactic(auto, using(crate::proofs::Boundaries::boundary_there, crate::proofs::Boundaries::no_boundary_there))]
 fn is_boundary(texts: &str, at: usize) -> bool
@@ -70,5 +72,16 @@ pub fn optional_text(texts: &str, range: Text) -> Option<&str>
         None
     } else {
         Some(text(texts, range))
+    }
+}
+
+/// A copy of an optional text.
+pub(crate) fn copied(alloc: Global, texts: &str, range: Text) -> Result<Option<String>, AllocError>
+    ensures bytes { IfOk result (λ it. text_bytes it ≡ optional_of texts.now range) }
+    ensures mapped { IfOk result (λ it. option_map string_bytes it ≡ optional_of texts.now range) }
+{
+    match optional_text(texts, range) {
+        Some(text) => Ok(Some(String::from_str(alloc, text)?)),
+        None => Ok(None),
     }
 }
