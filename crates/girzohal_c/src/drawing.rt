@@ -16,7 +16,7 @@ use report_arrays::{File, Label, Report, Wrong, arrays_text, read_texts};
 use std::alloc::Global;
 
 /// A wrong argument.
-#[derive(Clone, Copy, PartialEq, Eq)]
+#[derive(Drop)]
 pub(crate) enum Argument {
     /// The number of the ABI.
     InAbi,
@@ -27,7 +27,7 @@ pub(crate) enum Argument {
 }
 
 /// The reason that there is no text.
-#[derive(Clone, Copy, PartialEq, Eq)]
+#[derive(Drop)]
 pub(crate) enum Fault {
     /// An argument is wrong.
     IsWrong(Argument),
