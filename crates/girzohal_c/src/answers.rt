@@ -1,7 +1,7 @@
 // What a call writes to the answer and to the buffer.
 ghost use Rattle.std.specs.Prelude.{◌≡◌, ◌⊎◌, length, take};
 ghost use Rattle.std.specs.Str.{IsUtf8};
-ghost use Rattle.girzohal_c.specs.Answers.{needs, no_answer as none_of};
+ghost use Rattle.girzohal_c.specs.Answers.{needs, no_answer};
 ghost use Rattle.girzohal_c.specs.Answers.{refused_answer as refused_of, wrong_answer as wrong_of};
 ghost use Rattle.girzohal_c.specs.Replies.{Gives, Tells, reply};
 
@@ -10,20 +10,33 @@ use crate::shapes::Answer;
 use render_files::ReportError;
 use report_arrays::Wrong;
 
+/// An answer that says nothing but the status.
+const NO_ANSWER: Answer = Answer {
+    needed: 0,
+    array: 0,
+    index: 0,
+    report: 0,
+    label: 0,
+    cause: 0,
+    first: 0,
+    second: 0,
+};
+
 /// Replies with a text, or with the reason that there is none, and returns the status.
+#[tactic(auto, using(crate::proofs::Written::written_is_utf8))]
 pub(crate) fn reply_with(made: Result<String, Fault>, out: &mut [u8], answer: &mut Answer) -> u32
     ensures told { Tells made (reply result answer.new out.old out.new) }
     ensures kept { (result ≡ 0) ⊎ (out.new ≡ out.old) }
     ensures utf8 { result ≡ 0 → IsUtf8 (take answer.new.needed out.new) }
 {
     match made {
-        Ok(text) => give_text(text.as_str(), out, answer),
+        Ok(text) => give_bytes(text.as_str().as_bytes(), out, answer),
         Err(Fault::IsWrong(argument)) => {
             *answer = wrong_answer(argument);
             2
         }
         Err(Fault::IsNoDocument) => {
-            *answer = no_answer();
+            *answer = NO_ANSWER;
             3
         }
         Err(Fault::IsRefused(why)) => {
@@ -31,29 +44,20 @@ pub(crate) fn reply_with(made: Result<String, Fault>, out: &mut [u8], answer: &m
             1
         }
         Err(Fault::WantsMemory) => {
-            *answer = no_answer();
+            *answer = NO_ANSWER;
             6
         }
     }
 }
 
 /// Writes a text to the beginning of a buffer if it fits, and its length to the answer.
-#[tactic(auto, using(crate::proofs::Written::written_is_utf8))]
-fn give_text(text: &str, out: &mut [u8], answer: &mut Answer) -> u32
-    ensures given { Gives text.now (reply result answer.new out.old out.new) }
-    ensures kept { (result ≡ 0) ⊎ (out.new ≡ out.old) }
-    ensures utf8 { result ≡ 0 → IsUtf8 (take answer.new.needed out.new) }
-{
-    give_bytes(text.as_bytes(), out, answer)
-}
-
 fn give_bytes(text: &[u8], out: &mut [u8], answer: &mut Answer) -> u32
     ensures given { Gives text.now (reply result answer.new out.old out.new) }
     ensures kept { (result ≡ 0) ⊎ (out.new ≡ out.old) }
 {
     *answer = Answer {
         needed: text.len(),
-        ..no_answer()
+        ..NO_ANSWER
     };
     if text.len() > out.len() {
         return 10;
@@ -61,22 +65,6 @@ fn give_bytes(text: &[u8], out: &mut [u8], answer: &mut Answer) -> u32
     let part = &mut out[..text.len()];
     part.copy_from_slice(text);
     0
-}
-
-/// An answer that says nothing but the status.
-fn no_answer() -> Answer
-    ensures { result ≡ none_of }
-{
-    Answer {
-        needed: 0,
-        array: 0,
-        index: 0,
-        report: 0,
-        label: 0,
-        cause: 0,
-        first: 0,
-        second: 0,
-    }
 }
 
 /// Which argument is wrong.
@@ -94,7 +82,7 @@ fn wrong_answer(argument: Argument) -> Answer
     Answer {
         array,
         index,
-        ..no_answer()
+        ..NO_ANSWER
     }
 }
 
@@ -102,12 +90,11 @@ fn wrong_answer(argument: Argument) -> Answer
 fn refused_answer(why: ReportError) -> Answer
     ensures { result ≡ refused_of why }
 {
-    let none = no_answer();
     match why {
         ReportError::UnknownFile { report } => Answer {
             cause: 1,
             report,
-            ..none
+            ..NO_ANSWER
         },
         ReportError::PositionOutside {
             report,
@@ -117,7 +104,7 @@ fn refused_answer(why: ReportError) -> Answer
             cause: if at_end { 3 } else { 2 },
             report,
             label,
-            ..none
+            ..NO_ANSWER
         },
         ReportError::LabelReversed {
             report,
@@ -130,8 +117,8 @@ fn refused_answer(why: ReportError) -> Answer
             label,
             first: start as u64,
             second: end as u64,
-            ..none
+            ..NO_ANSWER
         },
-        ReportError::SinkFault | ReportError::OutOfMemory => none,
+        ReportError::SinkFault | ReportError::OutOfMemory => NO_ANSWER,
     }
 }

@@ -5,14 +5,13 @@ ghost use Rattle.report_arrays.specs.Values.{named, report as report_of};
 ghost use Rattle.girzohal_c.specs.Meaning.{arrays, document_meaning, meaning};
 ghost use Rattle.girzohal_c.specs.Replies.{IsTextOf, Makes};
 
-use crate::abi::is_right;
+use crate::abi::ABI;
 use crate::shapes::Look;
 use crate::style::{Form, Style, style_of};
-use crate::values::{files_of, reports_of};
 use codespan::Files;
 use documents::read_document;
 use render_files::{FileReport, ReportError, files_json, files_text};
-use report_arrays::{File, Label, Report, Wrong, arrays_text, read_texts};
+use report_arrays::{File, Label, Report, Wrong, arrays_json, arrays_text, read_texts};
 use std::alloc::Global;
 
 /// A wrong argument.
@@ -54,7 +53,7 @@ pub(crate) fn draw_arrays(
     ensures { let it = arrays texts.now files.now reports.now labels.now in
         Makes look.now (meaning abi it look.now) result }
 {
-    if !is_right(abi) {
+    if abi != ABI {
         return Err(Fault::IsWrong(Argument::InAbi));
     }
     let text = match read_texts(texts, files, reports, labels) {
@@ -82,7 +81,7 @@ pub(crate) fn draw_document(
 ) -> Result<String, Fault>
     ensures { Makes look.now (document_meaning abi document.now look.now) result }
 {
-    if !is_right(abi) {
+    if abi != ABI {
         return Err(Fault::IsWrong(Argument::InAbi));
     }
     let style = match style_of(look) {
@@ -101,8 +100,7 @@ pub(crate) fn draw_document(
     }
 }
 
-/// The text of checked arrays: drawn without a copy of them, or as JSON by way of copied files and
-/// reports.
+/// The text of checked arrays.
 fn draw_right(
     alloc: Global,
     texts: &str,
@@ -116,11 +114,7 @@ fn draw_right(
 {
     match style.form {
         Form::Drawing => arrays_text(alloc, &style.handler, texts, files, reports, labels),
-        Form::Json => {
-            let files = files_of(alloc, texts, files)?;
-            let reports = reports_of(alloc, texts, reports, labels)?;
-            files_json(alloc, &files, &reports)
-        }
+        Form::Json => arrays_json(alloc, texts, files, reports, labels),
     }
 }
 

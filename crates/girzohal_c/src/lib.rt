@@ -9,7 +9,6 @@
 //! - `shapes`: the look and the answer, as C lays them out;
 //! - `abi`: the number of the ABI;
 //! - `style`: the style of a look, or which of its numbers is wrong;
-//! - `values`: the arrays as files of a database and reports on them;
 //! - `drawing`: the text of what the arguments mean, or the reason that there is none;
 //! - `answers`: the status, the answer and the buffer.
 #![tactic(auto)]
@@ -24,7 +23,6 @@ mod answers;
 mod drawing;
 mod shapes;
 mod style;
-mod values;
 
 use crate::answers::reply_with;
 use crate::drawing::{draw_arrays, draw_document};

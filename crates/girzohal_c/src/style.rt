@@ -1,15 +1,14 @@
 // The style of a look, or which of its numbers is wrong.
 ghost use Rattle.std.specs.Prelude.{◌≡◌, Some, None, MatchResult};
 ghost use Rattle.girzohal_c.specs.Meaning.{wrong_look};
-ghost use Rattle.girzohal_c.specs.Replies.{theme_of as theme_by, handler_of as handler_by};
-ghost use Rattle.girzohal_c.specs.Replies.{form_of as form_by, IsStyleOf};
+ghost use Rattle.girzohal_c.specs.Replies.{IsStyleOf};
 
 use crate::shapes::Look;
 use oxc_handlers::{GraphicalReportHandler, GraphicalTheme};
 use oxc_plan::TabWidth;
 
 /// The form that reports are written in.
-#[derive(Clone, Copy, PartialEq, Eq)]
+#[derive(Drop)]
 pub(crate) enum Form {
     /// Each is drawn.
     Drawing,
@@ -34,39 +33,22 @@ pub(crate) fn style_of(look: &Look) -> Result<Style, usize>
         (λ style. IsStyleOf look.now style × (wrong_look look.now ≡ None))
         (λ at. wrong_look look.now ≡ Some at) }
 {
-    if look.theme > 2 {
-        return Err(0);
-    }
+    let theme = match look.theme {
+        0 => GraphicalTheme::unicode(),
+        1 => GraphicalTheme::unicode_nocolor(),
+        2 => GraphicalTheme::none(),
+        _ => return Err(0),
+    };
     let Some(tabs) = TabWidth::new(look.tabs as usize) else {
         return Err(1);
     };
-    if look.form > 1 {
-        return Err(2);
-    }
-    let handler = GraphicalReportHandler::new_themed(theme_of(look.theme))
+    let form = match look.form {
+        0 => Form::Drawing,
+        1 => Form::Json,
+        _ => return Err(2),
+    };
+    let handler = GraphicalReportHandler::new_themed(theme)
         .with_width(look.width)
         .with_tabs(tabs);
-    Ok(Style {
-        handler,
-        form: form_of(look.form),
-    })
-}
-
-fn theme_of(number: u32) -> GraphicalTheme
-    ensures { result ≡ theme_by number }
-{
-    match number {
-        0 => GraphicalTheme::unicode(),
-        1 => GraphicalTheme::unicode_nocolor(),
-        _ => GraphicalTheme::none(),
-    }
-}
-
-fn form_of(number: u32) -> Form
-    ensures { result ≡ form_by number }
-{
-    match number {
-        0 => Form::Drawing,
-        _ => Form::Json,
-    }
+    Ok(Style { handler, form })
 }

@@ -1,7 +1,0 @@
--- The files so far and those to come are all files.
-use Rattle.std.proofs.Common.{◌≡◌, ◌++◌, drop, map}
-use Rattle.report_arrays.specs.Values.{named}
-use Rattle.girzohal_c.proofs.values.files_of.Given as goal
-
-abbrev pub invariant-loop-file : goal.invariant-loop-file
-invariant-loop-file l = l.made ++ map (named l.texts) (drop l.file-index l.files) ≡ map (named l.texts) l.files
