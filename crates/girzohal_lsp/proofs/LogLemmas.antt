@@ -12,7 +12,7 @@ use Rattle.found_reports.specs.Found.{Found, NamedHeld, found_on}
 use Rattle.found_reports.specs.Held.{Held, holds, lacks}
 use Rattle.sarif_log.specs.declared.log.ColumnKind.{ColumnKind}
 use Rattle.sarif_log.specs.Log.{ArtifactLocation, Log, Names, Run}
-use Rattle.sarif_findings.specs.Findings.{Finding, Spot, findings_in}
+use Rattle.sarif.specs.Findings.{Finding, Spot, findings_in}
 use Rattle.sarif.specs.Asked.{and_name, and_names, asked_at, asked_by, finding_names, names_in, run_names, spot_names}
 use Rattle.sarif.specs.Labels.{Placed, is_beside, label_at, labels_with, placed, span_in_held}
 use Rattle.sarif.specs.Meaning.{aside, aside_at, aside_in, asides_beside, finding_reports, given_place, labeled_reports, main_diagnostic, nowhere, reports_among, reports_at, reports_by, reports_in, run_reports, where_named}

@@ -18,8 +18,8 @@ use Rattle.found_reports.specs.Held.{Held}
 use Rattle.found_reports.specs.Names.{name_order}
 use Rattle.sarif_log.specs.declared.log.ColumnKind.{ColumnKind}
 use Rattle.sarif_log.specs.Log.{ArtifactLocation, Invocation, Location, Log, LogResult, Names, Notification, Run}
-use Rattle.sarif_findings.specs.Findings.{Finding, Spot, driver_strings, findings_in, found_by, found_in, is_finding, noted_by, noted_in, notes_of, spot_at, strings_of}
-use Rattle.sarif_findings.specs.Rules.{Strings}
+use Rattle.sarif.specs.Findings.{Finding, Spot, driver_strings, findings_in, found_by, found_in, is_finding, noted_by, noted_in, notes_of, spot_at, strings_of}
+use Rattle.sarif.specs.Rules.{Strings}
 use Rattle.sarif.specs.Asked.{DecideReports, Knows, and_name, and_names, asked_at, asked_by, finding_names, invocation_names, location_names, names_in, note_names, result_names, run_names, spot_names}
 use Rattle.sarif.specs.Labels.{Placed, placed}
 use Rattle.sarif.specs.Meaning.{finding_reports, reports_among, reports_in, run_reports}

@@ -8,7 +8,7 @@ use Rattle.std.specs.String.{string_cmp}
 use Rattle.std.specs.declared.alloc.Global.{Global}
 use Rattle.std.proofs.lemmas.Map.Text.{btree_map_updates_text}
 use Rattle.sarif_log.specs.Log.{Artifact, Names}
-use Rattle.sarif_findings.specs.Views.{borrowed}
+use Rattle.sarif.specs.Seen.{borrowed}
 use Rattle.sarif.specs.Contents.{AreContents}
 use Rattle.sarif.specs.Naming.{name_of}
 use Rattle.sarif.specs.Texts.{contents_named, is_name}

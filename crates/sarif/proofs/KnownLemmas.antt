@@ -14,9 +14,9 @@ use Rattle.sarif.specs.Labels.{Placed}
 use Rattle.sarif.specs.Reading.{Reading}
 use Rattle.sarif.specs.Texts.{source_of}
 use Rattle.sarif.specs.Views.{IsFiled, IsSeated, IsTold, known_view, placed_view, seated}
-use Rattle.sarif_findings.specs.Findings.{Spot, spot_view}
-use Rattle.sarif_findings.specs.Views.{borrowed}
-use Rattle.sarif_findings.specs.declared.findings.Spot as code_spot
+use Rattle.sarif.specs.Findings.{Spot, spot_view}
+use Rattle.sarif.specs.Seen.{borrowed}
+use Rattle.sarif.specs.declared.findings.Spot as code_spot
 use Rattle.sarif.specs.declared.known.Known.{Known}
 use Rattle.sarif.specs.declared.known.Placed as code
 

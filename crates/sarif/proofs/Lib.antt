@@ -1,3 +1,5 @@
+pub mod FillLemmas
+pub mod RuleLemmas
 pub mod NamingLemmas
 pub mod KnownLemmas
 pub mod LabelLemmas

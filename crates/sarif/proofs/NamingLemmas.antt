@@ -2,7 +2,7 @@
 use Rattle.std.proofs.Common.{◌≡◌, ℕ, ◌-◌, ◌<◌, zero, suc, List, [], ◌∷◌, ◌++◌, Option, Some, None, refl, arith}
 use Rattle.sarif_log.specs.Log.{UriBase}
 use Rattle.sarif.specs.Naming.{front_of, next_base, resolved_in, with_base}
-pub use Rattle.sarif_findings.proofs.RuleLemmas.{option_or_assoc}
+pub use Rattle.sarif.proofs.RuleLemmas.{option_or_assoc}
 
 -- no base is left
 pub resolved_none : (left : ℕ) (bases : List UriBase) (used : List (List ℕ)) (base : Option (List ℕ)) (uri : List ℕ) → left ≡ 0 → resolved_in left bases used base uri ≡ uri

@@ -1,10 +1,11 @@
 -- Definitions that are opened together: `unfolding(..)` of a name opens all that stand on its line.
 use Rattle.std.specs.Prelude.{⊤}
-use Rattle.sarif_log.specs.Log.{artifact_location_view, artifact_view, component_view, counting_view, log_view, names_view, run_view, tool_view, uri_base_view}
-use Rattle.sarif_findings.specs.Findings.{finding_view}
+use Rattle.sarif_log.specs.Log.{artifact_location_view, artifact_view, component_view, counting_view, log_result_view, log_view, named_message_view, names_view, notification_view, rule_ref_view, run_view, tool_view, uri_base_view}
+use Rattle.sarif.specs.Findings.{finding_view}
 use Rattle.sarif.specs.Asked.{names_in}
 use Rattle.sarif.specs.Meaning.{diagnostic_of, finding_reports, reports_at}
 use Rattle.sarif.specs.Naming.{base_named}
+use Rattle.sarif.specs.Rules.{message_named}
 use Rattle.sarif.specs.Views.{reading_view}
 
 -- the names in a log
@@ -51,3 +52,33 @@ reports = tt
 unfoldable pub placed : ⊤
 unfolding reports_at diagnostic_of
 placed = tt
+
+-- a run with its tool
+unfoldable pub run_of_tool : ⊤
+unfolding run_view tool_view
+run_of_tool = tt
+
+-- what a tool says of its rules
+unfoldable pub tool : ⊤
+unfolding tool_view rule_ref_view
+tool = tt
+
+-- a notification as a finding
+unfoldable pub notification : ⊤
+unfolding finding_view notification_view rule_ref_view
+notification = tt
+
+-- a result as a finding
+unfoldable pub result : ⊤
+unfolding finding_view log_result_view
+result = tt
+
+-- a result with its rule
+unfoldable pub ruled : ⊤
+unfolding run_view log_result_view rule_ref_view
+ruled = tt
+
+-- the message of a name
+unfoldable pub message : ⊤
+unfolding message_named named_message_view
+message = tt

@@ -4,7 +4,7 @@ use Rattle.std.proofs.Math.Seq.{drop-append_seam, take-append_seam, take-length}
 use Rattle.std.proofs.lemmas.List.{drop-map, length-map, map-append, take-append-drop, take-map}
 use Rattle.std.specs.Result.{OnOk}
 use Rattle.found_reports.specs.Found.{Found, NamedHeld, found_on}
-use Rattle.sarif_findings.specs.Findings.{Finding}
+use Rattle.sarif.specs.Findings.{Finding}
 use Rattle.sarif.specs.Labels.{Placed}
 use Rattle.sarif.specs.Meaning.{main_diagnostic, nowhere, reports_among, reports_at}
 use Rattle.sarif.specs.Reading.{Reading}

@@ -8,7 +8,7 @@ use Rattle.found_reports.specs.Held.{Held}
 use Rattle.found_reports.specs.Names.{name_order}
 use Rattle.sarif_log.specs.declared.log.ColumnKind.{ColumnKind}
 use Rattle.sarif_log.specs.Log.{ArtifactLocation, Invocation, Location, Log, LogResult, Names, Notification, Run}
-use Rattle.sarif_findings.specs.Findings.{Finding, Spot, findings_in, is_finding, notes_of}
+use Rattle.sarif.specs.Findings.{Finding, Spot, findings_in, is_finding, notes_of}
 use Rattle.sarif.specs.Meaning.{reports_in}
 use Rattle.sarif.specs.Naming.{location_in, resolved}
 

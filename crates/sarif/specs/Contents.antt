@@ -4,7 +4,7 @@ use Rattle.std.specs.Borrow.{Bor}
 use Rattle.std.specs.BTreeMap.{BTreeMap, get_by_text}
 use Rattle.std.specs.declared.alloc.Global.{Global}
 use Rattle.sarif_log.specs.Log.{Artifact, Names}
-use Rattle.sarif_findings.specs.Views.{borrowed}
+use Rattle.sarif.specs.Seen.{borrowed}
 use Rattle.sarif.specs.Texts.{contents_named}
 
 -- the map tells of each name the contents of the first of these artifacts of that name that has some

@@ -9,7 +9,7 @@ use Rattle.found_reports.specs.Held.{Held, holds, lacks}
 use Rattle.sarif_log.specs.declared.log.Region.{Region}
 use Rattle.sarif_spans.specs.Rows.{rows_in}
 use Rattle.sarif_spans.specs.Span.{span_of}
-use Rattle.sarif_findings.specs.Findings.{Spot}
+use Rattle.sarif.specs.Findings.{Spot}
 use Rattle.sarif.specs.Reading.{Reading}
 use Rattle.sarif.specs.Texts.{source_of}
 

@@ -1,3 +1,7 @@
+pub mod Fill
+pub mod Rules
+pub mod Findings
+pub mod Seen
 pub mod Naming
 pub mod Texts
 pub mod Reading

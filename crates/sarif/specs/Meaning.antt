@@ -14,8 +14,8 @@ use Rattle.sarif_log.specs.declared.log.Level.{Level}
 use Rattle.sarif_log.specs.declared.log.Level.TheVariants as level
 use Rattle.sarif_log.specs.declared.log.Region.{Region}
 use Rattle.sarif_log.specs.Log.{Log, Run}
-use Rattle.sarif_findings.specs.Findings.{Finding, findings_in}
-use Rattle.sarif_findings.specs.Rules.{some_text}
+use Rattle.sarif.specs.Findings.{Finding, findings_in}
+use Rattle.sarif.specs.Rules.{some_text}
 use Rattle.sarif.specs.Labels.{Placed, is_beside, label_at, labels_with, placed, span_in_held}
 use Rattle.sarif.specs.Reading.{Reading, reading_of}
 

@@ -7,7 +7,7 @@ use Rattle.found_reports.specs.Kept.{IsShortHeld}
 use Rattle.sarif_log.specs.Log.{UriBase, artifact_location_view, uri_base_view}
 use Rattle.sarif_log.specs.declared.log.UriBase as code_base
 use Rattle.sarif_spans.specs.Rows.{IsRowOf, rows_in}
-use Rattle.sarif_findings.specs.Views.{borrowed}
+use Rattle.sarif.specs.Seen.{borrowed}
 use Rattle.sarif.specs.Labels.{Placed}
 use Rattle.sarif.specs.Reading.{Reading}
 use Rattle.sarif.specs.Texts.{source_of}

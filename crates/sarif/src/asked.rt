@@ -7,8 +7,8 @@ ghost use Rattle.sarif.specs.Asked.{DecideReports, Knows, and_name, and_names, a
 ghost use Rattle.sarif.specs.Asked.{invocation_names, location_names, names_in, note_names};
 ghost use Rattle.sarif.specs.Asked.{result_names, run_names};
 
+use crate::findings::is_finding;
 use crate::resolving::{location_in, resolved};
-use sarif_findings::is_finding;
 use sarif_log::{ArtifactLocation, Invocation, Location, Log, LogResult, Names, Notification, Run};
 use std::alloc::{AllocError, Global};
 use std::collections::BTreeSet;

@@ -1,7 +1,7 @@
 //! The texts of files that a log contains.
 ghost use Rattle.std.specs.Prelude.{◌≡◌, ◌∷◌, List, map, IfOk, OnOk};
 ghost use Rattle.sarif_log.specs.Log.{Artifact as MeantArtifact, artifact_view, names_view};
-ghost use Rattle.sarif_findings.specs.Views.{borrowed};
+ghost use Rattle.sarif.specs.Seen.{borrowed};
 ghost use Rattle.sarif.specs.Contents.{AreContents};
 ghost use Rattle.sarif.specs.Texts.{contents_named};
 

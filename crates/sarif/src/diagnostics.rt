@@ -1,19 +1,19 @@
 //! What the reports of a finding say.
 ghost use Rattle.std.specs.Prelude.{◌≡◌, None, option_and_then, IfOk};
-ghost use Rattle.sarif_findings.specs.Findings.{finding_view};
-ghost use Rattle.sarif_findings.specs.Rules.{some_text};
-ghost use Rattle.sarif_findings.specs.Views.{borrowed};
+ghost use Rattle.sarif.specs.Findings.{finding_view};
+ghost use Rattle.sarif.specs.Rules.{some_text};
+ghost use Rattle.sarif.specs.Seen.{borrowed};
 ghost use Rattle.sarif.specs.Meaning.{diagnostic_of as diagnostic_meant};
 ghost use Rattle.sarif.specs.Meaning.{given_place as place_meant};
 ghost use Rattle.sarif.specs.Meaning.{in_u32 as fits_u32, message_or as own_or};
 ghost use Rattle.sarif.specs.Meaning.{severity_of as severity_meant};
 ghost use Rattle.sarif.specs.Views.{reading_view};
 
+use crate::findings::Finding;
 use crate::reading::Reading;
 use found_reports::GivenPlace;
 use oxc_protocol::{OxcDiagnostic, Severity};
 use oxc_span::LabeledSpan;
-use sarif_findings::Finding;
 use sarif_log::{Level, Region};
 use std::alloc::{AllocError, Global};
 

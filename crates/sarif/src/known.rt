@@ -6,16 +6,16 @@ ghost use Rattle.found_reports.specs.Held.{held_of, held_text};
 ghost use Rattle.found_reports.specs.Kept.{IsShortHeld};
 ghost use Rattle.sarif_log.specs.Log.{artifact_location_view};
 ghost use Rattle.sarif_spans.specs.Rows.{IsRowOf, rows_in};
-ghost use Rattle.sarif_findings.specs.Findings.{spot_view};
+ghost use Rattle.sarif.specs.Findings.{spot_view};
 ghost use Rattle.sarif.specs.Labels.{placed as placed_meant};
 ghost use Rattle.sarif.specs.Texts.{source_of};
 ghost use Rattle.sarif.specs.Views.{IsFiled, IsSeated, IsTold, had_view, known_view};
 ghost use Rattle.sarif.specs.Views.{lent_texts, placed_view, reading_view, seated};
 
+use crate::findings::Spot;
 use crate::reading::Reading;
 use crate::texts::{Had, file_had};
 use found_reports::{FoundReports, Lack, Sources};
-use sarif_findings::Spot;
 use sarif_log::{ArtifactLocation, Region};
 use sarif_spans::{Row, rows_of};
 use std::alloc::{AllocError, Global};

@@ -5,7 +5,7 @@ ghost use Rattle.std.specs.List.{list_any};
 ghost use Rattle.found_reports.specs.Found.{StandsIn};
 ghost use Rattle.found_reports.specs.Held.{held_of, held_text};
 ghost use Rattle.sarif_spans.specs.Span.{IsSpanOf};
-ghost use Rattle.sarif_findings.specs.Views.{borrowed};
+ghost use Rattle.sarif.specs.Seen.{borrowed};
 ghost use Rattle.sarif.specs.Labels.{and_label, and_span, label_at, labels_with};
 ghost use Rattle.sarif.specs.Labels.{span_beside as beside_meant, span_in_held as held_meant};
 ghost use Rattle.sarif.specs.Views.{HoldsText, IsReadable, known_view, placed_view, reading_view};

@@ -5,8 +5,8 @@ ghost use Rattle.found_reports.specs.Files.{files_of};
 ghost use Rattle.found_reports.specs.Found.{StandsIn, found_on};
 ghost use Rattle.found_reports.specs.Held.{held_text};
 ghost use Rattle.sarif_log.specs.Log.{log_view, run_view};
-ghost use Rattle.sarif_findings.specs.Findings.{finding_view};
-ghost use Rattle.sarif_findings.specs.Views.{borrowed};
+ghost use Rattle.sarif.specs.Findings.{finding_view};
+ghost use Rattle.sarif.specs.Seen.{borrowed};
 ghost use Rattle.sarif.specs.Meaning.{aside, aside_diagnostic as aside_meant, aside_on};
 ghost use Rattle.sarif.specs.Meaning.{asides_beside, finding_reports, labeled_reports};
 ghost use Rattle.sarif.specs.Meaning.{main_diagnostic as main_meant, nowhere};
@@ -15,13 +15,13 @@ ghost use Rattle.sarif.specs.Views.{HoldsText, IsFiled, IsReadable, IsTold, know
 ghost use Rattle.sarif.specs.Views.{placed_view, reading_view};
 
 use crate::diagnostics::{diagnostic_of, given_place, message_or, severity_of};
+use crate::findings::{Finding, findings_of};
 use crate::known::{Known, KnownFiles, Placed, file_at, push_placed};
 use crate::labels::{label_on, labels_of, span_beside, span_in_file};
 use crate::reading::{Reading, reading_of};
 use found_reports::{FoundReports, Lack, Sources, each_file_once};
 use oxc_protocol::{OxcDiagnostic, Severity};
 use oxc_span::LabeledSpan;
-use sarif_findings::{Finding, findings_of};
 use sarif_log::{ColumnKind, Log, Run};
 use std::alloc::{AllocError, Global};
 
@@ -195,7 +195,7 @@ fn push_at<'s>(
 }
 
 /// A finding as a diagnostic with these labels.
-#[tactic(auto, unfolding(sarif_findings::specs::Findings::finding_view))]
+#[tactic(auto, unfolding(crate::specs::Findings::finding_view))]
 fn main_diagnostic(
     alloc: Global,
     reading: &Reading<'_>,
@@ -344,7 +344,7 @@ fn push_aside_at<'s>(
 }
 
 /// The advice of a location, as a diagnostic with these labels.
-#[tactic(auto, unfolding(sarif_findings::specs::Findings::finding_view))]
+#[tactic(auto, unfolding(crate::specs::Findings::finding_view))]
 fn aside_diagnostic(
     alloc: Global,
     reading: &Reading<'_>,

@@ -5,7 +5,7 @@ ghost use Rattle.std.specs.List.{list_any};
 ghost use Rattle.std.specs.Str.{bytes_eq};
 ghost use Rattle.sarif_log.specs.Log.{artifact_location_view, artifact_view, names_view};
 ghost use Rattle.sarif_log.specs.Log.{text_view, uri_base_view};
-ghost use Rattle.sarif_findings.specs.Views.{borrowed};
+ghost use Rattle.sarif.specs.Seen.{borrowed};
 ghost use Rattle.sarif.specs.Naming.{artifact_at as artifact_numbered, base_named as last_named};
 ghost use Rattle.sarif.specs.Naming.{ends_a_part as part_ends, front_of as front_meant};
 ghost use Rattle.sarif.specs.Naming.{location_in as location_meant};

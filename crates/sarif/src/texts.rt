@@ -6,7 +6,7 @@ ghost use Rattle.found_reports.specs.Held.{held_of};
 ghost use Rattle.found_reports.specs.Kept.{IsShortHeld};
 ghost use Rattle.found_reports.specs.Listed.{fitting as fitting_text};
 ghost use Rattle.sarif_log.specs.Log.{artifact_location_view, names_view};
-ghost use Rattle.sarif_findings.specs.Views.{borrowed};
+ghost use Rattle.sarif.specs.Seen.{borrowed};
 ghost use Rattle.sarif.specs.Naming.{artifact_at as artifact_numbered};
 ghost use Rattle.sarif.specs.Texts.{contents_in as contents_had, source_of, source_under};
 ghost use Rattle.sarif.specs.Texts.{told_of as told_meant, told_second as second_meant};

@@ -12,8 +12,8 @@ use Rattle.found_reports.specs.declared.sources.Lack.TheVariants.{TooLong}
 use Rattle.sarif_log.specs.declared.log.ColumnKind.TheVariants.{Characters}
 use Rattle.sarif_log.specs.Log.{Names}
 use Rattle.sarif_spans.specs.Span.{range_of}
-use Rattle.sarif_findings.specs.Rules.{Strings, text_of as message_text}
-use Rattle.sarif_findings.specs.Findings.{Finding, spot_at}
+use Rattle.sarif.specs.Rules.{Strings, text_of as message_text}
+use Rattle.sarif.specs.Findings.{Finding, spot_at}
 use Rattle.source_location.specs.Locations.{location_of}
 use Rattle.sarif.specs.Naming.{location_in, resolved_in}
 use Rattle.sarif.specs.Reading.{Reading}

@@ -15,8 +15,8 @@ use Rattle.found_reports.specs.Found.{Found, found_on}
 use Rattle.found_reports.specs.Held.{Held}
 use Rattle.sarif_log.specs.Answer.{Answer, answer_to, log, no_json, refused}
 use Rattle.sarif_log.specs.Log.{Location, Log, Rule}
-use Rattle.sarif_findings.specs.Rules.{Strings, component_of, rule_in, some_text, text_of as message_text}
-use Rattle.sarif_findings.specs.Findings.{Finding, findings_in, found_by, found_in, is_finding, is_suppressed, number_by, spot_at, strings_of, url_in}
+use Rattle.sarif.specs.Rules.{Strings, component_of, rule_in, some_text, text_of as message_text}
+use Rattle.sarif.specs.Findings.{Finding, findings_in, found_by, found_in, is_finding, is_suppressed, number_by, spot_at, strings_of, url_in}
 use Rattle.sarif.specs.Reading.{breaks_of, reading_of}
 use Rattle.sarif.specs.Labels.{Placed, placed}
 use Rattle.sarif.specs.Meaning.{diagnostic_of, finding_reports, given_place, main_diagnostic, reports_among, reports_at, reports_by, reports_in, run_reports, severity_of}

@@ -9,8 +9,8 @@ use Rattle.std.proofs.lemmas.List.Elements.{All-cons, All-head, All-nil, All-tai
 use Rattle.std.proofs.lemmas.Slice.Eq.{bytes_eq-Decides}
 use Rattle.oxc_protocol.specs.Parts.{OxcParts}
 use Rattle.sarif_log.specs.Log.{Rule}
-use Rattle.sarif_findings.specs.Rules.{rule_at, rule_named, some_text}
-use Rattle.sarif_findings.specs.Findings.{number_by, url_in}
+use Rattle.sarif.specs.Rules.{rule_at, rule_named, some_text}
+use Rattle.sarif.specs.Findings.{number_by, url_in}
 use Rattle.render_files.specs.Given.{GivenReport}
 use Rattle.sarif_roundtrip.specs.Meant.{is_rule, is_same_text, rule_from, rule_meant, rule_said, with_rule, with_rules}
 use Rattle.sarif_roundtrip.proofs.RuleLemmas.{IsSaid, bytes_same, same_text, text_same}

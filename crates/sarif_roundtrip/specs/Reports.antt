@@ -12,7 +12,7 @@ use Rattle.render_files.specs.Shown.{placed_labels}
 use Rattle.sarif_log.specs.Answer.{answer_to, log}
 use Rattle.sarif_log.specs.Log.{Log}
 use Rattle.sarif_spans.specs.Span.{range_of}
-use Rattle.sarif_findings.specs.Rules.{some_text}
+use Rattle.sarif.specs.Rules.{some_text}
 use Rattle.sarif.specs.Labels.{and_label, label_at}
 use Rattle.sarif.specs.Meaning.{no_place, reports_in}
 use Rattle.sarif_writing.specs.Written.{head_place}

@@ -1,7 +1,7 @@
 -- One location more, with its file.
 use Rattle.std.proofs.Common.{map, rules}
 use Rattle.sarif_log.specs.Log.{location_view}
-use Rattle.sarif_findings.specs.Findings.{spot_view}
+use Rattle.sarif.specs.Findings.{spot_view}
 use Rattle.sarif.specs.Labels.{placed}
 use Rattle.sarif.specs.Views.{placed_view, reading_view}
 use Rattle.sarif.proofs.KnownLemmas.{placed_one, placed_same, seats_push}

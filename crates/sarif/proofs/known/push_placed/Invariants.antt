@@ -1,6 +1,6 @@
 -- Those so far stand at their seats, and each seat is that of what its location stands for.
 use Rattle.std.proofs.Common.{◌≡◌, ◌++◌, All, map, take}
-use Rattle.sarif_findings.specs.Findings.{spot_view}
+use Rattle.sarif.specs.Findings.{spot_view}
 use Rattle.sarif.specs.Labels.{placed}
 use Rattle.sarif.specs.Views.{IsFiled, IsSeated, IsTold, placed_view, reading_view}
 use Rattle.sarif.proofs.known.push_placed.Given as goal

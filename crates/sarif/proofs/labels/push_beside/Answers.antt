@@ -3,7 +3,7 @@ use Rattle.std.proofs.Common.{◌≡◌, All, false}
 use Rattle.std.proofs.lemmas.Result.{on_ok_weaker}
 use Rattle.found_reports.specs.Found.{StandsIn}
 use Rattle.found_reports.specs.Held.{held_text}
-use Rattle.sarif_findings.specs.Views.{borrowed}
+use Rattle.sarif.specs.Seen.{borrowed}
 use Rattle.sarif.specs.Labels.{and_label}
 use Rattle.sarif.specs.Views.{known_view}
 use Rattle.sarif.proofs.LabelLemmas.{label_stands, stands_with}

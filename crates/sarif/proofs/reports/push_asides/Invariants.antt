@@ -1,6 +1,6 @@
 -- The advice of those so far, behind the reports before.
 use Rattle.std.proofs.Common.{◌≡◌, ◌++◌, flat_map, map, take}
-use Rattle.sarif_findings.specs.Findings.{finding_view}
+use Rattle.sarif.specs.Findings.{finding_view}
 use Rattle.sarif.specs.Meaning.{aside}
 use Rattle.sarif.specs.Views.{placed_view, reading_view}
 use Rattle.sarif.proofs.reports.push_asides.Given as goal

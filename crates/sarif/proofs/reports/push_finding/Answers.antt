@@ -1,7 +1,7 @@
 -- The locations come first among the places, and the related ones behind them.
 use Rattle.std.proofs.Common.{◌≡◌, ◌++◌, ◌∙◌, ap, arith, length, map, sym}
 use Rattle.std.proofs.lemmas.List.{length-map}
-use Rattle.sarif_findings.specs.Findings.{finding_view, spot_view}
+use Rattle.sarif.specs.Findings.{finding_view, spot_view}
 use Rattle.sarif.specs.Labels.{placed}
 use Rattle.sarif.specs.Meaning.{finding_reports}
 use Rattle.sarif.specs.Views.{placed_view, reading_view}

@@ -1,6 +1,6 @@
 -- The reports of the findings so far, behind those before.
 use Rattle.std.proofs.Common.{◌≡◌, ◌++◌, All, flat_map, map, take}
-use Rattle.sarif_findings.specs.Findings.{finding_view}
+use Rattle.sarif.specs.Findings.{finding_view}
 use Rattle.sarif.specs.Meaning.{finding_reports}
 use Rattle.sarif.specs.Views.{IsFiled, IsTold, reading_view}
 use Rattle.sarif.proofs.reports.push_findings.Given as goal

@@ -1,6 +1,6 @@
 -- The advice of those so far that are in no other file, behind the reports before.
 use Rattle.std.proofs.Common.{◌≡◌, ◌++◌, filter, flat_map, map, not, take}
-use Rattle.sarif_findings.specs.Findings.{finding_view}
+use Rattle.sarif.specs.Findings.{finding_view}
 use Rattle.sarif.specs.Labels.{is_beside}
 use Rattle.sarif.specs.Meaning.{aside}
 use Rattle.sarif.specs.Views.{known_view, placed_view, reading_view}

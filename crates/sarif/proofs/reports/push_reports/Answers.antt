@@ -1,6 +1,6 @@
 -- The first location that names a file, or one less.
 use Rattle.std.proofs.Common.{◌∙◌, ap, drop, map, sym}
-use Rattle.sarif_findings.specs.Findings.{finding_view}
+use Rattle.sarif.specs.Findings.{finding_view}
 use Rattle.sarif.specs.Views.{known_view, placed_view, reading_view}
 use Rattle.sarif.proofs.ReportLemmas.{among_found, among_skip, on_ok_added}
 use Rattle.sarif.proofs.reports.push_reports.Goals as goal

@@ -1,6 +1,6 @@
 -- None of the locations before names a file.
 use Rattle.std.proofs.Common.{◌≡◌, ◌-◌, drop, map, take}
-use Rattle.sarif_findings.specs.Findings.{finding_view}
+use Rattle.sarif.specs.Findings.{finding_view}
 use Rattle.sarif.specs.Meaning.{reports_among}
 use Rattle.sarif.specs.Views.{placed_view, reading_view}
 use Rattle.sarif.proofs.reports.push_reports.Given as goal

@@ -3,7 +3,7 @@ use Rattle.std.proofs.Common.{◌∙◌, map, string_bytes, sym, arith}
 use Rattle.std.proofs.lemmas.Grind.{common_steps}
 use Rattle.std.proofs.lemmas.List.{map-append}
 use Rattle.sarif_log.specs.Log.{artifact_location_view, uri_base_view}
-use Rattle.sarif_findings.specs.Views.{borrowed}
+use Rattle.sarif.specs.Seen.{borrowed}
 use Rattle.sarif.specs.Views.{lent_texts}
 use Rattle.sarif.proofs.NamingLemmas.{resolved_to}
 use Rattle.sarif.proofs.resolving.resolved.Goals as goal

@@ -1,7 +1,7 @@
 -- The bases that are left before the name so far.
 use Rattle.std.proofs.Common.{◌≡◌, map, string_bytes}
 use Rattle.sarif_log.specs.Log.{uri_base_view}
-use Rattle.sarif_findings.specs.Views.{borrowed}
+use Rattle.sarif.specs.Seen.{borrowed}
 use Rattle.sarif.specs.Naming.{resolved, resolved_in}
 use Rattle.sarif.specs.Views.{lent_texts}
 use Rattle.sarif.proofs.resolving.resolved.Given as goal

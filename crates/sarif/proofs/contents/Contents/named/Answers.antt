@@ -1,6 +1,6 @@
 -- The map tells what the first artifact of a name has that has some.
 use Rattle.std.proofs.Common.{ap, ◌∙◌}
-use Rattle.sarif_findings.specs.Views.{borrowed}
+use Rattle.sarif.specs.Seen.{borrowed}
 use Rattle.sarif.specs.Texts.{contents_named}
 use Rattle.sarif.proofs.contents.Contents.named.Goals as goal
 

@@ -1,7 +1,0 @@
--- No brace stands before.
-use Rattle.std.proofs.Common.{◌≡◌, ℕ, ◌<◌, false, slice_index}
-use Rattle.sarif_findings.specs.Fill.{is_brace}
-use Rattle.sarif_findings.proofs.fill.plain_len.Given as goal
-
-abbrev pub invariant-loop-at : goal.invariant-loop-at
-invariant-loop-at l = (k : ℕ) → k < l.at → is_brace (slice_index l.bytes k) ≡ false

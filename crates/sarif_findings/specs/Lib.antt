@@ -1,4 +1,0 @@
-pub mod Fill
-pub mod Rules
-pub mod Findings
-pub mod Views
