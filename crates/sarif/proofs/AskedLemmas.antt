@@ -48,6 +48,28 @@ pub added_both : {Y : Type 0} (f : Y → List (List ℕ)) (start mid new : List 
 added_both f start mid new xs ys first second =
     second ∙ ap (λ zs. zs ++ flat_map f ys) first ∙ append_assoc start (flat_map f xs) (flat_map f ys) ∙ ap (λ zs. start ++ zs) (sym (flat_map-append f xs ys))
 
+-- one item more
+pub one_item : {X Y : Type 0} (view : X → Y) (f : Y → List (List ℕ)) (start before after : List (List ℕ)) (its : List X) (i : ℕ) (it : X) → i < length its → it ≡ get_or its i it
+    → before ≡ start ++ flat_map f (map view (take i its)) → after ≡ before ++ f (view it) → after ≡ start ++ flat_map f (map view (take (i + 1) its))
+one_item view f start before after its i it within here first second =
+    let those = flat_map f (map view (take i its)) in
+    let one : take (i + 1) its ≡ take i its ++ it ∷ [] = take_more its i it within ∙ ap (λ x. take i its ++ x ∷ []) (sym here) in
+    let parts : flat_map f (map view (take (i + 1) its)) ≡ those ++ f (view it) =
+    ap (λ xs. flat_map f (map view xs)) one
+    ∙ ap (flat_map f) (map-append view (take i its) (it ∷ []))
+    ∙ flat_map-append f (map view (take i its)) (view it ∷ [])
+    ∙ ap (λ xs. those ++ xs) (append-nil (f (view it))) in
+    second ∙ ap (λ xs. xs ++ f (view it)) first ∙ append_assoc start those (f (view it)) ∙ ap (λ xs. start ++ xs) (sym parts)
+
+-- a result's names, if it is a finding
+pub result_named : (names : Names) (it : LogResult) → is_finding it ≡ true → result_names names it ≡ flat_map (location_names names) (it.locations ++ it.related)
+unfolding result_names
+result_named names it is = rw is refl
+
+pub result_unnamed : (names : Names) (it : LogResult) → is_finding it ≡ false → result_names names it ≡ []
+unfolding result_names
+result_unnamed names it none = rw none refl
+
 -- ---- names that are known
 
 pub knows_none : (set : BTreeSet (Bor (List ℕ))) (names : List (String Global)) → set.keys ≡ [] → names ≡ [] → Knows set (map string_bytes names)

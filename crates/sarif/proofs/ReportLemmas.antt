@@ -12,7 +12,7 @@ use Rattle.sarif.specs.Views.{placed_view, seated}
 use Rattle.sarif.specs.declared.known.Known.{Known}
 use Rattle.sarif.specs.declared.known.Placed as code
 use Rattle.sarif.proofs.KnownLemmas.{file_last, filed_more, filed_one}
-use Rattle.sarif.proofs.LabelLemmas.{none_stand}
+use Rattle.sarif.proofs.LabelLemmas.{label_stands, labels_stand, none_stand, one_stands, span_small}
 
 -- the first of so many of a list, and the others
 pub first_of_those : {A : Type 0} (xs : List A) (d : A) (at count : ℕ) → at < count → count ≤ length xs → take (count - at) (drop at xs) ≡ get_or xs at d ∷ take (count - (at + 1)) (drop (at + 1) xs)
@@ -97,3 +97,5 @@ pub ruleset added_rules = (among_parts, count_within)
 pub ruleset among_filed = (filed_one, filed_more, among_none, among_skip, among_found)
 
 pub ruleset nowhere_rules = (none_stand, file_last)
+
+pub ruleset aside_rules = (filed_one, label_stands, span_small, labels_stand, one_stands, none_stand)

@@ -1,15 +1,13 @@
 //! The names that the reports of a log look up.
 ghost use Rattle.std.specs.Prelude.{◌≡◌, ◌++◌, [], flat_map, map, string_bytes, IfOk, OnOk};
-ghost use Rattle.sarif_log.specs.Log.{artifact_location_view, invocation_view, location_view};
-ghost use Rattle.sarif_log.specs.Log.{log_result_view, log_view, names_view, notification_view};
+ghost use Rattle.sarif_log.specs.Log.{location_view, log_view, names_view, notification_view};
 ghost use Rattle.sarif_log.specs.Log.{run_view};
-ghost use Rattle.sarif.specs.Asked.{DecideReports, Knows, and_name, and_names, asked_at};
-ghost use Rattle.sarif.specs.Asked.{invocation_names, location_names, names_in, note_names};
-ghost use Rattle.sarif.specs.Asked.{result_names, run_names};
+ghost use Rattle.sarif.specs.Asked.{DecideReports, Knows, and_name, and_names, location_names};
+ghost use Rattle.sarif.specs.Asked.{names_in, note_names, run_names};
 
 use crate::findings::is_finding;
 use crate::resolving::{location_in, resolved};
-use sarif_log::{ArtifactLocation, Invocation, Location, Log, LogResult, Names, Notification, Run};
+use sarif_log::{Location, Log, Names, Notification, Run};
 use std::alloc::{AllocError, Global};
 use std::collections::BTreeSet;
 
@@ -32,47 +30,24 @@ pub fn names_of(alloc: Global, log: &Log) -> Result<Vec<String>, AllocError>
     each_once(alloc, &names)
 }
 
-/// Adds the names of a run.
+/// Adds the names of a run: those in what the tool says of its own calls, and those of the results
+/// that are findings.
 #[tactic(auto, unfolding(sarif_log::specs::Log::run_view))]
 fn push_run_names(alloc: Global, run: &Run, names: &mut Vec<String>) -> Result<(), AllocError>
     ensures { OnOk result (map string_bytes names.new.items
         ≡ map string_bytes names.old.items ++ run_names (run_view run.now)) }
 {
-    push_invocations_names(alloc, &run.names, &run.invocations, names)?;
-    push_results_names(alloc, &run.names, &run.results, names)
-}
-
-/// Adds the names in what a tool says of its own run, call by call.
-fn push_invocations_names(
-    alloc: Global,
-    those: &Names,
-    invocations: &[Invocation],
-    names: &mut Vec<String>,
-) -> Result<(), AllocError>
-    ensures { OnOk result (map string_bytes names.new.items
-        ≡ map string_bytes names.old.items
-        ++ flat_map (invocation_names (names_view those.now))
-        (map invocation_view invocations.now)) }
-{
-    for invocation in invocations {
-        push_invocation_names(alloc, those, invocation, names)?;
+    for invocation in &run.invocations {
+        push_notes_names(alloc, &run.names, &invocation.configuration, names)?;
+        push_notes_names(alloc, &run.names, &invocation.execution, names)?;
+    }
+    for it in &run.results {
+        if is_finding(it) {
+            push_locations_names(alloc, &run.names, &it.locations, names)?;
+            push_locations_names(alloc, &run.names, &it.related, names)?;
+        }
     }
     Ok(())
-}
-
-/// Adds the names in what a tool says of one of its calls.
-fn push_invocation_names(
-    alloc: Global,
-    those: &Names,
-    it: &Invocation,
-    names: &mut Vec<String>,
-) -> Result<(), AllocError>
-    ensures { OnOk result (map string_bytes names.new.items
-        ≡ map string_bytes names.old.items
-        ++ invocation_names (names_view those.now) (invocation_view it.now)) }
-{
-    push_notes_names(alloc, those, &it.configuration, names)?;
-    push_notes_names(alloc, those, &it.execution, names)
 }
 
 /// Adds the names of notifications.
@@ -93,60 +68,8 @@ fn push_notes_names(
     Ok(())
 }
 
-/// Adds the names of those results that are findings.
-fn push_results_names(
-    alloc: Global,
-    those: &Names,
-    results: &[LogResult],
-    names: &mut Vec<String>,
-) -> Result<(), AllocError>
-    ensures { OnOk result (map string_bytes names.new.items
-        ≡ map string_bytes names.old.items
-        ++ flat_map (result_names (names_view those.now)) (map log_result_view results.now)) }
-{
-    for it in results {
-        push_result_names(alloc, those, it, names)?;
-    }
-    Ok(())
-}
-
-/// Adds the names of a result, if it is a finding.
-#[tactic(auto, unfolding(crate::specs::Asked::result_names))]
-fn push_result_names(
-    alloc: Global,
-    those: &Names,
-    it: &LogResult,
-    names: &mut Vec<String>,
-) -> Result<(), AllocError>
-    ensures { OnOk result (map string_bytes names.new.items
-        ≡ map string_bytes names.old.items
-        ++ result_names (names_view those.now) (log_result_view it.now)) }
-{
-    if !is_finding(it) {
-        return Ok(());
-    }
-    push_both_names(alloc, those, it, names)
-}
-
-/// Adds the names of a result's locations, and of the related ones.
-#[tactic(auto, unfolding(sarif_log::specs::Log::log_result_view))]
-fn push_both_names(
-    alloc: Global,
-    those: &Names,
-    it: &LogResult,
-    names: &mut Vec<String>,
-) -> Result<(), AllocError>
-    ensures { OnOk result (map string_bytes names.new.items
-        ≡ map string_bytes names.old.items
-        ++ flat_map (location_names (names_view those.now))
-        ((log_result_view it.now).locations ++ (log_result_view it.now).related)) }
-{
-    push_locations_names(alloc, those, &it.locations, names)?;
-    push_locations_names(alloc, those, &it.related, names)
-}
-
-/// Adds the names of locations.
-#[tactic(auto, unfolding(sarif_log::specs::Log::location_view))]
+/// Adds the names of the files of locations, each with its URI as written.
+#[tactic(auto, unfolding(crate::specs::Asked::asked_at, crate::proofs::Opened::located))]
 fn push_locations_names(
     alloc: Global,
     those: &Names,
@@ -158,30 +81,13 @@ fn push_locations_names(
         ++ flat_map (location_names (names_view those.now)) (map location_view locations.now)) }
 {
     for location in locations {
-        push_location_names(alloc, those, &location.artifact, names)?;
+        let place = location_in(those, &location.artifact);
+        if let Some(uri) = &place.uri {
+            let name = resolved(alloc, &those.bases, place.base.as_deref(), uri.as_str())?;
+            names.push(name)?;
+            names.push(String::from_str(alloc, uri.as_str())?)?;
+        }
     }
-    Ok(())
-}
-
-/// Adds the name of a file, and its URI as written.
-#[tactic(auto, unfolding(crate::specs::Asked::asked_at, crate::proofs::Opened::location))]
-fn push_location_names(
-    alloc: Global,
-    those: &Names,
-    it: &ArtifactLocation,
-    names: &mut Vec<String>,
-) -> Result<(), AllocError>
-    ensures { OnOk result (map string_bytes names.new.items
-        ≡ map string_bytes names.old.items
-        ++ asked_at (names_view those.now) (artifact_location_view it.now)) }
-{
-    let place = location_in(those, it);
-    let Some(uri) = &place.uri else {
-        return Ok(());
-    };
-    let name = resolved(alloc, &those.bases, place.base.as_deref(), uri.as_str())?;
-    names.push(name)?;
-    names.push(String::from_str(alloc, uri.as_str())?)?;
     Ok(())
 }
 

@@ -1,5 +1,5 @@
 //! The texts of files that a log contains.
-ghost use Rattle.std.specs.Prelude.{◌≡◌, ◌∷◌, List, map, IfOk, OnOk};
+ghost use Rattle.std.specs.Prelude.{◌≡◌, ◌∷◌, List, IfOk, OnOk};
 ghost use Rattle.sarif_log.specs.Log.{Artifact as MeantArtifact, artifact_view, names_view};
 ghost use Rattle.sarif.specs.Seen.{borrowed};
 ghost use Rattle.sarif.specs.Contents.{AreContents};
@@ -38,7 +38,12 @@ impl<'s> Contents<'s> {
     pub(crate) fn new(alloc: Global, names: &'s Names) -> Result<Contents<'s>, AllocError>
         ensures { IfOk result (λ it. it ≡ names_view names.entry.now) }
     {
-        let by_name = contents_by_name(alloc, names)?;
+        let mut by_name = BTreeMap::new(alloc);
+        let mut at = names.artifacts.len();
+        while at > 0 {
+            at -= 1;
+            put_contents(alloc, names, &names.artifacts[at], &mut by_name)?;
+        }
         Ok(Contents { names, by_name })
     }
 
@@ -58,23 +63,6 @@ impl<'s> Contents<'s> {
             None => None,
         }
     }
-}
-
-/// The contents of the first artifact of each name that has some.
-fn contents_by_name<'s>(
-    alloc: Global,
-    names: &'s Names,
-) -> Result<BTreeMap<String, &'s str>, AllocError>
-    ensures { IfOk result (AreContents (names_view names.entry.now)
-        (map artifact_view names.entry.now.artifacts.items)) }
-{
-    let mut by_name = BTreeMap::new(alloc);
-    let mut at = names.artifacts.len();
-    while at > 0 {
-        at -= 1;
-        put_contents(alloc, names, &names.artifacts[at], &mut by_name)?;
-    }
-    Ok(by_name)
 }
 
 /// Puts the contents of an artifact under its name, if it has both.

@@ -5,7 +5,7 @@ ghost use Rattle.sarif.specs.Rules.{some_text};
 ghost use Rattle.sarif.specs.Seen.{borrowed};
 ghost use Rattle.sarif.specs.Meaning.{diagnostic_of as diagnostic_meant};
 ghost use Rattle.sarif.specs.Meaning.{given_place as place_meant};
-ghost use Rattle.sarif.specs.Meaning.{in_u32 as fits_u32, message_or as own_or};
+ghost use Rattle.sarif.specs.Meaning.{in_u32 as fits_u32};
 ghost use Rattle.sarif.specs.Meaning.{severity_of as severity_meant};
 ghost use Rattle.sarif.specs.Views.{reading_view};
 
@@ -93,16 +93,6 @@ fn with_url(
     match url {
         Some(url) => it.with_url(alloc, url),
         None => Ok(it),
-    }
-}
-
-/// The message of a location, or this one if it has none.
-pub(crate) fn message_or<'f>(own: Option<&'f str>, message: &'f str) -> &'f str
-    ensures { result.now ≡ own_or (borrowed own.entry) message.now }
-{
-    match own {
-        Some(own) if !own.is_empty() => own,
-        _ => message,
     }
 }
 

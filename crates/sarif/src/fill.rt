@@ -45,17 +45,11 @@ fn plain_len(rest: &str) -> usize
 {
     let bytes = rest.as_bytes();
     for (at, byte) in bytes.iter().enumerate() {
-        if is_brace(*byte) {
+        if *byte == b'{' || *byte == b'}' {
             return at;
         }
     }
     bytes.len()
-}
-
-fn is_brace(byte: u8) -> bool
-    ensures { result ≡ is_brace_byte byte }
-{
-    byte == b'{' || byte == b'}'
 }
 
 /// Appends the text for the bytes at a brace, and gives how many bytes these are.
@@ -91,7 +85,7 @@ fn push_piece(out: &mut String, rest: &str, arguments: &[String]) -> Result<usiz
 }
 
 /// The byte at an offset, or 0 past the end.
-fn byte_at(bytes: &[u8], at: usize) -> u8
+pub(crate) fn byte_at(bytes: &[u8], at: usize) -> u8
     ensures { result ≡ slice_index bytes.now at }
 {
     match bytes.get(at) {

@@ -89,8 +89,7 @@ impl<'s> KnownFiles<'s> {
             (slice_get self.now.files.items k) ≡ Some (artifact_location_view it.now)) }
     {
         let seat = *self.seats.get(&reference_of(it))?;
-        let file = self.files.get(seat)?;
-        if is_same(file.location, it) {
+        if is_same(self.files.get(seat)?.location, it) {
             Some(seat)
         } else {
             None

@@ -7,14 +7,13 @@ ghost use Rattle.found_reports.specs.Held.{held_text};
 ghost use Rattle.sarif_log.specs.Log.{log_view, run_view};
 ghost use Rattle.sarif.specs.Findings.{finding_view};
 ghost use Rattle.sarif.specs.Seen.{borrowed};
-ghost use Rattle.sarif.specs.Meaning.{aside, aside_diagnostic as aside_meant, aside_on};
-ghost use Rattle.sarif.specs.Meaning.{asides_beside, finding_reports, labeled_reports};
-ghost use Rattle.sarif.specs.Meaning.{main_diagnostic as main_meant, nowhere};
+ghost use Rattle.sarif.specs.Meaning.{aside, aside_diagnostic as aside_meant, asides_beside};
+ghost use Rattle.sarif.specs.Meaning.{finding_reports, main_diagnostic as main_meant, nowhere};
 ghost use Rattle.sarif.specs.Meaning.{reports_among, reports_at, reports_in, run_reports};
 ghost use Rattle.sarif.specs.Views.{HoldsText, IsFiled, IsReadable, IsTold, known_view};
 ghost use Rattle.sarif.specs.Views.{placed_view, reading_view};
 
-use crate::diagnostics::{diagnostic_of, given_place, message_or, severity_of};
+use crate::diagnostics::{diagnostic_of, given_place, severity_of};
 use crate::findings::{Finding, findings_of};
 use crate::known::{Known, KnownFiles, Placed, file_at, push_placed};
 use crate::labels::{label_on, labels_of, span_beside, span_in_file};
@@ -161,7 +160,8 @@ fn push_reports<'s>(
     push_nowhere(alloc, reading, finding, found)
 }
 
-/// Appends the reports of a finding. This is its first location that names a file.
+/// Appends the reports of a finding, of which this is the first location that names a file. If it
+/// has a span there, other locations in the file are labels too, and the remaining ones advice.
 #[tactic(auto, using(crate::proofs::LabelLemmas::label_rules), unfolding(crate::proofs::Opened::placed))]
 fn push_at<'s>(
     alloc: Global,
@@ -184,7 +184,10 @@ fn push_at<'s>(
     match span_in_file(reading, file, first.region) {
         Some(span) => {
             let label = label_on(alloc, true, first.message, span)?;
-            push_labeled(alloc, reading, finding, known, file, label, others, found)
+            let labels = labels_of(alloc, reading, known, file, label, others)?;
+            let diagnostic = main_diagnostic(alloc, reading, finding, labels)?;
+            found.push(file.file, diagnostic, None)?;
+            push_other_asides(alloc, reading, finding, known, file, others, found)
         }
         None => {
             let diagnostic = main_diagnostic(alloc, reading, finding, Vec::new(alloc))?;
@@ -214,34 +217,6 @@ fn main_diagnostic(
         finding.message.as_str(),
         labels,
     )
-}
-
-/// Appends the report of a finding with its first label and the labels of other locations in its
-/// file; the remaining locations become advice.
-#[tactic(auto, using(crate::proofs::LabelLemmas::labels_stand), unfolding(crate::specs::Meaning::diagnostic_of))]
-fn push_labeled<'s>(
-    alloc: Global,
-    reading: &Reading<'s>,
-    finding: &Finding<'s>,
-    known: &[Known<'s>],
-    file: &Known<'s>,
-    first: LabeledSpan,
-    others: &[Placed<'_>],
-    found: &mut FoundReports<'s>,
-) -> Result<(), AllocError>
-    requires filed { All (IsFiled (reading_view reading.now) found.old.files) known.now }
-    requires file { IsFiled (reading_view reading.now) found.old.files file.now }
-    requires lacks_none { HoldsText (known_view file.now).held }
-    requires first { StandsIn (held_text (known_view file.now).held) first }
-    ensures added { OnOk result (found.new.found ≡ found.old.found
-        ++ labeled_reports (reading_view reading.now) (finding_view finding.now)
-        (known_view file.now) first (map (placed_view known.now) others.now)) }
-    ensures files { OnOk result (found.new.files ≡ found.old.files) }
-{
-    let labels = labels_of(alloc, reading, known, file, first, others)?;
-    let diagnostic = main_diagnostic(alloc, reading, finding, labels)?;
-    found.push(file.file, diagnostic, None)?;
-    push_other_asides(alloc, reading, finding, known, file, others, found)
 }
 
 /// Appends these locations as advice.
@@ -291,7 +266,7 @@ fn push_other_asides<'s>(
 }
 
 /// Appends a location as advice, if it names a file.
-#[tactic(auto, using(crate::proofs::KnownLemmas::filed_one), unfolding(crate::specs::Meaning::aside))]
+#[tactic(auto, using(crate::proofs::ReportLemmas::aside_rules), unfolding(crate::proofs::Opened::asides))]
 fn push_aside<'s>(
     alloc: Global,
     reading: &Reading<'s>,
@@ -306,28 +281,9 @@ fn push_aside<'s>(
         (placed_view known.now it.now)) }
     ensures files { OnOk result (found.new.files ≡ found.old.files) }
 {
-    match file_at(known, it.seat) {
-        Some(file) => push_aside_at(alloc, reading, finding, file, it, found),
-        None => Ok(()),
-    }
-}
-
-/// Appends a location in a file as advice.
-#[tactic(auto, using(crate::proofs::LabelLemmas::label_rules), unfolding(crate::specs::Meaning::diagnostic_of))]
-fn push_aside_at<'s>(
-    alloc: Global,
-    reading: &Reading<'s>,
-    finding: &Finding<'s>,
-    file: &Known<'s>,
-    it: &Placed<'_>,
-    found: &mut FoundReports<'s>,
-) -> Result<(), AllocError>
-    requires { IsFiled (reading_view reading.now) found.old.files file.now }
-    ensures added { OnOk result (found.new.found ≡ found.old.found
-        ++ aside_on (reading_view reading.now) (finding_view finding.now) it.now.region
-        (borrowed it.now.message) (known_view file.now) ∷ []) }
-    ensures files { OnOk result (found.new.files ≡ found.old.files) }
-{
+    let Some(file) = file_at(known, it.seat) else {
+        return Ok(());
+    };
     match span_in_file(reading, file, it.region) {
         Some(span) => {
             let mut labels = Vec::new(alloc);
@@ -343,7 +299,8 @@ fn push_aside_at<'s>(
     Ok(())
 }
 
-/// The advice of a location, as a diagnostic with these labels.
+/// The advice of a location, as a diagnostic with these labels: with its message, else with that of
+/// the finding.
 #[tactic(auto, unfolding(crate::specs::Findings::finding_view))]
 fn aside_diagnostic(
     alloc: Global,
@@ -355,8 +312,14 @@ fn aside_diagnostic(
     ensures { IfOk result (λ new. new ≡ aside_meant (reading_view reading.now)
         (finding_view finding.now) (borrowed it.now.message) labels.items) }
 {
-    let message = message_or(it.message, finding.message.as_str());
-    diagnostic_of(alloc, reading, finding, Severity::Advice, message, labels)
+    let advice = Severity::Advice;
+    match it.message {
+        Some(own) if !own.is_empty() => diagnostic_of(alloc, reading, finding, advice, own, labels),
+        _ => {
+            let message = finding.message.as_str();
+            diagnostic_of(alloc, reading, finding, advice, message, labels)
+        }
+    }
 }
 
 /// Appends the report of a finding that is on no file.

@@ -1,6 +1,6 @@
 //! The names of files: URIs after the URIs of their bases.
-ghost use Rattle.std.specs.Prelude.{◌≡◌, ◌++◌, map, option_map, slice_index};
-ghost use Rattle.std.specs.Prelude.{string_bytes, take_while, not, IfOk};
+ghost use Rattle.std.specs.Prelude.{◌≡◌, ◌++◌, map, option_map, string_bytes, take_while, not};
+ghost use Rattle.std.specs.Prelude.{IfOk};
 ghost use Rattle.std.specs.List.{list_any};
 ghost use Rattle.std.specs.Str.{bytes_eq};
 ghost use Rattle.sarif_log.specs.Log.{artifact_location_view, artifact_view, names_view};
@@ -14,6 +14,7 @@ ghost use Rattle.sarif.specs.Naming.{is_colon, is_slash, resolved as resolved_by
 ghost use Rattle.sarif.specs.Naming.{stands_alone as alone};
 ghost use Rattle.sarif.specs.Views.{base_seen, lent_texts};
 
+use crate::fill::byte_at;
 use sarif_log::{Artifact, ArtifactLocation, Names, UriBase};
 use std::alloc::{AllocError, Global};
 
@@ -62,17 +63,7 @@ fn stands_alone(uri: &str) -> bool
     ensures { result ≡ alone uri.now }
 {
     let bytes = uri.as_bytes();
-    first_byte(bytes) == b'/' || has_scheme(bytes)
-}
-
-/// The first byte, or 0 if there is none.
-fn first_byte(bytes: &[u8]) -> u8
-    ensures { result ≡ slice_index bytes.now 0 }
-{
-    match bytes.first() {
-        Some(byte) => *byte,
-        None => 0,
-    }
+    byte_at(bytes, 0) == b'/' || has_scheme(bytes)
 }
 
 /// Whether there is a colon before the first slash.

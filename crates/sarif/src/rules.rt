@@ -2,13 +2,11 @@
 ghost use Rattle.std.specs.Prelude.{◌≡◌, map, length, IfOk};
 ghost use Rattle.sarif_log.specs.Log.{component_view, message_view, named_message_view};
 ghost use Rattle.sarif_log.specs.Log.{rule_ref_view, rule_view, text_view, tool_view};
-ghost use Rattle.sarif.specs.Rules.{component_message as message_of_component};
 ghost use Rattle.sarif.specs.Rules.{component_of as component_named, is_text};
 ghost use Rattle.sarif.specs.Rules.{message_named as last_named};
 ghost use Rattle.sarif.specs.Rules.{rule_before as rule_of_beginning};
 ghost use Rattle.sarif.specs.Rules.{rule_in as rule_meant};
 ghost use Rattle.sarif.specs.Rules.{rule_message as message_of_rule};
-ghost use Rattle.sarif.specs.Rules.{rule_named as rule_of_id};
 ghost use Rattle.sarif.specs.Rules.{rule_with as rule_of_same_id};
 ghost use Rattle.sarif.specs.Rules.{some_text as some_text_in, text_named as text_of_id};
 ghost use Rattle.sarif.specs.Rules.{text_of as text_meant, text_or as text_given};
@@ -38,8 +36,9 @@ pub(crate) fn component_of<'l>(tool: &'l Tool, rule: &RuleRef) -> Option<&'l Com
     }
 }
 
-/// The rule of a component by its number, else by an id.
-#[tactic(auto, unfolding(crate::specs::Rules::rule_in, sarif_log::specs::Log::component_view))]
+/// The rule of a component by its number, else by an id: the one with this id, else with its
+/// longest prefix before a slash.
+#[tactic(auto, unfolding(crate::specs::Rules::rule_in, crate::proofs::Opened::rules))]
 pub(crate) fn rule_in<'l>(
     component: Option<&'l Component>,
     at: Option<usize>,
@@ -48,18 +47,10 @@ pub(crate) fn rule_in<'l>(
     ensures { rule_seen result ≡ rule_meant (component_seen component.entry) at
         (borrowed id.entry) }
 {
-    let component = component?;
-    match at {
-        Some(at) => component.rules.get(at),
-        None => rule_named(&component.rules, id),
+    let rules = &component?.rules;
+    if let Some(at) = at {
+        return rules.get(at);
     }
-}
-
-/// The rule of an id: the one with this id, else with its longest prefix before a slash.
-#[tactic(auto, unfolding(crate::specs::Rules::rule_named))]
-fn rule_named<'l>(rules: &'l [Rule], id: Option<&str>) -> Option<&'l Rule>
-    ensures { rule_seen result ≡ rule_of_id (map rule_view rules.now) (borrowed id.entry) }
-{
     let id = some_text(id)?;
     match rule_with(rules, id.as_bytes()) {
         Some(rule) => Some(rule),
@@ -85,26 +76,17 @@ fn rule_before<'l>(rules: &'l [Rule], id: &[u8]) -> Option<&'l Rule>
 }
 
 /// The first rule with this id.
-#[tactic(auto, unfolding(crate::specs::Rules::rule_with))]
+#[tactic(auto, unfolding(crate::specs::Rules::rule_with, sarif_log::specs::Log::rule_view))]
 fn rule_with<'l>(rules: &'l [Rule], id: &[u8]) -> Option<&'l Rule>
     ensures { rule_seen result ≡ rule_of_same_id (map rule_view rules.now) id.now }
 {
     for rule in rules {
-        if has_id(rule, id) {
-            return Some(rule);
+        match &rule.id {
+            Some(text) if text.as_bytes() == id => return Some(rule),
+            _ => {}
         }
     }
     None
-}
-
-#[tactic(auto, unfolding(sarif_log::specs::Log::rule_view))]
-fn has_id(rule: &Rule, id: &[u8]) -> bool
-    ensures { result ≡ is_text (rule_view rule.now).id id.now }
-{
-    match &rule.id {
-        Some(text) => text.as_bytes() == id,
-        None => false,
-    }
 }
 
 /// A text, if it isn't empty.
@@ -136,28 +118,23 @@ pub(crate) fn text_of(
     }
 }
 
-#[tactic(auto, unfolding(sarif_log::specs::Log::message_view))]
+/// The text of a message: its own, else that of its id in the rule's messages, else in the
+/// component's.
+#[tactic(auto, unfolding(crate::specs::Rules::text_named, crate::proofs::Opened::messages))]
 fn text_or<'l>(strings: Strings<'l>, message: &'l Message) -> Option<&'l str>
     ensures { borrowed result ≡ text_given (strings_view strings.entry)
         (message_view message.now).text (message_view message.now).id }
 {
-    match (&message.text, &message.id) {
-        (Some(text), _) => Some(text.as_str()),
-        (None, Some(id)) => text_named(strings, id.as_str()),
-        (None, None) => None,
+    if let Some(text) = &message.text {
+        return Some(text.as_str());
     }
-}
-
-/// The text of an id in the rule's messages, else in the component's.
-#[tactic(auto, unfolding(crate::specs::Rules::text_named, sarif_log::specs::Log::message_view))]
-fn text_named<'l>(strings: Strings<'l>, id: &str) -> Option<&'l str>
-    ensures { borrowed result ≡ text_of_id (strings_view strings.entry) id.now }
-{
-    let message = match rule_message(strings.rule, id) {
-        Some(message) => message,
-        None => component_message(strings.component, id)?,
-    };
-    message.text.as_deref()
+    let id = message.id.as_deref()?;
+    match rule_message(strings.rule, id) {
+        Some(named) => named.text.as_deref(),
+        None => message_named(&strings.component?.messages, id)?
+            .text
+            .as_deref(),
+    }
 }
 
 #[tactic(auto, unfolding(sarif_log::specs::Log::rule_view))]
@@ -165,13 +142,6 @@ fn rule_message<'l>(rule: Option<&'l Rule>, id: &str) -> Option<&'l Message>
     ensures { message_seen result ≡ message_of_rule (rule_seen rule.entry) id.now }
 {
     message_named(&rule?.messages, id)
-}
-
-#[tactic(auto, unfolding(sarif_log::specs::Log::component_view))]
-fn component_message<'l>(component: Option<&'l Component>, id: &str) -> Option<&'l Message>
-    ensures { message_seen result ≡ message_of_component (component_seen component.entry) id.now }
-{
-    message_named(&component?.messages, id)
 }
 
 /// The message of a name: the last one counts.

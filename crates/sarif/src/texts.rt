@@ -9,7 +9,6 @@ ghost use Rattle.sarif_log.specs.Log.{artifact_location_view, names_view};
 ghost use Rattle.sarif.specs.Seen.{borrowed};
 ghost use Rattle.sarif.specs.Naming.{artifact_at as artifact_numbered};
 ghost use Rattle.sarif.specs.Texts.{contents_in as contents_had, source_of, source_under};
-ghost use Rattle.sarif.specs.Texts.{told_of as told_meant, told_second as second_meant};
 ghost use Rattle.sarif.specs.Views.{had_view};
 
 use crate::contents::Contents;
@@ -58,52 +57,9 @@ fn fitting(text: &str) -> Result<&str, Lack>
     }
 }
 
-/// The text of the URI as written, else the reason why the name has none.
-fn told_second<'s, S: Sources>(
-    alloc: Global,
-    sources: &'s S,
-    name: String,
-    uri: &str,
-    why: Lack,
-) -> Result<Had<'s>, AllocError>
-    ensures held { IfOk result (λ it. had_view it ≡ second_meant (string_bytes name) uri.now
-        why (S.told sources.now uri.now)) }
-    ensures short { IfOk result (λ it. IsShortHeld (held_of it.text)) }
-{
-    match sources.source(uri) {
-        Ok(text) => Ok(Had {
-            name: String::from_str(alloc, uri)?,
-            text: Ok(text),
-        }),
-        Err(_) => Ok(Had {
-            name,
-            text: Err(why),
-        }),
-    }
-}
-
-/// What the sources have of a name, else of the URI as written.
+/// A name's text: that of the log, else what the sources have of the name, else of the URI as
+/// written; else the reason why the name has none.
 #[tactic(auto, unfolding(crate::specs::Texts::told_of))]
-fn told_of<'s, S: Sources>(
-    alloc: Global,
-    sources: &'s S,
-    name: String,
-    uri: &str,
-) -> Result<Had<'s>, AllocError>
-    ensures held { IfOk result (λ it. had_view it ≡ told_meant (S.told sources.now)
-        (string_bytes name) uri.now) }
-    ensures short { IfOk result (λ it. IsShortHeld (held_of it.text)) }
-{
-    match sources.source(name.as_str()) {
-        Ok(text) => Ok(Had {
-            name,
-            text: Ok(text),
-        }),
-        Err(why) => told_second(alloc, sources, name, uri, why),
-    }
-}
-
-/// A name's text: that of the log, else that of the sources.
 fn had_under<'s, S: Sources>(
     alloc: Global,
     sources: &'s S,
@@ -116,12 +72,25 @@ fn had_under<'s, S: Sources>(
         contents.now (artifact_location_view it.now) (string_bytes name) uri.now) }
     ensures short { IfOk result (λ had. IsShortHeld (held_of had.text)) }
 {
-    match contents_in(contents, it, name.as_str()) {
-        Some(text) => Ok(Had {
+    if let Some(text) = contents_in(contents, it, name.as_str()) {
+        let text = fitting(text);
+        return Ok(Had { name, text });
+    }
+    match sources.source(name.as_str()) {
+        Ok(text) => Ok(Had {
             name,
-            text: fitting(text),
+            text: Ok(text),
         }),
-        None => told_of(alloc, sources, name, uri),
+        Err(why) => match sources.source(uri) {
+            Ok(text) => Ok(Had {
+                name: String::from_str(alloc, uri)?,
+                text: Ok(text),
+            }),
+            Err(_) => Ok(Had {
+                name,
+                text: Err(why),
+            }),
+        },
     }
 }
 

@@ -2,7 +2,7 @@
 use Rattle.std.proofs.Common.{◌≤◌, drop, length, map}
 use Rattle.sarif_log.specs.Log.{artifact_view, names_view}
 use Rattle.sarif.specs.Contents.{AreContents}
-use Rattle.sarif.proofs.contents.contents_by_name.Given as goal
+use Rattle.sarif.proofs.contents.Contents.new.Given as goal
 
 abbrev pub invariant-loop-at : goal.invariant-loop-at
 invariant-loop-at l =

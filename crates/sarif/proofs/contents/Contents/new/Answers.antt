@@ -4,7 +4,7 @@ use Rattle.std.proofs.lemmas.List.{drop_all, drop_more}
 use Rattle.sarif_log.specs.Log.{artifact_view, names_view}
 use Rattle.sarif.specs.Contents.{AreContents}
 use Rattle.sarif.proofs.ContentsLemmas.{no_contents}
-use Rattle.sarif.proofs.contents.contents_by_name.Goals as goal
+use Rattle.sarif.proofs.contents.Contents.new.Goals as goal
 
 pub loop-at-init : goal.loop-at-init
 loop-at-init c =
