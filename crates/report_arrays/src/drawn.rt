@@ -140,7 +140,7 @@ fn code_of(alloc: Global, texts: &str, report: &Report) -> Result<Option<String>
     Ok(Some(code))
 }
 
-/// The severity that a number stands for; checked arrays have none above 2.
+/// The severity of a number; checked arrays have none above 2.
 pub(crate) fn severity_of(number: u32) -> Severity
     ensures { result ≡ severity_by number }
 {
