@@ -3,3 +3,4 @@ pub mod InsetLemmas
 pub mod PlainLemmas
 pub mod PaintLemmas
 pub mod DetailsLemmas
+pub mod ClosingLemmas

@@ -21,6 +21,14 @@ unled text = drop (prefix_len (is_in Blank) text) text
 abbrev pub first_ink : List ℕ → ℕ
 first_ink line = slice_index (unled line) 0
 
+-- a location may end with a byte
+abbrev pub closes_with : ℕ → Bool
+closes_with byte = byte == 0x3A || is_in Digit byte
+
+-- a line ends as a location does
+abbrev pub closes : List ℕ → Bool
+closes line = closes_with (slice_index line (length line - 1))
+
 -- an arrow other than `-->` may begin with a byte
 abbrev pub may_lead : ℕ → Bool
 may_lead byte = byte == 0xE2 || byte == 0x2C || byte == 0x3A

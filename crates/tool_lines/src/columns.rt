@@ -1,18 +1,16 @@
 //! Lines below a heading are set in columns; the last column is the code.
-ghost use Rattle.std.specs.Prelude.{◌≡◌, ◌≤◌, ◌<◌, ◌+◌, IfSome, length, slice_index};
-ghost use Rattle.std.specs.List.{position, range_with_len};
+ghost use Rattle.std.specs.Prelude.{◌≡◌, ◌≤◌, ◌<◌, ◌+◌, IfSome, length};
+ghost use Rattle.std.specs.List.{position};
 ghost use Rattle.line_shapes.specs.Said.{words};
-ghost use Rattle.line_shapes.specs.Bytes.{is_in as belongs};
 ghost use Rattle.line_shapes.specs.declared.bytes.Kind.TheVariants.{Blank, Space};
-ghost use Rattle.tool_lines.specs.Columns.{behind_gap as behind_first_gap, gap as first_gap};
+ghost use Rattle.tool_lines.specs.Columns.{gap as first_gap};
 ghost use Rattle.tool_lines.specs.Columns.{column as first_column, is_gap as is_gap_there};
-ghost use Rattle.tool_lines.specs.Columns.{opens_gap as gap_opens};
 ghost use Rattle.tool_lines.specs.Columns.{is_parting as is_parting_there};
 ghost use Rattle.tool_lines.specs.Columns.{parting as first_parting};
 ghost use Rattle.tool_lines.specs.Columns.{unparenthesized as without_parentheses};
 ghost use Rattle.tool_lines.specs.Columns.{with_column as with_last_column};
 
-use line_shapes::bytes::{Kind, is_in, run};
+use line_shapes::bytes::{Kind, byte_at, is_in, run};
 use line_shapes::said::Statement;
 
 /// What a line says, with the code that blanks separate from the message.
@@ -23,11 +21,15 @@ pub fn with_column<'a>(says: Statement<'a>) -> Statement<'a>
     match says.code {
         Some(_) => says,
         None => match gap(says.message) {
-            Some(at) => Statement {
-                code: Some(unparenthesized(column(behind_gap(says.message, at)))),
-                message: &says.message[..at],
-                ..says
-            },
+            Some(at) => {
+                let (message, rest) = says.message.split_at(at);
+                let text = rest.split_at(run(Kind::Blank, rest)).1;
+                Statement {
+                    code: Some(unparenthesized(column(text))),
+                    message,
+                    ..says
+                }
+            }
             None => says,
         },
     }
@@ -53,15 +55,6 @@ fn unparenthesized(text: &[u8]) -> &[u8]
     }
 }
 
-/// The text after a gap.
-fn behind_gap(text: &[u8], at: usize) -> &[u8]
-    requires { at ≤ length text.now }
-    ensures { result.now ≡ behind_first_gap at text.now }
-{
-    let rest = text.split_at(at).1;
-    rest.split_at(run(Kind::Blank, rest)).1
-}
-
 /// The offset of the first tab after a byte that isn't blank, or of the first two spaces.
 fn gap(text: &[u8]) -> Option<usize>
     ensures value { result ≡ first_gap text.now }
@@ -75,25 +68,8 @@ fn is_gap(text: &[u8], at: usize) -> bool
     requires { at < length text.now }
     ensures { result ≡ is_gap_there text.now at }
 {
-    !is_in(Kind::Blank, text[at.saturating_sub(1)]) && opens_gap(text, at)
-}
-
-/// Whether there is a tab or two spaces at an offset.
-fn opens_gap(text: &[u8], at: usize) -> bool
-    requires { at < length text.now }
-    ensures { result ≡ gap_opens text.now at }
-{
-    text[at] == b'\t' || text[at] == b' ' && is_space_at(text, at + 1)
-}
-
-fn is_space_at(text: &[u8], at: usize) -> bool
-    ensures { result ≡ belongs Space (slice_index text.now at) }
-{
-    if at < text.len() {
-        text[at] == b' '
-    } else {
-        false
-    }
+    !is_in(Kind::Blank, text[at.saturating_sub(1)])
+        && (text[at] == b'\t' || text[at] == b' ' && is_in(Kind::Space, byte_at(text, at + 1)))
 }
 
 /// The offset of the first tab or the first two blanks.
@@ -109,15 +85,5 @@ fn is_parting(text: &[u8], at: usize) -> bool
     requires { at < length text.now }
     ensures { result ≡ is_parting_there text.now at }
 {
-    text[at] == b'\t' || is_in(Kind::Blank, text[at]) && is_blank_at(text, at + 1)
-}
-
-fn is_blank_at(text: &[u8], at: usize) -> bool
-    ensures { result ≡ belongs Blank (slice_index text.now at) }
-{
-    if at < text.len() {
-        is_in(Kind::Blank, text[at])
-    } else {
-        false
-    }
+    text[at] == b'\t' || is_in(Kind::Blank, text[at]) && is_in(Kind::Blank, byte_at(text, at + 1))
 }

@@ -1,16 +1,13 @@
 //! What the other lines of a block add to its finding.
-ghost use Rattle.std.specs.Prelude.{◌≡◌, ◌-◌, ◌++◌, if◌then◌else◌, [], Some, None, IfOk, IfSome};
-ghost use Rattle.std.specs.Prelude.{◌<◌, ◌≤◌, ◌==◌, not, length, map, take, drop, option_to_list};
-ghost use Rattle.std.specs.Prelude.{slice_index};
+ghost use Rattle.std.specs.Prelude.{◌≡◌, ◌-◌, ◌++◌, [], Some, None, IfOk, IfSome};
+ghost use Rattle.std.specs.Prelude.{◌<◌, ◌≤◌, ◌==◌, not, length, map, take, option_to_list};
 ghost use Rattle.std.specs.List.{filter_map, prefix_len};
 ghost use Rattle.std.specs.Option.{option_copied};
 ghost use Rattle.tool_lines.specs.Details.{behind_from, caret_at as caret_there};
 ghost use Rattle.tool_lines.specs.Details.{caret_from, caret_in, first_marks as first_marks_of};
 ghost use Rattle.tool_lines.specs.Details.{detail as detail_there, details_of};
-ghost use Rattle.tool_lines.specs.Details.{first_caret as caret_of};
 ghost use Rattle.tool_lines.specs.Details.{inline_by, inline_details as inline_details_of};
 ghost use Rattle.tool_lines.specs.Details.{is_bare as is_bare_line, marks_from, note_of as note_in};
-ghost use Rattle.tool_lines.specs.Details.{is_small as small_letter, note_text as text_of_note};
 ghost use Rattle.tool_lines.specs.Details.{plain_text as text_of_plain};
 ghost use Rattle.tool_lines.specs.Details.{is_drawn as drawn, symbol_text as text_of_symbol};
 ghost use Rattle.tool_lines.specs.Details.{unrowed_text as text_of_unrowed};
@@ -117,16 +114,12 @@ fn behind_marks<'l, 'a>(mut lines: &'l [&'a [u8]]) -> &'l [&'a [u8]]
 {
     let mut behind: &[&[u8]] = &[];
     while let [line, rest @ ..] = lines {
-        behind = newer(are_marks(line), rest, behind);
+        if are_marks(line) {
+            behind = rest;
+        }
         lines = rest;
     }
     behind
-}
-
-fn newer<'l, 'a>(marks: bool, rest: &'l [&'a [u8]], behind: &'l [&'a [u8]]) -> &'l [&'a [u8]]
-    ensures { result.now ≡ (if marks then rest.entry.now else behind.entry.now) }
-{
-    if marks { rest } else { behind }
 }
 
 /// Appends what each of these lines adds.
@@ -172,26 +165,20 @@ fn detail(way: Way, line: &[u8]) -> Option<&[u8]>
     match way {
         Way::Plain => plain_text(line),
         Way::Symbol => symbol_text(line),
-        Way::Noted => note_text(line),
+        Way::Noted => note_of(unequalled(line)),
         Way::Unrowed => unrowed_text(line),
     }
 }
 
+/// The text of a line that has no gutter, begins with no number, and is no markers.
 fn unrowed_text(line: &[u8]) -> Option<&[u8]>
     ensures { option_copied result ≡ text_of_unrowed line.now }
 {
-    if is_drawn(line) {
+    if are_marks(line) || gutter(line).is_some() || is_in(Kind::Digit, byte_at(unled(line), 0)) {
         None
     } else {
         plain_text(line)
     }
-}
-
-/// Whether a line has a gutter, begins with a number, or is markers.
-fn is_drawn(line: &[u8]) -> bool
-    ensures { result ≡ drawn line.now }
-{
-    are_marks(line) || gutter(line).is_some() || is_in(Kind::Digit, byte_at(unled(line), 0))
 }
 
 fn plain_text(line: &[u8]) -> Option<&[u8]>
@@ -219,21 +206,9 @@ fn symbol_text(line: &[u8]) -> Option<&[u8]>
     ensures { option_copied result ≡ text_of_symbol line.now }
 {
     match line {
-        [b' ', b' ', third, ..] if is_small(*third) => Some(trimmed(unled(line))),
+        [b' ', b' ', b'a'..=b'z', ..] => Some(trimmed(unled(line))),
         _ => None,
     }
-}
-
-fn is_small(byte: u8) -> bool
-    ensures { result ≡ small_letter byte }
-{
-    b'a' <= byte && byte <= b'z'
-}
-
-fn note_text(line: &[u8]) -> Option<&[u8]>
-    ensures { option_copied result ≡ text_of_note line.now }
-{
-    note_of(unequalled(line))
 }
 
 /// A line without blanks and `= `, `├ ` or `╰ ` at its beginning.
@@ -265,18 +240,12 @@ pub fn caret(sort: Sort, lines: &[&[u8]]) -> Option<usize>
     ensures { result ≡ caret_there sort (map (λ line. line.now) lines.now) }
 {
     match sort {
-        Sort::Inline => caret_below(lines),
+        Sort::Inline => match lines {
+            // (the first line of a trail isn't markers)
+            [first, ..] if !are_marks(first) => caret_among(lines),
+            _ => None,
+        },
         Sort::Kept | Sort::Heading | Sort::Below | Sort::Announced | Sort::Spaced => None,
-    }
-}
-
-/// The same for the lines of a trail; the first of them isn't markers.
-fn caret_below(lines: &[&[u8]]) -> Option<usize>
-    ensures { result ≡ caret_of (map (λ line. line.now) lines.now) }
-{
-    match lines {
-        [first, ..] if !are_marks(first) => caret_among(lines),
-        _ => None,
     }
 }
 

@@ -1,5 +1,5 @@
 //! What begins at a line, and the blocks of a text: runs of its lines.
-ghost use Rattle.std.specs.Prelude.{◌≡◌, ◌≤◌, ◌+◌, ◌∷◌, ◌++◌, ◌||◌, ◌&&◌, [], drop, Some, None, IfOk};
+ghost use Rattle.std.specs.Prelude.{◌≡◌, ◌≤◌, ◌+◌, ◌∷◌, ◌||◌, ◌&&◌, [], drop, Some, None, IfOk};
 ghost use Rattle.std.specs.Prelude.{option_map, option_and_then, map, length};
 ghost use Rattle.std.specs.Option.{option_copied, is_some};
 ghost use Rattle.line_shapes.specs.Part.{seen};
@@ -10,28 +10,26 @@ ghost use Rattle.tool_lines.specs.Lines.{announced as announced_there};
 ghost use Rattle.tool_lines.specs.Lines.{announced_by as announced_pair};
 ghost use Rattle.tool_lines.specs.Lines.{announced_len as announced_length, bare as bare_there};
 ghost use Rattle.tool_lines.specs.Lines.{arrow as arrow_in, first_arrow as arrow_among};
-ghost use Rattle.tool_lines.specs.Lines.{begins_note as note_begins, is_note as stands_as_note};
-ghost use Rattle.tool_lines.specs.Lines.{leads_to_note, other_arrow as other_arrow_in};
+ghost use Rattle.tool_lines.specs.Lines.{begins_note as note_begins};
+ghost use Rattle.tool_lines.specs.Lines.{other_arrow as other_arrow_in};
 ghost use Rattle.tool_lines.specs.Lines.{first_place as place_among, parted as parted_there};
-ghost use Rattle.tool_lines.specs.Lines.{inline_sort as sort_of_inline};
-ghost use Rattle.tool_lines.specs.Marks.{stands_apart as comes_apart};
 ghost use Rattle.tool_lines.specs.Lines.{behind as behind_there, below as below_there};
 ghost use Rattle.tool_lines.specs.Lines.{below_at as below_name, begun as begun_there, begun_parts};
 ghost use Rattle.tool_lines.specs.Lines.{finding_from, finding_parts};
-ghost use Rattle.tool_lines.specs.Lines.{head, in_brackets, is_ruled as stands_ruled, is_tag};
+ghost use Rattle.tool_lines.specs.Lines.{head};
 ghost use Rattle.tool_lines.specs.Lines.{in_trail as trails, inline as inline_there};
-ghost use Rattle.tool_lines.specs.Lines.{is_heading as heads, name_behind, next_is_marks};
+ghost use Rattle.tool_lines.specs.Lines.{is_heading as heads, name_behind};
 ghost use Rattle.tool_lines.specs.Lines.{may_trail as may_trail_there};
 ghost use Rattle.tool_lines.specs.Lines.{piece as piece_there, piece_parts, runs};
 ghost use Rattle.tool_lines.specs.Lines.{is_placing as places, is_plain as plain};
-ghost use Rattle.tool_lines.specs.Lines.{spoken_or_below as spoken_there, tagged, text_below};
+ghost use Rattle.tool_lines.specs.Lines.{spoken_or_below as spoken_there, tagged};
 ghost use Rattle.tool_lines.specs.Lines.{told as told_by};
 ghost use Rattle.tool_lines.specs.Lines.{trail_len as trail_length, uncoloned as without_colon};
 ghost use Rattle.tool_lines.specs.Lines.{whole_among as whole_in, without_cr as without_last_cr};
 
 use crate::columns::with_column;
 use crate::marks::{
-    are_marks, begins_blank, first_ink, is_fix, is_include, is_inset, is_numbered, is_text,
+    are_marks, begins_blank, closes, first_ink, is_fix, is_include, is_inset, is_numbered, is_text,
     may_lead, may_place, may_point, stands_apart, wraps,
 };
 use crate::speaks::speaks;
@@ -298,35 +296,20 @@ pub fn in_trail(shapes: &[Shape<'_>], apart: bool, line: &[u8], next: Option<&[u
     ensures { result
         ≡ trails (map shape_parts shapes.now) apart line.now (option_copied next.entry) }
 {
-    looks_trailing(shapes, apart, line, next)
-        && matches!(what_begins(shapes, line, next).sort, Sort::Kept)
-}
-
-/// Whether it looks like that.
-fn looks_trailing(shapes: &[Shape<'_>], apart: bool, line: &[u8], next: Option<&[u8]>) -> bool
-    ensures { result ≡ (may_trail_there line.now (option_copied next.entry)
-        || leads_to_note (map shape_parts shapes.now) line.now (option_copied next.entry)
-        || (apart && comes_apart line.now (option_copied next.entry))) }
-{
-    may_trail(line, next)
+    (may_trail(line, next)
         || is_include(line) && begins_note(shapes, next)
-        || apart && stands_apart(line, next)
+        || apart && stands_apart(line, next))
+        && matches!(what_begins(shapes, line, next).sort, Sort::Kept)
 }
 
 /// Whether a note begins at a line, whatever follows.
 fn begins_note(shapes: &[Shape<'_>], line: Option<&[u8]>) -> bool
     ensures { result ≡ note_begins (map shape_parts shapes.now) (option_copied line.entry) }
 {
-    match line {
-        Some(line) => is_note(what_begins(shapes, line, None).finding),
-        None => false,
-    }
-}
-
-fn is_note(finding: Option<Finding<'_>>) -> bool
-    ensures { result ≡ stands_as_note (option_map finding_parts finding.entry) }
-{
-    match finding {
+    let Some(line) = line else {
+        return false;
+    };
+    match what_begins(shapes, line, None).finding {
         Some(finding) => finding.says.aside && finding.says.code.is_none(),
         None => false,
     }
@@ -341,16 +324,7 @@ fn may_trail(line: &[u8], next: Option<&[u8]>) -> bool
         || are_marks(line)
         || is_fix(line)
         || wraps(line, next)
-        || !line.is_empty() && is_before_marks(next)
-}
-
-fn is_before_marks(next: Option<&[u8]>) -> bool
-    ensures { result ≡ next_is_marks (option_copied next.entry) }
-{
-    match next {
-        Some(next) => are_marks(next),
-        None => false,
-    }
+        || !line.is_empty() && matches!(next, Some(next) if are_marks(next))
 }
 
 /// What begins at a line before this next one.
@@ -378,20 +352,13 @@ fn is_plain(line: &[u8], next: Option<&[u8]>) -> bool
 
 /// Whether a line may have the location of the line above, judged by how it begins, or is another
 /// arrow.
+#[tactic(auto, using(crate::proofs::PlainLemmas::not_placing))]
 fn is_placing(next: Option<&[u8]>) -> bool
     ensures { result ≡ places (option_copied next.entry) }
 {
-    match next {
-        Some(next) => places_above(next),
-        None => false,
-    }
-}
-
-/// The same for a line.
-#[tactic(auto, using(crate::proofs::PlainLemmas::not_placing))]
-fn places_above(next: &[u8]) -> bool
-    ensures { result ≡ places (Some next.now) }
-{
+    let Some(next) = next else {
+        return false;
+    };
     if !may_place(first_ink(next)) {
         return false;
     }
@@ -419,7 +386,11 @@ fn begun_at<'a>(shapes: &[Shape<'_>], line: &'a [u8], next: Option<&'a [u8]>) ->
     }
     match inline(shapes, line, next) {
         Some(finding) => Begun {
-            sort: inline_sort(finding.place.found.apart),
+            sort: if finding.place.found.apart {
+                Sort::Spaced
+            } else {
+                Sort::Inline
+            },
             finding: Some(finding),
         },
         None => Begun {
@@ -563,18 +534,11 @@ fn inline<'a>(shapes: &[Shape<'_>], line: &'a [u8], next: Option<&[u8]>) -> Opti
             place,
             says: meant(place.found, Manner::Plain),
         }),
-        None => match told_in(line, is_above_text(next)) {
+        None => match told_in(line, matches!(next, Some(next) if is_text(next))) {
             Some(finding) => Some(finding),
             None => parted(line),
         },
     }
-}
-
-/// The kind of a finding with its location before its message.
-fn inline_sort(apart: bool) -> Sort
-    ensures { result ≡ sort_of_inline apart }
-{
-    if apart { Sort::Spaced } else { Sort::Inline }
 }
 
 /// The finding of a line with a location and more.
@@ -586,10 +550,13 @@ fn told_in<'a>(line: &'a [u8], below: bool) -> Option<Finding<'a>>
 }
 
 /// The finding of a line with nothing but a location.
-#[tactic(auto, unfolding(crate::specs::Lines::places))]
+#[tactic(auto, unfolding(crate::specs::Lines::places), using(crate::proofs::ClosingLemmas::none_parted))]
 fn parted<'a>(line: &'a [u8]) -> Option<Finding<'a>>
     ensures { option_map finding_parts result ≡ parted_there line.entry.now }
 {
+    if !closes(line) {
+        return None;
+    }
     let place = first_place(&PLACES, line)?;
     Some(Finding {
         place,
@@ -612,15 +579,6 @@ fn first_place<'a>(
         rows = rest;
     }
     None
-}
-
-fn is_above_text(next: Option<&[u8]>) -> bool
-    ensures { result ≡ text_below (option_copied next.entry) }
-{
-    match next {
-        Some(next) => is_text(next),
-        None => false,
-    }
 }
 
 /// The finding of a line with a location; `below` says whether there is more below.
@@ -657,32 +615,13 @@ fn finding_of<'a>(name: &'a [u8], found: Found<'a>, manner: Manner) -> Finding<'
 fn is_tagged(found: Found<'_>) -> bool
     ensures { result ≡ tagged (seen found.entry) }
 {
-    match found.message {
-        Some(message) => is_code_in_brackets(message),
-        None => false,
-    }
-}
-
-fn is_code_in_brackets(text: &[u8]) -> bool
-    ensures { result ≡ is_tag text.now }
-{
-    match text {
-        [first, inner @ .., last] => *first == b'[' && *last == b']' && is_code(inner),
-        _ => false,
-    }
-}
-
-/// Whether a text is not empty, and has no blank and no bracket.
-fn is_code(text: &[u8]) -> bool
-    ensures { result ≡ in_brackets text.now }
-{
-    !text.is_empty() && end_run(Kind::InBrackets, text) == text.len()
-}
-
-fn is_ruled(manner: Manner) -> bool
-    ensures { result ≡ stands_ruled manner }
-{
-    matches!(manner, Manner::Ruled)
+    let Some([first, inner @ .., last]) = found.message else {
+        return false;
+    };
+    *first == b'['
+        && *last == b']'
+        && !inner.is_empty()
+        && end_run(Kind::InBrackets, inner) == inner.len()
 }
 
 /// The same if its message is after the location; or below a level, a code, and another code in
@@ -693,7 +632,7 @@ fn spoken<'a>(place: Placed<'a>, line: &[u8], below: bool) -> Option<Finding<'a>
         ≡ spoken_there below line.now (placed_parts place.entry) }
 {
     let (found, manner) = said(place.found)?;
-    if below && is_ruled(manner) && is_tagged(found) {
+    if below && matches!(manner, Manner::Ruled) && is_tagged(found) {
         let untold = Found {
             message: None,
             ..found

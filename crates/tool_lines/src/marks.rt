@@ -8,16 +8,15 @@ ghost use Rattle.tool_lines.specs.Marks.{begins_blank as begins_with_blank, gutt
 ghost use Rattle.tool_lines.specs.Marks.{is_caret as is_caret_byte, is_text as is_text_there};
 ghost use Rattle.tool_lines.specs.Marks.{is_mark_byte as is_mark_line_byte};
 ghost use Rattle.tool_lines.specs.Marks.{ends_message as message_ends, is_fix as is_fix_there};
-ghost use Rattle.tool_lines.specs.Marks.{is_boxed as stands_boxed, is_deep as deep};
+ghost use Rattle.tool_lines.specs.Marks.{is_boxed as stands_boxed};
 ghost use Rattle.tool_lines.specs.Marks.{is_include as includes, wraps as wraps_there};
 ghost use Rattle.tool_lines.specs.Marks.{is_numbered as begins_numbered, is_row as is_row_there};
-ghost use Rattle.tool_lines.specs.Marks.{row_follows as row_comes, says_level as level_said};
 ghost use Rattle.tool_lines.specs.Marks.{stands_apart as apart_there, unled as without_lead};
-ghost use Rattle.tool_lines.specs.Marks.{first_ink as ink_of, is_inner as in_word};
-ghost use Rattle.tool_lines.specs.Marks.{is_inset as is_inset_line, names_nothing as names_none};
+ghost use Rattle.tool_lines.specs.Marks.{closes as ends_as_location, first_ink as ink_of};
+ghost use Rattle.tool_lines.specs.Marks.{is_inner as in_word};
+ghost use Rattle.tool_lines.specs.Marks.{is_inset as is_inset_line};
 ghost use Rattle.tool_lines.specs.Marks.{may_lead as may_lead_there, may_place as may_place_there};
 ghost use Rattle.tool_lines.specs.Marks.{may_point as may_point_there};
-ghost use Rattle.tool_lines.specs.Marks.{starts_marks as starts_as_marks};
 
 use line_shapes::bytes::{Kind, byte_at, is_in, run};
 use line_shapes::name::is_angle;
@@ -69,30 +68,32 @@ pub fn may_lead(byte: u8) -> bool
     byte == 0xE2 || byte == b',' || byte == b':'
 }
 
+/// Whether a line ends as a location does: with a digit or a colon.
+pub fn closes(line: &[u8]) -> bool
+    ensures { result ≡ ends_as_location line.now }
+{
+    let last = byte_at(line, line.len().saturating_sub(1));
+    last == b':' || is_in(Kind::Digit, last)
+}
+
 /// Whether a line is indented, and its first word can't be a name with its location: it begins with
 /// no angle, and it has no byte that comes after a name.
 pub fn is_inset(line: &[u8]) -> bool
     ensures { result ≡ is_inset_line line.now }
 {
-    begins_blank(line) && names_nothing(unled(line))
-}
-
-fn names_nothing(text: &[u8]) -> bool
-    ensures { result ≡ names_none text.now }
-{
+    if !begins_blank(line) {
+        return false;
+    }
+    let text = unled(line);
     !is_angle(text) && !is_mark(byte_at(text, inner_run(text)))
 }
 
 fn inner_run(text: &[u8]) -> usize
     ensures { result ≡ prefix_len in_word text.now }
 {
-    text.iter().take_while(|byte| is_inner(**byte)).count()
-}
-
-fn is_inner(byte: u8) -> bool
-    ensures { result ≡ in_word byte }
-{
-    !is_in(Kind::Blank, byte) && !is_mark(byte)
+    text.iter()
+        .take_while(|byte| !is_in(Kind::Blank, **byte) && !is_mark(**byte))
+        .count()
 }
 
 /// Whether what comes after a name may begin with this byte.
@@ -134,7 +135,8 @@ pub fn are_marks(line: &[u8]) -> bool
 {
     match gutter(line) {
         Some(end) => is_marked(&line[end..]),
-        None => starts_marks(line) && is_marked(line),
+        None => (begins_blank(line) || matches!(line, [first, ..] if is_caret(*first)))
+            && is_marked(line),
     }
 }
 
@@ -169,15 +171,6 @@ fn is_caret(byte: u8) -> bool
     byte == b'^' || byte == b'~'
 }
 
-fn starts_marks(line: &[u8]) -> bool
-    ensures { result ≡ starts_as_marks line.now }
-{
-    match line {
-        [first, ..] => is_in(Kind::Blank, *first) || is_caret(*first),
-        [] => false,
-    }
-}
-
 /// Whether a line is indented text, and no markers.
 pub fn is_text(line: &[u8]) -> bool
     ensures { result ≡ is_text_there line.now }
@@ -205,16 +198,7 @@ pub fn is_include(line: &[u8]) -> bool
 pub fn wraps(line: &[u8], next: Option<&[u8]>) -> bool
     ensures { result ≡ wraps_there line.now (option_copied next.entry) }
 {
-    ends_message(line) && is_deep(next)
-}
-
-fn is_deep(next: Option<&[u8]>) -> bool
-    ensures { result ≡ deep (option_copied next.entry) }
-{
-    match next {
-        Some(next) => next.starts_with(b"    "),
-        None => false,
-    }
+    ends_message(line) && matches!(next, Some(next) if next.starts_with(b"    "))
 }
 
 /// Whether a line has a code at its end, two blanks before it or nothing.
@@ -246,18 +230,10 @@ pub fn stands_apart(line: &[u8], next: Option<&[u8]>) -> bool
     ensures { result ≡ apart_there line.now (option_copied next.entry) }
 {
     if line.is_empty() {
-        row_follows(next)
+        matches!(next, Some(next) if is_row(next))
     } else {
-        is_row(line) || says_level(line)
-    }
-}
-
-fn row_follows(next: Option<&[u8]>) -> bool
-    ensures { result ≡ row_comes (option_copied next.entry) }
-{
-    match next {
-        Some(next) => is_row(next),
-        None => false,
+        is_row(line)
+            || matches!(said(Found::before(line)), Some((found, _)) if found.severity.is_some())
     }
 }
 
@@ -267,14 +243,4 @@ fn is_row(line: &[u8]) -> bool
 {
     let digits = run(Kind::Digit, line);
     begins_blank(line) || 1 <= digits && is_in(Kind::Blank, byte_at(line, digits))
-}
-
-/// Whether a line has a message with a level word before it.
-fn says_level(line: &[u8]) -> bool
-    ensures { result ≡ level_said line.now }
-{
-    match said(Found::before(line)) {
-        Some((found, _)) => found.severity.is_some(),
-        None => false,
-    }
 }

@@ -4,7 +4,7 @@ ghost use Rattle.std.specs.Prelude.{Some, not, IfOk, length, count_by};
 ghost use Rattle.std.specs.List.{prefix_len};
 ghost use Rattle.memchr.specs.Find.{IsFirstByte, is_byte};
 ghost use Rattle.tool_lines.specs.Paint.{color_end as color_ends, color_len as color_length};
-ghost use Rattle.tool_lines.specs.Paint.{ends_color as ends_a_color, ends_link as ends_a_link};
+ghost use Rattle.tool_lines.specs.Paint.{ends_link as ends_a_link};
 ghost use Rattle.tool_lines.specs.Paint.{is_color_byte as stands_in_color, link_end as link_ends};
 ghost use Rattle.tool_lines.specs.Paint.{link_len as link_length, paint_len as paint_length};
 ghost use Rattle.tool_lines.specs.Paint.{unpainted};
@@ -95,7 +95,9 @@ fn color_run(rest: &[u8]) -> usize
     ensures value { result ≡ prefix_len stands_in_color rest.now }
     ensures within { result ≤ length rest.now }
 {
-    rest.iter().take_while(|byte| is_color_byte(**byte)).count()
+    rest.iter()
+        .take_while(|byte| is_in(Kind::Digit, **byte) || **byte == b';')
+        .count()
 }
 
 /// The length of the color, if its last byte is here.
@@ -105,23 +107,11 @@ fn color_end(count: usize, rest: &[u8]) -> usize
     ensures value { result ≡ color_ends count rest.now }
     ensures within { result ≤ length rest.now + 2 }
 {
-    if count < rest.len() && is_color_end(rest[count]) {
+    if count < rest.len() && matches!(rest[count], b'm' | b'K') {
         count + 3
     } else {
         0
     }
-}
-
-fn is_color_end(byte: u8) -> bool
-    ensures { result ≡ ends_a_color byte }
-{
-    byte == b'm' || byte == b'K'
-}
-
-fn is_color_byte(byte: u8) -> bool
-    ensures { result ≡ stands_in_color byte }
-{
-    is_in(Kind::Digit, byte) || byte == b';'
 }
 
 /// The same for a link, after its first four bytes.
@@ -138,7 +128,9 @@ fn link_run(rest: &[u8]) -> usize
     ensures value { result ≡ prefix_len (λ byte. not (ends_a_link byte)) rest.now }
     ensures within { result ≤ length rest.now }
 {
-    rest.iter().take_while(|byte| !ends_link(**byte)).count()
+    rest.iter()
+        .take_while(|byte| !matches!(**byte, 0x07 | 0x1B | b'\n'))
+        .count()
 }
 
 /// The length of the link, if this ends it.
@@ -152,11 +144,4 @@ fn link_end(count: usize, rest: &[u8]) -> usize
         [0x1B, b'\\', ..] => count + 6,
         _ => 0,
     }
-}
-
-/// Whether a byte ends a link, or can't be in one.
-fn ends_link(byte: u8) -> bool
-    ensures { result ≡ ends_a_link byte }
-{
-    byte == 0x07 || byte == 0x1B || byte == b'\n'
 }
