@@ -1,11 +1,11 @@
 -- The alignment as a value, from what is known of it.
-use Rattle.std.proofs.Common.{◌≡◌, ◌⊎◌, ℕ, zero, suc, ◌+◌, ◌-◌, ◌<◌, ◌≤◌, ◌==◌, ◌||◌, ◌&&◌, nat_le, nat_lt, min, if◌then◌else◌, Bool, true, false, List, [], ◌∷◌, ◌++◌, length, drop, take, replicate, slice_get, slice_index, slice_index_or, Option, Some, None, is_some, MatchOption, refl, sym, ap, ◌∙◌, subst, inl, inr, arith, append-nil, append_assoc, length-append}
+use Rattle.std.proofs.Common.{◌≡◌, ◌⊎◌, ℕ, zero, suc, ◌+◌, ◌-◌, ◌<◌, ◌≤◌, ◌==◌, ◌&&◌, nat_le, min, if◌then◌else◌, Bool, true, false, List, [], ◌∷◌, ◌++◌, length, drop, take, replicate, slice_get, slice_index, slice_index_or, Option, Some, None, is_some, MatchOption, refl, sym, ap, ◌∙◌, subst, inl, inr, arith, append-nil, append_assoc, length-append}
 use Rattle.std.specs.List.{list_all}
 use Rattle.std.specs.Option.{option_map, option_or}
 use Rattle.std.specs.Char.{len_utf8}
 use Rattle.std.specs.Cmp.Lexicographic.{pointwise}
-use Rattle.std.proofs.lemmas.Bool.{cases_lt}
-use Rattle.std.proofs.lemmas.Bool.Decides.{Decides-eqb, nat_tests}
+use Rattle.std.proofs.lemmas.Bool.{and_from, and_parts, cases_lt, false_from_ne_true, le-leb, leb-true, lt-ltb, ltb-true, or_cases, or_left, or_right}
+use Rattle.std.proofs.lemmas.Bool.Decides.{Decides-eqb}
 use Rattle.std.proofs.lemmas.List.{drop_at, ext_get_or, get_or_default, get_or_past, length-drop, length-take, take_all}
 use Rattle.std.proofs.lemmas.List.Sums.{prefix_len-le-length}
 use Rattle.std.proofs.lemmas.Slice.Eq.{slice_eq-Decides, starts_is}
@@ -21,53 +21,10 @@ use Rattle.excerpt_rows.specs.Alignment.{FirstLaid, HasNoAlignment, IsAlignment,
 use Rattle.excerpt_rows.specs.Ends.{IsDotted, core, core_end, core_start, first_of, ink, is_blank, is_in, last_of}
 use Rattle.excerpt_rows.specs.Expansion.{ArePlaces, bytes_of, expanded, printed_len, rules, shown}
 use Rattle.excerpt_rows.specs.Search.{HasNoOnlyPlace, IsOnlyPlace}
-use Rattle.excerpt_rows.proofs.AlignmentLemmas.{not_laid}
+use Rattle.excerpt_rows.proofs.AlignmentLemmas.{none_there, not_laid}
 use Rattle.excerpt_rows.proofs.EndLemmas.{ink_is}
 use Rattle.excerpt_rows.proofs.ExpansionLemmas.{PlacesSoFar, bytes_more, expanded_more, place_found, places_begin, places_end, places_more}
 use Rattle.excerpt_rows.proofs.PlaceLemmas.{first_is, only_is}
-
-pub and_left : (a b : Bool) → (a && b) ≡ true → a ≡ true
-and_left true b is = refl
-and_left false b is = is
-
-pub and_right : (a b : Bool) → (a && b) ≡ true → b ≡ true
-and_right true b is = is
-and_right false b is = cc
-
-pub and_both : (a b : Bool) → a ≡ true → b ≡ true → (a && b) ≡ true
-and_both true b is is_b = is_b
-and_both false b is is_b = is
-
-pub or_true : (a b : Bool) → (a || b) ≡ true → (a ≡ true) ⊎ (b ≡ true)
-or_true true b is = inl refl
-or_true false b is = inr is
-
-pub or_left : (a b : Bool) → a ≡ true → (a || b) ≡ true
-or_left true b is = refl
-or_left false b is = cc
-
-pub or_right : (a b : Bool) → b ≡ true → (a || b) ≡ true
-or_right true b is = refl
-or_right false b is = is
-
-le_told : (a b : ℕ) → nat_le a b ≡ true → a ≤ b
-le_told a b is = grind (arith, nat_tests)
-
-le_is : (a b : ℕ) → a ≤ b → nat_le a b ≡ true
-le_is a b less = grind (arith, nat_tests)
-
-le_not : (a b : ℕ) → b < a → nat_le a b ≡ false
-le_not a b less = grind (arith, nat_tests)
-
-pub lt_told : (a b : ℕ) → nat_lt a b ≡ true → a < b
-lt_told a b is = grind (arith, nat_tests)
-
-pub lt_is : (a b : ℕ) → a < b → nat_lt a b ≡ true
-lt_is a b less = grind (arith, nat_tests)
-
-pub not_true : (test : Bool) → (test ≡ true → ⊥) → test ≡ false
-not_true true none = absurd (none refl)
-not_true false none = refl
 
 -- ---- the whole text
 
@@ -76,8 +33,8 @@ whole_told printed text holds =
     let row = drop (spare printed text) printed in
     record {
       rest = drop (length row) text;
-      whole = sym ((starts_is Decides-eqb text row (begins_with text row) refl).0 (and_left _ _ holds));
-      blank = and_right _ _ holds;
+      whole = sym ((starts_is Decides-eqb text row (begins_with text row) refl).0 (and_parts _ _ holds).0);
+      blank = (and_parts _ _ holds).1;
     }
 
 whole_is : (printed text : List ℕ) → IsWhole printed text → is_begun_by text (drop (spare printed text) printed) ≡ true
@@ -85,26 +42,26 @@ whole_is printed text is =
     let row = drop (spare printed text) printed in
     let begins : begins_with text row ≡ true = (starts_is Decides-eqb text row (begins_with text row) refl).1 is.rest (sym is.whole) in
     let rest_is : drop (length row) text ≡ is.rest = ap (drop (length row)) (sym is.whole) ∙ drop_at row is.rest (length row) refl in
-    and_both _ _ begins (ap (list_all is_blank) rest_is ∙ is.blank)
+    and_from _ _ begins (ap (list_all is_blank) rest_is ∙ is.blank)
 
 -- ---- a cut row
 
 cut_told : (row : List ℕ) → is_cut row ≡ true → IsDotted row × (core_start row < core_end row)
 cut_told row holds = (
-  elim (or_true _ _ (and_left _ _ holds)) [
-    | inl before ↦ inl (le_told 3 (first_of Dot (ink row)) before)
-    | inr after ↦ inr (le_told 3 (length (ink row) - last_of Dot (ink row)) after)
+  elim (or_cases _ _ (and_parts _ _ holds).0) [
+    | inl before ↦ inl (leb-true 3 (first_of Dot (ink row)) before)
+    | inr after ↦ inr (leb-true 3 (length (ink row) - last_of Dot (ink row)) after)
   ],
-  lt_told (core_start row) (core_end row) (and_right _ _ holds),
+  ltb-true (core_start row) (core_end row) (and_parts _ _ holds).1,
 )
 
 cut_is : (row : List ℕ) → IsDotted row → core_start row < core_end row → is_cut row ≡ true
 cut_is row dotted some =
-    and_both _ _
+    and_from _ _
     (elim dotted [
-      | inl before ↦ or_left _ _ (le_is 3 (first_of Dot (ink row)) before)
-      | inr after ↦ or_right _ _ (le_is 3 (length (ink row) - last_of Dot (ink row)) after)
-    ]) (lt_is (core_start row) (core_end row) some)
+      | inl before ↦ or_left _ _ (le-leb 3 (first_of Dot (ink row)) before)
+      | inr after ↦ or_right _ _ (le-leb 3 (length (ink row) - last_of Dot (ink row)) after)
+    ]) (lt-ltb (core_start row) (core_end row) some)
 
 core_some : (row : List ℕ) → core_start row < core_end row → 0 < length (core row)
 core_some row some =
@@ -163,9 +120,6 @@ none_by printed text None so none = refl
 none_by printed text (Some other) so none = absurd (none other so)
 
 -- ---- the first rule
-
-none_there : (k : ℕ) (rule : Rule) → slice_get [] k ≡ Some rule → ⊥
-none_there k rule there = cc
 
 first_at : (table : List Rule) (at : ℕ) (printed source : List ℕ) (rule : Rule) (shift : Shift) → slice_get table at ≡ Some rule → IsLaid printed (expanded rule source) shift → NoneLaid table at printed source
     → first_by table printed source ≡ Some (rule, shift)
@@ -245,7 +199,7 @@ abbrev parts : Rule → Shift → List ℕ → ℕ → AlignedParts
 parts rule shift places end = record { rule = rule; shift = shift; places = places; end = end }
 
 short_is : (printed source : List ℕ) → length printed ≤ LIMIT → length source ≤ LIMIT → (nat_le (length printed) LIMIT && nat_le (length source) LIMIT) ≡ true
-short_is printed source a b = and_both _ _ (le_is (length printed) LIMIT a) (le_is (length source) LIMIT b)
+short_is printed source a b = and_from _ _ (le-leb (length printed) LIMIT a) (le-leb (length source) LIMIT b)
 
 value_if : (printed source : List ℕ) → length printed ≤ LIMIT → length source ≤ LIMIT → alignment_of printed source ≡ option_map (parts_by source) (printed_by printed source)
 unfolding alignment_of
@@ -265,10 +219,10 @@ none_is printed source a b none =
 
 long_test : (printed source : List ℕ) → (LIMIT < length printed) ⊎ (LIMIT < length source) → (nat_le (length printed) LIMIT && nat_le (length source) LIMIT) ≡ false
 long_test printed source long =
-    not_true (nat_le (length printed) LIMIT && nat_le (length source) LIMIT)
+    false_from_ne_true (nat_le (length printed) LIMIT && nat_le (length source) LIMIT)
     (λ short.
-    let first : length printed ≤ LIMIT = le_told (length printed) LIMIT (and_left (nat_le (length printed) LIMIT) (nat_le (length source) LIMIT) short) in
-    let second : length source ≤ LIMIT = le_told (length source) LIMIT (and_right (nat_le (length printed) LIMIT) (nat_le (length source) LIMIT) short) in
+    let first : length printed ≤ LIMIT = leb-true (length printed) LIMIT (and_parts (nat_le (length printed) LIMIT) (nat_le (length source) LIMIT) short).0 in
+    let second : length source ≤ LIMIT = leb-true (length source) LIMIT (and_parts (nat_le (length printed) LIMIT) (nat_le (length source) LIMIT) short).1 in
     elim long [
       | inl more ↦ omega (arith, first, more)
       | inr more ↦ omega (arith, second, more)
@@ -452,7 +406,7 @@ pub aligned_told : (printed source : List ℕ) → is_some (alignment_of printed
 unfolding alignment_of
 aligned_told printed source is =
     aligned_by printed source (nat_le (length printed) LIMIT && nat_le (length source) LIMIT) (printed_by printed source)
-    (λ short. (le_told (length printed) LIMIT (and_left (nat_le (length printed) LIMIT) (nat_le (length source) LIMIT) short), le_told (length source) LIMIT (and_right (nat_le (length printed) LIMIT) (nat_le (length source) LIMIT) short)))
+    (λ short. (leb-true (length printed) LIMIT (and_parts (nat_le (length printed) LIMIT) (nat_le (length source) LIMIT) short).0, leb-true (length source) LIMIT (and_parts (nat_le (length printed) LIMIT) (nat_le (length source) LIMIT) short).1))
     refl is
 
 pub aligned_is : (printed source : List ℕ) → IsAligned printed source → is_some (alignment_of printed source) ≡ true

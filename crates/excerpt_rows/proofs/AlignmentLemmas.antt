@@ -82,7 +82,7 @@ first_get [] k rule first there = there
 first_get (r ∷ rules) zero rule first there = there
 first_get (r ∷ rules) (suc k) rule first there = absurd (omega (arith, first))
 
-none_there : (k : ℕ) (rule : Rule) → slice_get [] k ≡ Some rule → ⊥
+pub none_there : (k : ℕ) (rule : Rule) → slice_get [] k ≡ Some rule → ⊥
 none_there k rule there = cc
 
 get_first : (rules : List Rule) (k : ℕ) (rule : Rule) → slice_get (take 1 rules) k ≡ Some rule → (k ≡ 0) × (slice_get rules k ≡ Some rule)

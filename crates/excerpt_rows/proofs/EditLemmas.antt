@@ -3,6 +3,7 @@ use Rattle.std.proofs.Common.{◌≡◌, ℕ, zero, suc, ◌+◌, ◌-◌, ◌<�
 use Rattle.std.specs.Cmp.Lexicographic.{pointwise}
 use Rattle.std.specs.List.{find, flat_map, list_all, prefix_len, suffix_len, sum_by}
 use Rattle.std.specs.Option.{option_and_then, option_copied, option_map}
+use Rattle.std.proofs.lemmas.Bool.{and_from, and_parts, lt-ltb, ltb-true, not-true, not_from_false, or_cases, or_left, or_right}
 use Rattle.std.proofs.lemmas.Bool.Decides.{Decides-eqb}
 use Rattle.std.proofs.lemmas.List.{drop-map, length-map, map-append, reverse-append, take-map}
 use Rattle.std.proofs.lemmas.List.Sums.{sum_by-cons}
@@ -16,7 +17,7 @@ use Rattle.excerpt_rows.specs.Aligned.{alignment_of, begins_with}
 use Rattle.excerpt_rows.specs.Edits.{EditParts, HunkRowView, changes, changes_at, changes_end, edit_at, edit_from, edit_in, edit_parts, first_by, first_in, gives, gives_by, go_on, goes_by, has_dots, has_no_other, has_number, is_exact, is_kept, is_restored, number_of, of_source, row_view, stays, takes, takes_some}
 use Rattle.excerpt_rows.specs.Ends.{is_blank}
 use Rattle.excerpt_rows.specs.Hunk.{AreExact, AreSteps, HasDots, HasNoEdit, IsAligned, IsEdit, IsExact, IsSourceRow, Restores, StepBy, begin, end, given_by, is_changed_by, is_context, is_marked, is_of_source, left_of, middle, number_at, place, place_by, row_list, taken}
-use Rattle.excerpt_rows.proofs.AlignedLemmas.{aligned_is, aligned_told, and_both, and_left, and_right, lt_is, lt_told, or_left, or_right, or_true}
+use Rattle.excerpt_rows.proofs.AlignedLemmas.{aligned_is, aligned_told}
 use Rattle.excerpt_rows.proofs.HunkLemmas.{cons_steps, no_steps, steps_cons}
 
 -- ---- dots
@@ -44,7 +45,7 @@ dots_later c cs so =
 dots_told : (text : List ℕ) → has_dots text ≡ true → HasDots text
 dots_told [] is = cc
 dots_told (c ∷ cs) is =
-    elim (or_true (begins_with (c ∷ cs) dots) (has_dots cs) is) [
+    elim (or_cases (begins_with (c ∷ cs) dots) (has_dots cs) is) [
       | inl here ↦ dots_here c cs here
       | inr later ↦ dots_later c cs (dots_told cs later)
     ]
@@ -70,34 +71,26 @@ dots_is text so = dots_at text so.0 so.1 so.2.1 so.2.0 so.2.2 so.2.3
 
 -- ---- one row
 
-not_told : (b : Bool) → not b ≡ true → b ≡ false
-not_told true is = cc
-not_told false is = refl
-
-not_is : (b : Bool) → b ≡ false → not b ≡ true
-not_is true is = cc
-not_is false is = refl
-
 not_if : (b : Bool) → (b ≡ true → ⊥) → not b ≡ true
 not_if true never = absurd (never refl)
 not_if false never = refl
 
 row_told : (row : HunkRow) → is_exact (row_view row) ≡ true → IsExact row
 row_told row is =
-    let rest = and_right (not (is_changed_by row.sign)) (not (has_dots row.text.now) && list_all (λ mark. mark.added) row.marks.now) is in
+    let rest = (and_parts (not (is_changed_by row.sign)) (not (has_dots row.text.now) && list_all (λ mark. mark.added) row.marks.now) is).1 in
     record {
-      sign = not_told (is_changed_by row.sign) (and_left (not (is_changed_by row.sign)) (not (has_dots row.text.now) && list_all (λ mark. mark.added) row.marks.now) is);
+      sign = not-true (is_changed_by row.sign) (and_parts (not (is_changed_by row.sign)) (not (has_dots row.text.now) && list_all (λ mark. mark.added) row.marks.now) is).0;
       dots = λ so.
           (let yes = dots_is row.text.now so in
-          let no = not_told (has_dots row.text.now) (and_left (not (has_dots row.text.now)) (list_all (λ mark. mark.added) row.marks.now) rest) in
+          let no = not-true (has_dots row.text.now) (and_parts (not (has_dots row.text.now)) (list_all (λ mark. mark.added) row.marks.now) rest).0 in
           cc);
-      marks = and_right (not (has_dots row.text.now)) (list_all (λ mark. mark.added) row.marks.now) rest;
+      marks = (and_parts (not (has_dots row.text.now)) (list_all (λ mark. mark.added) row.marks.now) rest).1;
     }
 
 row_is : (row : HunkRow) → IsExact row → is_exact (row_view row) ≡ true
 row_is row so =
-    and_both (not (is_changed_by row.sign)) (not (has_dots row.text.now) && list_all (λ mark. mark.added) row.marks.now) (not_is (is_changed_by row.sign) so.sign)
-    (and_both (not (has_dots row.text.now)) (list_all (λ mark. mark.added) row.marks.now) (not_if (has_dots row.text.now) (λ yes. so.dots (dots_told row.text.now yes))) so.marks)
+    and_from (not (is_changed_by row.sign)) (not (has_dots row.text.now) && list_all (λ mark. mark.added) row.marks.now) (not_from_false (is_changed_by row.sign) so.sign)
+    (and_from (not (has_dots row.text.now)) (list_all (λ mark. mark.added) row.marks.now) (not_if (has_dots row.text.now) (λ yes. so.dots (dots_told row.text.now yes))) so.marks)
 
 none_there : (k : ℕ) (row : HunkRow) → slice_get [] k ≡ Some row → ⊥
 none_there k row there = cc
@@ -105,13 +98,13 @@ none_there k row there = cc
 exact_told : (rows : List HunkRow) → list_all is_exact (map row_view rows) ≡ true → AreExact rows
 exact_told [] is k row there = absurd (none_there k row there)
 exact_told (first ∷ rows) is zero row there =
-    let same : first ≡ row = cc in subst IsExact same (row_told first (and_left (is_exact (row_view first)) (list_all is_exact (map row_view rows)) is))
-exact_told (first ∷ rows) is (suc k) row there = exact_told rows (and_right (is_exact (row_view first)) (list_all is_exact (map row_view rows)) is) k row there
+    let same : first ≡ row = cc in subst IsExact same (row_told first (and_parts (is_exact (row_view first)) (list_all is_exact (map row_view rows)) is).0)
+exact_told (first ∷ rows) is (suc k) row there = exact_told rows (and_parts (is_exact (row_view first)) (list_all is_exact (map row_view rows)) is).1 k row there
 
 exact_is : (rows : List HunkRow) → AreExact rows → list_all is_exact (map row_view rows) ≡ true
 exact_is [] so = refl
 exact_is (first ∷ rows) so =
-    and_both (is_exact (row_view first)) (list_all is_exact (map row_view rows)) (row_is first (so 0 first refl)) (exact_is rows (λ k row there. so (suc k) row there))
+    and_from (is_exact (row_view first)) (list_all is_exact (map row_view rows)) (row_is first (so 0 first refl)) (exact_is rows (λ k row there. so (suc k) row there))
 
 -- ---- one step
 
@@ -171,19 +164,19 @@ marked_is row false so = kept_is row so
 step_told : (sign : Sign) (row : HunkRow) (old new : ℕ) → goes_by sign (row_view row) old new ≡ true → StepBy sign row old new
 step_told Unsigned row old new is =
     let second = if is_marked row then is_restored (row_view row) else is_kept (row_view row) in (
-      number_told row.number old (and_left (has_number row.number old) second is),
-      marked_told row (is_marked row) (and_right (has_number row.number old) second is),
+      number_told row.number old (and_parts (has_number row.number old) second is).0,
+      marked_told row (is_marked row) (and_parts (has_number row.number old) second is).1,
     )
 step_told Added row old new is = other_told row.number new is
 step_told Removed row old new is =
-    (number_told row.number old (and_left (has_number row.number old) (is_kept (row_view row)) is), kept_told row (and_right (has_number row.number old) (is_kept (row_view row)) is))
+    (number_told row.number old (and_parts (has_number row.number old) (is_kept (row_view row)) is).0, kept_told row (and_parts (has_number row.number old) (is_kept (row_view row)) is).1)
 step_told Changed row old new is = cc
 
 step_is : (sign : Sign) (row : HunkRow) (old new : ℕ) → StepBy sign row old new → goes_by sign (row_view row) old new ≡ true
 step_is Unsigned row old new so =
-    and_both (has_number row.number old) (if is_marked row then is_restored (row_view row) else is_kept (row_view row)) (number_is row.number old so.0) (marked_is row (is_marked row) so.1)
+    and_from (has_number row.number old) (if is_marked row then is_restored (row_view row) else is_kept (row_view row)) (number_is row.number old so.0) (marked_is row (is_marked row) so.1)
 step_is Added row old new so = other_is row.number new so
-step_is Removed row old new so = and_both (has_number row.number old) (is_kept (row_view row)) (number_is row.number old so.0) (kept_is row so.1)
+step_is Removed row old new so = and_from (has_number row.number old) (is_kept (row_view row)) (number_is row.number old so.0) (kept_is row so.1)
 step_is Changed row old new so = absurd so
 
 -- ---- the rows that come of rows
@@ -203,15 +196,15 @@ steps_told (row ∷ rows) old new is =
     let first = goes_by row.sign (row_view row) old new in
     let rest = go_on (map row_view rows) (old + taken row) (new + length (gives (row_view row))) in
     let e : new + length (gives (row_view row)) ≡ new + length (row_list row) = ap (λ (xs : List (List ℕ)). new + length xs) (gives_is row) in
-    cons_steps row rows old new (step_told row.sign row old new (and_left first rest is))
-    (steps_told rows (old + taken row) (new + length (row_list row)) (ap (λ n. go_on (map row_view rows) (old + taken row) n) (sym e) ∙ and_right first rest is))
+    cons_steps row rows old new (step_told row.sign row old new (and_parts first rest is).0)
+    (steps_told rows (old + taken row) (new + length (row_list row)) (ap (λ n. go_on (map row_view rows) (old + taken row) n) (sym e) ∙ (and_parts first rest is).1))
 
 steps_is : (rows : List HunkRow) (old new : ℕ) → AreSteps rows old new → go_on (map row_view rows) old new ≡ true
 steps_is [] old new so = refl
 steps_is (row ∷ rows) old new so =
     let here = steps_cons row rows old new so in
     let e : new + length (gives (row_view row)) ≡ new + length (row_list row) = ap (λ (xs : List (List ℕ)). new + length xs) (gives_is row) in
-    and_both (goes_by row.sign (row_view row) old new) (go_on (map row_view rows) (old + taken row) (new + length (gives (row_view row)))) (step_is row.sign row old new here.0)
+    and_from (goes_by row.sign (row_view row) old new) (go_on (map row_view rows) (old + taken row) (new + length (gives (row_view row)))) (step_is row.sign row old new here.0)
     (ap (λ n. go_on (map row_view rows) (old + taken row) n) e ∙ steps_is rows (old + taken row) (new + length (row_list row)) here.1)
 
 flat_is : (rows : List HunkRow) → flat_map gives (map row_view rows) ≡ flat_map row_list rows
@@ -312,9 +305,9 @@ edit_same rows edit so =
     let first = edit.first in
     let placed = so.placed in
     let changed = map row_view (middle rows) in
-    let tests : (nat_lt 0 first && go_on changed first first) ≡ true = and_both (nat_lt 0 first) (go_on changed first first) (lt_is 0 first placed.numbered) (steps_is (middle rows) first first placed.steps) in
+    let tests : (nat_lt 0 first && go_on changed first first) ≡ true = and_from (nat_lt 0 first) (go_on changed first first) (lt-ltb 0 first placed.numbered) (steps_is (middle rows) first first placed.steps) in
     let whole : (list_all is_exact (map row_view rows) && nat_lt (begin rows) (end rows)) ≡ true =
-    and_both (list_all is_exact (map row_view rows)) (nat_lt (begin rows) (end rows)) (exact_is rows placed.exact) (lt_is (begin rows) (end rows) placed.some) in
+    and_from (list_all is_exact (map row_view rows)) (nat_lt (begin rows) (end rows)) (exact_is rows placed.exact) (lt-ltb (begin rows) (end rows) placed.some) in
     sym (
     value_is rows ∙ ap (λ (b : Bool). if b then edit_from changed (place rows) else None) whole ∙ ap (edit_from changed) placed.place_is
     ∙ ap (λ (b : Bool). if b then Some (edit_at changed first) else None) tests
@@ -331,7 +324,7 @@ from_none rows None never = refl
 from_none rows (Some first) never =
     let changed = map row_view (middle rows) in
     if_none (nat_lt 0 first && go_on changed first first) (edit_at changed first)
-    (λ yes. never first refl (lt_told 0 first (and_left (nat_lt 0 first) (go_on changed first first) yes)) (steps_told (middle rows) first first (and_right (nat_lt 0 first) (go_on changed first first) yes)))
+    (λ yes. never first refl (ltb-true 0 first (and_parts (nat_lt 0 first) (go_on changed first first) yes).0) (steps_told (middle rows) first first (and_parts (nat_lt 0 first) (go_on changed first first) yes).1))
 
 none_if : (rows : List HunkRow) (b : Bool) → (b ≡ true → edit_from (map row_view (middle rows)) (place rows) ≡ None) → (if b then edit_from (map row_view (middle rows)) (place rows) else None) ≡ None
 none_if rows true so = so refl
@@ -349,8 +342,8 @@ none_same rows never =
     (λ first at numbered steps.
     never first
     (record {
-      exact = exact_told rows (and_left exact some yes);
-      some = lt_told (begin rows) (end rows) (and_right exact some yes);
+      exact = exact_told rows (and_parts exact some yes).0;
+      some = ltb-true (begin rows) (end rows) (and_parts exact some yes).1;
       place_is = at;
       numbered = numbered;
       steps = steps;

@@ -1,6 +1,6 @@
 -- An expansion, one character of the source after another.
 use Rattle.std.proofs.Common.{OnOk, Result, Ok, Err, drop, zero, suc, not, ◌&&◌, append-nil, ◌≡◌, ℕ, ◌+◌, ◌-◌, ◌*◌, ◌<◌, ◌≤◌, ◌==◌, if◌then◌else◌, Bool, true, false, List, [], ◌∷◌, ◌++◌, length, take, replicate, slice_index, refl, sym, ap, ◌∙◌, subst, inl, inr, arith, append_assoc, length-append}
-use Rattle.std.proofs.lemmas.Bool.{cases_lt}
+use Rattle.std.proofs.lemmas.Bool.{and_parts, cases_lt}
 use Rattle.std.proofs.lemmas.Bool.Decides.{nat_tests}
 use Rattle.std.proofs.lemmas.List.{drop_at, take_all, take_more, take_rest, length-replicate, get_or_append_left, get_or-append_right, get_or_at, get_or-replicate, length-take-le}
 use Rattle.std.proofs.lemmas.List.Sums.{sum_by-append}
@@ -191,19 +191,11 @@ as_is : (rule : Rule) (text : List ℕ) (c : ℕ) → is_as_is c ≡ true → sh
 as_is Same text c is = refl
 as_is (Expanded tabs hidden) text c is = as_is_by (c == 0x09) (is_hidden c) (replicate (tab_len tabs (cells_of text) (bytes_of text)) 0x20) (hidden_as hidden c) c is
 
-and_left : (a b : Bool) → (a && b) ≡ true → a ≡ true
-and_left true b is = refl
-and_left false b is = is
-
-and_right : (a b : Bool) → (a && b) ≡ true → b ≡ true
-and_right true b is = is
-and_right false b is = cc
-
 plain_after : (rule : Rule) (text row : List ℕ) → is_plain row ≡ true → expanded_after rule text row ≡ text ++ row
 unfolding expanded_after
 plain_after rule text [] is = sym (append-nil text)
 plain_after rule text (c ∷ cs) is =
-    ap (λ (t : List ℕ). expanded_after rule (text ++ t) cs) (as_is rule text c (and_left _ _ is)) ∙ plain_after rule (text ++ c ∷ []) cs (and_right _ _ is) ∙ append_assoc text (c ∷ []) cs
+    ap (λ (t : List ℕ). expanded_after rule (text ++ t) cs) (as_is rule text c (and_parts _ _ is).0) ∙ plain_after rule (text ++ c ∷ []) cs (and_parts _ _ is).1 ∙ append_assoc text (c ∷ []) cs
 
 pub plain_is : (rule : Rule) (row : List ℕ) → is_plain row ≡ true → expanded rule row ≡ row
 plain_is rule row is = plain_after rule [] row is

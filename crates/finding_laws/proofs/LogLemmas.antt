@@ -6,7 +6,6 @@ pub mod Rule
 pub mod Report
 pub mod ReadBack
 pub mod Small
-pub mod Row
 pub mod Span
 pub mod RulePlace
 pub mod LabelBack

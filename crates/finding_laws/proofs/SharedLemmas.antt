@@ -1,12 +1,8 @@
 -- What the laws of more than one subject, or several files of one, use.
-use Rattle.std.proofs.Common.{◌≡◌, ◌∙◌, ℕ, ◌||◌, ◌++◌, Bool, true, false, List, [], ◌∷◌, refl}
+use Rattle.std.proofs.Common.{◌≡◌, ◌∙◌, ℕ, ◌++◌, Bool, true, List, [], ◌∷◌}
 use Rattle.std.specs.List.{list_all}
 use Rattle.std.proofs.lemmas.Bool.{and_from}
 use Rattle.std.proofs.lemmas.List.Folds.{list_all-append}
-
-pub or_later : (here later : Bool) → later ≡ true → (here || later) ≡ true
-or_later true later is = refl
-or_later false later is = is
 
 pub all_append : (passes : ℕ → Bool) (xs ys : List ℕ) → list_all passes xs ≡ true → list_all passes ys ≡ true → list_all passes (xs ++ ys) ≡ true
 all_append passes xs ys first second = list_all-append passes xs ys ∙ and_from (list_all passes xs) (list_all passes ys) first second

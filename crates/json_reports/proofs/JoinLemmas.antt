@@ -1,10 +1,11 @@
 -- Reports that were on other files.
-use Rattle.std.proofs.Common.{◌≡◌, ℕ, zero, suc, ◌<◌, List, [], ◌∷◌, ◌++◌, length, map, reverse, get_or, refl, sym, ap, ◌∙◌, arith, append_assoc, string_bytes}
+use Rattle.std.proofs.Common.{◌≡◌, ℕ, zero, suc, ◌<◌, List, [], ◌∷◌, ◌++◌, length, map, reverse, get_or, sym, ap, ◌∙◌, arith, append_assoc, string_bytes}
 use Rattle.std.proofs.lemmas.List.{reverse-append}
 use Rattle.std.proofs.lemmas.List.Elements.{All-head, All-tail}
 use Rattle.found_reports.specs.Found.{Found, NamedHeld, file_at}
 use Rattle.found_reports.specs.Held.{Held}
 use Rattle.found_reports.specs.Kept.{file_view, report_view}
+use Rattle.found_reports.proofs.OnceLemmas.{file_seen}
 use Rattle.found_reports.specs.declared.reports.FoundFile.{FoundFile}
 use Rattle.found_reports.specs.declared.reports.FoundReport.{FoundReport}
 use Rattle.indexed_sources.specs.Indexed.{AreTold}
@@ -15,11 +16,6 @@ told_here told [] k low are = absurd (omega (arith, low))
 told_here told (file ∷ files) zero low are =
     let is : file.held ≡ told file.name = All-head (λ (it : NamedHeld). it.held ≡ told it.name) file files are in ap (λ held. record { name = file.name; held = held }) (sym is)
 told_here told (file ∷ files) (suc k) low are = told_here told files k (omega (arith, low)) (All-tail (λ (it : NamedHeld). it.held ≡ told it.name) file files are)
-
-file_seen : (given : List FoundFile) (k : ℕ) (file : FoundFile) → k < length given → file ≡ get_or given k file → file_view file ≡ file_at (map file_view given) k
-file_seen [] k file low is = absurd (omega (arith, low))
-file_seen (x ∷ xs) zero file low is = ap file_view is
-file_seen (x ∷ xs) (suc k) file low is = file_seen xs k file (omega (arith, low)) is
 
 -- the file of a name is the one that was given
 pub same_file_at : (told : List ℕ → Held) (given : List FoundFile) (k : ℕ) (file : FoundFile) (at : NamedHeld) → k < length given → file ≡ get_or given k file

@@ -1,12 +1,11 @@
 -- Spans in what is held of a file, and the labels over them.
-use Rattle.std.proofs.Common.{◌≡◌, ◌∷◌, ℕ, ◌+◌, ◌-◌, List, [], Bool, Option, Some, None, refl, sym, ap, subst, arith, ◌++◌, length, ◌<◌}
-use Rattle.std.specs.Prelude.{IfSome, unwrap_or}
-use Rattle.std.specs.Str.{IsCharBoundary}
+use Rattle.std.proofs.Common.{◌≡◌, ◌∷◌, ℕ, List, [], Bool, Option, Some, None, refl, sym, ap, subst, ◌++◌}
 use Rattle.std.proofs.lemmas.List.Elements.{All-nil, All-cons, All-head, All-tail}
 use Rattle.oxc_span.specs.Label.{Label}
-use Rattle.sarif_spans.specs.Span.{IsSpanOf}
 use Rattle.json_forms.specs.Finding.{Finding}
 use Rattle.line_reports.specs.Reports.{label_of}
+use Rattle.line_reports.proofs.FileLemmas.{label_fits, some_is, stands_held}
+use Rattle.line_reports.proofs.LabelLemmas.{label_stands}
 use Rattle.json_reports.specs.Reports.{diagnostic_of}
 use Rattle.std.specs.declared.ops.Range.{Range}
 use Rattle.std.proofs.lemmas.Option.{none-some}
@@ -14,21 +13,8 @@ use Rattle.oxc_protocol.specs.Parts.{OxcParts}
 use Rattle.found_reports.specs.Found.{LabelsStand, StandsIn}
 use Rattle.found_reports.specs.Held.{Held, holds, lacks}
 use Rattle.json_forms.specs.Place.{Place}
-use Rattle.oxc_protocol.specs.Source.{Fits}
-use Rattle.line_reports.specs.Gathered.{FitsLabel, StandsHeld, text_in}
+use Rattle.line_reports.specs.Gathered.{StandsHeld, text_in}
 use Rattle.json_reports.specs.Spans.{held_span, span_in}
-
-some_is : {A : Type 0} {a b : A} → Some a ≡ Some b → a ≡ b
-some_is {a = a} e = ap (λ o. unwrap_or o a) e
-
-stands_some : (held : Held) (text : List ℕ) (range : Range ℕ) → Some text ≡ text_in held → Fits text → IsSpanOf text range → StandsHeld held range
-stands_some (holds text) other range is short span =
-    let same : other ≡ text = some_is is in record { short = subst Fits same short; span = subst (λ bytes. IsSpanOf bytes range) same span }
-stands_some (lacks why) other range is short span = elim (none-some other (sym is)) [ ]
-
-pub stands_held : (held : Held) (text : List ℕ) (o : Option (Range ℕ)) → Some text ≡ text_in held → Fits text → IfSome o (IsSpanOf text) → IfSome o (StandsHeld held)
-stands_held held text None is short span = tt
-stands_held held text (Some range) is short span = stands_some held text range is short span
 
 pub span_held : (held : Held) (text : List ℕ) (place : Place) → Some text ≡ text_in held → span_in text place ≡ held_span held place
 span_held (holds text) other place is = ap (λ bytes. span_in bytes place) (some_is is)
@@ -39,11 +25,6 @@ span_lacks (holds text) place is = elim (none-some text is) [ ]
 span_lacks (lacks why) place is = refl
 
 pub ruleset span_rules = (span_held, span_lacks, stands_held)
-
-label_stands : (text : List ℕ) (words : Option (List ℕ)) (primary : Bool) (range : Range ℕ) → IsSpanOf text range → StandsIn text (label_of words primary range)
-label_stands text words primary range span =
-    let whole : range.start + (range.end - range.start) ≡ range.end = omega (arith, span.ordered) in
-    record { within = omega (arith, whole, span.end.0); start = span.start; end = subst (IsCharBoundary text) (sym whole) span.end }
 
 labels_are : (d : OxcParts) (it : Finding) (labels : List Label) → d ≡ diagnostic_of it labels → d.labels ≡ labels
 unfolding diagnostic_of
@@ -59,11 +40,6 @@ label_more (lacks why) labels text primary range stand stands = absurd stands
 pub no_labels : (held : Held) → LabelsStand held []
 no_labels (holds bytes) = All-nil (StandsIn bytes)
 no_labels (lacks why) = refl
-
-pub label_fits : (held : Held) (range : Range ℕ) → StandsHeld held range → FitsLabel range
-label_fits (holds text) range stands =
-    let high = stands.span.end.0 in let short : length text < 4294967295 = stands.short in record { ordered = stands.span.ordered; short = omega (arith, high, short) }
-label_fits (lacks why) range stands = absurd stands
 
 pub ruleset label_rules = (label_more, label_fits)
 

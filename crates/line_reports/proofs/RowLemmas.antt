@@ -11,6 +11,7 @@ use Rattle.oxc_windows.specs.Breaks.{break_at, breaks_before, breaks_of}
 use Rattle.oxc_windows.proofs.ByteRowsLemmas.{number_cases}
 use Rattle.oxc_windows.proofs.RowsLemmas.{no_break, row_start_after}
 use Rattle.source_location.specs.Locations.{begins_with_mark, counted_from}
+use Rattle.source_location.proofs.BreaksLemmas.{within_nonzero}
 use Rattle.source_location.proofs.LocationsLemmas.{counted_from_boundary, counted_from_first, counted_from_later, counted_from_mark}
 use Rattle.sarif_spans.specs.Rows.{IsRowOf, break_len, mark, mark_len, row_at, rows_from, rows_in}
 use Rattle.sarif_spans.specs.declared.rows.Row.{Row}
@@ -71,13 +72,9 @@ one_found text at n found is = ap (λ it. cons_option it (breaks_from text (at +
 width_at : (text : List ℕ) (at width : ℕ) → at < length text → break_len breaks (get_or text at 0 ∷ drop (at + 1) text) ≡ width → break_len breaks (drop at text) ≡ width
 width_at text at width within wide = ap (break_len breaks) (drop_more text at 0 within) ∙ wide
 
--- a byte that isn't 0 stands within the text
-is_within : (text : List ℕ) (at : ℕ) → 0 < get_or text at 0 → at < length text
-is_within text at some = ⊎_elim (λ less. less) (λ past. absurd (omega (arith, some, get_or_past text at 0 past))) (cases_lt at (length text))
-
 pair_at : (text : List ℕ) (at : ℕ) → at < length text → get_or text at 0 ≡ 13 → get_or text (at + 1) 0 ≡ 10 → break_len breaks (drop at text) ≡ 2
 pair_at text at within cr lf =
-    let next : at + 1 < length text = is_within text (at + 1) (omega (arith, lf)) in
+    let next : at + 1 < length text = within_nonzero text (at + 1) (omega (arith, lf)) in
     width_at text at 2 within
     (ap (λ its. break_len breaks (get_or text at 0 ∷ its)) (drop_more text (at + 1) 0 next) ∙ at_pair (drop (at + 1 + 1) text) (get_or text at 0) (get_or text (at + 1) 0) cr lf)
 
@@ -104,7 +101,7 @@ past_break text n at start width b within wide some fits starts ends rest =
 -- past a CRLF
 past_pair : (text : List ℕ) (n at start : ℕ) → at + 1 + n ≡ length text → get_or text at 0 ≡ 13 → get_or text (at + 1) 0 ≡ 10
     → ((m place from : ℕ) → m < n → place + m ≡ length text → CutsNone text place → Along text m place from) → Along text (suc n) at start
-past_pair text zero at start left cr lf rest = absurd (omega (arith, left, is_within text (at + 1) (omega (arith, lf))))
+past_pair text zero at start left cr lf rest = absurd (omega (arith, left, within_nonzero text (at + 1) (omega (arith, lf))))
 past_pair text (suc n) at start left cr lf rest =
     let it : LineBreak = record { start = at; end = at + 1 } in
     let back : at + 1 - 1 ≡ at = omega arith in
@@ -228,10 +225,10 @@ pub break_is : (text : List ℕ) (r : ℕ) (d : LineBreak) → r < length (break
 break_is text r d inside = break_starts text (get_or (breaks_of text) r d) (breaks_found text r d inside).0
 
 -- a row ends where no character is cut
-break_byte : (text : List ℕ) (at : ℕ) (b : LineBreak) → break_at text at ≡ Some b → get_or text at 0 < 128
+pub break_byte : (text : List ℕ) (at : ℕ) (b : LineBreak) → break_at text at ≡ Some b → get_or text at 0 < 128
 break_byte text at b is = grind (arith, nat_tests)
 
-ends_whole : (text : List ℕ) (r : ℕ) → IsCharBoundary text (row_end text r)
+pub ends_whole : (text : List ℕ) (r : ℕ) → IsCharBoundary text (row_end text r)
 ends_whole text r =
     let b = get_or (breaks_of text) r (past_end text) in
     ⊎_elim (λ inside.

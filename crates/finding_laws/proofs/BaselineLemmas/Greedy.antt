@@ -1,5 +1,5 @@
 -- What a round takes: of each class as many findings as it has entries.
-use Rattle.std.proofs.Common.{◌≡◌, ℕ, ◌+◌, ◌-◌, ◌<◌, ◌≤◌, nat_lt, Bool, true, false, not, if◌then◌else◌, List, [], ◌∷◌, ◌++◌, length, Option, Some, None, refl, sym, ap, ◌∙◌, arith, append_assoc}
+use Rattle.std.proofs.Common.{◌≡◌, ℕ, ◌+◌, ◌-◌, ◌≤◌, nat_lt, Bool, true, false, not, if◌then◌else◌, List, [], ◌∷◌, ◌++◌, length, Option, Some, None, refl, sym, ap, ◌∙◌, arith, append_assoc}
 use Rattle.std.specs.Str.{bytes_eq}
 use Rattle.std.proofs.lemmas.Bool.{false≢true, ltb-false, ltb-true}
 use Rattle.std.proofs.lemmas.List.{append-nil}
@@ -76,9 +76,6 @@ asking_in round q late it = in_turn (same it.late late) (asking round q it)
 
 -- ---- one that asks
 
-pub one_same : (class q : List ℕ) → bytes_eq class q ≡ true → class ≡ q
-one_same class q is = (bytes_eq-Decides class q).0 is
-
 step_over : (here said : Bool) (lc lq n : ℕ) → (here ≡ true → lc ≡ lq) → nat_lt 0 lc ≡ said
     → if_open said (if here then 1 else 0) + (n - (lq - (if here then 1 else 0))) ≡ ((if here then 1 else 0) + n) - lq
 step_over true true lc lq n alike test = omega (arith, ltb-true 0 lc test, alike refl)
@@ -91,7 +88,7 @@ open_step : (left : Left) (class : Option (List ℕ)) (q : List ℕ) (n : ℕ)
 unfolding less
 open_step left None q n = omega arith
 open_step left (Some class) q n =
-    step_over (bytes_eq class q) (nat_lt 0 (left class)) (left class) (left q) n (λ here. ap left (one_same class q here)) refl
+    step_over (bytes_eq class q) (nat_lt 0 (left class)) (left class) (left q) n (λ here. ap left ((bytes_eq-Decides class q).0 here)) refl
 
 left_step : (left : Left) (class : Option (List ℕ)) (q : List ℕ) (n : ℕ) → left_by left class q - n ≡ left q - (weight q class + n)
 unfolding less

@@ -9,7 +9,7 @@ use Rattle.finding_laws.specs.Baselines.Entries.{AreEntriesOf, TellKinds, TellsK
 use Rattle.finding_laws.specs.Baselines.Findings.{AreSameRows}
 use Rattle.finding_filters.specs.declared.baseline.Round.{Round}
 use Rattle.finding_filters.specs.declared.baseline.Round.TheVariants.{SameRow, NoRow, Rest}
-use Rattle.finding_laws.proofs.BaselineLemmas.Greedy.{Weight, asking, away_is, by_class, if_open, of_kind, one_same, open_by, turned_is, turns, turns_length, turns_less, turns_open, turns_stay, weight}
+use Rattle.finding_laws.proofs.BaselineLemmas.Greedy.{Weight, asking, away_is, by_class, if_open, of_kind, open_by, turned_is, turns, turns_length, turns_less, turns_open, turns_stay, weight}
 
 -- ---- lists of classes: where one has no more of any class than another, it has no more weight
 
@@ -34,7 +34,7 @@ taken_out f q (class ∷ classes) some = go (bytes_eq class q) refl (λ later. t
   where
     go : (here : Bool) → bytes_eq class q ≡ here → (0 < count q classes → total f classes ≡ f q + total f (without q classes))
         → f class + total f classes ≡ f q + total f (without_if here class classes (without q classes))
-    go true is next = ap (λ (it : List ℕ). f it + total f classes) (one_same class q is)
+    go true is next = ap (λ (it : List ℕ). f it + total f classes) ((bytes_eq-Decides class q).0 is)
     go false is next =
         let later : 0 < count q classes = omega (arith, some, ap {B = ℕ} (λ (b : Bool). if b then 1 else 0) is) in
         omega (arith, next later)

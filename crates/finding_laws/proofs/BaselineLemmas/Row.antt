@@ -3,15 +3,14 @@ use Rattle.std.proofs.Common.{◌≡◌, ◌⊎◌, ℕ, zero, suc, ◌+◌, ◌
 use Rattle.std.specs.Str.{IsUtf8, IsValidUpTo, is_utf8}
 use Rattle.std.specs.Str.Lossy.{after_first_chunk, error_len_after_one, error_len_after_two, error_len_of_some, replacement_bytes, second_byte_max, second_byte_min, utf8_error_len, utf8_invalid_len, utf8_lossy, utf8_valid_len}
 use Rattle.std.specs.Int.{is_in_range}
-use Rattle.std.proofs.lemmas.Bool.{cases_lt, eqb-true, false≢true}
-use Rattle.std.proofs.lemmas.List.{length-take-le, take_all}
-use Rattle.std.proofs.lemmas.Str.{IsUtf8-append, IsUtf8-encode, IsUtf8-from_is_utf8, IsUtf8-nil, IsUtf8-past_char, is_utf8-from_IsUtf8, utf8_lossy-IsUtf8, utf8_lossy_empty, utf8_lossy_step, utf8_valid_len-IsUtf8, utf8_valid_len-IsValidUpTo, utf8_valid_len_le}
+use Rattle.std.proofs.lemmas.Bool.{cases_lt, eqb-true, false≢true, or_right}
+use Rattle.std.proofs.lemmas.List.{take_all}
+use Rattle.std.proofs.lemmas.Str.{IsUtf8-append, IsUtf8-encode, IsUtf8-from_is_utf8, IsUtf8-nil, IsUtf8-past_char, is_utf8-from_IsUtf8, utf8_lossy-IsUtf8, utf8_lossy_empty, utf8_lossy_step, utf8_valid_len-IsValidUpTo, utf8_valid_len_le}
 use Rattle.std.proofs.Math.Seq.{drop-append-add, take-append-add}
 use lib.Utf8.{encode, encodes}
 use Rattle.finding_filters.specs.Finding.{FindingParts}
 use Rattle.finding_filters.specs.Texts.{is_space, kind_text, line_of, plain_message, row_class}
 use Rattle.finding_laws.specs.Baselines.Entries.{before_last_lf, has_lf}
-use Rattle.finding_laws.proofs.SharedLemmas.{or_later}
 
 -- ---- the longest front that is text
 
@@ -244,7 +243,7 @@ no_lf_dense (x ∷ row) = no_lf_one x (dense row) (is_space x) refl (no_lf_dense
 
 has_this_lf : (k d : List ℕ) → has_lf (k ++ 0x0A ∷ d) ≡ true
 has_this_lf [] d = refl
-has_this_lf (x ∷ k) d = or_later (x == 0x0A) (has_lf (k ++ 0x0A ∷ d)) (has_this_lf k d)
+has_this_lf (x ∷ k) d = or_right (x == 0x0A) (has_lf (k ++ 0x0A ∷ d)) (has_this_lf k d)
 
 front_is : (k d : List ℕ) → has_lf d ≡ false → before_last_lf (k ++ 0x0A ∷ d) ≡ k
 front_is [] d none = ap (λ b. if b then 0x0A ∷ before_last_lf d else []) none

@@ -10,9 +10,9 @@ use Rattle.ci_formats.specs.Checkstyle.{checkstyle_of, file_element}
 use Rattle.ci_formats.specs.Files.{is_on, names_of}
 use Rattle.ci_formats.specs.Xml.{xml_head}
 use Rattle.xml_values.specs.Document.{body, encoding, from_no_char, if_ended, is_utf8_name, max_depth, past_misc, skipped, value_of, value_of_body, value_of_text}
-use Rattle.xml_values.specs.Element.{element, element_json, ended, passed, started, Parts, Reading}
+use Rattle.xml_values.specs.Element.{element, element_json, passed, Reading}
 use Rattle.xml_values.specs.Marks.{after}
-use Rattle.xml_values.specs.Tag.{Attribute, attributes}
+use Rattle.xml_values.specs.Tag.{attributes}
 use Rattle.xml_values.specs.Text.{read_after}
 use Rattle.finding_laws.specs.Checkstyle.Value.{checkstyle_value, file_value, some_under}
 use Rattle.finding_laws.proofs.SharedLemmas.{ByRecursion}
@@ -23,7 +23,7 @@ use Rattle.finding_laws.proofs.CheckstyleLemmas.Char.{is_quiet}
 use Rattle.finding_laws.proofs.CheckstyleLemmas.Utf8.{ascii_on, HasTexts, rows_utf8}
 use Rattle.finding_laws.proofs.CheckstyleLemmas.Quiet.{rows_quiet}
 use Rattle.finding_laws.proofs.CheckstyleLemmas.Error.{started_as}
-use Rattle.finding_laws.proofs.CheckstyleLemmas.File.{file_quiet, file_utf8, file_written, files_are, HasOwn, own_then}
+use Rattle.finding_laws.proofs.CheckstyleLemmas.File.{ended_by, file_quiet, file_utf8, file_written, files_are, HasOwn, own_then}
 
 -- ---- as it is written
 
@@ -69,11 +69,8 @@ version_read : (n : ℕ) (rest : List ℕ) → attributes (suc (suc n)) [] (tag_
 version_read n rest =
     attributes_on (suc n) [] (codes "version") (codes "4.3") (codes "4.3") (0x3E ∷ rest) version_key version_value refl ∙ attributes_closed n ((codes "version", codes "4.3") ∷ []) rest
 
-ended_by : Option (Parts × List ℕ) → Option ((List ℕ × Json) × List ℕ)
-ended_by read = option_and_then (ended (codes "checkstyle")) read
-
 closed_as : (own : List ℕ) (names : List (List ℕ)) (children : List (List ℕ × Json)) (rest : List ℕ)
-    → ended_by (Some (parts_of ((codes "version", codes "4.3") ∷ []) names children own, codes "checkstyle>" ++ rest))
+    → ended_by (codes "checkstyle") (Some (parts_of ((codes "version", codes "4.3") ∷ []) names children own, codes "checkstyle>" ++ rest))
     ≡ Some ((codes "checkstyle", element_json (parts_of ((codes "version", codes "4.3") ∷ []) names children own)), rest)
 unfolding ended_by
 closed_as own names children rest = refl
@@ -90,7 +87,7 @@ root_read depth findings rest =
     let back = rows_back el (codes "file") (own_then findings) (file_value findings) (files_are depth findings) refl (names_of findings) (length rows + 1) ((codes "version", codes "4.3") ∷ []) (codes "checkstyle>" ++ rest) (omega arith) in
     ap (λ n. started_as (codes "checkstyle") el (attributes n [] (tag_then (0x3E ∷ rows)))) turns.1
     ∙ (ap (started_as (codes "checkstyle") el) (version_read turns.0 rows)
-    ∙ (ap ended_by back.2
+    ∙ (ap (ended_by (codes "checkstyle")) back.2
     ∙ (closed_as back.0 (names_for (codes "file") (names_of findings)) (map (λ name. (codes "file", file_value findings name)) (names_of findings)) rest
     ∙ ap (λ v. Some ((codes "checkstyle", v), rest)) (children_value (codes "file") (codes "version") (codes "4.3") (file_value findings) files_apart (names_of findings) back.0 back.1))))
 

@@ -1,5 +1,5 @@
 -- An element `file` that is written is read.
-use Rattle.std.proofs.Common.{◌≡◌, ◌∙◌, ℕ, suc, ◌+◌, ◌-◌, ◌≤◌, if◌then◌else◌, List, [], ◌∷◌, ◌++◌, length, map, filter, Bool, true, false, Option, Some, None, option_and_then, ap, arith, codes, refl, append_assoc}
+use Rattle.std.proofs.Common.{◌≡◌, ◌∙◌, ℕ, suc, ◌+◌, ◌-◌, ◌≤◌, List, [], ◌∷◌, ◌++◌, length, map, filter, true, false, Option, Some, option_and_then, ap, arith, codes, refl, append_assoc}
 use Rattle.std.specs.List.{flat_map}
 use Rattle.std.specs.Str.{IsUtf8}
 use Rattle.std.proofs.lemmas.Str.{IsUtf8-append}
@@ -9,7 +9,7 @@ use Rattle.ci_formats.specs.Checkstyle as checkstyle
 use Rattle.ci_formats.specs.Checkstyle.{error_element}
 use Rattle.ci_formats.specs.Files.{is_on}
 use Rattle.ci_formats.specs.Xml.{attribute, held, shown}
-use Rattle.xml_values.specs.Element.{child_step, content_step, element, element_json, ended, may_hold, passed, section, started, Parts, Reading, with_child}
+use Rattle.xml_values.specs.Element.{child_step, content_step, element, element_json, ended, may_hold, passed, section, Parts, with_child}
 use Rattle.xml_values.specs.Tag.{Attribute, attributes}
 use Rattle.finding_laws.specs.Checkstyle.Value as value
 use Rattle.finding_laws.specs.Checkstyle.Value.{error_value, file_value}
@@ -81,11 +81,11 @@ name_read : (n : ℕ) (name rest : List ℕ) → attributes (suc (suc n)) [] (at
 name_read n name rest =
     attributes_on (suc n) [] (codes "name") (shown name) (held name) (0x3E ∷ rest) name_key (shown_value name) refl ∙ attributes_closed n ((codes "name", held name) ∷ []) rest
 
-ended_by : Option (Parts × List ℕ) → Option ((List ℕ × Json) × List ℕ)
-ended_by read = option_and_then (ended (codes "file")) read
+unfoldable pub ended_by : List ℕ → Option (Parts × List ℕ) → Option ((List ℕ × Json) × List ℕ)
+ended_by name read = option_and_then (ended name) read
 
 closed_as : (name own : List ℕ) (names : List (List ℕ)) (children : List (List ℕ × Json)) (rest : List ℕ)
-    → ended_by (Some (parts_of ((codes "name", held name) ∷ []) names children own, codes "file>" ++ rest)) ≡ Some ((codes "file", element_json (parts_of ((codes "name", held name) ∷ []) names children own)), rest)
+    → ended_by (codes "file") (Some (parts_of ((codes "name", held name) ∷ []) names children own, codes "file>" ++ rest)) ≡ Some ((codes "file", element_json (parts_of ((codes "name", held name) ∷ []) names children own)), rest)
 unfolding ended_by
 closed_as name own names children rest = refl
 
@@ -98,7 +98,7 @@ file_read depth name own rest =
     let back = rows_back (element (suc depth)) (codes "error") error_then error_value (errors_are depth) refl own (length rows + 1) attrs (codes "file>" ++ rest) (omega arith) in
     ap (λ n. started_as (codes "file") (element (suc depth)) (attributes n [] (attribute_then (codes "name") (shown name) (0x3E ∷ rows)))) turns.1
     ∙ (ap (started_as (codes "file") (element (suc depth))) (name_read turns.0 name rows)
-    ∙ (ap ended_by back.2
+    ∙ (ap (ended_by (codes "file")) back.2
     ∙ (closed_as name back.0 (names_for (codes "error") own) (map (λ f. (codes "error", error_value f)) own) rest
     ∙ ap (λ v. Some ((codes "file", v), rest)) (children_value (codes "error") (codes "name") (held name) error_value errors_apart own back.0 back.1))))
 

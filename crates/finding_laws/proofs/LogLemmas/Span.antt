@@ -9,9 +9,9 @@ use Rattle.std.proofs.Math.Seq.{take-add}
 use Rattle.std.proofs.lemmas.Bool.{and_parts, cases_eq, cases_lt, cases_Bool, eqb-true, false≢true, le-leb, ltb-true, ne_eqb}
 use Rattle.std.proofs.lemmas.Bool.Decides.{nat_tests}
 use Rattle.std.proofs.lemmas.List.{drop-drop, get_or_past, length-append, length-drop, length-take}
-use Rattle.std.proofs.lemmas.Str.{chars-append, encodes-chars, length-encode, IsCharBoundary-before_ascii, IsCharBoundary-end, IsUtf8-between}
+use Rattle.std.proofs.lemmas.Str.{chars-append, encodes-chars, length-encode, IsUtf8-between}
 use Rattle.oxc_windows.specs.declared.breaks.LineBreak.{LineBreak}
-use Rattle.oxc_windows.specs.Breaks.{break_at, breaks_of}
+use Rattle.oxc_windows.specs.Breaks.{breaks_of}
 use Rattle.oxc_windows.specs.Rows.{is_second_byte, row_of, row_start}
 use Rattle.oxc_windows.proofs.ByteRowsLemmas.{rows_begin}
 use Rattle.oxc_windows.proofs.BreaksLemmas.{breaks_found, breaks_valid}
@@ -26,7 +26,8 @@ use Rattle.sarif_spans.specs.Rows.{row_at, rows_in}
 use Rattle.sarif_spans.specs.Span.{by_rows, fitting, in_row, place_of, positive, range_of, span_of, where_given}
 use Rattle.finding_laws.specs.Logs.Meant.{breaks_meant, region_meant}
 use Rattle.finding_laws.specs.Logs.Back.{ReadsBack, settled_end}
-use Rattle.finding_laws.proofs.LogLemmas.Row.{past_end, row_end, row_meant}
+use Rattle.line_reports.specs.Rows.{past_end, row_end}
+use Rattle.line_reports.proofs.RowLemmas.{break_byte, ends_whole, row_meant}
 
 -- ---- characters that fit
 
@@ -56,21 +57,10 @@ fits_all (c ∷ cs) (suc left) few = omega (arith, one_more left c cs, fits_all 
 
 -- ---- rows and marks
 
--- a break starts with an LF or a CR
-break_byte : (text : List ℕ) (at : ℕ) (b : LineBreak) → break_at text at ≡ Some b → get_or text at 0 < 128
-break_byte text at b is = grind (arith, nat_tests)
-
 low_end : (text : List ℕ) (r : ℕ) → r < length (breaks_of text) → get_or text (row_end text r) 0 < 128
 low_end text r inside =
     let b = get_or (breaks_of text) r (past_end text) in
     break_byte text b.start b (breaks_found text r (past_end text) inside).0
-
--- a row ends where no character is cut
-ends_whole : (text : List ℕ) (r : ℕ) → IsCharBoundary text (row_end text r)
-ends_whole text r =
-    ⊎_elim (λ inside. IsCharBoundary-before_ascii text (row_end text r) (breaks_found text r (past_end text) inside).1 (low_end text r inside))
-    (λ none. subst (IsCharBoundary text) (sym (ap (λ (it : LineBreak). it.start) (get_or_past (breaks_of text) r (past_end text) none))) (IsCharBoundary-end text))
-    (cases_lt r (length (breaks_of text)))
 
 -- what is ASCII stands behind a mark
 past_mark : (text : List ℕ) → begins_with_mark text ≡ true → (at : ℕ) → get_or text at 0 < 128 → 3 ≤ at

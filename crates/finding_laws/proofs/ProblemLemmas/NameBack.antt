@@ -3,8 +3,7 @@ use Rattle.std.proofs.Common.{◌≡◌, ℕ, zero, suc, ◌+◌, ◌-◌, ◌<�
 use borrow.Author.Tests.{ltb-true, ltb-false}
 use Rattle.std.specs.List.{slice_index, list_all, prefix_len, position_or_len, range_with_len}
 use Rattle.std.specs.Option.{option_map, option_or, unwrap_or}
-use Rattle.std.proofs.lemmas.Bool.{and_from, and_parts, eq-eqb, le-leb, leb-true, ne_eqb, not-true}
-use Rattle.std.proofs.lemmas.Bool.Decides.{nat_tests}
+use Rattle.std.proofs.lemmas.Bool.{and_from, and_parts, eq-eqb, le-leb, leb-true, ne_eqb, not-true, or_left, or_right}
 use Rattle.std.proofs.lemmas.List.{get_or_append_left, get_or-drop, take-append-le, drop-append-le, length-append}
 use Rattle.std.proofs.lemmas.List.Folds.{prefix_len-append}
 use Rattle.std.proofs.lemmas.List.FromFn.{get_or-range_with_len, length-range_with_len}
@@ -20,7 +19,6 @@ use Rattle.line_shapes.specs.Part.{Seen, before, may_begin, past_run}
 use Rattle.line_shapes.specs.Place.{afters, first_fit, fits_behind, named, placed_at}
 use Rattle.line_shapes.proofs.PartLemmas.{not_begun}
 use Rattle.finding_laws.specs.Problems.Plain.{has_no_colon}
-use Rattle.finding_laws.proofs.SharedLemmas.{or_later}
 
 -- ---- colons
 
@@ -74,12 +72,9 @@ no_earlier f g n m low same high =
 fault_low : (n at count whole : ℕ) → n ≤ at → n ≤ whole → n ≤ unwrap_or (cond (nat_lt at count) (Some at) None) whole
 fault_low n at count whole low high = elim (nat_lt at count) as (λ v. n ≤ unwrap_or (cond v (Some at) None) whole) [ true ↦ low | false ↦ high ]
 
-not_below : (at count : ℕ) → nat_lt at count ≡ false → count ≤ at
-not_below at count so = grind (arith, nat_tests)
-
 fault_back : (n at count : ℕ) → count ≡ n → n ≤ unwrap_or (cond (nat_lt at count) (Some at) None) n → n ≤ at
 fault_back n at count same is =
-    elim (nat_lt at count) as (λ v. nat_lt at count ≡ v → n ≤ unwrap_or (cond v (Some at) None) n → n ≤ at) [ true ↦ (λ _ low. low) | false ↦ (λ so _. omega (arith, not_below at count so)) ] refl is
+    elim (nat_lt at count) as (λ v. nat_lt at count ≡ v → n ≤ unwrap_or (cond v (Some at) None) n → n ≤ at) [ true ↦ (λ _ low. low) | false ↦ (λ so _. omega (arith, ltb-false at count so)) ] refl is
 
 fault_later : (name rest : List ℕ) → has_no_colon name ≡ true → nat_le (length name) (first_fault Any name) ≡ true → nat_le (length name) (first_fault Any (name ++ rest)) ≡ true
 unfolding first_fault
@@ -142,19 +137,15 @@ angle_same (x ∷ xs) rest low e =
       | false ↦ (λ e. absurd (omega (arith, e)))
     ] e
 
-or_first : (a b : Bool) → a ≡ true → (a || b) ≡ true
-or_first true b is = refl
-or_first false b is = cc
-
 pub name_in_line : (name rest : List ℕ) → has_no_colon name ≡ true → is_name Any name (length name) ≡ true → is_name Any (name ++ rest) (length name) ≡ true
 name_in_line name rest none is =
     let n : ℕ = length name in
     elim (nat_le 1 n && (angle_len name == n)) as (λ v. (nat_le 1 n && (angle_len name == n)) ≡ v → (v || is_plain Any name n) ≡ true → is_name Any (name ++ rest) n ≡ true) [
       | true ↦ (λ angled _.
           let two : (nat_le 1 n ≡ true) × ((angle_len name == n) ≡ true) = and_parts (nat_le 1 n) (angle_len name == n) angled in
-          or_first (nat_le 1 n && (angle_len (name ++ rest) == n)) (is_plain Any (name ++ rest) n)
+          or_left (nat_le 1 n && (angle_len (name ++ rest) == n)) (is_plain Any (name ++ rest) n)
           (and_from (nat_le 1 n) (angle_len (name ++ rest) == n) two.0 (eq-eqb (angle_len (name ++ rest)) n (angle_same name rest (leb-true 1 n two.0) (eqb-true (angle_len name) n two.1)))))
-      | false ↦ (λ _ plain. or_later (nat_le 1 n && (angle_len (name ++ rest) == n)) (is_plain Any (name ++ rest) n) (plain_more name rest none plain))
+      | false ↦ (λ _ plain. or_right (nat_le 1 n && (angle_len (name ++ rest) == n)) (is_plain Any (name ++ rest) n) (plain_more name rest none plain))
     ] refl is
 
 pub name_some : (name : List ℕ) → is_name Any name (length name) ≡ true → 1 ≤ length name

@@ -6,7 +6,7 @@ use Rattle.line_reports.specs.Drawings.{placed_parts}
 use Rattle.line_reports.specs.Gathered.{AreTexts, IsListed}
 use Rattle.line_reports.specs.Reports.{aside_report}
 use Rattle.line_reports.specs.Told.{told_parts}
-use Rattle.line_reports.proofs.gathered.Gathered.push_labels.Given as goal
+use Rattle.line_reports.proofs.gathered.Gathered.push_block.Given as goal
 
 abbrev pub invariant-loop-labels : goal.invariant-loop-labels
 invariant-loop-labels l =
