@@ -1,3 +1,4 @@
 pub mod AgainLemmas
 pub mod ChangeLemmas
 pub mod DirLemmas
+pub mod QuoteLemmas

@@ -33,6 +33,10 @@ pub fn change_in(line: &str) -> Option<Change<'_>>
         (λ c. IsChange line.now c.program.now c.level c.opens c.path.now) }
     ensures value { option_map change_parts result ≡ change_of line.now }
 {
+    // (few lines end with a quote)
+    if before_quote(line).is_none() {
+        return None;
+    }
     let Some((head, says)) = cut(line, ':') else {
         return None;
     };

@@ -15,7 +15,7 @@ use Rattle.line_shapes.specs.Shape.{ShapeParts}
 use Rattle.tool_lines.specs.Lines.{ArePieces, PieceParts}
 use Rattle.std.proofs.lemmas.List.Folds.{list_any-append}
 use Rattle.build_dirs.specs.Again.{Seen, none_seen}
-use Rattle.report_counts.specs.Counted.{reaches, severity_of}
+use Rattle.finding_summaries.specs.Counted.{reaches, severity_of}
 use Rattle.line_reports.specs.Names.{names_in}
 use Rattle.line_reports.specs.Pieces.{AreRead, ReadParts}
 use Rattle.line_reports.specs.Reports.{reports_in}

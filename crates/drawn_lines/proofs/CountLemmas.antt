@@ -6,7 +6,7 @@ use Rattle.std.proofs.lemmas.List.Sums.{sum_by-append}
 use Rattle.std.proofs.lemmas.List.Folds.{list_any-append}
 use Rattle.oxc_protocol.specs.declared.protocol.Severity.TheVariants.{Advice, Warning, Error}
 use Rattle.found_reports.specs.Found.{Found}
-use Rattle.report_counts.specs.Counted.{counts_of, is_of, reaches, severity_of}
+use Rattle.finding_summaries.specs.Counted.{counts_of, is_of, reaches, severity_of}
 use Rattle.girzohal_options.specs.declared.Asked.{Asked}
 use Rattle.drawn_lines.specs.Counts.{count_of, count_with, counts_with, no_count}
 use Rattle.drawn_lines.specs.declared.count.Count.{Count}

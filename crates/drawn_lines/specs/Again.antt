@@ -49,8 +49,9 @@ run_parts run = record { text = string_bytes run.text; count = run.count; found 
 abbrev pub no_run : RunParts
 no_run = record { text = []; count = 0; found = false }
 
+-- a run without a finding is known by nothing
 abbrev pub begun_by : Sign → RunParts
-begun_by s = record { text = s.text; count = 1; found = s.found }
+begun_by s = record { text = if s.found then s.text else []; count = 1; found = s.found }
 
 abbrev pub with_sign : RunParts → Sign → RunParts
 with_sign run s = record run { text = run.text ++ s.text; count = run.count + 1 }

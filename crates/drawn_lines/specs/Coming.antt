@@ -10,7 +10,7 @@ use Rattle.tool_lines.specs.Lines.{ArePieces, PieceParts}
 use Rattle.line_reports.specs.Names.{names_in}
 use Rattle.line_reports.specs.Pieces.{AreRead, ReadParts}
 use Rattle.line_reports.specs.Reports.{reports_in}
-use Rattle.report_counts.specs.Counted.{one_reaches}
+use Rattle.finding_summaries.specs.Counted.{one_reaches}
 use Rattle.build_dirs.specs.Again.{Seen, none_seen, seen_in}
 use Rattle.build_dirs.specs.Dirs.{DirsParts, dirs_parts, no_dirs}
 use Rattle.drawn_lines.specs.Named.{Agrees, dirs_behind, named_in, tried_in}

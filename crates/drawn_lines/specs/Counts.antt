@@ -1,8 +1,8 @@
 -- How many reports there were.
 use Rattle.std.specs.Prelude.{ℕ, ◌+◌, ◌-◌, ◌==◌, ◌||◌, false, List, [], ◌++◌, length, if◌then◌else◌, codes, decimal, unwrap_or}
 use Rattle.found_reports.specs.Found.{Found}
-use Rattle.report_counts.specs.Counted.{counts_of, more_line, one_reaches, summary_line}
-use Rattle.report_counts.specs.declared.counted.Counts.{Counts}
+use Rattle.finding_summaries.specs.Counted.{counts_of, more_line, one_reaches, summary_line}
+use Rattle.finding_summaries.specs.declared.counted.Counts.{Counts}
 use Rattle.report_texts.specs.Texts.{drawn_count}
 use Rattle.girzohal_options.specs.declared.Asked.{Asked}
 use Rattle.drawn_lines.specs.Lines.{annotates}

@@ -1,18 +1,18 @@
 // How many reports there were.
-ghost use Rattle.std.specs.Prelude.{◌≡◌, ◌≤◌, ◌+◌, ◌++◌, [], IfOk, OnOk, codes, decimal, length};
+ghost use Rattle.std.specs.Prelude.{◌≡◌, ◌+◌, ◌++◌, IfOk, OnOk, codes, decimal};
 ghost use Rattle.std.specs.Prelude.{string_bytes, unwrap_or};
-ghost use Rattle.report_counts.specs.Counted.{summary_line};
-ghost use Rattle.report_texts.specs.Texts.{drawn_count as drawn_of};
-ghost use Rattle.drawn_lines.specs.Counts.{count_of as count_meant, count_text as count_said};
+ghost use Rattle.finding_summaries.specs.Counted.{summary_line};
+ghost use Rattle.drawn_lines.specs.Counts.{count_of as count_meant};
 ghost use Rattle.drawn_lines.specs.Counts.{again_text, count_with, counts_with, ending_by};
 ghost use Rattle.drawn_lines.specs.Counts.{no_count};
 ghost use Rattle.escapes.specs.Cuts.{without_last as lf_less};
 
 use crate::form::annotates;
 use escapes::without_last;
+use finding_summaries::{Counts, counts_of, more_line, one_reaches, summary_line};
 use found_reports::FoundReports;
 use girzohal_options::Asked;
-use report_counts::{Counts, counts_of, more_line, one_reaches, summary_line};
+use report_texts::drawn_count;
 use std::alloc::{AllocError, Global};
 
 /// How many reports there are, and whether one is at or above the level.
@@ -88,22 +88,8 @@ pub(crate) fn ending(
     ensures { IfOk result (λ text. string_bytes text ≡ ending_by asked.now count again) }
 {
     if annotates(asked.to) {
-        Ok(String::new(alloc))
-    } else {
-        count_text(alloc, asked, count, again)
+        return Ok(String::new(alloc));
     }
-}
-
-/// The line that says how many reports there are more than were drawn, and the line with their
-/// numbers.
-fn count_text(
-    alloc: Global,
-    asked: &Asked,
-    count: Count,
-    again: Count,
-) -> Result<String, AllocError>
-    ensures { IfOk result (λ text. string_bytes text ≡ count_said asked.now count again) }
-{
     let mut text = more_line(alloc, count.total - drawn_count(asked.most, count.total))?;
     if !asked.quiet {
         text.push_str(numbers_line(alloc, count, again)?.as_str())?;
@@ -142,15 +128,4 @@ fn push_again(text: &mut String, again: usize) -> Result<(), AllocError>
         ++ (codes " (" ++ decimal again ++ codes " printed again)\n")) }
 {
     write!(text, " ({again} printed again)\n")
-}
-
-/// How many of `count` reports are drawn.
-fn drawn_count(most: Option<usize>, count: usize) -> usize
-    ensures count { result ≡ drawn_of most count }
-    ensures within { result ≤ count }
-{
-    match most {
-        Some(most) => most.min(count),
-        None => count,
-    }
 }

@@ -1,3 +1,4 @@
+pub mod CountLemmas
 pub mod CellLemmas
 pub mod RankLemmas
 pub mod OneRanking

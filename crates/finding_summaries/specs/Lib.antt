@@ -1,5 +1,6 @@
 pub mod Names
 pub mod Ranking
+pub mod Counted
 pub mod Totals
 pub mod Summary
 pub mod Cells

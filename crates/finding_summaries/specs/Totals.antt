@@ -1,8 +1,8 @@
 -- The line with the totals.
 use Rattle.std.specs.Prelude.{ℕ, ◌==◌, if◌then◌else◌, List, ◌++◌, count_by, length, codes, decimal}
 use Rattle.oxc_protocol.specs.declared.protocol.Severity.TheVariants.{Advice, Warning, Error}
-use Rattle.report_counts.specs.declared.counted.Counts.{Counts}
-use Rattle.report_counts.specs.Counted.{is_of, summary_line}
+use Rattle.finding_summaries.specs.declared.counted.Counts.{Counts}
+use Rattle.finding_summaries.specs.Counted.{is_of, summary_line}
 use Rattle.ci_formats.specs.Finding.{FindingParts}
 
 -- how many findings of each severity there are

@@ -1,14 +1,14 @@
 // How many findings there are of each severity.
 ghost use Rattle.std.specs.Prelude.{◌≡◌, ◌++◌, OnOk, map, string_bytes};
 ghost use Rattle.std.specs.List.{count_by};
-ghost use Rattle.report_counts.specs.Counted.{is_of as is_of_severity};
+ghost use Rattle.finding_summaries.specs.Counted.{is_of as is_of_severity};
 ghost use Rattle.ci_formats.specs.Finding.{finding_parts};
 ghost use Rattle.finding_summaries.specs.Totals.{counts_in, noun, totals};
 
+use crate::counted::{Counts, is_of, summary_line};
 use ci_formats::Finding;
 use itoa::Buffer;
 use oxc_protocol::Severity;
-use report_counts::{Counts, summary_line};
 use std::alloc::{AllocError, Global};
 
 /// Appends the line with the totals, as `3 findings: 2 errors, 1 note`, with an LF.
@@ -57,16 +57,4 @@ fn count(findings: &[Finding], wanted: Severity) -> usize
         .iter()
         .filter(|finding| is_of(wanted, finding.severity))
         .count()
-}
-
-/// Whether a severity is this one.
-fn is_of(wanted: Severity, severity: Severity) -> bool
-    ensures { result ≡ is_of_severity wanted severity }
-{
-    match (wanted, severity) {
-        (Severity::Error, Severity::Error)
-        | (Severity::Warning, Severity::Warning)
-        | (Severity::Advice, Severity::Advice) => true,
-        _ => false,
-    }
 }

@@ -4,7 +4,7 @@ use Rattle.std.specs.List.{list_any}
 use Rattle.std.specs.Option.{option_or}
 use Rattle.escapes.specs.Cuts.{number_of}
 use Rattle.finding_filters.specs.declared.changed.FilterMode.TheVariants as filter
-use Rattle.report_counts.specs.declared.counted.Level.TheVariants as level
+use Rattle.finding_summaries.specs.declared.counted.Level.TheVariants as level
 use Rattle.girzohal_options.specs.Shapes.{own_parts}
 use Rattle.girzohal_options.specs.declared.Asked.{Asked}
 use Rattle.girzohal_options.specs.declared.OutputForm.{OutputForm}

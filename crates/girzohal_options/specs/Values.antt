@@ -11,8 +11,8 @@ use Rattle.line_shapes.specs.Shape.{ShapeParts}
 use Rattle.line_shapes.specs.Tools as tools
 use Rattle.oxc_protocol.specs.declared.protocol.Severity.{Severity}
 use Rattle.oxc_protocol.specs.declared.protocol.Severity.TheVariants as severity
-use Rattle.report_counts.specs.declared.counted.Level.{Level}
-use Rattle.report_counts.specs.declared.counted.Level.TheVariants as level
+use Rattle.finding_summaries.specs.declared.counted.Level.{Level}
+use Rattle.finding_summaries.specs.declared.counted.Level.TheVariants as level
 use Rattle.girzohal_options.specs.declared.InputForm.{InputForm}
 use Rattle.girzohal_options.specs.declared.InputForm.TheVariants as form
 use Rattle.girzohal_options.specs.declared.OutputForm.{OutputForm}

@@ -22,6 +22,7 @@ mod together;
 mod values;
 
 use finding_filters::FilterMode;
+use finding_summaries::Level;
 pub use given::Fault;
 use line_shapes::parse::OwnShape;
 use line_shapes::tables::Unit;
@@ -30,7 +31,6 @@ pub use near::nearest;
 use oxc_plan::TabWidth;
 use oxc_protocol::Severity;
 pub use reading::{Refusal, Request, read_words};
-use report_counts::Level;
 use report_filters::Rules;
 pub use table::{Program, Setting};
 
@@ -81,7 +81,7 @@ pub enum OutputForm {
 }
 
 /// The characters and colors of a drawing.
-#[derive(Clone, Copy, PartialEq, Eq)]
+#[derive(Clone, Copy)]
 pub enum ThemeChoice {
     /// With colors if a person looks, else as `UnicodeNocolor`.
     Auto,

@@ -2,7 +2,7 @@
 use Rattle.std.specs.Prelude.{◌≡◌, ℕ, ◌==◌, ◌||◌, nat_eq, Bool, List, [], ◌∷◌, ◌++◌, length, Option, Some, None, if◌then◌else◌}
 use Rattle.std.specs.List.{ends_with}
 use Rattle.found_reports.specs.Kept.{FoundParts}
-use Rattle.report_counts.specs.Counted.{one_reaches}
+use Rattle.finding_summaries.specs.Counted.{one_reaches}
 use Rattle.report_filters.specs.Filtered.{IsLeft}
 use Rattle.report_filters.specs.declared.rules.Rules.{Rules}
 use Rattle.girzohal_options.specs.declared.Asked.{Asked}
@@ -20,13 +20,9 @@ pub record IsWritten (asked : Asked) (notes : Bool) (parts : FoundParts) (text l
   pub text_is : IsText asked left text
   pub level : reached ≡ one_reaches asked.fail_on left.found
 
--- a text is empty, or ends in an LF
-abbrev pub is_broken : List ℕ → Bool
-is_broken text = length text == 0 || ends_with nat_eq text (0x0A ∷ [])
-
--- the next line begins after it
+-- a text that is empty or ends in an LF, else with an LF: the next line begins after it
 abbrev pub broken : List ℕ → List ℕ
-broken text = if is_broken text then text else text ++ 0x0A ∷ []
+broken text = if length text == 0 || ends_with nat_eq text (0x0A ∷ []) then text else text ++ 0x0A ∷ []
 
 -- a text, and after it a line of its own, if there is one
 abbrev pub with_line : List ℕ → List ℕ → List ℕ

@@ -34,16 +34,9 @@ pub record ReadsLog (told : Told) (columns : Option ColumnKind) (part : List ℕ
   pub reports : parts.found ≡ reports_in given columns log
   pub files : parts.files ≡ files_of parts.found
 
--- a path holds the log's own keys, which can't drive a terminal
-abbrev pub harmless_path : List ℕ → List ℕ
-harmless_path path = harmless Name path
-
-abbrev pub fault_line : List ℕ → List ℕ → List ℕ
-fault_line path wanted = codes "girzohal: " ++ path ++ codes ": wanted " ++ wanted ++ codes "\n"
-
--- the line that says what was wanted of a log, and where
+-- the line that says what was wanted of a log, and where; a path holds the log's own keys, which can't drive a terminal
 abbrev pub no_log_line : List ℕ → List ℕ → List ℕ
-no_log_line path wanted = fault_line (harmless_path path) wanted
+no_log_line path wanted = codes "girzohal: " ++ harmless Name path ++ codes ": wanted " ++ wanted ++ codes "\n"
 
 -- the line that says where reading as JSON stopped
 abbrev pub no_json_line : ℕ → ℕ → List ℕ

@@ -1,7 +1,7 @@
 // The findings of a baseline.
 ghost use Rattle.std.specs.Prelude.{◌≡◌, IfOk, None, map, string_bytes, true};
 ghost use Rattle.report_filters.specs.Entries.{entries_of as entries_are, entry_parts};
-ghost use Rattle.girzohal_run.specs.Baseline.{FindsItself, HasKeyFiles, IsBaseline, SaysScopes};
+ghost use Rattle.girzohal_run.specs.Baseline.{FindsItself, IsBaseline, SaysScopes};
 ghost use Rattle.girzohal_run.specs.Baseline.{is_lines as is_lines_input};
 
 use crate::fault::Fault;
@@ -92,17 +92,12 @@ fn says_scopes(alloc: Global, bytes: &[u8]) -> Result<bool, AllocError>
     ensures { IfOk result (SaysScopes bytes.now) }
 {
     match begins_as(bytes) {
-        Begun::Object => has_key_files(alloc, bytes),
+        Begun::Object => {
+            let range = json_part(bytes);
+            has_files(alloc, &bytes[range.start..range.end])
+        }
         Begun::OtherJson | Begun::Xml | Begun::Lines => Ok(false),
     }
-}
-
-/// Whether the JSON object of an input has the key `files`.
-fn has_key_files(alloc: Global, bytes: &[u8]) -> Result<bool, AllocError>
-    ensures { IfOk result (HasKeyFiles bytes.now) }
-{
-    let range = json_part(bytes);
-    has_files(alloc, &bytes[range.start..range.end])
 }
 
 /// Whether an input is lines of a tool.

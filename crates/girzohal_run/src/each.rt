@@ -16,7 +16,7 @@ use source_store::Store;
 use std::alloc::Global;
 
 /// An output: its form, and the theme of what is drawn in it.
-#[derive(Clone, Copy)]
+#[derive(Drop)]
 pub struct Wanted {
     /// The form.
     pub to: OutputForm,

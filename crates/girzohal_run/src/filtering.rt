@@ -1,15 +1,14 @@
 // What is written of the reports that filters leave.
 ghost use Rattle.std.specs.Prelude.{◌≡◌, IfErr, IfOk, OnOk, string_bytes};
-ghost use Rattle.girzohal_run.specs.Filtering.{IsLeftBy, IsWritten, broken};
-ghost use Rattle.girzohal_run.specs.Filtering.{is_broken as is_broken_text, with_line};
+ghost use Rattle.girzohal_run.specs.Filtering.{IsLeftBy, IsWritten, broken, with_line};
 ghost use Rattle.girzohal_run.specs.Made.{IsFree};
 
 use crate::fault::Fault;
 use crate::making::Written;
 use crate::texts::text_of;
+use finding_summaries::one_reaches;
 use found_reports::FoundReports;
 use girzohal_options::Asked;
-use report_counts::one_reaches;
 use report_filters::{Left, filtered};
 use std::alloc::{AllocError, Global};
 
@@ -69,16 +68,9 @@ pub(crate) fn push_line(text: &mut Vec<u8>, line: &str) -> Result<(), AllocError
 pub(crate) fn push_break(text: &mut Vec<u8>) -> Result<(), AllocError>
     ensures { OnOk result (text.new.items ≡ broken text.old.items) }
 {
-    if is_broken(text) {
+    if text.is_empty() || text.ends_with(b"\n") {
         return Ok(());
     }
     text.push(b'\n')?;
     Ok(())
-}
-
-/// Whether a text is empty or ends in an LF.
-fn is_broken(text: &[u8]) -> bool
-    ensures { result ≡ is_broken_text text.now }
-{
-    text.is_empty() || text.ends_with(b"\n")
 }

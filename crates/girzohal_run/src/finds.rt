@@ -4,11 +4,9 @@ ghost use Rattle.found_reports.specs.Listed.{held_in};
 ghost use Rattle.tool_lines.specs.Lines.{piece_parts};
 ghost use Rattle.line_reports.specs.Pieces.{read_parts};
 ghost use Rattle.girzohal_run.specs.Finds.{FindsBraced, FindsLines, FindsNamed, FindsObject};
-ghost use Rattle.girzohal_run.specs.Finds.{FindsOld, FindsOther, FindsPieces, IsFound};
-ghost use Rattle.input_forms.specs.Begun.{begins_as as begins_so};
+ghost use Rattle.girzohal_run.specs.Finds.{FindsOld, FindsPieces, IsFound};
 ghost use Rattle.girzohal_run.specs.Logs.{IsNoLog, ReadsLog, log_columns as columns_meant};
-ghost use Rattle.girzohal_run.specs.Made.{HasCause, IsFree, IsNoObject, IsNoOther, IsNoneBraced};
-ghost use Rattle.girzohal_run.specs.Made.{IsOfNoForm};
+ghost use Rattle.girzohal_run.specs.Made.{HasCause, IsFree, IsNoObject, IsNoneBraced, IsOfNoForm};
 ghost use Rattle.girzohal_run.specs.Reads.{IsNoDocument, IsNoneKeyed, IsNonePart};
 ghost use Rattle.girzohal_run.specs.Reads.{ReadsDocument, ReadsKeyed, ReadsPart};
 ghost use Rattle.input_forms.specs.Object.{has_files as key_files};
@@ -64,7 +62,12 @@ pub(crate) fn find<S: Store>(
         },
         InputForm::Document => find_object(alloc, ObjectForm::AsDocument, asked, bytes, store),
         InputForm::Sarif => find_object(alloc, ObjectForm::AsLog, asked, bytes, store),
-        InputForm::Json => find_other(alloc, asked, bytes, store),
+        InputForm::Json => match begins_as(bytes) {
+            Begun::Xml => find_xml(alloc, asked, bytes, store),
+            Begun::Object | Begun::OtherJson | Begun::Lines => {
+                find_values(alloc, asked, bytes, store)
+            }
+        },
         InputForm::Lines => find_lines(alloc, asked, bytes, store),
     }
 }
@@ -86,24 +89,6 @@ fn find_braced<S: Store>(
         find_object(alloc, object_form(asked.columns), asked, bytes, store)
     } else {
         find_values(alloc, asked, bytes, store)
-    }
-}
-
-/// What the values have that a tool writes as JSON or XML.
-fn find_other<S: Store>(
-    alloc: Global,
-    asked: &Asked,
-    bytes: &[u8],
-    store: &S,
-) -> Result<Finds, Fault>
-    ensures found { IfOk result (λ it. FindsOther (begins_so bytes.now) (S.told store.now) asked.now
-        bytes.now it.reports.found it.aside.items) }
-    ensures cause { IfErr result (HasCause (λ text. IsNoOther (begins_so text)
-        asked.now.json_shapes.items asked.now.tool text) bytes.now) }
-{
-    match begins_as(bytes) {
-        Begun::Xml => find_xml(alloc, asked, bytes, store),
-        Begun::Object | Begun::OtherJson | Begun::Lines => find_values(alloc, asked, bytes, store),
     }
 }
 

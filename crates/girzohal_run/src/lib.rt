@@ -18,7 +18,7 @@
 //! - `values`: the same for JSON values among lines
 //! - `opening`, `live`: the same for lines that are written as they come
 //! - `filtering`: what is written of the reports that filters leave
-//! - `texts`: the texts of reports; `html`: the page of them
+//! - `texts`: the texts of reports
 //! - `rules`, `baseline`: the filters that options ask for, and what a baseline has
 //! - `fault`: why nothing is made
 //! - `status`: how a run ended
@@ -29,7 +29,6 @@ mod each;
 mod fault;
 mod filtering;
 mod finds;
-mod html;
 mod lines;
 mod live;
 mod logs;

@@ -5,11 +5,11 @@ ghost use Rattle.tool_lines.specs.Lines.{piece_parts};
 ghost use Rattle.line_reports.specs.Pieces.{read_parts};
 ghost use Rattle.drawn_lines.specs.Coming.{IsDrawn};
 ghost use Rattle.drawn_lines.specs.Named.{name_texts, renamed_by};
-ghost use Rattle.drawn_lines.specs.Text.{lines_in_text, without_lf as lf_less};
+ghost use Rattle.drawn_lines.specs.Text.{lines_in_text};
 ghost use Rattle.girzohal_run.specs.Lines.{AreSought, ListsLines, ListsNamed};
 ghost use Rattle.girzohal_run.specs.Lines.{MakesLines, WritesPieces};
 ghost use Rattle.girzohal_run.specs.Lines.{is_drawing as is_drawn};
-ghost use Rattle.girzohal_run.specs.Lines.{is_live as is_live_form, may_come as may_come_so};
+ghost use Rattle.girzohal_run.specs.Lines.{may_come as may_come_so};
 ghost use Rattle.girzohal_run.specs.Made.{IsFree};
 
 use crate::fault::Fault;
@@ -74,14 +74,7 @@ fn is_drawing(form: OutputForm) -> bool
 pub(crate) fn may_come(asked: &Asked) -> bool
     ensures { result ≡ may_come_so asked.now }
 {
-    is_live(asked.to) && asked.rules.is_none()
-}
-
-/// Whether drawings or annotations are written: for lines, that is done as the lines come.
-fn is_live(form: OutputForm) -> bool
-    ensures { result ≡ is_live_form form }
-{
-    is_drawing(form) || annotates(form)
+    (is_drawing(asked.to) || annotates(asked.to)) && asked.rules.is_none()
 }
 
 /// The drawing of lines, or their annotations.
@@ -194,16 +187,9 @@ pub(crate) fn text_lines<'a>(alloc: Global, text: &'a [u8]) -> Result<Vec<&'a [u
     if text.is_empty() {
         return Ok(Vec::new(alloc));
     }
-    lines_of(alloc, without_lf(text))
-}
-
-/// A text without an LF at its end.
-fn without_lf(text: &[u8]) -> &[u8]
-    ensures { result.now ≡ lf_less text.now }
-{
     match before_last(text, b'\n') {
-        Some(front) => front,
-        None => text,
+        Some(front) => lines_of(alloc, front),
+        None => lines_of(alloc, text),
     }
 }
 

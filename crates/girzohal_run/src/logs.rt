@@ -3,7 +3,7 @@ ghost use Rattle.std.specs.Prelude.{◌≡◌, IfErr, IfOk, string_bytes};
 ghost use Rattle.sarif_log.specs.Answer.{answer_to, log as log_is};
 ghost use Rattle.sarif_log.specs.Log.{log_view};
 ghost use Rattle.girzohal_run.specs.Logs.{IsNoLog, NamesPlace, ReadsLog, log_columns as columns_of};
-ghost use Rattle.girzohal_run.specs.Logs.{fault_line, harmless_path as harmless_path_of, no_log_line};
+ghost use Rattle.girzohal_run.specs.Logs.{no_log_line};
 ghost use Rattle.girzohal_run.specs.Made.{HasCause, Says, Writes};
 
 use crate::fault::Fault;
@@ -15,7 +15,7 @@ use harmless::{Kind, harmless};
 use line_shapes::tables::Unit;
 use sarif::{ColumnKind, Log, LogError, names_of, read_log, reports_of};
 use source_store::{Spelling, Store, gather};
-use std::alloc::{AllocError, Global};
+use std::alloc::Global;
 
 /// The output for a log, after `before`.
 pub(crate) fn write_log<S: Store>(
@@ -77,23 +77,9 @@ fn no_json(alloc: Global, line: usize, column: usize) -> Fault
 fn no_log(alloc: Global, path: &str, wanted: &str) -> Fault
     ensures { Says (λ said. said ≡ no_log_line path.now wanted.now) result }
 {
-    match harmless_path(alloc, path) {
-        Ok(path) => fault_at(alloc, path.as_str(), wanted),
-        Err(_) => Fault::OutOfMemory,
-    }
-}
-
-/// A path, sanitized.
-fn harmless_path(alloc: Global, path: &str) -> Result<String, AllocError>
-    ensures { IfOk result (λ out. string_bytes out ≡ harmless_path_of path.now) }
-{
-    harmless(alloc, Kind::Name, path)
-}
-
-/// The fault at a path.
-fn fault_at(alloc: Global, path: &str, wanted: &str) -> Fault
-    ensures { Says (λ said. said ≡ fault_line path.now wanted.now) result }
-{
+    let Ok(path) = harmless(alloc, Kind::Name, path) else {
+        return Fault::OutOfMemory;
+    };
     match format!(in alloc; "girzohal: {path}: wanted {wanted}\n") {
         Ok(line) => Fault::NoForm(line.into_bytes()),
         Err(_) => Fault::OutOfMemory,

@@ -1,8 +1,6 @@
 // What is made of an input: its text, and whether a report is at or above the level.
 ghost use Rattle.std.specs.Prelude.{◌≡◌, IfErr, IfOk, string_bytes};
-ghost use Rattle.girzohal_run.specs.Made.{HasCause, IsMade, IsNoneBraced, IsOfNoForm};
-ghost use Rattle.girzohal_run.specs.Made.{IsNoOther, MakesBraced, MakesOther};
-ghost use Rattle.input_forms.specs.Begun.{begins_as as begins_so};
+ghost use Rattle.girzohal_run.specs.Made.{HasCause, IsMade, IsNoneBraced, IsOfNoForm, MakesBraced};
 ghost use Rattle.girzohal_run.specs.Made.{object_form as form_of_object};
 
 use crate::fault::Fault;
@@ -75,7 +73,12 @@ pub(crate) fn make<S: Store>(
         },
         InputForm::Document => make_object(alloc, ObjectForm::AsDocument, asked, bytes, store),
         InputForm::Sarif => make_object(alloc, ObjectForm::AsLog, asked, bytes, store),
-        InputForm::Json => make_other(alloc, asked, bytes, store),
+        InputForm::Json => match begins_as(bytes) {
+            Begun::Xml => make_xml(alloc, asked, bytes, store),
+            Begun::Object | Begun::OtherJson | Begun::Lines => {
+                make_values(alloc, asked, bytes, store)
+            }
+        },
         InputForm::Lines => make_lines(alloc, asked, bytes, store),
     }
 }
@@ -97,24 +100,6 @@ fn make_braced<S: Store>(
         make_object(alloc, object_form(asked.columns), asked, bytes, store)
     } else {
         make_values(alloc, asked, bytes, store)
-    }
-}
-
-/// What is made of the values that a tool writes as JSON or XML.
-fn make_other<S: Store>(
-    alloc: Global,
-    asked: &Asked,
-    bytes: &[u8],
-    store: &S,
-) -> Result<Made, Fault>
-    ensures made { IfOk result (λ it. MakesOther (begins_so bytes.now) (S.told store.now) asked.now
-        bytes.now (string_bytes it.written.text) it.aside.items it.written.reached) }
-    ensures cause { IfErr result (HasCause (λ text. IsNoOther (begins_so text)
-        asked.now.json_shapes.items asked.now.tool text) bytes.now) }
-{
-    match begins_as(bytes) {
-        Begun::Xml => make_xml(alloc, asked, bytes, store),
-        Begun::Object | Begun::OtherJson | Begun::Lines => make_values(alloc, asked, bytes, store),
     }
 }
 

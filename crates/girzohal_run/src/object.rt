@@ -25,7 +25,7 @@ use std::alloc::{AllocError, Global};
 use std::ops::Range;
 
 /// How a JSON object is read.
-#[derive(Clone, Copy)]
+#[derive(Drop)]
 pub(crate) enum ObjectForm {
     /// As a document if it has the key `files`, else as a log.
     Keyed,

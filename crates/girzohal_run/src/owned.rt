@@ -75,18 +75,11 @@ fn copy_of(alloc: Global, file: &FoundFile<'_>) -> Result<Source, AllocError>
     ensures { IfOk result (λ it. source_view it ≡ file_view file.now) }
 {
     let name = String::from_str(alloc, file.name.as_str())?;
-    let text = text_of(alloc, &file.source)?;
+    let text = match &file.source {
+        Ok(text) => Ok(String::from_str(alloc, text)?),
+        Err(why) => Err(*why),
+    };
     Ok(Source { name, text })
-}
-
-/// A copy of a text, or why there is none.
-fn text_of(alloc: Global, source: &Result<&str, Lack>) -> Result<Result<String, Lack>, AllocError>
-    ensures { IfOk result (λ text. held_by text ≡ held_of source.now) }
-{
-    match source {
-        Ok(text) => Ok(Ok(String::from_str(alloc, text)?)),
-        Err(why) => Ok(Err(*why)),
-    }
 }
 
 /// Appends files.

@@ -1,15 +1,14 @@
 // The filters that options ask for.
 ghost use Rattle.std.specs.Prelude.{◌≡◌, IfOk, map, string_bytes};
 ghost use Rattle.girzohal_run.specs.Rules.{IsSelection, glob_of, refusal_text as refusal_said};
-ghost use Rattle.girzohal_run.specs.Rules.{AreRules, findings_of as findings_meant, rule_of};
-ghost use Rattle.girzohal_run.specs.Rules.{scopes_of as scopes_meant, wanted_words, words_of};
+ghost use Rattle.girzohal_run.specs.Rules.{AreRules, rule_of, words_of};
 
 use crate::baseline::Baseline;
 use changed_rows::{Diff, Refusal, Root, Wanted};
 use filtered_findings::Filters;
 use finding_filters::{Changed, Glob, Rule, Selection};
 use girzohal_options::Asked;
-use report_filters::{Entry, Rules};
+use report_filters::Rules;
 use std::alloc::{AllocError, Global};
 
 /// The filters that options ask for, with what their files say. Names are compared from `root`, and
@@ -35,36 +34,21 @@ pub fn rules_of(
         }),
         None => None,
     };
+    // Scopes are compared unless there is a baseline that doesn't say them.
+    let (compares_scopes, baseline) = match baseline {
+        Some(baseline) => (baseline.says_scopes, Some(baseline.findings)),
+        None => (true, None),
+    };
     Ok(Rules {
         filters: Filters {
             unique: asked.unique.unwrap_or(false),
             selection,
             changed,
-            compares_scopes: says_scopes(&baseline),
+            compares_scopes,
         },
         root,
-        baseline: findings_of(baseline),
+        baseline,
     })
-}
-
-/// Whether scopes are compared: unless there is a baseline that doesn't say them.
-fn says_scopes(baseline: &Option<Baseline>) -> bool
-    ensures { result ≡ scopes_meant baseline.now }
-{
-    match baseline {
-        Some(baseline) => baseline.says_scopes,
-        None => true,
-    }
-}
-
-/// The findings of a baseline, if there is one.
-fn findings_of(baseline: Option<Baseline>) -> Option<Vec<Entry>>
-    ensures { result ≡ findings_meant baseline }
-{
-    match baseline {
-        Some(baseline) => Some(baseline.findings),
-        None => None,
-    }
 }
 
 /// Which findings were asked for.
@@ -117,14 +101,11 @@ pub fn refusal_text(alloc: Global, refusal: Refusal) -> Result<String, AllocErro
         Wanted::MoreRows { old, new } => format!(in alloc;
             "line {row}: wanted {old} more rows of the old file and {new} of the new one"
         ),
-        other => wanted_text(alloc, row, words(other)),
+        other => {
+            let words = words(other);
+            format!(in alloc; "line {row}: wanted {words}")
+        }
     }
-}
-
-fn wanted_text(alloc: Global, row: usize, words: &str) -> Result<String, AllocError>
-    ensures { IfOk result (λ text. string_bytes text ≡ wanted_words row words.now) }
-{
-    format!(in alloc; "line {row}: wanted {words}")
 }
 
 /// What was wanted, in words.

@@ -193,13 +193,7 @@ fn inner_last(text: &[u8]) -> usize
     ensures value { result ≡ suffix_len is_inner_byte text.now }
     ensures within { result ≤ length text.now }
 {
-    text.iter().rev().take_while(|it| is_inner(**it)).count()
-}
-
-fn is_inner(byte: u8) -> bool
-    ensures { result ≡ is_inner_byte byte }
-{
-    byte != b'\n'
+    text.iter().rev().take_while(|it| **it != b'\n').count()
 }
 
 /// Makes each output of what the inputs have. With `notes`, advice without a code after a finding

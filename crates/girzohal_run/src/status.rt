@@ -1,7 +1,7 @@
 // How a run ended.
 
 /// How a run ended; its [`code`](Status::code) is the program's exit status.
-#[derive(Clone, Copy, PartialEq, Eq)]
+#[derive(Clone, Copy)]
 pub enum Status {
     /// All was written, and no report is at or above the level.
     Clean,

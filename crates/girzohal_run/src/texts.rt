@@ -4,12 +4,12 @@ ghost use Rattle.girzohal_run.specs.Made.{IsFree};
 ghost use Rattle.girzohal_run.specs.Texts.{IsText};
 
 use crate::fault::Fault;
-use crate::html::html_text;
 use found_reports::FoundReports;
 use girzohal_options::{Asked, OutputForm};
+use html_pages::page_text;
 use report_texts::{
-    CiFormat, ci_text, document_text, drawing_text, gitlab_text, json_text, markdown_text,
-    named_tool, sarif_text, summary_text,
+    CiFormat, ci_text, document_text, drawing_text, each_drawing, found_findings, gitlab_text,
+    json_text, markdown_text, named_tool, sarif_text, summary_text,
 };
 use std::alloc::Global;
 
@@ -35,6 +35,11 @@ pub(crate) fn text_of(
         OutputForm::Stylish => Ok(ci_text(alloc, CiFormat::Stylish, asked.raw, found)?),
         OutputForm::Summary => Ok(summary_text(alloc, asked.raw, found)?),
         OutputForm::Markdown => Ok(markdown_text(alloc, asked.raw, found)?),
-        OutputForm::Html => html_text(alloc, asked, found),
+        // The page of the findings, sanitized, with the drawing of each report.
+        OutputForm::Html => {
+            let findings = found_findings(alloc, asked.raw, found)?;
+            let drawings = each_drawing(alloc, asked, found)?;
+            Ok(page_text(alloc, &findings, &drawings)?)
+        }
     }
 }

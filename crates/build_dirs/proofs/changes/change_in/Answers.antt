@@ -1,7 +1,14 @@
 -- Each part of the line.
-use Rattle.std.proofs.Common.{sym}
+use Rattle.std.proofs.Common.{sym, ap, not, ◌∙◌}
 use Rattle.build_dirs.proofs.ChangeLemmas.{is_change, no_colon, not_head, not_path, not_verb}
+use Rattle.build_dirs.proofs.QuoteLemmas.{no_change, quiet, unchanged}
 use Rattle.build_dirs.proofs.changes.change_in.Goals as goal
+
+pub returns-then-is_none-clause-says : goal.returns-then-is_none-clause-says
+returns-then-is_none-clause-says c = no_change c.args.line.now (quiet c.args.line.now c.before_quote.result c.before_quote.ensures.says (c.is_none.ensures ∙ ap not c.if-is_none.true))
+
+pub returns-then-is_none-clause-value : goal.returns-then-is_none-clause-value
+returns-then-is_none-clause-value c = sym (unchanged c.args.line.now (quiet c.args.line.now c.before_quote.result c.before_quote.ensures.says (c.is_none.ensures ∙ ap not c.if-is_none.true)))
 
 pub returns-in_default-clause-says : goal.returns-in_default-clause-says
 returns-in_default-clause-says c = no_colon c.args.line.now (sym c.in_default.ensures)

@@ -2,7 +2,7 @@
 use Rattle.std.proofs.Common.{rules, ◌≡◌, ◌∙◌, None, Some, ap, codes, is_some, map, refl, unwrap_or}
 use Rattle.std.specs.Option.{option_copied}
 use Rattle.finding_filters.specs.declared.changed.FilterMode.TheVariants as filter
-use Rattle.report_counts.specs.declared.counted.Level.TheVariants as level
+use Rattle.finding_summaries.specs.declared.counted.Level.TheVariants as level
 use Rattle.girzohal_options.specs.declared.OutputForm.TheVariants as to
 use Rattle.girzohal_options.specs.Given.{form_with}
 use Rattle.girzohal_options.specs.Lists.{output_parts}

@@ -1,17 +1,17 @@
 // How many reports there are, and whether one is at or above a level.
 ghost use Rattle.std.specs.Prelude.{◌≡◌, ◌++◌, IfOk, OnOk, count_by, string_bytes};
 ghost use Rattle.std.specs.List.{list_any};
-ghost use Rattle.report_counts.specs.Counted.{comma_behind, counts_of as counted_in, ended, is_advice};
-ghost use Rattle.report_counts.specs.Counted.{is_error, is_of, is_warning, more_line as more_text};
-ghost use Rattle.report_counts.specs.Counted.{one_reaches as reaches_in, plural, reaches};
-ghost use Rattle.report_counts.specs.Counted.{summary_line as summary_text, with_part};
+ghost use Rattle.finding_summaries.specs.Counted.{comma_behind, counts_of as counted_in, ended, is_of};
+ghost use Rattle.finding_summaries.specs.Counted.{more_line as more_text, one_reaches as reaches_in};
+ghost use Rattle.finding_summaries.specs.Counted.{plural, reaches, summary_line as summary_text};
+ghost use Rattle.finding_summaries.specs.Counted.{with_part};
 
 use found_reports::{FoundReport, FoundReports};
 use oxc_protocol::Severity;
 use std::alloc::{AllocError, Global};
 
 /// The lowest severity at which a report counts as something found.
-#[derive(Clone, Copy, PartialEq, Eq)]
+#[derive(Clone, Copy)]
 pub enum Level {
     /// Errors.
     Error,
@@ -24,7 +24,7 @@ pub enum Level {
 }
 
 /// The number of reports of each severity.
-#[derive(Clone, Copy, PartialEq, Eq)]
+#[derive(Clone, Copy)]
 pub struct Counts {
     /// Errors.
     pub errors: usize,
@@ -60,13 +60,14 @@ fn count(reports: &[FoundReport], wanted: Severity) -> usize
 }
 
 /// Whether a severity is this one.
-fn is_of(wanted: Severity, severity: Severity) -> bool
+pub(crate) fn is_of(wanted: Severity, severity: Severity) -> bool
     ensures { result ≡ is_of wanted severity }
 {
-    match wanted {
-        Severity::Error => is_error(severity),
-        Severity::Warning => is_warning(severity),
-        Severity::Advice => is_advice(severity),
+    match (wanted, severity) {
+        (Severity::Error, Severity::Error)
+        | (Severity::Warning, Severity::Warning)
+        | (Severity::Advice, Severity::Advice) => true,
+        _ => false,
     }
 }
 
@@ -90,33 +91,6 @@ fn severity(report: &FoundReport) -> Severity
     report.diagnostic.inner().severity
 }
 
-fn is_error(severity: Severity) -> bool
-    ensures { result ≡ is_error severity }
-{
-    match severity {
-        Severity::Error => true,
-        Severity::Warning | Severity::Advice => false,
-    }
-}
-
-fn is_warning(severity: Severity) -> bool
-    ensures { result ≡ is_warning severity }
-{
-    match severity {
-        Severity::Warning => true,
-        Severity::Error | Severity::Advice => false,
-    }
-}
-
-fn is_advice(severity: Severity) -> bool
-    ensures { result ≡ is_advice severity }
-{
-    match severity {
-        Severity::Advice => true,
-        Severity::Error | Severity::Warning => false,
-    }
-}
-
 /// Whether a severity is at or above a level.
 fn reaches(at: Level, severity: Severity) -> bool
     ensures { result ≡ reaches at severity }
@@ -124,7 +98,7 @@ fn reaches(at: Level, severity: Severity) -> bool
     match (at, severity) {
         (Level::Never, _) | (Level::Warning, Severity::Advice) => false,
         (Level::Advice | Level::Warning, _) => true,
-        (Level::Error, _) => is_error(severity),
+        (Level::Error, severity) => is_of(Severity::Error, severity),
     }
 }
 

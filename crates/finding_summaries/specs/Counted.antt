@@ -4,9 +4,9 @@ use Rattle.std.specs.List.{list_any}
 use Rattle.oxc_protocol.specs.declared.protocol.Severity.{Severity}
 use Rattle.oxc_protocol.specs.declared.protocol.Severity.TheVariants.{Advice, Warning, Error}
 use Rattle.found_reports.specs.Found.{Found}
-use Rattle.report_counts.specs.declared.counted.Level.{Level}
-use Rattle.report_counts.specs.declared.counted.Level.TheVariants as level
-use Rattle.report_counts.specs.declared.counted.Counts.{Counts}
+use Rattle.finding_summaries.specs.declared.counted.Level.{Level}
+use Rattle.finding_summaries.specs.declared.counted.Level.TheVariants as level
+use Rattle.finding_summaries.specs.declared.counted.Counts.{Counts}
 
 abbrev pub is_error : Severity → Bool
 is_error Advice = false

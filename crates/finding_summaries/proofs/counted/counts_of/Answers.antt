@@ -1,8 +1,8 @@
 use Rattle.std.proofs.Common.{◌≡◌, ◌∙◌}
 use Rattle.oxc_protocol.specs.declared.protocol.Severity.TheVariants.{Advice, Warning, Error}
-use Rattle.report_counts.specs.Counted.{counts_of}
-use Rattle.report_counts.proofs.CountLemmas.{counted}
-use Rattle.report_counts.proofs.counted.counts_of.Goals as goal
+use Rattle.finding_summaries.specs.Counted.{counts_of}
+use Rattle.finding_summaries.proofs.CountLemmas.{counted}
+use Rattle.finding_summaries.proofs.counted.counts_of.Goals as goal
 
 pub returns : goal.returns
 unfolding counts_of

@@ -6,8 +6,8 @@ use Rattle.oxc_protocol.specs.declared.protocol.Severity.{Severity}
 use Rattle.found_reports.specs.declared.reports.FoundReport.{FoundReport}
 use Rattle.found_reports.specs.Found.{Found, NamedHeld}
 use Rattle.found_reports.specs.Kept.{report_view}
-use Rattle.report_counts.specs.declared.counted.Level.{Level}
-use Rattle.report_counts.specs.Counted.{is_of, one_reaches, reaches, severity_of}
+use Rattle.finding_summaries.specs.declared.counted.Level.{Level}
+use Rattle.finding_summaries.specs.Counted.{is_of, one_reaches, reaches, severity_of}
 
 map_again : {A B C : Type 0} (g : B → C) (f : A → B) (xs : List A) → map g (map f xs) ≡ map (λ x. g (f x)) xs
 map_again g f [] = refl

@@ -2,8 +2,8 @@
 use Rattle.std.proofs.Common.{◌≡◌, ◌≤◌, take}
 use Rattle.std.specs.List.{count_by}
 use Rattle.found_reports.specs.declared.reports.FoundReport.{FoundReport}
-use Rattle.report_counts.specs.Counted.{is_of}
-use Rattle.report_counts.proofs.counted.count.Given as goal
+use Rattle.finding_summaries.specs.Counted.{is_of}
+use Rattle.finding_summaries.proofs.counted.count.Given as goal
 
 abbrev pub invariant-loop-report : goal.invariant-loop-report
 invariant-loop-report l =
