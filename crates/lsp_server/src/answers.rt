@@ -5,9 +5,8 @@ ghost use Rattle.serde_json.specs.Read.{read};
 ghost use Rattle.serde_json.specs.View.{view};
 ghost use Rattle.lsp_server.specs.Answers.{answer_value as value_of_answer};
 ghost use Rattle.lsp_server.specs.Answers.{answered_value as value_of_answered};
-ghost use Rattle.lsp_server.specs.Answers.{capabilities_value as value_of_wanted, code_number};
-ghost use Rattle.lsp_server.specs.Answers.{code_text as text_of_code, encoding_name as name_of};
-ghost use Rattle.lsp_server.specs.Answers.{error_value as value_of_error, fault_text as text_of_fault};
+ghost use Rattle.lsp_server.specs.Answers.{capabilities_value as value_of_wanted};
+ghost use Rattle.lsp_server.specs.Answers.{error_value as value_of_error};
 ghost use Rattle.lsp_server.specs.Answers.{id_value as value_of_id, log_value as value_of_log};
 ghost use Rattle.lsp_server.specs.Answers.{refused_text as text_of_refused};
 ghost use Rattle.lsp_server.specs.Answers.{some_id as value_of_some_id};
@@ -42,7 +41,7 @@ fn answer_value(alloc: Global, answer: Answer) -> Result<Value, AllocError>
             answered_value(alloc, id, result)
         }
         Answer::Null(id) => answered_value(alloc, id, Value::Null),
-        Answer::Error(id, code) => error_value(alloc, some_id(id), code),
+        Answer::Error(id, code) => error_value(alloc, id, code),
         Answer::Published(params) => {
             let params = params.value;
             json!(in alloc; {
@@ -76,21 +75,16 @@ fn id_value(id: Id) -> Value
     }
 }
 
-fn some_id(id: Option<Id>) -> Value
-    ensures { view result ≡ value_of_some_id id }
-{
-    match id {
-        None => Value::Null,
-        Some(id) => id_value(id),
-    }
-}
-
 /// What the server can do: documents are opened, changed by ranges, saved and closed, and positions
 /// count in the agreed encoding.
 fn capabilities_value(alloc: Global, wanted: Wanted) -> Result<Value, AllocError>
     ensures { IfOk result (λ value. view value ≡ value_of_wanted wanted) }
 {
-    let name = encoding_name(wanted.encoding);
+    let name = match wanted.encoding {
+        Encoding::Utf8 => "utf-8",
+        Encoding::Utf16 => "utf-16",
+        Encoding::Utf32 => "utf-32",
+    };
     if wanted.is_older {
         json!(in alloc; {
             "capabilities": {
@@ -110,48 +104,24 @@ fn capabilities_value(alloc: Global, wanted: Wanted) -> Result<Value, AllocError
     }
 }
 
-fn encoding_name(encoding: Encoding) -> &'static str
-    ensures { result.now ≡ name_of encoding }
+fn error_value(alloc: Global, id: Option<Id>, code: Code) -> Result<Value, AllocError>
+    ensures { IfOk result (λ value. view value ≡ value_of_error (value_of_some_id id) code) }
 {
-    match encoding {
-        Encoding::Utf8 => "utf-8",
-        Encoding::Utf16 => "utf-16",
-        Encoding::Utf32 => "utf-32",
-    }
-}
-
-fn error_value(alloc: Global, id: Value, code: Code) -> Result<Value, AllocError>
-    ensures { IfOk result (λ value. view value ≡ value_of_error (view id) code) }
-{
-    let number = number_of(code);
-    let message = code_text(code);
+    let id = match id {
+        None => Value::Null,
+        Some(id) => id_value(id),
+    };
+    let (number, message) = match code {
+        Code::ParseError => (-32700, "no JSON"),
+        Code::InvalidRequest => (-32600, "not at this time"),
+        Code::MethodNotFound => (-32601, "unknown method"),
+        Code::NotInitialized => (-32002, "the session hasn't begun"),
+    };
     json!(in alloc; {
         "error": {"code": number, "message": message},
         "id": id,
         "jsonrpc": "2.0"
     })
-}
-
-fn number_of(code: Code) -> i32
-    ensures { result ≡ code_number code }
-{
-    match code {
-        Code::ParseError => -32700,
-        Code::InvalidRequest => -32600,
-        Code::MethodNotFound => -32601,
-        Code::NotInitialized => -32002,
-    }
-}
-
-fn code_text(code: Code) -> &'static str
-    ensures { result.now ≡ text_of_code code }
-{
-    match code {
-        Code::ParseError => "no JSON",
-        Code::InvalidRequest => "not at this time",
-        Code::MethodNotFound => "unknown method",
-        Code::NotInitialized => "the session hasn't begun",
-    }
 }
 
 /// A warning in the client's log.
@@ -184,16 +154,10 @@ fn faulty_text(alloc: Global, refusal: Refusal) -> Result<String, AllocError>
     let mut text = String::from_str(alloc, "didChange left out: contentChanges[")?;
     text.push_str(Buffer::new().format(refusal.change))?;
     text.push_str("] ")?;
-    text.push_str(fault_text(refusal.fault))?;
-    Ok(text)
-}
-
-fn fault_text(fault: Fault) -> &'static str
-    ensures { result.now ≡ text_of_fault fault }
-{
-    match fault {
+    text.push_str(match refusal.fault {
         Fault::Reversed => "ends before it starts",
         Fault::TooLong => "makes the text too long",
         Fault::OutOfMemory => "wants memory",
-    }
+    })?;
+    Ok(text)
 }

@@ -1,6 +1,6 @@
 // An open document, and the findings in its text.
 ghost use Rattle.std.specs.Prelude.{◌≡◌, ◌∷◌, [], All, IfNone, IfOk, IfSome, OnErr};
-ghost use Rattle.std.specs.Prelude.{OnOk, Some};
+ghost use Rattle.std.specs.Prelude.{OnOk};
 ghost use Rattle.source_location.specs.Index.{Fits};
 ghost use Rattle.client_text.specs.Changes.{AllChange, Changes, IsFault};
 ghost use Rattle.lsp_server.specs.Seen.{StandIn};
@@ -262,7 +262,12 @@ fn edit_one(
     let (start, end) = place_of(client, change.range);
     match client.change(client.version(), one) {
         Ok(()) => {}
-        Err(refusal) => return cause_of(refusal),
+        Err(refusal) => {
+            return match refusal.fault {
+                Fault::OutOfMemory => Err(AllocError),
+                fault => Ok(Some(fault)),
+            };
+        }
     }
     let moving = marks::Change {
         start: start.to_u32() as usize,
@@ -271,14 +276,4 @@ fn edit_one(
     };
     *found = moved_all(alloc, moving, found.as_slice())?;
     Ok(None)
-}
-
-/// Why changes can't be made, or the error if memory ran out.
-fn cause_of(refusal: Refusal) -> Result<Option<Fault>, AllocError>
-    ensures { IfOk result (λ fault. fault ≡ Some refusal.fault) }
-{
-    match refusal.fault {
-        Fault::OutOfMemory => Err(AllocError),
-        fault => Ok(Some(fault)),
-    }
 }

@@ -6,7 +6,7 @@ use crate::head::{Head, START, Step, Why, read_byte};
 use std::alloc::Global;
 
 /// The state of a reader.
-#[derive(Clone, Copy)]
+#[derive(Drop)]
 pub enum State {
     /// In a head, of which this has been read.
     InHead(Head),

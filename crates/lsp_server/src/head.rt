@@ -91,89 +91,26 @@ fn step_at(place: Place, length: Option<u32>, count: usize, byte: u8) -> Step
     ensures { result ≡ place_step place length count byte }
 {
     match place {
-        Place::Line => at_line(length, count, byte),
-        Place::Name(matched) => in_name(matched, length, count, byte),
-        Place::Other => in_other(length, count, byte),
-        Place::Value => in_value(length, count, byte),
-        Place::LineEnd => {
-            if byte == b'\n' {
-                on(Place::Line, length, count)
-            } else {
-                Step::Fault(Why::NoFrame)
-            }
-        }
-        Place::Spaces => {
-            if byte == b' ' {
-                on(Place::Spaces, length, count)
-            } else {
-                digit(0, length, count, byte)
-            }
-        }
-        Place::Digits(number) => {
-            if byte == b'\r' {
-                on(Place::LineEnd, Some(number), count)
-            } else {
-                digit(number, length, count, byte)
-            }
-        }
-        Place::HeadEnd(number) => {
-            if byte == b'\n' {
-                Step::Begins(number)
-            } else {
-                Step::Fault(Why::NoFrame)
-            }
-        }
-    }
-}
-
-fn at_line(length: Option<u32>, count: usize, byte: u8) -> Step
-    ensures { result ≡ place_step Place.Line length count byte }
-{
-    if byte == b'\r' {
-        match length {
+        Place::Line if byte == b'\r' => match length {
             Some(number) => on(Place::HeadEnd(number), length, count),
             None => Step::Fault(Why::NoFrame),
+        },
+        Place::Line if byte != b'\n' && byte != b':' => on(place_of_name(0, byte), length, count),
+        Place::Name(matched) if byte == b':' => colon(matched, length, count),
+        Place::Name(matched) if byte != b'\n' && byte != b'\r' => {
+            on(place_of_name(matched, byte), length, count)
         }
-    } else if byte == b'\n' || byte == b':' {
-        Step::Fault(Why::NoFrame)
-    } else {
-        on(place_of_name(0, byte), length, count)
-    }
-}
-
-fn in_name(matched: usize, length: Option<u32>, count: usize, byte: u8) -> Step
-    ensures { result ≡ place_step (Place.Name matched) length count byte }
-{
-    if byte == b':' {
-        colon(matched, length, count)
-    } else if byte == b'\n' || byte == b'\r' {
-        Step::Fault(Why::NoFrame)
-    } else {
-        on(place_of_name(matched, byte), length, count)
-    }
-}
-
-fn in_other(length: Option<u32>, count: usize, byte: u8) -> Step
-    ensures { result ≡ place_step Place.Other length count byte }
-{
-    if byte == b':' {
-        on(Place::Value, length, count)
-    } else if byte == b'\n' || byte == b'\r' {
-        Step::Fault(Why::NoFrame)
-    } else {
-        on(Place::Other, length, count)
-    }
-}
-
-fn in_value(length: Option<u32>, count: usize, byte: u8) -> Step
-    ensures { result ≡ place_step Place.Value length count byte }
-{
-    if byte == b'\r' {
-        on(Place::LineEnd, length, count)
-    } else if byte == b'\n' {
-        Step::Fault(Why::NoFrame)
-    } else {
-        on(Place::Value, length, count)
+        Place::Other if byte == b':' => on(Place::Value, length, count),
+        Place::Other if byte != b'\n' && byte != b'\r' => on(Place::Other, length, count),
+        Place::Value if byte == b'\r' => on(Place::LineEnd, length, count),
+        Place::Value if byte != b'\n' => on(Place::Value, length, count),
+        Place::LineEnd if byte == b'\n' => on(Place::Line, length, count),
+        Place::Spaces if byte == b' ' => on(Place::Spaces, length, count),
+        Place::Spaces => digit(0, length, count, byte),
+        Place::Digits(number) if byte == b'\r' => on(Place::LineEnd, Some(number), count),
+        Place::Digits(number) => digit(number, length, count, byte),
+        Place::HeadEnd(number) if byte == b'\n' => Step::Begins(number),
+        _ => Step::Fault(Why::NoFrame),
     }
 }
 

@@ -116,7 +116,7 @@ pub enum Refused {
 }
 
 /// The number of an error.
-#[derive(Clone, Copy)]
+#[derive(Drop)]
 pub enum Code {
     /// -32700: no JSON.
     ParseError,

@@ -5,7 +5,7 @@ ghost use Rattle.oxc_protocol.specs.Views.{inner_parts};
 ghost use Rattle.found_reports.specs.Found.{StandsIn};
 ghost use Rattle.lsp_server.specs.Files.{seen};
 ghost use Rattle.lsp_server.specs.Messages.{label_line, label_lines, message_text};
-ghost use Rattle.lsp_server.specs.Messages.{more_lines, part_text, place_text, said as said_of};
+ghost use Rattle.lsp_server.specs.Messages.{part_text, said as said_of};
 ghost use Rattle.lsp_server.specs.Seen.{StandIn};
 
 use crate::heads::others;
@@ -15,7 +15,6 @@ use itoa::Buffer;
 use oxc_protocol::OxcDiagnosticInner;
 use oxc_span::LabeledSpan;
 use std::alloc::{AllocError, Global};
-use text_places::Place;
 
 /// The text of a label, or else the diagnostic's message.
 pub fn said<'a>(label: &'a LabeledSpan, message: &'a str) -> &'a str
@@ -24,7 +23,7 @@ pub fn said<'a>(label: &'a LabeledSpan, message: &'a str) -> &'a str
     label.label().unwrap_or(message)
 }
 
-/// The message for the client.
+/// The message for the client, with lines for the other labels if it doesn't show them.
 #[tactic(auto, unfolding(crate::specs::Messages::message_text))]
 pub fn message_of(
     alloc: Global,
@@ -38,7 +37,13 @@ pub fn message_of(
     let mut text = String::from_str(alloc, parts.message.as_str())?;
     push_part(&mut text, parts.help.as_deref())?;
     push_part(&mut text, parts.note.as_deref())?;
-    push_more(&mut text, file, parts)?;
+    if file.related {
+        return Ok(text);
+    }
+    let message = parts.message.as_str();
+    let (before, behind) = others(parts.labels.as_slice());
+    push_lines(&mut text, file, message, before)?;
+    push_lines(&mut text, file, message, behind)?;
     Ok(text)
 }
 
@@ -53,25 +58,6 @@ fn push_part(out: &mut String, part: Option<&str>) -> Result<(), AllocError>
     };
     out.push_str("\n")?;
     out.push_str(part)
-}
-
-/// Appends the other labels, if the client doesn't show them.
-fn push_more(
-    out: &mut String,
-    file: &OpenFile<'_>,
-    parts: &OxcDiagnosticInner,
-) -> Result<(), AllocError>
-    requires { StandIn file.now.places.now (inner_parts parts.now) }
-    ensures { OnOk result (string_bytes out.new
-        ≡ string_bytes out.old ++ more_lines (seen file.now) (inner_parts parts.now)) }
-{
-    if file.related {
-        return Ok(());
-    }
-    let message = parts.message.as_str();
-    let (before, behind) = others(parts.labels.as_slice());
-    push_lines(out, file, message, before)?;
-    push_lines(out, file, message, behind)
 }
 
 /// Appends a line for each label.
@@ -91,8 +77,8 @@ fn push_lines(
     Ok(())
 }
 
-/// Appends a label as a line: where it starts, and its text.
-#[tactic(auto, unfolding(crate::specs::Messages::label_line))]
+/// Appends a label as a line: where it starts, with both numbers from 1, and its text.
+#[tactic(auto, unfolding(crate::specs::Messages::label_line, crate::specs::Messages::place_text))]
 fn push_line(
     out: &mut String,
     file: &OpenFile<'_>,
@@ -104,20 +90,12 @@ fn push_line(
         ≡ string_bytes out.old ++ label_line (seen file.now) message.now label.now) }
 {
     let place = client_place(file, label.offset());
-    push_place(out, place)?;
-    out.push_str(said(label, message))
-}
-
-/// Appends a position with both numbers from 1.
-#[tactic(auto, unfolding(crate::specs::Messages::place_text))]
-fn push_place(out: &mut String, place: Place) -> Result<(), AllocError>
-    ensures { OnOk result (string_bytes out.new ≡ string_bytes out.old ++ place_text place) }
-{
     out.push_str("\n")?;
     push_number(out, u64::from(place.line) + 1)?;
     out.push_str(":")?;
     push_number(out, u64::from(place.unit) + 1)?;
-    out.push_str(": ")
+    out.push_str(": ")?;
+    out.push_str(said(label, message))
 }
 
 fn push_number(out: &mut String, number: u64) -> Result<(), AllocError>

@@ -1,9 +1,8 @@
 // Findings that move with the text.
 ghost use Rattle.std.specs.Prelude.{◌≡◌, ◌<◌, ◌≤◌, ◌^◌, All, IfOk, IfSome};
 ghost use Rattle.std.specs.List.{filter_map};
-ghost use Rattle.oxc_span.specs.Label.{label_end};
 ghost use Rattle.lsp_server.specs.Marks.{moved_mark};
-ghost use Rattle.lsp_server.specs.Moved.{CanMove, CanMoveAll, head_goes as head_goes_in};
+ghost use Rattle.lsp_server.specs.Moved.{CanMove, CanMoveAll};
 ghost use Rattle.lsp_server.specs.Moved.{mark_of as mark_in, moved_diagnostic as moved_in};
 ghost use Rattle.lsp_server.specs.Moved.{moved_label as moved_to};
 
@@ -14,26 +13,18 @@ use oxc_protocol::{Diagnostic, OxcDiagnostic};
 use oxc_span::LabeledSpan;
 use std::alloc::{AllocError, Global};
 
-/// A label's range.
-fn mark_of(label: &LabeledSpan) -> Mark
-    ensures mark { result ≡ mark_in label.now }
-    ensures start { label.now.offset < 2 ^ 32 }
-    ensures end { label_end label.now < 2 ^ 32 }
-{
-    let span = label.span();
-    Mark {
-        start: span.start as usize,
-        end: span.end as usize,
-    }
-}
-
 /// Where a label's range is after a change; `None` if it became empty.
 fn moved_mark_of(change: Change, label: &LabeledSpan) -> Option<Mark>
     requires { CanMove change label.now }
     ensures value { result ≡ moved_mark change (mark_in label.now) }
     ensures fits { IfSome result (λ mark. (mark.start ≤ mark.end) × (mark.end < 2 ^ 32)) }
 {
-    move_mark(change, mark_of(label))
+    let span = label.span();
+    let mark = Mark {
+        start: span.start as usize,
+        end: span.end as usize,
+    };
+    move_mark(change, mark)
 }
 
 /// A label after a change; `None` if it became empty.
@@ -83,24 +74,12 @@ fn moved_labels(
     Ok(moved)
 }
 
-/// Whether the head label becomes empty.
-#[tactic(auto, unfolding(crate::specs::Moved::moved_label))]
-fn head_goes(change: Change, labels: &[LabeledSpan]) -> bool
-    requires { All (CanMove change) labels.now }
-    ensures { result ≡ head_goes_in change labels.now }
-{
-    match head_label(labels) {
-        None => false,
-        Some(head) => moved_mark_of(change, head).is_none(),
-    }
-}
-
 /// A finding after a change: its labels move. It is dropped if its head label became empty.
 ///
 /// # Errors
 ///
 /// Out of memory.
-#[tactic(auto, unfolding(crate::specs::Moved::moved_diagnostic))]
+#[tactic(auto, unfolding(crate::specs::Moved::moved_diagnostic, crate::specs::Moved::moved_label))]
 pub fn moved_diagnostic(
     alloc: Global,
     change: Change,
@@ -110,8 +89,10 @@ pub fn moved_diagnostic(
     ensures { IfOk result (λ moved. moved ≡ moved_in change diagnostic.now) }
 {
     let labels = diagnostic.labels();
-    if head_goes(change, labels) {
-        return Ok(None);
+    if let Some(head) = head_label(labels) {
+        if moved_mark_of(change, head).is_none() {
+            return Ok(None);
+        }
     }
     let moved = moved_labels(alloc, change, labels)?;
     let copy = diagnostic.try_clone(alloc)?;

@@ -8,7 +8,7 @@ ghost use Rattle.lsp_server.specs.Meant.{changes_under, closed_by, count_under, 
 ghost use Rattle.lsp_server.specs.Meant.{event_in, event_of, first_known as first_known_in};
 ghost use Rattle.lsp_server.specs.Meant.{first_under, method_of as method_named, name_in, name_of};
 ghost use Rattle.lsp_server.specs.Meant.{opened_in, part_in, place_in, range_in, said_by, said_in};
-ghost use Rattle.lsp_server.specs.Meant.{shows_related, small_version as small, tells, text_under};
+ghost use Rattle.lsp_server.specs.Meant.{small_version as small, tells, text_under};
 ghost use Rattle.lsp_server.specs.Meant.{under, version_under, wanted_of};
 
 use crate::message::{Id, Message, Method, Notice, Wanted};
@@ -92,7 +92,11 @@ fn method_of(method: &str, params: Option<&Value>) -> Method
 fn wanted_in(capabilities: Option<&Value>) -> Wanted
     ensures { result ≡ wanted_of (option_map view (option_copied capabilities.entry)) }
 {
-    let related = related_in(capabilities);
+    let told = member(member(capabilities, "textDocument"), "publishDiagnostics");
+    let related = match member(told, "relatedInformation") {
+        Some(value) => value.as_bool().unwrap_or(false),
+        None => false,
+    };
     let newer = first_at(member(capabilities, "general"), "positionEncodings");
     if let Some(encoding) = newer {
         return Wanted {
@@ -106,17 +110,6 @@ fn wanted_in(capabilities: Option<&Value>) -> Wanted
         encoding: older.unwrap_or(Encoding::Utf16),
         is_older: older.is_some(),
         related,
-    }
-}
-
-/// Whether a client shows related information.
-fn related_in(capabilities: Option<&Value>) -> bool
-    ensures { result ≡ shows_related (option_map view (option_copied capabilities.entry)) }
-{
-    let told = member(member(capabilities, "textDocument"), "publishDiagnostics");
-    match member(told, "relatedInformation") {
-        Some(value) => value.as_bool().unwrap_or(false),
-        None => false,
     }
 }
 
@@ -173,7 +166,13 @@ fn notice_of(alloc: Global, method: &str, params: Option<&Value>) -> Result<Noti
         "textDocument/didOpen" => opened(alloc, member(params, "textDocument")),
         "textDocument/didChange" => changed(alloc, member(params, "textDocument"), params),
         "textDocument/didSave" => Ok(Notice::Saved),
-        "textDocument/didClose" => closed(alloc, member(params, "textDocument")),
+        "textDocument/didClose" => {
+            let Some(uri) = text_at(member(params, "textDocument"), "uri") else {
+                return Ok(Notice::Unknown);
+            };
+            let uri = String::from_str(alloc, uri)?;
+            Ok(Notice::Closed(uri))
+        }
         _ => Ok(Notice::Unknown),
     }
 }
@@ -193,18 +192,6 @@ fn opened(alloc: Global, document: Option<&Value>) -> Result<Notice, AllocError>
     let uri = String::from_str(alloc, uri)?;
     let text = String::from_str(alloc, text)?;
     Ok(Notice::Opened(uri, version_in(document), text))
-}
-
-/// A document that was closed.
-fn closed(alloc: Global, document: Option<&Value>) -> Result<Notice, AllocError>
-    ensures { IfOk result (λ notice. event_of notice ≡ closed_by
-        (text_under (codes "uri") (option_map view (option_copied document.entry)))) }
-{
-    let Some(uri) = text_at(document, "uri") else {
-        return Ok(Notice::Unknown);
-    };
-    let uri = String::from_str(alloc, uri)?;
-    Ok(Notice::Closed(uri))
 }
 
 /// A document that was changed.
@@ -263,23 +250,16 @@ fn change_of(alloc: Global, value: &Value) -> Result<Option<Change>, AllocError>
 
 /// The replaced range: `Some(None)`, the whole text, if there is no range; `None` if the range is
 /// malformed.
+#[tactic(auto, unfolding(crate::specs::Meant::range_in))]
 fn part_of(value: Option<&Value>) -> Option<Option<(Place, Place)>>
     ensures { result ≡ part_in (option_map view (option_copied value.entry)) }
 {
-    match value {
-        Some(range) => Some(Some(range_of(range)?)),
-        None => Some(None),
-    }
-}
-
-/// The positions of a range's ends.
-#[tactic(auto, unfolding(crate::specs::Meant::range_in))]
-fn range_of(value: &Value) -> Option<(Place, Place)>
-    ensures { result ≡ range_in (view value.now) }
-{
-    let start = place_of(value.get("start"))?;
-    let end = place_of(value.get("end"))?;
-    Some((start, end))
+    let Some(range) = value else {
+        return Some(None);
+    };
+    let start = place_of(range.get("start"))?;
+    let end = place_of(range.get("end"))?;
+    Some(Some((start, end)))
 }
 
 #[tactic(auto, unfolding(crate::specs::Meant::place_in))]

@@ -21,7 +21,7 @@ use std::collections::BTreeMap;
 use text_places::Encoding;
 
 /// The phase of a session.
-#[derive(Clone, Copy)]
+#[derive(Drop)]
 pub enum Phase {
     /// Before `initialize`.
     New,
@@ -76,7 +76,14 @@ impl Server {
                 let answer = self.request(id, method);
                 Ok(Some(answer))
             }
-            Message::Notification(notice) => self.notify(alloc, notice),
+            Message::Notification(Notice::Exit) => {
+                self.phase = Phase::Exited(matches!(self.phase, Phase::ShutDown));
+                Ok(None)
+            }
+            Message::Notification(notice) => match self.phase {
+                Phase::Running => self.edit(alloc, notice),
+                _ => Ok(None),
+            },
         }
     }
 
@@ -203,24 +210,6 @@ impl Server {
             },
             Phase::ShutDown => Answer::Error(Some(id), Code::InvalidRequest),
             Phase::Exited(_) => Answer::Error(Some(id), Code::InvalidRequest),
-        }
-    }
-
-    /// Takes a notification.
-    fn notify(&mut self, alloc: Global, notice: Notice) -> Result<Option<Answer>, AllocError>
-        ensures step { IfOk result (IsStep self.old (Message.Notification notice) self.new) }
-        ensures once { IfOk result (λ told. answered told ≡ []) }
-        ensures err { OnErr result (IsKept self.old self.new) }
-    {
-        match notice {
-            Notice::Exit => {
-                self.phase = Phase::Exited(matches!(self.phase, Phase::ShutDown));
-                Ok(None)
-            }
-            notice => match self.phase {
-                Phase::Running => self.edit(alloc, notice),
-                _ => Ok(None),
-            },
         }
     }
 

@@ -9,13 +9,10 @@ ghost use Rattle.found_reports.specs.Found.{StandsIn};
 ghost use Rattle.lsp_server.specs.Diagnostics.{diagnostic_value as diagnostic_of};
 ghost use Rattle.lsp_server.specs.Diagnostics.{head_range as head_range_of, more_members};
 ghost use Rattle.lsp_server.specs.Diagnostics.{first_members as first_members_of};
-ghost use Rattle.lsp_server.specs.Diagnostics.{location_value as location_of};
 ghost use Rattle.lsp_server.specs.Diagnostics.{published_value, put_some, related_value as related_of};
 ghost use Rattle.lsp_server.specs.Diagnostics.{related_values as related_values_of};
-ghost use Rattle.lsp_server.specs.Diagnostics.{severity_number as number_of};
 ghost use Rattle.lsp_server.specs.Diagnostics.{some_link, some_version, text_value};
 ghost use Rattle.lsp_server.specs.Files.{seen};
-ghost use Rattle.lsp_server.specs.Messages.{message_text};
 ghost use Rattle.lsp_server.specs.Seen.{StandIn, others as others_of};
 
 use crate::heads::{head_label, others};
@@ -75,13 +72,7 @@ pub fn all_stand(text: &str, diagnostics: &[OxcDiagnostic]) -> bool
 {
     diagnostics
         .iter()
-        .all(|diagnostic| labels_stand(text, diagnostic))
-}
-
-fn labels_stand(text: &str, diagnostic: &OxcDiagnostic) -> bool
-    ensures { IsTrue result ↔ StandIn text.now diagnostic.now }
-{
-    stand_in(&Ok(text), diagnostic.labels())
+        .all(|diagnostic| stand_in(&Ok(text), diagnostic.labels()))
 }
 
 #[tactic(auto, unfolding(crate::specs::Diagnostics::published_value))]
@@ -135,6 +126,7 @@ fn diagnostics_value(
     Ok(Value::Array(values))
 }
 
+#[tactic(auto, unfolding(crate::specs::Diagnostics::diagnostic_value))]
 fn diagnostic_value(
     alloc: Global,
     file: &OpenFile<'_>,
@@ -144,24 +136,13 @@ fn diagnostic_value(
     ensures { IfOk result (λ value. view value ≡ diagnostic_of (seen file.now) diagnostic.now) }
 {
     let parts = diagnostic.inner();
-    let message = message_of(alloc, file, parts)?;
-    value_of_parts(alloc, file, parts, message)
-}
-
-#[tactic(auto, unfolding(crate::specs::Diagnostics::diagnostic_value))]
-fn value_of_parts(
-    alloc: Global,
-    file: &OpenFile<'_>,
-    parts: &OxcDiagnosticInner,
-    message: String,
-) -> Result<Value, AllocError>
-    requires stand { StandIn file.now.places.now (inner_parts parts.now) }
-    requires message { string_bytes message ≡ message_text (seen file.now) (inner_parts parts.now) }
-    ensures { IfOk result (λ value. view value
-        ≡ diagnostic_of (seen file.now) (inner_parts parts.now)) }
-{
     let range = head_range(alloc, file, parts.labels.as_slice())?;
-    let severity = severity_number(parts.severity);
+    let severity = match parts.severity {
+        Severity::Error => 1,
+        Severity::Warning => 2,
+        Severity::Advice => 3,
+    };
+    let message = message_of(alloc, file, parts)?;
     let mut members = first_members(alloc, range, severity, message)?;
     put_more(alloc, &mut members, file, parts)?;
     Ok(Value::Object(members))
@@ -183,17 +164,6 @@ fn first_members(
     put(&mut members, alloc, "severity", Value::from(severity))?;
     put(&mut members, alloc, "message", Value::String(message))?;
     Ok(members)
-}
-
-/// The number of a severity: 1 error, 2 warning, 3 information.
-fn severity_number(severity: Severity) -> u32
-    ensures { result ≡ number_of severity }
-{
-    match severity {
-        Severity::Error => 1,
-        Severity::Warning => 2,
-        Severity::Advice => 3,
-    }
 }
 
 /// The range of the head label; without labels the empty range at the text's beginning.
@@ -328,7 +298,7 @@ fn push_related(
     Ok(())
 }
 
-/// A label as related information: its location and its text.
+/// A label as related information: the file, the range in it, and its text.
 #[tactic(auto, unfolding(crate::specs::Diagnostics::related_value))]
 fn related_value(
     alloc: Global,
@@ -340,27 +310,8 @@ fn related_value(
     ensures { IfOk result (λ value. view value
         ≡ related_of (seen file.now) message.now label.now) }
 {
-    let location = location_value(alloc, file, label)?;
-    let text = String::from_str(alloc, said(label, message))?;
-    let mut members = Map::new(alloc);
-    put(&mut members, alloc, "location", location)?;
-    put(&mut members, alloc, "message", Value::String(text))?;
-    Ok(Value::Object(members))
-}
-
-/// The location of a label: the file, and the range in it.
-fn location_value(
-    alloc: Global,
-    file: &OpenFile<'_>,
-    label: &LabeledSpan,
-) -> Result<Value, AllocError>
-    requires { StandsIn file.now.places.now label.now }
-    ensures { IfOk result (λ value. view value ≡ location_of (seen file.now) label.now) }
-{
     let range = label_range(alloc, file, label)?;
-    let uri = String::from_str(alloc, file.uri)?;
-    let mut members = Map::new(alloc);
-    put(&mut members, alloc, "uri", Value::String(uri))?;
-    put(&mut members, alloc, "range", range)?;
-    Ok(Value::Object(members))
+    let uri = file.uri;
+    let text = said(label, message);
+    json!(in alloc; {"location": {"uri": uri, "range": range}, "message": text})
 }
