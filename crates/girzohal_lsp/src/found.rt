@@ -9,9 +9,9 @@ ghost use Rattle.sarif_log.specs.Log.{log_view};
 ghost use Rattle.source_store.specs.Named.{path_in as path_meant};
 ghost use Rattle.source_store.specs.declared.named.Spelling.TheVariants.{Uri};
 ghost use Rattle.girzohal_lsp.specs.Blocks.{block_parts, is_one_named as is_one_named_by, picked_in};
-ghost use Rattle.girzohal_lsp.specs.Found.{AreFitted, AreShown, IsFitted, IsPicked, ShowsAt, ShowsLines};
+ghost use Rattle.girzohal_lsp.specs.Found.{AreFitted, AreShown, IsPicked, ShowsAt, ShowsLines};
 ghost use Rattle.girzohal_lsp.specs.Found.{ShowsLog, columns_of as columns_meant};
-ghost use Rattle.girzohal_lsp.specs.Found.{log_columns as columns_of_log, pick, tool_name as name_of};
+ghost use Rattle.girzohal_lsp.specs.Found.{pick, tool_name as name_of};
 ghost use Rattle.girzohal_lsp.specs.Kept.{IsKept, KeepsLines, KeepsParts};
 ghost use Rattle.girzohal_lsp.specs.declared.log.LogFile.TheVariants.{Sarif};
 
@@ -63,7 +63,8 @@ pub fn found_in(
     }
 }
 
-/// Of a log none of whose names means the file no report is made.
+/// Of a log none of whose names means the file no report is made. The options' unit counts if such
+/// logs can have it.
 fn found_in_log(
     alloc: Global,
     kept: &KeptLog<'_>,
@@ -82,7 +83,12 @@ fn found_in_log(
     }
     let file = OpenFile { path, text };
     let sources = gather(alloc, &file, Spelling::Uri, kept.names)?;
-    let found = sarif::reports_of(alloc, log, &sources, log_columns(kept.asked.columns))?;
+    let columns = match kept.asked.columns {
+        Some(Unit::Characters) => Some(ColumnKind::Characters),
+        Some(Unit::Utf16) => Some(ColumnKind::Utf16),
+        Some(Unit::Bytes | Unit::Cells) | None => None,
+    };
+    let found = sarif::reports_of(alloc, log, &sources, columns)?;
     let shown = shown_of(alloc, Spelling::Uri, &found, path, text)?;
     Ok(shown)
 }
@@ -194,17 +200,6 @@ fn columns_of(asked: Asked<'_>) -> Columns
     }
 }
 
-/// What the columns of a SARIF log count, if the options name a unit that such logs can have.
-fn log_columns(unit: Option<Unit>) -> Option<ColumnKind>
-    ensures { result ≡ columns_of_log unit }
-{
-    match unit {
-        Some(Unit::Characters) => Some(ColumnKind::Characters),
-        Some(Unit::Utf16) => Some(ColumnKind::Utf16),
-        Some(Unit::Bytes | Unit::Cells) | None => None,
-    }
-}
-
 /// The one open file, as a store: each path that means it has its text.
 #[derive(Drop)]
 struct OpenFile<'a> {
@@ -268,7 +263,8 @@ fn picked(
     Ok(shown)
 }
 
-/// The diagnostic of a report; `None` if it is on another file.
+/// The diagnostic of a report, without its labels if they don't all fit the text; `None` if it is
+/// on another file.
 #[tactic(auto, unfolding(crate::specs::Found::pick))]
 fn picked_one(
     alloc: Global,
@@ -286,17 +282,10 @@ fn picked_one(
     if !means_file(alloc, spelling, path, file.name.as_str())? {
         return Ok(None);
     }
-    let shown = fitted(alloc, &report.diagnostic, text)?;
-    Ok(Some(shown))
-}
-
-/// A finding, without its labels if they don't all fit the text.
-fn fitted(alloc: Global, it: &OxcDiagnostic, text: &str) -> Result<OxcDiagnostic, AllocError>
-    ensures { IfOk result (IsFitted text.now it.now) }
-{
-    let copy = it.try_clone(alloc)?;
+    let copy = report.diagnostic.try_clone(alloc)?;
     if stand_in(&Ok(text), copy.labels()) {
-        return Ok(copy);
+        return Ok(Some(copy));
     }
-    copy.with_labels(alloc, Vec::new(alloc))
+    let bare = copy.with_labels(alloc, Vec::new(alloc))?;
+    Ok(Some(bare))
 }

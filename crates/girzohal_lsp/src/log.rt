@@ -1,10 +1,9 @@
 // Reads a log.
-ghost use Rattle.std.specs.Prelude.{◌≡◌, IfOk, string_bytes};
+ghost use Rattle.std.specs.Prelude.{IfOk, string_bytes};
 ghost use Rattle.std.specs.Option.{option_copied};
 ghost use Rattle.input_forms.specs.Begun.{behind_mark};
 ghost use Rattle.girzohal_lsp.specs.Kept.{IsLogOf};
 ghost use Rattle.girzohal_lsp.specs.Logs.{IsRead, IsSarif, NamesPlace};
-ghost use Rattle.girzohal_lsp.specs.Logs.{fault_text as fault_meant};
 
 use crate::words::{Asked, Form};
 use bytecount::count;
@@ -94,7 +93,8 @@ fn sarif_in<'b>(alloc: Global, bytes: &[u8]) -> Result<LogFile<'b>, AllocError>
             Ok(LogFile::Fault(text))
         }
         Err(LogError::Fault { path, wanted }) => {
-            let text = fault_text(alloc, path.as_str(), wanted)?;
+            let path = path.as_str();
+            let text = format!(in alloc; "{path}: wanted {wanted}")?;
             Ok(LogFile::Fault(text))
         }
     }
@@ -106,11 +106,4 @@ fn no_json(alloc: Global, line: usize, column: usize) -> Result<String, AllocErr
 {
     let why = format!(in alloc; "no JSON at {line}:{column}")?;
     Ok(why)
-}
-
-/// The message with what was expected, and where.
-fn fault_text(alloc: Global, path: &str, wanted: &str) -> Result<String, AllocError>
-    ensures { IfOk result (λ why. string_bytes why ≡ fault_meant path.now wanted.now) }
-{
-    format!(in alloc; "{path}: wanted {wanted}")
 }

@@ -11,7 +11,7 @@ ghost use Rattle.girzohal_lsp.specs.Served.{IsRefreshed, LooksUp, TellsFault, ur
 ghost use Rattle.girzohal_lsp.specs.Served.{wanted_uris};
 
 use crate::found::{found_in, tool_name};
-use crate::kept::KeptLog;
+use crate::kept::{KeptLog, bare_log};
 use crate::lines::{blocks_of, paths_of, reads_of};
 use crate::log::{LogBytes, LogFile, log_of};
 use crate::words::Asked;
@@ -89,17 +89,15 @@ fn serve_log<F: Files + Alloc, R: Read, W: Write>(
 ) -> io::Result<Stop> {
     let alloc = session.alloc;
     let log = log_of(alloc, asked, bytes)?;
+    let bare = bare_log(asked, bytes, &log);
     match &log {
         LogFile::Sarif(it) => {
             let names = sarif::names_of(alloc, it)?;
             let paths = paths_of(alloc, Spelling::Uri, &names)?;
             let kept = KeptLog {
-                asked,
-                bytes,
-                log: &log,
                 names: &names,
                 paths: &paths,
-                blocks: &[],
+                ..bare
             };
             serve_kept(rt, session, &kept, input, out)
         }
@@ -110,30 +108,18 @@ fn serve_log<F: Files + Alloc, R: Read, W: Write>(
             let names = names_of(alloc, &lines, &reads)?;
             let blocks = blocks_of(alloc, &lines, &reads)?;
             let kept = KeptLog {
-                asked,
-                bytes,
-                log: &log,
                 names: &names,
-                paths: &[],
                 blocks: &blocks,
+                ..bare
             };
             serve_kept(rt, session, &kept, input, out)
         }
-        LogFile::Fault(_) => {
-            let kept = KeptLog {
-                asked,
-                bytes,
-                log: &log,
-                names: &[],
-                paths: &[],
-                blocks: &[],
-            };
-            serve_kept(rt, session, &kept, input, out)
-        }
+        LogFile::Fault(_) => serve_kept(rt, session, &bare, input, out),
     }
 }
 
-/// Serves while the log's file has the bytes of this log.
+/// Serves while the log's file has the bytes of this log: first the message that waits, and those
+/// that end in the bytes that came with it.
 fn serve_kept<F: Files + Alloc, R: Read, W: Write>(
     rt: &F,
     session: &mut Session,
@@ -143,8 +129,13 @@ fn serve_kept<F: Files + Alloc, R: Read, W: Write>(
 ) -> io::Result<Stop>
     requires { IsKept kept.now }
 {
-    if let Some(stop) = take_waiting(rt, session, kept, out)? {
-        return Ok(stop);
+    if let Some(message) = session.waiting.take() {
+        let answers = answers_to(session.alloc, kept, &mut session.server, message)?;
+        send_all(session.alloc, answers, out)?;
+        let left = mem::replace(&mut session.left, Vec::new(session.alloc));
+        if let Some(stop) = take_all(rt, session, kept, &left, out)? {
+            return Ok(stop);
+        }
     }
     let mut buffer = [0u8; 8192];
     for _ in 0..u64::MAX {
@@ -160,24 +151,6 @@ fn serve_kept<F: Files + Alloc, R: Read, W: Write>(
         }
     }
     Ok(Stop::Over)
-}
-
-/// Takes the message that waits, and those that end in the bytes that came with it.
-fn take_waiting<F: Files + Alloc, W: Write>(
-    rt: &F,
-    session: &mut Session,
-    kept: &KeptLog<'_>,
-    out: &mut W,
-) -> io::Result<Option<Stop>>
-    requires { IsKept kept.now }
-{
-    let Some(message) = session.waiting.take() else {
-        return Ok(None);
-    };
-    let answers = answers_to(session.alloc, kept, &mut session.server, message)?;
-    send_all(session.alloc, answers, out)?;
-    let left = mem::replace(&mut session.left, Vec::new(session.alloc));
-    take_all(rt, session, kept, &left, out)
 }
 
 /// Takes the messages that end in these bytes, and returns why the rest isn't taken.
@@ -461,15 +434,10 @@ pub fn refresh(
 /// Writes answers as frames.
 fn send_all<W: Write>(alloc: Global, answers: Vec<Answer>, out: &mut W) -> io::Result<()> {
     for answer in answers {
-        send(alloc, answer, out)?;
+        let text = answer_text(alloc, answer)?;
+        let bytes = write_frame(alloc, text.as_bytes())?;
+        out.write_all(bytes.as_slice())?;
+        out.flush()?;
     }
     Ok(())
-}
-
-/// Writes an answer as a frame.
-fn send<W: Write>(alloc: Global, answer: Answer, out: &mut W) -> io::Result<()> {
-    let text = answer_text(alloc, answer)?;
-    let bytes = write_frame(alloc, text.as_bytes())?;
-    out.write_all(bytes.as_slice())?;
-    out.flush()
 }

@@ -44,8 +44,16 @@ pub fn served(asked: &girzohal_options::Asked) -> Option<Asked<'_>>
     ensures first { IfSome result (λ it. it.first_column ≡ asked.now.first_column) }
     ensures log { IfSome result (λ it. log_meant asked.now.files.items ≡ Some it.log.now) }
 {
-    let from = form_of(asked.from)?;
-    let log = log_path(&asked.files)?;
+    let from = match asked.from {
+        InputForm::Auto => Form::Auto,
+        InputForm::Lines => Form::Lines,
+        InputForm::Sarif => Form::Sarif,
+        InputForm::Document | InputForm::Json => return None,
+    };
+    let log = match asked.files.as_slice() {
+        [path, ..] if !path.is_empty() => path.as_str(),
+        _ => return None,
+    };
     Some(Asked {
         from,
         tool: asked.tool.as_deref(),
@@ -53,25 +61,4 @@ pub fn served(asked: &girzohal_options::Asked) -> Option<Asked<'_>>
         first_column: asked.first_column,
         log,
     })
-}
-
-fn form_of(form: InputForm) -> Option<Form>
-    ensures { result ≡ form_meant form }
-{
-    match form {
-        InputForm::Auto => Some(Form::Auto),
-        InputForm::Lines => Some(Form::Lines),
-        InputForm::Sarif => Some(Form::Sarif),
-        InputForm::Document | InputForm::Json => None,
-    }
-}
-
-/// The first path, if there is one and it isn't empty.
-fn log_path(files: &[String]) -> Option<&str>
-    ensures { option_copied result ≡ log_meant files.now }
-{
-    match files {
-        [path, ..] if !path.is_empty() => Some(path.as_str()),
-        _ => None,
-    }
 }
