@@ -2,9 +2,8 @@
 // once, so it allocates no memory.
 ghost use Rattle.std.specs.Prelude.{◌≡◌, ◌≤◌, length};
 ghost use Rattle.report_run.specs.Ending.{IsTold, label_line as labelled, line_of, status_of};
-ghost use Rattle.report_run.specs.Ending.{no_position as unplaced, plain_line as plainly};
-ghost use Rattle.report_run.specs.Ending.{refusal_line as refused_line, report_line as reported};
-ghost use Rattle.report_run.specs.Ending.{reversed_line as reversed};
+ghost use Rattle.report_run.specs.Ending.{plain_line as plainly, refusal_line as refused_line};
+ghost use Rattle.report_run.specs.Ending.{report_line as reported, reversed_line as reversed};
 
 use crate::status::Status;
 use arrayvec::ArrayString;
@@ -16,7 +15,7 @@ use render_files::ReportError;
 type Line = ArrayString<256>;
 
 /// How a run ended, with the error of a report if there is one.
-#[derive(Clone, Copy, PartialEq, Eq)]
+#[derive(Clone, Copy)]
 pub(crate) enum Ending {
     /// The whole text was written.
     Done,
@@ -59,14 +58,7 @@ pub(crate) fn say<E: Sink>(err: &mut E, ending: Ending)
     ensures { IsTold (E.received err.old) (E.received err.new) (E.faults err.old)
         (E.faults err.new) (line_of ending) }
 {
-    let line = line(ending);
-    let _said = write_all(err, line.as_str().as_bytes());
-}
-
-fn line(ending: Ending) -> Line
-    ensures { result.bytes ≡ line_of ending }
-{
-    match ending {
+    let line = match ending {
         Ending::Done => Line::new(),
         Ending::Refused(why) => refusal_line(why),
         Ending::Usage => plain_line("bad arguments"),
@@ -75,7 +67,8 @@ fn line(ending: Ending) -> Line
         Ending::SinkFault => plain_line("output failed"),
         Ending::OutOfMemory => plain_line("out of memory"),
         Ending::InputTooLong => plain_line("input too long"),
-    }
+    };
+    let _said = write_all(err, line.as_str().as_bytes());
 }
 
 fn refusal_line(why: ReportError) -> Line
@@ -87,7 +80,14 @@ fn refusal_line(why: ReportError) -> Line
             report,
             label,
             at_end,
-        } => label_line(report, label, no_position(at_end)),
+        } => {
+            let end = if at_end {
+                "end is no position"
+            } else {
+                "start is no position"
+            };
+            label_line(report, label, end)
+        }
         ReportError::LabelReversed {
             report,
             label,
@@ -152,15 +152,4 @@ fn reversed_line(report: usize, label: usize, start: u32, end: u32) -> Line
     line.push_str(Buffer::new().format(start));
     line.push_str("\n");
     line
-}
-
-fn no_position(at_end: bool) -> &'static str
-    ensures text { result.now ≡ unplaced at_end }
-    ensures short { length result.now ≤ 40 }
-{
-    if at_end {
-        "end is no position"
-    } else {
-        "start is no position"
-    }
 }

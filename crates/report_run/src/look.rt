@@ -9,7 +9,7 @@ use oxc_handlers::GraphicalTheme;
 use oxc_plan::TabWidth;
 
 /// How the reports of a document are shown: the options of the arguments.
-#[derive(Clone, Copy)]
+#[derive(Drop)]
 pub(crate) struct Look {
     pub(crate) theme: ThemeName,
     pub(crate) width: usize,
@@ -18,7 +18,7 @@ pub(crate) struct Look {
 }
 
 /// What a command asks for, with the look of the reports as one value.
-#[derive(Clone, Copy)]
+#[derive(Drop)]
 pub(crate) enum Task {
     Draw(Look),
     Make(u32),
@@ -29,28 +29,19 @@ pub(crate) fn asked(words: &[String]) -> Option<Task>
     ensures command { option_map command_for result ≡ command_of (map string_bytes words.now) }
     ensures few { IfSome result (λ it. IsFew (command_for it)) }
 {
-    match read_words(words) {
-        Some(command) => Some(task_of(command)),
-        None => None,
-    }
-}
-
-fn task_of(command: Command) -> Task
-    ensures { command_for result ≡ command }
-{
-    match command {
-        Command::Make { count } => Task::Make(count),
+    match read_words(words)? {
+        Command::Make { count } => Some(Task::Make(count)),
         Command::Draw {
             theme,
             width,
             tabs,
             json,
-        } => Task::Draw(Look {
+        } => Some(Task::Draw(Look {
             theme,
             width,
             tabs,
             json,
-        }),
+        })),
     }
 }
 

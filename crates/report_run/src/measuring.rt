@@ -1,18 +1,15 @@
 // The drawing of a generated document, and how large it is.
-ghost use Rattle.std.specs.Prelude.{◌≡◌, ◌==◌, ◌≤◌, count_by, false, map};
-ghost use Rattle.std.specs.Prelude.{IfOk, OnOk, None, Some, string_bytes};
-ghost use Rattle.render_files.specs.Given.{given_report};
-ghost use Rattle.render_files.specs.Refusal.{refusal_of};
+ghost use Rattle.std.specs.Prelude.{◌≡◌, ◌≤◌, false};
+ghost use Rattle.std.specs.Prelude.{IfOk, OnOk, Some, string_bytes};
 ghost use Rattle.documents.specs.Document.{document_of};
 ghost use Rattle.documents.specs.Generated.{document_made, generated};
-ghost use Rattle.documents.specs.Views.{document_view};
 ghost use Rattle.report_run.specs.declared.words.ThemeName.TheVariants.{Plain};
 ghost use Rattle.report_run.specs.Drawn.{measured, shown};
 ghost use Rattle.report_run.specs.Ending.{status_of};
 ghost use Rattle.report_run.specs.Run.{IsUntouched, Measures, device};
 
 use crate::ending::Ending;
-use documents::{Document, generate, read_document};
+use documents::{generate, read_document};
 use oxc_handlers::{GraphicalReportHandler, GraphicalTheme};
 use oxc_protocol::{Sink, write_all};
 use render_files::{ReportError, files_text};
@@ -42,19 +39,12 @@ fn made_line(alloc: Global, count: u32) -> Result<String, AllocError>
 {
     let text = made_text(alloc, count)?;
     let length = text.len();
-    let lines = lines_in(text.as_str());
+    let lines = bytecount::count(text.as_bytes(), b'\n');
     let line = format!(in alloc; "{count} reports, {length} bytes, {lines} lines\n")?;
     Ok(line)
 }
 
-// The number of LFs of a text.
-fn lines_in(text: &str) -> usize
-    ensures { result ≡ count_by (λ byte. byte == 10) text.now }
-{
-    bytecount::count(text.as_bytes(), b'\n')
-}
-
-// The drawing of the generated document.
+// The drawing of the generated document, in the plain theme. Its reports have no errors.
 fn made_text(alloc: Global, count: u32) -> Result<String, AllocError>
     requires { count ≤ 5000 }
     ensures made { OnOk result (document_of (generated count) ≡ Some (document_made count)) }
@@ -62,18 +52,9 @@ fn made_text(alloc: Global, count: u32) -> Result<String, AllocError>
         ≡ shown Plain 80 4 false (document_made count)) }
 {
     let bytes = generate(alloc, count)?;
-    match read_document(alloc, &bytes)? {
-        Some(document) => drawn_text(alloc, &document),
-        None => unreachable!(),
-    }
-}
-
-// The drawing, in the plain theme, of a document whose reports have no errors.
-fn drawn_text(alloc: Global, document: &Document) -> Result<String, AllocError>
-    requires { refusal_of document.now.files (map given_report document.now.reports.items) ≡ None }
-    ensures { IfOk result (λ text. string_bytes text
-        ≡ shown Plain 80 4 false (document_view document.now)) }
-{
+    let Some(document) = read_document(alloc, &bytes)? else {
+        unreachable!()
+    };
     let handler = GraphicalReportHandler::new_themed(GraphicalTheme::none()).with_width(80);
     match files_text(alloc, &handler, &document.files, &document.reports) {
         Ok(text) => Ok(text),

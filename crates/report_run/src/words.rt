@@ -5,14 +5,13 @@ ghost use Rattle.std.specs.List.{list_all};
 ghost use Rattle.report_run.specs.Words.{begins_well as may_begin, command_of, drawing_with, IsFew};
 ghost use Rattle.report_run.specs.Words.{is_digit as is_code_of_digit, made_by as count_made_by};
 ghost use Rattle.report_run.specs.Words.{number as number_of, number_in as number_between};
-ghost use Rattle.report_run.specs.Words.{setting_of as setting_named, settings, settings_with};
-ghost use Rattle.report_run.specs.Words.{theme_named as theme_of_name};
-ghost use Rattle.report_run.specs.Settled.{begun_with, drawing_of, settled, with_setting};
+ghost use Rattle.report_run.specs.Words.{setting_of as setting_named, settings};
+ghost use Rattle.report_run.specs.Settled.{begun_with, settled, with_setting};
 
 use oxc_plan::TabWidth;
 
 /// What a run is to do.
-#[derive(Clone, Copy, PartialEq, Eq)]
+#[derive(Drop)]
 pub enum Command {
     /// Read a document and show its reports.
     Draw {
@@ -33,7 +32,7 @@ pub enum Command {
 }
 
 /// The name of a theme.
-#[derive(Clone, Copy, PartialEq, Eq)]
+#[derive(Clone, Copy)]
 pub enum ThemeName {
     /// ASCII: `none`.
     Plain,
@@ -44,7 +43,7 @@ pub enum ThemeName {
 }
 
 /// An option of a drawing, with its value.
-#[derive(Clone, Copy)]
+#[derive(Drop)]
 pub(crate) enum Setting {
     Theme(ThemeName),
     Width(usize),
@@ -53,7 +52,7 @@ pub(crate) enum Setting {
 }
 
 /// The options of a drawing so far.
-#[derive(Clone, Copy)]
+#[derive(Drop)]
 pub(crate) struct Settings {
     theme: Option<ThemeName>,
     width: Option<usize>,
@@ -107,7 +106,12 @@ fn read_drawing(words: &[String]) -> Option<Command>
         json: false,
     };
     match read_settings(nothing, words) {
-        Some(settings) => Some(settings.drawing()),
+        Some(settings) => Some(Command::Draw {
+            theme: settings.theme.unwrap_or(ThemeName::Plain),
+            width: settings.width.unwrap_or(80),
+            tabs: settings.tabs.unwrap_or(TabWidth::default()),
+            json: settings.json,
+        }),
         None => None,
     }
 }
@@ -136,27 +140,12 @@ fn first_setting(words: &[String]) -> Option<(Setting, &[String])>
     ensures fewer { IfSome result (λ it. length it.1.now < length words.now) }
 {
     match words {
-        [] => None,
-        [name, rest @ ..] => {
-            if name.as_str() == "--json" {
-                Some((Setting::Json, rest))
-            } else {
-                first_with_value(name.as_str(), rest)
-            }
+        [name, rest @ ..] if name.as_str() == "--json" => Some((Setting::Json, rest)),
+        [name, value, rest @ ..] => {
+            let setting = setting_of(name.as_str(), value.as_str())?;
+            Some((setting, rest))
         }
-    }
-}
-
-fn first_with_value<'w>(name: &str, words: &'w [String]) -> Option<(Setting, &'w [String])>
-    ensures first { settings_with name.now (map string_bytes words.now) ≡ begun_with result }
-    ensures fewer { IfSome result (λ it. length it.1.now ≤ length words.now) }
-{
-    match words {
-        [] => None,
-        [value, rest @ ..] => match setting_of(name, value.as_str()) {
-            Some(setting) => Some((setting, rest)),
-            None => None,
-        },
+        _ => None,
     }
 }
 
@@ -174,37 +163,20 @@ impl Settings {
         }
         Some(self)
     }
-
-    fn drawing(self) -> Command
-        ensures { result ≡ drawing_of self }
-    {
-        Command::Draw {
-            theme: self.theme.unwrap_or(ThemeName::Plain),
-            width: self.width.unwrap_or(80),
-            tabs: self.tabs.unwrap_or(TabWidth::default()),
-            json: self.json,
-        }
-    }
 }
 
 fn setting_of(name: &str, value: &str) -> Option<Setting>
     ensures { result ≡ setting_named name.now value.now }
 {
     match name {
-        "--theme" => Some(Setting::Theme(theme_named(value)?)),
+        "--theme" => match value {
+            "none" => Some(Setting::Theme(ThemeName::Plain)),
+            "unicode" => Some(Setting::Theme(ThemeName::Unicode)),
+            "unicode_nocolor" => Some(Setting::Theme(ThemeName::UnicodeNocolor)),
+            _ => None,
+        },
         "--width" => Some(Setting::Width(number_in(0, 999_999_999, value)? as usize)),
         "--tabs" => Some(Setting::Tabs(TabWidth::new(number_in(1, 16, value)? as usize)?)),
-        _ => None,
-    }
-}
-
-fn theme_named(word: &str) -> Option<ThemeName>
-    ensures { result ≡ theme_of_name word.now }
-{
-    match word {
-        "none" => Some(ThemeName::Plain),
-        "unicode" => Some(ThemeName::Unicode),
-        "unicode_nocolor" => Some(ThemeName::UnicodeNocolor),
         _ => None,
     }
 }
