@@ -1,6 +1,8 @@
 -- The reports of labels in other files, one after another.
-use Rattle.std.proofs.Common.{◌≡◌, ℕ, zero, suc, Bor, ◌-◌, ◌<◌, ◌≤◌, List, [], ◌∷◌, ◌++◌, length, map, option_map, take, drop, get_or, Option, None, String, true, sym, ap, ap₂, ◌∙◌, subst, append_assoc, arith}
+use Rattle.std.proofs.Common.{◌≡◌, ℕ, zero, suc, Bor, ◌-◌, ◌<◌, ◌≤◌, List, [], ◌∷◌, ◌++◌, length, map, option_map, take, drop, get_or, Option, None, Some, String, true, refl, sym, ap, ap₂, ◌∙◌, subst, append_assoc, arith}
 use Rattle.std.specs.Prelude.{IfSome}
+use Rattle.std.specs.List.{list_any}
+use Rattle.std.specs.Option.{is_some}
 use Rattle.std.specs.declared.alloc.Global.{Global}
 use Rattle.std.proofs.lemmas.List.{drop-map, take_rest}
 use Rattle.std.proofs.lemmas.List.Elements.{All-append, All-cons, All-head, All-nil, All-tail}
@@ -119,6 +121,13 @@ blocks_more told lines names next (x ∷ rest) block old new all some is step pu
     ∙ (ap₂ (λ (front : List (Option AsideParts)) (ns : List (Option (List ℕ))). front ++ asides_from told lines ns (map block_of rest))
     (put ∙ ap (λ (b : Block). old ++ aside_at told lines first (block_of b) ∷ []) is) (ap (map text_bytes) step ∙ sym (drop-map text_bytes 1 names))
     ∙ (append_assoc old (aside_at told lines first (block_of x) ∷ []) (asides_from told lines left (map block_of rest)) ∙ before))
+
+-- ---- names
+
+pub any_named : (names : List (Option (String Global))) → list_any is_some (map text_bytes names) ≡ list_any is_some names
+any_named [] = refl
+any_named (None ∷ names) = any_named names
+any_named (Some name ∷ names) = refl
 
 -- ---- lines
 

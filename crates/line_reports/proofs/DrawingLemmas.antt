@@ -1,6 +1,8 @@
 -- Labels that are placed one after another.
 use Rattle.std.proofs.Common.{◌≡◌, ℕ, zero, suc, false, ◌+◌, ◌-◌, ◌<◌, ◌≤◌, ◌^◌, List, [], ◌∷◌, Bool, length, map, take, drop, get_or, ap, ap₂, option_map, Option, Some, None, ⊎_elim, refl, sym, ◌∙◌, subst, arith}
 use Rattle.std.specs.Prelude.{IfSome}
+use Rattle.std.specs.List.{list_all}
+use Rattle.std.specs.Option.{is_some}
 use Rattle.std.specs.Str.{IsCharBoundary}
 use Rattle.std.proofs.lemmas.Bool.{cases_lt}
 use Rattle.std.proofs.lemmas.List.{take_rest}
@@ -31,6 +33,13 @@ row_stands text (x ∷ laid) (suc k) o it stand within is some =
     row_stands text laid k o it (All-tail (λ (p : Option LaidParts). IfSome p (λ row. IsRowOf text row.row)) (option_map laid_parts x) (map (option_map laid_parts) laid) stand) (omega (arith, within)) is some
 
 -- ---- where a label is
+
+pub laid_all : (laid : List (Option Laid)) → list_all is_some (map (option_map laid_parts) laid) ≡ list_all is_some laid
+laid_all [] = refl
+laid_all (None ∷ laid) = refl
+laid_all (Some it ∷ laid) = laid_all laid
+
+pub ruleset all_rules = (none_placed, laid_all)
 
 pub short_place : (text : List ℕ) (at : ℕ) → Fits text → IsCharBoundary text at → at < 2 ^ 32
 short_place text at short boundary = omega (arith, short, boundary.0)

@@ -1,22 +1,18 @@
 //! Drawings of other files than the finding's.
-ghost use Rattle.std.specs.Prelude.{◌≡◌, ◌++◌, ◌∷◌, [], IfOk, IfSome, OnOk, None, Some, map};
-ghost use Rattle.std.specs.Prelude.{option_map, string_bytes};
-ghost use Rattle.std.specs.List.{list_any};
-ghost use Rattle.std.specs.Option.{is_some, option_copied};
+ghost use Rattle.std.specs.Prelude.{◌≡◌, ◌++◌, IfOk, IfSome, OnOk, None, Some, map};
+ghost use Rattle.std.specs.Prelude.{option_map};
+ghost use Rattle.std.specs.Option.{is_some};
 ghost use Rattle.oxc_span.specs.Views.{text_bytes};
 ghost use Rattle.excerpt_texts.specs.Lines.{line_at as line_there};
 ghost use Rattle.excerpts.specs.Body.{block_of};
 ghost use Rattle.found_reports.specs.Listed.{held_in};
 ghost use Rattle.line_reports.specs.Asides.{AsidesStand, PlacedHeld, aside_at as aside_there};
-ghost use Rattle.line_reports.specs.Asides.{aside_parts, aside_with as aside_if, asides_by};
+ghost use Rattle.line_reports.specs.Asides.{aside_parts};
 ghost use Rattle.line_reports.specs.Asides.{asides_from, asides_of};
 ghost use Rattle.line_reports.specs.Asides.{block_name, either as either_of};
-ghost use Rattle.line_reports.specs.Asides.{elsewhere as elsewhere_in, first_is_aside};
+ghost use Rattle.line_reports.specs.Asides.{elsewhere as elsewhere_in};
 ghost use Rattle.line_reports.specs.Asides.{first_name as first_name_of, part_name as part_name_of};
-ghost use Rattle.line_reports.specs.Asides.{place_name, placed_there, there_after as there_behind};
-ghost use Rattle.line_reports.specs.Asides.{unless_own as unless_own_name};
-ghost use Rattle.line_reports.specs.Drawings.{placed_parts};
-ghost use Rattle.line_reports.specs.Pieces.{excerpt_parts, line_chars};
+ghost use Rattle.line_reports.specs.Pieces.{line_chars};
 ghost use Rattle.line_reports.specs.Told.{told_parts};
 
 use crate::drawings::labels_placed;
@@ -27,7 +23,7 @@ use crate::told::Told;
 use excerpt_blocks::below::tail;
 use excerpt_lines::places::Place;
 use excerpt_texts::lines::text_of;
-use excerpts::body::{Block, Excerpt};
+use excerpts::body::Block;
 use excerpts::cuts::{Part, PartKind, head};
 use indexed_sources::IndexedSources;
 use std::alloc::{AllocError, Global};
@@ -48,7 +44,7 @@ impl<'a> Told<'a> {
     /// # Errors
     ///
     /// Out of memory.
-    #[tactic(auto, unfolding(crate::specs::Asides::asides_of))]
+    #[tactic(auto, using(crate::proofs::AsideLemmas::any_named), unfolding(crate::specs::Asides::asides_of))]
     pub(crate) fn asides(
         &self,
         alloc: Global,
@@ -59,28 +55,12 @@ impl<'a> Told<'a> {
         ensures stand { IfOk result (λ it. AsidesStand (held_in sources.now.entries.items)
             (map (option_map aside_parts) it.items)) }
     {
-        match self.excerpt {
-            Some(excerpt) => self.excerpt_asides(alloc, sources, excerpt),
-            None => Ok(Vec::new(alloc)),
-        }
-    }
-
-    /// The same for its excerpt.
-    fn excerpt_asides(
-        &self,
-        alloc: Global,
-        sources: &IndexedSources,
-        excerpt: &Excerpt,
-    ) -> Result<Vec<Option<Aside>>, AllocError>
-        ensures asides { IfOk result (λ it. map (option_map aside_parts) it.items
-            ≡ asides_by (held_in sources.now.entries.items) (told_parts self.now)
-            (Some (excerpt_parts excerpt.now))) }
-        ensures stand { IfOk result (λ it. AsidesStand (held_in sources.now.entries.items)
-            (map (option_map aside_parts) it.items)) }
-    {
+        let Some(excerpt) = self.excerpt else {
+            return Ok(Vec::new(alloc));
+        };
         let own = String::from_utf8_lossy(alloc, self.finding.place.name)?;
         let names = elsewhere(alloc, own.as_str(), self.body, excerpt.parts.as_slice())?;
-        if !any_named(names.as_slice()) {
+        if !names.as_slice().iter().any(|name| name.is_some()) {
             return Ok(Vec::new(alloc));
         }
         let lines = characters(alloc, self.body)?;
@@ -113,7 +93,13 @@ fn elsewhere(
     let mut rest = parts;
     while let [part, more @ ..] = rest {
         push_name(alloc, &mut all, &there, part.kind)?;
-        there = there_after(own, there, part_name(alloc, body, *part)?);
+        if let Some(name) = part_name(alloc, body, *part)? {
+            there = if name.as_str() == own {
+                None
+            } else {
+                Some(name)
+            };
+        }
         rest = more;
     }
     Ok(all)
@@ -148,27 +134,6 @@ fn push_name(
     }
 }
 
-/// The file that the lines after a part are of, if it isn't the finding's; `name` is in the part's
-/// location.
-fn there_after(own: &str, there: Option<String>, name: Option<String>) -> Option<String>
-    ensures { text_bytes result ≡ there_behind own.now (text_bytes there) (text_bytes name) }
-{
-    match name {
-        Some(name) => unless_own(own, name),
-        None => there,
-    }
-}
-
-fn unless_own(own: &str, name: String) -> Option<String>
-    ensures { text_bytes result ≡ unless_own_name own.now (string_bytes name) }
-{
-    if name.as_str() == own {
-        None
-    } else {
-        Some(name)
-    }
-}
-
 /// The name in a location on a line of its own.
 ///
 /// # Errors
@@ -185,7 +150,8 @@ pub(crate) fn part_name(
     match part.kind {
         PartKind::Place(place) => {
             let line = line_of(alloc, body, part.first)?;
-            Ok(Some(name_in(alloc, line.as_slice(), place)?))
+            let len = place.name_end.saturating_sub(place.name);
+            Ok(Some(text_of(alloc, head(tail(line.as_slice(), place.name), len))?))
         }
         PartKind::Source
         | PartKind::Loose
@@ -209,28 +175,6 @@ fn line_of(alloc: Global, body: &[&[u8]], number: usize) -> Result<Vec<char>, Al
     }
 }
 
-fn name_in(alloc: Global, line: &[char], place: Place) -> Result<String, AllocError>
-    ensures { IfOk result (λ it. string_bytes it ≡ place_name line.now place) }
-{
-    let name = head(
-        tail(line, place.name),
-        place.name_end.saturating_sub(place.name),
-    );
-    text_of(alloc, name)
-}
-
-fn any_named(mut names: &[Option<String>]) -> bool
-    ensures { result ≡ list_any is_some (map text_bytes names.entry.now) }
-{
-    while let [name, rest @ ..] = names {
-        if name.is_some() {
-            return true;
-        }
-        names = rest;
-    }
-    false
-}
-
 // ---- The labels of blocks in these files
 
 /// For each block its labels in its file, if it is shown by them.
@@ -251,88 +195,42 @@ fn asides_at(
     let mut names_left = names;
     let mut rest = blocks;
     while let [block, more @ ..] = rest {
-        let aside = aside_at(alloc, sources, lines, first_name(names_left), block)?;
-        push_aside(&mut all, aside)?;
+        let aside = aside_at(alloc, sources, lines, names_left, block)?;
+        all.push(aside)?;
         names_left = tail(names_left, 1);
         rest = more;
     }
     Ok(all)
 }
 
-fn push_aside(all: &mut Vec<Option<Aside>>, aside: Option<Aside>) -> Result<(), AllocError>
-    ensures { OnOk result (map (option_map aside_parts) all.new.items
-        ≡ map (option_map aside_parts) all.old.items ++ option_map aside_parts aside ∷ []) }
-{
-    all.push(aside)?;
-    Ok(())
-}
-
-fn first_name(names: &[Option<String>]) -> Option<&str>
-    ensures { option_copied result ≡ first_name_of (map text_bytes names.now) }
-{
-    match names {
-        [Some(name), ..] => Some(name.as_str()),
-        _ => None,
-    }
-}
-
-/// The labels of a block in this file, if it is shown by them.
+/// The labels of a block in the file that is named first, if it is shown by them.
 fn aside_at(
     alloc: Global,
     sources: &IndexedSources,
     lines: &[&[char]],
-    name: Option<&str>,
+    names: &[Option<String>],
     block: &Block,
 ) -> Result<Option<Aside>, AllocError>
     ensures aside { IfOk result (λ it. option_map aside_parts it
         ≡ aside_there (held_in sources.now.entries.items) (map (λ line. line.now) lines.now)
-        (option_copied name.entry) (block_of block.now)) }
+        (first_name_of (map text_bytes names.now)) (block_of block.now)) }
     ensures stands { IfOk result (λ it. IfSome (option_map aside_parts it)
         (λ aside. PlacedHeld (held_in sources.now.entries.items aside.name) aside.labels)) }
 {
-    let Some(name) = name else {
+    let [Some(name), ..] = names else {
         return Ok(None);
     };
-    let labels = labels_there(alloc, sources, name, lines, block)?;
-    aside_with(alloc, name, labels)
-}
-
-fn aside_with(
-    alloc: Global,
-    name: &str,
-    labels: Option<Vec<Placed>>,
-) -> Result<Option<Aside>, AllocError>
-    ensures { IfOk result (λ it. option_map aside_parts it
-        ≡ aside_if name.now (option_map (λ it. map placed_parts it.items) labels)) }
-{
-    let Some(labels) = labels else {
+    let Ok(source) = sources.rows(name.as_str()) else {
+        return Ok(None);
+    };
+    let Some(labels) = labels_placed(alloc, &source, None, lines, block)? else {
         return Ok(None);
     };
     if labels.is_empty() {
         return Ok(None);
     }
-    let name = String::from_str(alloc, name)?;
+    let name = String::from_str(alloc, name.as_str())?;
     Ok(Some(Aside { name, labels }))
-}
-
-/// The labels of a block in a file, if each of its printed rows is a row of that.
-fn labels_there(
-    alloc: Global,
-    sources: &IndexedSources,
-    name: &str,
-    lines: &[&[char]],
-    block: &Block,
-) -> Result<Option<Vec<Placed>>, AllocError>
-    ensures placed { IfOk result (λ all. option_map (λ it. map placed_parts it.items) all
-        ≡ placed_there (held_in sources.now.entries.items name.now)
-        (map (λ line. line.now) lines.now) (block_of block.now)) }
-    ensures stand { IfOk result (λ all. IfSome all
-        (λ it. PlacedHeld (held_in sources.now.entries.items name.now) (map placed_parts it.items))) }
-{
-    match sources.rows(name) {
-        Ok(source) => labels_placed(alloc, &source, None, lines, block),
-        Err(_) => Ok(None),
-    }
 }
 
 /// The blocks that are shown by labels, in the finding's file or in another.
@@ -350,7 +248,7 @@ pub(crate) fn either(
 {
     let mut all = Vec::new(alloc);
     while let [flag, rest @ ..] = shown {
-        all.push(*flag || is_aside(asides))?;
+        all.push(*flag || matches!(asides, [Some(_), ..]))?;
         asides = tail(asides, 1);
         shown = rest;
     }
@@ -368,13 +266,4 @@ fn push_left(all: &mut Vec<bool>, mut asides: &[Option<Aside>]) -> Result<(), Al
         asides = rest;
     }
     Ok(())
-}
-
-fn is_aside(asides: &[Option<Aside>]) -> bool
-    ensures { result ≡ first_is_aside (map (option_map aside_parts) asides.now) }
-{
-    match asides {
-        [aside, ..] => aside.is_some(),
-        [] => false,
-    }
 }

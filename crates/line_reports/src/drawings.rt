@@ -1,5 +1,5 @@
 //! The drawings of an excerpt, laid over the source.
-ghost use Rattle.std.specs.Prelude.{◌≡◌, ◌++◌, ◌∷◌, [], ◌<◌, ◌^◌, IfOk, IfSome, None, OnOk, length};
+ghost use Rattle.std.specs.Prelude.{◌≡◌, [], ◌<◌, ◌^◌, IfOk, IfSome, None, OnOk, length};
 ghost use Rattle.std.specs.Prelude.{map, option_map};
 ghost use Rattle.std.specs.Str.{IsCharBoundary};
 ghost use Rattle.excerpt_texts.specs.Labels.{drawn_parts};
@@ -11,7 +11,7 @@ ghost use Rattle.line_reports.specs.Drawings.{counted_in, counted_on as counted_
 ghost use Rattle.line_reports.specs.Drawings.{is_at as is_at_so, meant as meant_so, other_label};
 ghost use Rattle.line_reports.specs.Drawings.{all_laid as are_all_laid, begun_with, block_placed};
 ghost use Rattle.line_reports.specs.Drawings.{is_near as is_near_row, laid_at as laid_there};
-ghost use Rattle.line_reports.specs.Drawings.{laid_over as laid_over_row, laid_parts};
+ghost use Rattle.line_reports.specs.Drawings.{laid_parts};
 ghost use Rattle.line_reports.specs.Drawings.{laid_row as row_laid, place_on as place_there};
 ghost use Rattle.line_reports.specs.Drawings.{placed_by, placed_from, placed_if as placed_so};
 ghost use Rattle.line_reports.specs.Drawings.{AimStands, LaidStand, PlacedStand, drawings_parts};
@@ -184,7 +184,7 @@ fn laid_rows(
     Ok(all)
 }
 
-/// A printed row, laid over the row of its number.
+/// A printed row, laid over the row of its number, if it is that.
 #[tactic(auto, unfolding(crate::specs::Drawings::laid_row))]
 fn laid_row(
     alloc: Global,
@@ -198,8 +198,20 @@ fn laid_row(
     ensures laid { IfOk result (λ laid. option_map laid_parts laid
         ≡ row_laid source.now.text.now aim (map (λ line. line.now) lines.now) printed) }
 {
-    match row(source.text, source.index, printed.number) {
-        Some(row) => laid_over(alloc, source.text, aim, printed_text(lines, printed), row),
+    let Some(row) = row(source.text, source.index, printed.number) else {
+        return Ok(None);
+    };
+    let text = printed_text(lines, printed);
+    if !is_near(row, text) {
+        return Ok(None);
+    }
+    let there = text_characters(alloc, &source.text[row.start..row.end])?;
+    match aligned(alloc, text, there.as_slice())? {
+        Some(alignment) => Ok(Some(Laid {
+            alignment,
+            row,
+            counted: counted(aim, text, row),
+        })),
         None => Ok(None),
     }
 }
@@ -209,34 +221,6 @@ pub(crate) fn printed_text<'l>(lines: &[&'l [char]], row: PrintedRow) -> &'l [ch
     ensures { result.now ≡ text_printed (map (λ line. line.now) lines.now) row }
 {
     tail(line_at(lines, row.line), row.text)
-}
-
-/// A printed row, laid over a row, if it is that.
-fn laid_over(
-    alloc: Global,
-    text: &str,
-    aim: Option<Aim>,
-    printed: &[char],
-    row: Row,
-) -> Result<Option<Laid>, AllocError>
-    requires { IsRowOf text.now row }
-    ensures stands { IfOk result (λ laid.
-        IfSome (option_map laid_parts laid) (λ it. IsRowOf text.now it.row)) }
-    ensures laid { IfOk result (λ laid. option_map laid_parts laid
-        ≡ laid_over_row text.now aim printed.now row) }
-{
-    if !is_near(row, printed) {
-        return Ok(None);
-    }
-    let source = text_characters(alloc, &text[row.start..row.end])?;
-    match aligned(alloc, printed, source.as_slice())? {
-        Some(alignment) => Ok(Some(Laid {
-            alignment,
-            row,
-            counted: counted(aim, printed, row),
-        })),
-        None => Ok(None),
-    }
 }
 
 /// Where a mark below a row is that was set by the number of the finding's column, as if each column
@@ -261,7 +245,7 @@ pub(crate) fn is_near(row: Row, printed: &[char]) -> bool
 }
 
 /// Places labels; nothing if a row isn't laid, or one of them has no place.
-#[tactic(auto, using(crate::proofs::DrawingLemmas::none_placed))]
+#[tactic(auto, using(crate::proofs::DrawingLemmas::all_rules))]
 fn placed_all(
     alloc: Global,
     text: &str,
@@ -278,7 +262,7 @@ fn placed_all(
         ≡ placed_from text.now aim (map (option_map laid_parts) laid.now)
         (begun_with (are_all_laid (map (option_map laid_parts) laid.now))) (map drawn_parts labels.entry.now)) }
 {
-    if !all_laid(laid) {
+    if !laid.iter().all(|it| it.is_some()) {
         return Ok(None);
     }
     let mut all = Vec::new(alloc);
@@ -286,30 +270,10 @@ fn placed_all(
         let Some(placed) = placed_label(alloc, text, aim, laid, label)? else {
             return Ok(None);
         };
-        push_placed(&mut all, placed)?;
+        all.push(placed)?;
         labels = rest;
     }
     Ok(Some(all))
-}
-
-fn push_placed(all: &mut Vec<Placed>, placed: Placed) -> Result<(), AllocError>
-    ensures { OnOk result (map placed_parts all.new.items
-        ≡ map placed_parts all.old.items ++ placed_parts placed ∷ []) }
-{
-    all.push(placed)?;
-    Ok(())
-}
-
-fn all_laid(mut laid: &[Option<Laid>]) -> bool
-    ensures { result ≡ are_all_laid (map (option_map laid_parts) laid.entry.now) }
-{
-    while let [it, rest @ ..] = laid {
-        if it.is_none() {
-            return false;
-        }
-        laid = rest;
-    }
-    true
 }
 
 /// A label in the source, if its rows are there.
@@ -335,7 +299,7 @@ fn placed_label(
     let Some((end, _)) = place_on(text, laid, label.row, label.end) else {
         return Ok(None);
     };
-    let counted = label.primary && is_at(counted_on(laid, label.start_row), label.start);
+    let counted = label.primary && is_counted(laid, label.start_row, label.start);
     let (start, end) = meant(text, aim, counted, (start, end));
     Ok(Some(Placed {
         start: start as u32,
@@ -361,22 +325,17 @@ fn place_on(text: &str, laid: &[Option<Laid>], row: usize, column: usize) -> Opt
     }
 }
 
-/// Where a mark is, below a printed row, that was set by the number of the finding's column.
-fn counted_on(laid: &[Option<Laid>], row: usize) -> Option<usize>
-    ensures { result ≡ counted_there (laid_there (map (option_map laid_parts) laid.now) row) }
+/// Whether a mark here below a printed row was set by the number of the finding's column.
+fn is_counted(laid: &[Option<Laid>], row: usize, column: usize) -> bool
+    ensures { result ≡ is_at_so
+        (counted_there (laid_there (map (option_map laid_parts) laid.now) row)) column }
 {
     match laid.get(row) {
-        Some(Some(laid)) => laid.counted,
-        _ => None,
-    }
-}
-
-fn is_at(counted: Option<usize>, column: usize) -> bool
-    ensures { result ≡ is_at_so counted column }
-{
-    match counted {
-        Some(counted) => counted == column,
-        None => false,
+        Some(Some(laid)) => match laid.counted {
+            Some(counted) => counted == column,
+            None => false,
+        },
+        _ => false,
     }
 }
 

@@ -1,35 +1,29 @@
 //! The exact edits that the suggestions of an excerpt are.
 ghost use Rattle.std.specs.Prelude.{◌≡◌, ◌++◌, ◌∷◌, [], ◌≤◌, ◌||◌, IfOk, IfSome, OnOk, Some, map};
-ghost use Rattle.std.specs.Prelude.{◌+◌, option_map, length, nat_lt, string_bytes, true};
+ghost use Rattle.std.specs.Prelude.{◌+◌, option_map, length, string_bytes, true};
 ghost use Rattle.std.specs.List.{list_all, list_any, prefix_len};
 ghost use Rattle.std.specs.Option.{option_copied};
-ghost use Rattle.oxc_span.specs.Views.{text_bytes};
 ghost use Rattle.excerpt_rows.specs.Edits.{edit_parts, row_view};
-ghost use Rattle.excerpt_rows.specs.Hunk.{taken_by};
 ghost use Rattle.excerpt_texts.specs.Lines.{flag_list};
 ghost use Rattle.excerpts.specs.Body.{block_of, is_block};
 ghost use Rattle.found_reports.specs.Fixes.{change_view, fix_view};
 ghost use Rattle.sarif_spans.specs.Rows.{IsRowOf};
-ghost use Rattle.line_reports.specs.Fixes.{alternatives, are_at_one as are_at_one_row};
-ghost use Rattle.line_reports.specs.Fixes.{begins_plain as begins_plain_at, change_by};
+ghost use Rattle.line_reports.specs.Fixes.{are_at_one as are_at_one_row};
+ghost use Rattle.line_reports.specs.Fixes.{begins_plain as begins_plain_at};
 ghost use Rattle.line_reports.specs.Fixes.{change_of as change_there, changes_of, ends_plain};
-ghost use Rattle.line_reports.specs.Fixes.{fixes_by, fixes_from, fixes_if, fixes_of as fixes_there};
-ghost use Rattle.line_reports.specs.Fixes.{has_tab as has_tab_in, here_by as here_behind, hunks};
+ghost use Rattle.line_reports.specs.Fixes.{fixes_from, fixes_if, fixes_of as fixes_there};
+ghost use Rattle.line_reports.specs.Fixes.{has_tab as has_tab_in, hunks};
 ghost use Rattle.line_reports.specs.Fixes.{is_at, is_change as is_change_in, is_of, is_plain};
 ghost use Rattle.line_reports.specs.Fixes.{is_suggestion as is_suggestion_kind, is_tab};
-ghost use Rattle.line_reports.specs.Fixes.{marked_of as mark_meant, marks_at as marks_there};
+ghost use Rattle.line_reports.specs.Fixes.{marks_at as marks_there};
 ghost use Rattle.line_reports.specs.Fixes.{rows_text as text_of_rows, sign_of as sign_meant};
 ghost use Rattle.line_reports.specs.Fixes.{source_row as row_of_source, suggested_at as row_suggested};
 ghost use Rattle.line_reports.specs.Fixes.{suggested_from, suggested_parts, suggested_rows, suggests};
-ghost use Rattle.line_reports.specs.Fixes.{there as row_there};
-ghost use Rattle.line_reports.specs.Gathered.{mark_parts};
-ghost use Rattle.line_reports.specs.Pieces.{excerpt_parts, line_chars};
-ghost use Rattle.line_reports.specs.Reports.{mark_fixes};
+ghost use Rattle.line_reports.specs.Pieces.{line_chars};
 ghost use Rattle.line_reports.specs.Told.{told_parts};
 
 use crate::asides::part_name;
 use crate::drawings::{is_near, printed_text};
-use crate::labels::Mark;
 use crate::pieces::{characters, lent, text_characters};
 use crate::rows::row;
 use crate::told::Told;
@@ -38,7 +32,7 @@ use excerpt_lines::gutter::Sign as GutterSign;
 use excerpt_lines::tables::CharClass;
 use excerpt_rows::hunk::{Edit, HunkRow, Marked, Sign, edit_of};
 use excerpt_texts::lines::{flag, text_of};
-use excerpts::body::{Block, Excerpt};
+use excerpts::body::Block;
 use excerpts::cuts::{Part, PartKind, head};
 use found_reports::{FoundFix, RowChange};
 use indexed_sources::RowText;
@@ -75,22 +69,9 @@ impl<'a> Told<'a> {
         ensures { IfOk result (λ it. map fix_view it.items
             ≡ fixes_there source.now.text.now (told_parts self.now)) }
     {
-        match self.excerpt {
-            Some(excerpt) => self.excerpt_fixes(alloc, source, excerpt),
-            None => Ok(Vec::new(alloc)),
-        }
-    }
-
-    /// The same of its excerpt.
-    fn excerpt_fixes(
-        &self,
-        alloc: Global,
-        source: &RowText<'_>,
-        excerpt: &Excerpt,
-    ) -> Result<Vec<FoundFix>, AllocError>
-        ensures { IfOk result (λ it. map fix_view it.items ≡ fixes_by source.now.text.now
-            (told_parts self.now) (Some (excerpt_parts excerpt.now))) }
-    {
+        let Some(excerpt) = self.excerpt else {
+            return Ok(Vec::new(alloc));
+        };
         if !any_suggestion(excerpt.parts.as_slice()) {
             return Ok(Vec::new(alloc));
         }
@@ -108,46 +89,13 @@ impl<'a> Told<'a> {
     }
 }
 
-/// The exact edits of a file, of which this is the text, that a finding suggests, and then those of
-/// its notes that are labels.
-///
-/// # Errors
-///
-/// Out of memory.
-pub(crate) fn fixes_with(
-    alloc: Global,
-    source: &RowText<'_>,
-    head: &Told<'_>,
-    mut marks: &[Mark<'_, '_>],
-) -> Result<Vec<FoundFix>, AllocError>
-    ensures { IfOk result (λ it. map fix_view it.items
-        ≡ fixes_there source.now.text.now (told_parts head.now)
-        ++ mark_fixes source.now.text.now (map mark_parts marks.entry.now)) }
-{
-    let mut fixes = head.fixes(alloc, source)?;
-    while let [mark, rest @ ..] = marks {
-        if mark.span.is_some() {
-            let mut more = mark.note.fixes(alloc, source)?;
-            fixes.append(&mut more)?;
-        }
-        marks = rest;
-    }
-    Ok(fixes)
-}
-
 // ---- The suggestions of the finding's file
 
 /// Whether one of these parts is a suggestion.
-fn any_suggestion(mut parts: &[Part]) -> bool
-    ensures { result ≡ list_any suggests parts.entry.now }
+fn any_suggestion(parts: &[Part]) -> bool
+    ensures { result ≡ list_any suggests parts.now }
 {
-    while let [part, rest @ ..] = parts {
-        if is_suggestion(part.kind) {
-            return true;
-        }
-        parts = rest;
-    }
-    false
+    parts.iter().any(|part| is_suggestion(part.kind))
 }
 
 fn is_suggestion(kind: PartKind) -> bool
@@ -181,7 +129,9 @@ fn flags_of(
     let mut rest = parts;
     while let [part, more @ ..] = rest {
         push_flag(&mut flags, part.kind, here && is_suggestion(part.kind))?;
-        here = here_after(own, here, part_name(alloc, body, *part)?);
+        if let Some(name) = part_name(alloc, body, *part)? {
+            here = name.as_str() == own;
+        }
         rest = more;
     }
     Ok(flags)
@@ -202,16 +152,6 @@ fn push_flag(flags: &mut Vec<bool>, kind: PartKind, flag: bool) -> Result<(), Al
         | PartKind::GoesOn(_)
         | PartKind::Frames
         | PartKind::Kept => Ok(()),
-    }
-}
-
-/// Whether the lines after a part are of the finding's file; `name` is in the part's location.
-fn here_after(own: &str, here: bool, name: Option<String>) -> bool
-    ensures { result ≡ here_behind own.now here (text_bytes name) }
-{
-    match name {
-        Some(name) => name.as_str() == own,
-        None => here,
     }
 }
 
@@ -239,7 +179,8 @@ fn fixes_at(
     Ok(fixes)
 }
 
-/// Adds the fixes of a block, if it has a flag.
+/// Adds a fix for each hunk of a block, if it has a flag and the hunks are alternatives: they begin
+/// at one row.
 #[tactic(auto, unfolding(crate::specs::Fixes::block_fixes))]
 fn push_fixes(
     alloc: Global,
@@ -259,23 +200,11 @@ fn push_fixes(
     let below = &block.below;
     let marks = below.marks.as_slice();
     let rows = rows_of(alloc, source, lines, marks, below.rows.as_slice())?;
-    match changes(alloc, source, rows.as_slice())? {
-        Some(changes) => push_alternatives(alloc, fixes, changes.as_slice()),
-        None => Ok(()),
-    }
-}
-
-/// Adds a fix for each of these changes, if they are alternatives: they begin at one row.
-fn push_alternatives(
-    alloc: Global,
-    fixes: &mut Vec<FoundFix>,
-    changes: &[RowChange],
-) -> Result<(), AllocError>
-    ensures { OnOk result (map fix_view fixes.new.items
-        ≡ map fix_view fixes.old.items ++ alternatives (map change_view changes.now)) }
-{
-    if are_at_one(changes) {
-        push_each(alloc, fixes, changes)
+    let Some(changes) = changes(alloc, source, rows.as_slice())? else {
+        return Ok(());
+    };
+    if are_at_one(changes.as_slice()) {
+        push_each(alloc, fixes, changes.as_slice())
     } else {
         Ok(())
     }
@@ -291,23 +220,16 @@ fn push_each(
         ++ map (λ change. change ∷ []) (map change_view changes.entry.now)) }
 {
     while let [change, rest @ ..] = changes {
-        let fix = fix_with(alloc, change)?;
-        fixes.push(fix)?;
+        let mut alone = Vec::new(alloc);
+        alone.push(RowChange {
+            first: change.first,
+            count: change.count,
+            text: String::from_str(alloc, change.text.as_str())?,
+        })?;
+        fixes.push(FoundFix { changes: alone })?;
         changes = rest;
     }
     Ok(())
-}
-
-fn fix_with(alloc: Global, change: &RowChange) -> Result<FoundFix, AllocError>
-    ensures { IfOk result (λ it. fix_view it ≡ change_view change.now ∷ []) }
-{
-    let mut changes = Vec::new(alloc);
-    changes.push(RowChange {
-        first: change.first,
-        count: change.count,
-        text: String::from_str(alloc, change.text.as_str())?,
-    })?;
-    Ok(FoundFix { changes })
 }
 
 /// Whether changes begin at one row.
@@ -351,18 +273,10 @@ fn changes(
         let Some(change) = change_of(alloc, source, head(left, count + 1))? else {
             return Ok(None);
         };
-        push_change(&mut changes, change)?;
+        changes.push(change)?;
         left = tail(more, count);
     }
     Ok(Some(changes))
-}
-
-fn push_change(changes: &mut Vec<RowChange>, change: RowChange) -> Result<(), AllocError>
-    ensures { OnOk result (map change_view changes.new.items
-        ≡ map change_view changes.old.items ++ change_view change ∷ []) }
-{
-    changes.push(change)?;
-    Ok(())
 }
 
 /// How many rows go on with a hunk.
@@ -396,21 +310,10 @@ fn change_of(
         return Ok(None);
     }
     let rows = hunk_rows(alloc, hunk)?;
-    match edit_of(alloc, rows.as_slice())? {
-        Some(edit) => change_with(alloc, source, &edit),
-        None => Ok(None),
-    }
-}
-
-fn change_with(
-    alloc: Global,
-    source: &RowText<'_>,
-    edit: &Edit<'_>,
-) -> Result<Option<RowChange>, AllocError>
-    ensures { IfOk result (λ it. option_map change_view it
-        ≡ change_by source.now.text.now (edit_parts edit.now)) }
-{
-    if !is_change(source, edit) {
+    let Some(edit) = edit_of(alloc, rows.as_slice())? else {
+        return Ok(None);
+    };
+    if !is_change(source, &edit) {
         return Ok(None);
     }
     Ok(Some(RowChange {
@@ -434,16 +337,11 @@ fn begins_plain(source: &RowText<'_>, first: usize) -> bool
     requires { first ≤ 0xFFFF_FFFF }
     ensures { result ≡ begins_plain_at source.now.text.now first }
 {
-    first == 1 || ends(source, Some(first.saturating_sub(1) as u32))
+    let before = Some(first.saturating_sub(1) as u32);
+    first == 1 || is_ended(source.text, row(source.text, source.index, before))
 }
 
-/// Whether the row of a number ends with LF alone.
-fn ends(source: &RowText<'_>, number: Option<u32>) -> bool
-    ensures { result ≡ ends_plain source.now.text.now (row_there source.now.text.now number) }
-{
-    is_ended(source.text, row(source.text, source.index, number))
-}
-
+/// Whether a row ends with LF alone.
 fn is_ended(text: &str, row: Option<Row>) -> bool
     ensures { result ≡ ends_plain text.now row }
 {
@@ -478,7 +376,8 @@ fn are_plain(mut hunk: &[Suggested<'_>]) -> bool
     ensures { result ≡ list_all is_plain (map suggested_parts hunk.entry.now) }
 {
     while let [it, rest @ ..] = hunk {
-        if has_tab(&it.source) || takes(it.sign) && !it.ended {
+        let taken = matches!(it.sign, Sign::Unsigned | Sign::Removed);
+        if has_tab(&it.source) || taken && !it.ended {
             return false;
         }
         hunk = rest;
@@ -501,16 +400,6 @@ fn any_tab(row: &[char]) -> bool
     row.iter().any(|c| *c == '\t')
 }
 
-/// Whether a row is one of the source.
-fn takes(sign: Sign) -> bool
-    ensures { result ≡ nat_lt 0 (taken_by sign) }
-{
-    match sign {
-        Sign::Unsigned | Sign::Removed => true,
-        Sign::Added | Sign::Changed => false,
-    }
-}
-
 /// The rows of a hunk, lent.
 fn hunk_rows<'r>(
     alloc: Global,
@@ -521,22 +410,16 @@ fn hunk_rows<'r>(
 {
     let mut all = Vec::new(alloc);
     while let [it, rest @ ..] = hunk {
-        all.push(hunk_row(it))?;
+        all.push(HunkRow {
+            sign: it.sign,
+            number: it.number,
+            text: it.text,
+            marks: it.marks.as_slice(),
+            source: lent_row(&it.source),
+        })?;
         hunk = rest;
     }
     Ok(all)
-}
-
-fn hunk_row<'r>(it: &'r Suggested<'_>) -> HunkRow<'r>
-    ensures { row_view result ≡ (suggested_parts it.now).row }
-{
-    HunkRow {
-        sign: it.sign,
-        number: it.number,
-        text: it.text,
-        marks: it.marks.as_slice(),
-        source: lent_row(&it.source),
-    }
 }
 
 fn lent_row(row: &Option<Vec<char>>) -> Option<&[char]>
@@ -562,19 +445,10 @@ fn rows_of<'l>(
     let mut all = Vec::new(alloc);
     while let [row, rest @ ..] = rows {
         let it = suggested_at(alloc, source, lines, marks, all.len(), *row)?;
-        push_row(&mut all, it)?;
+        all.push(it)?;
         rows = rest;
     }
     Ok(all)
-}
-
-fn push_row<'l>(all: &mut Vec<Suggested<'l>>, it: Suggested<'l>) -> Result<(), AllocError>
-    ensures rows { OnOk result (map suggested_parts all.new.items
-        ≡ map suggested_parts all.old.items ++ suggested_parts it.entry ∷ []) }
-    ensures count { OnOk result (length all.new.items ≡ length all.old.items + 1) }
-{
-    all.push(it)?;
-    Ok(())
 }
 
 /// A row of a suggestion; `number` is its place in the block.
@@ -625,20 +499,14 @@ fn marks_at(alloc: Global, row: usize, mut marks: &[DrawnMark]) -> Result<Vec<Ma
         if mark.row != row {
             return Ok(all);
         }
-        all.push(marked_of(*mark))?;
+        all.push(Marked {
+            start: mark.start,
+            end: mark.end,
+            added: is_same(mark.class, CharClass::Plus),
+        })?;
         marks = rest;
     }
     Ok(all)
-}
-
-fn marked_of(mark: DrawnMark) -> Marked
-    ensures { result ≡ mark_meant mark }
-{
-    Marked {
-        start: mark.start,
-        end: mark.end,
-        added: is_same(mark.class, CharClass::Plus),
-    }
 }
 
 /// The characters of a row of the source that isn't much longer than the printed one.

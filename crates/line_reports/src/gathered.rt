@@ -3,7 +3,7 @@ ghost use Rattle.std.specs.Prelude.{◌≡◌, ◌++◌, ◌∷◌, [], ◌<◌,
 ghost use Rattle.std.specs.Prelude.{length, option_map, string_bytes, true};
 ghost use Rattle.std.specs.Str.Lossy.{utf8_lossy};
 ghost use Rattle.found_reports.specs.Files.{files_of};
-ghost use Rattle.found_reports.specs.Found.{LabelsStand, file_at, found_on};
+ghost use Rattle.found_reports.specs.Found.{LabelsStand, file_at};
 ghost use Rattle.found_reports.specs.Held.{held_of};
 ghost use Rattle.indexed_sources.specs.Indexed.{AreTold, text_held};
 ghost use Rattle.found_reports.specs.Listed.{held_in};
@@ -12,7 +12,7 @@ ghost use Rattle.line_reports.specs.Gathered.{AreNumbers, AreTexts, FitsLabel, I
 ghost use Rattle.line_reports.specs.Gathered.{IsListed, IsListedWith, MarksStand, StandsHeld};
 ghost use Rattle.line_reports.specs.Gathered.{is_named, mark_parts, row_text as text_of, text_in};
 ghost use Rattle.line_reports.specs.Joined.{group_parts};
-ghost use Rattle.line_reports.specs.Reports.{all_reports, group_by, group_reports, held_span};
+ghost use Rattle.line_reports.specs.Reports.{group_reports, held_span};
 ghost use Rattle.line_reports.specs.Drawings.{drawings_parts, placed_parts};
 ghost use Rattle.line_reports.specs.Asides.{AsidesStand, PlacedHeld, aside_parts};
 ghost use Rattle.line_reports.specs.Gathered.{MarksAside};
@@ -22,7 +22,7 @@ ghost use Rattle.line_reports.specs.Reports.{aside_report, aside_reports, asides
 ghost use Rattle.line_reports.specs.Reports.{block_reports, each_alone};
 ghost use Rattle.line_reports.specs.Reports.{label_at};
 ghost use Rattle.line_reports.specs.Reports.{mark_report, mark_reports, note_span};
-ghost use Rattle.line_reports.specs.Reports.{own_labels as labels_by, report_in, reports_alone};
+ghost use Rattle.line_reports.specs.Reports.{own_labels as labels_by, reports_alone};
 ghost use Rattle.line_reports.specs.Reports.{reports_in, reports_with};
 ghost use Rattle.line_reports.specs.Pieces.{read_parts};
 ghost use Rattle.line_reports.specs.Told.{told_parts};
@@ -31,14 +31,14 @@ use crate::asides::{Aside, either};
 use crate::drawings::{Drawings, no_drawings};
 use crate::groups::{Group, joined};
 use crate::labels::{Mark, aside_diagnostic, diagnostic, labels};
-use crate::pieces::{ReadPiece, lent as lent_lines};
+use crate::pieces::{ReadPiece, characters, lent as lent_lines};
 use crate::placed::Placed;
 use crate::rows::span_at;
 use crate::told::Told;
 use found_reports::{FoundReports, GivenPlace, Lack};
 use indexed_sources::{IndexedSources, RowText};
 use line_shapes::tools::Columns;
-use oxc_protocol::{LabeledSpan, OxcDiagnostic};
+use oxc_protocol::LabeledSpan;
 use std::alloc::{AllocError, Global};
 use std::collections::BTreeMap;
 use std::ops::Range;
@@ -52,7 +52,7 @@ use std::ops::Range;
 /// # Errors
 ///
 /// Out of memory, and nothing else.
-#[tactic(auto, unfolding(crate::specs::Reports::reports_in))]
+#[tactic(auto, using(crate::proofs::NumberLemmas::none_rules), unfolding(crate::specs::Reports::reports_in))]
 pub fn reports_of<'s>(
     alloc: Global,
     lines: &[&[u8]],
@@ -66,8 +66,16 @@ pub fn reports_of<'s>(
     ensures told { IfOk result (λ it. AreTold (held_in sources.now.entries.items) it.files) }
 {
     let groups = joined(alloc, lines, pieces)?;
-    let mut gathered = Gathered::new(alloc);
-    gathered.push_groups(alloc, sources, columns, groups.as_slice())?;
+    let mut gathered = Gathered {
+        found: FoundReports::new(alloc),
+        texts: Vec::new(alloc),
+        numbers: BTreeMap::new(alloc),
+    };
+    let mut rest = groups.as_slice();
+    while let [group, more @ ..] = rest {
+        gathered.push_group(alloc, sources, columns, group)?;
+        rest = more;
+    }
     Ok(gathered.found)
 }
 
@@ -82,46 +90,8 @@ pub(crate) struct Gathered<'s> {
 }
 
 impl<'s> Gathered<'s> {
-    #[tactic(auto, using(crate::proofs::NumberLemmas::none_rules))]
-    fn new(alloc: Global) -> Gathered<'s>
-        ensures found { result.found ≡ record { files = []; found = [] } }
-        ensures texts { result.texts.items ≡ [] }
-        ensures listed { IsListed result.numbers result.found }
-    {
-        Gathered {
-            found: FoundReports::new(alloc),
-            texts: Vec::new(alloc),
-            numbers: BTreeMap::new(alloc),
-        }
-    }
-
-    /// Adds the reports of findings and their notes.
-    fn push_groups(
-        &mut self,
-        alloc: Global,
-        sources: &'s IndexedSources,
-        columns: Columns,
-        mut groups: &[Group<'_>],
-    ) -> Result<(), AllocError>
-        requires texts { AreTexts self.old.texts.items self.old.found.files }
-        requires told { AreTold (held_in sources.now.entries.items) self.old.found.files }
-        requires listed { IsListed self.old.numbers self.old.found }
-        ensures told { OnOk result (AreTold (held_in sources.now.entries.items)
-            self.new.found.files) }
-        ensures listed { OnOk result (IsListed self.new.numbers self.new.found) }
-        ensures found { OnOk result (self.new.found.found
-            ≡ self.old.found.found
-            ++ all_reports columns (held_in sources.now.entries.items) (map group_parts groups.entry.now)) }
-    {
-        while let [group, rest @ ..] = groups {
-            self.push_group(alloc, sources, columns, group)?;
-            groups = rest;
-        }
-        Ok(())
-    }
-
     /// Adds the reports of a finding and its notes.
-    #[tactic(auto, unfolding(crate::specs::Reports::group_reports))]
+    #[tactic(auto, using(crate::proofs::NumberLemmas::marked_rules), unfolding(crate::specs::Reports::group_reports))]
     fn push_group(
         &mut self,
         alloc: Global,
@@ -140,39 +110,10 @@ impl<'s> Gathered<'s> {
             ++ group_reports columns (held_in sources.now.entries.items) (group_parts group.now)) }
     {
         let file = self.file(alloc, sources, group.head.finding.place.name)?;
-        match self.span(columns, file, &group.head) {
-            Some(range) => self.push_marked(alloc, sources, columns, file, group, &range),
-            None => {
-                self.push_with(alloc, sources, columns, file, &group.head)?;
-                self.push_each(alloc, sources, columns, group.notes.as_slice())
-            }
-        }
-    }
-
-    /// The same for a finding that has this span in this file.
-    #[tactic(auto, using(crate::proofs::NumberLemmas::marked_rules))]
-    fn push_marked(
-        &mut self,
-        alloc: Global,
-        sources: &'s IndexedSources,
-        columns: Columns,
-        file: usize,
-        group: &Group<'_>,
-        range: &Range<usize>,
-    ) -> Result<(), AllocError>
-        requires texts { AreTexts self.old.texts.items self.old.found.files }
-        requires told { AreTold (held_in sources.now.entries.items) self.old.found.files }
-        requires file { file < length self.old.found.files }
-        requires range { StandsHeld (file_at self.old.found.files file).held range.now }
-        requires listed { IsListedWith self.old.numbers self.old.found file }
-        ensures texts { OnOk result (AreTexts self.new.texts.items self.new.found.files) }
-        ensures told { OnOk result (AreTold (held_in sources.now.entries.items) self.new.found.files) }
-        ensures listed { OnOk result (IsListed self.new.numbers self.new.found) }
-        ensures found { OnOk result (self.new.found.found
-            ≡ self.old.found.found
-            ++ group_by columns (held_in sources.now.entries.items) (file_at self.old.found.files file)
-            (group_parts group.now) (Some range.now)) }
-    {
+        let Some(range) = self.span(columns, file, &group.head) else {
+            self.push_with(alloc, sources, columns, file, &group.head)?;
+            return self.push_each(alloc, sources, columns, group.notes.as_slice());
+        };
         let asides = group.head.asides(alloc, sources)?;
         let marks = self.marks(alloc, sources, columns, file, group.notes.as_slice())?;
         self.push_head(
@@ -180,7 +121,7 @@ impl<'s> Gathered<'s> {
             columns,
             file,
             group,
-            range,
+            &range,
             asides.as_slice(),
             marks.as_slice(),
         )?;
@@ -291,37 +232,11 @@ impl<'s> Gathered<'s> {
             ++ block_reports (held_in sources.now.entries.items) (told_parts told.now)
             (option_map aside_parts aside.now)) }
     {
-        match aside {
-            Some(aside) => {
-                let labels = aside.labels.as_slice();
-                self.push_labels(alloc, sources, told, aside.name.as_str(), labels)
-            }
-            None => Ok(()),
-        }
-    }
-
-    /// Adds the reports of labels in a file.
-    fn push_labels(
-        &mut self,
-        alloc: Global,
-        sources: &'s IndexedSources,
-        told: &Told<'_>,
-        name: &str,
-        mut labels: &[Placed],
-    ) -> Result<(), AllocError>
-        requires texts { AreTexts self.old.texts.items self.old.found.files }
-        requires told { AreTold (held_in sources.now.entries.items) self.old.found.files }
-        requires listed { IsListed self.old.numbers self.old.found }
-        requires labels { PlacedHeld (held_in sources.now.entries.items name.now)
-            (map placed_parts labels.now) }
-        ensures texts { OnOk result (AreTexts self.new.texts.items self.new.found.files) }
-        ensures told { OnOk result (AreTold (held_in sources.now.entries.items) self.new.found.files) }
-        ensures listed { OnOk result (IsListed self.new.numbers self.new.found) }
-        ensures found { OnOk result (self.new.found.found
-            ≡ self.old.found.found
-            ++ map (aside_report (held_in sources.now.entries.items) (told_parts told.now) name.now)
-            (map placed_parts labels.entry.now)) }
-    {
+        let Some(aside) = aside else {
+            return Ok(());
+        };
+        let name = aside.name.as_str();
+        let mut labels = aside.labels.as_slice();
         while let [placed, rest @ ..] = labels {
             self.push_label(alloc, sources, told, name, placed)?;
             labels = rest;
@@ -330,6 +245,7 @@ impl<'s> Gathered<'s> {
     }
 
     /// Adds the report of a label in a file.
+    #[tactic(auto, using(crate::proofs::NumberLemmas::listed_push))]
     fn push_label(
         &mut self,
         alloc: Global,
@@ -353,21 +269,6 @@ impl<'s> Gathered<'s> {
     {
         let file = self.named(alloc, sources, name)?;
         let diagnostic = aside_diagnostic(alloc, told, placed)?;
-        self.push_on(file, diagnostic)
-    }
-
-    /// Adds a report on a file.
-    #[tactic(auto, using(crate::proofs::NumberLemmas::listed_push))]
-    fn push_on(&mut self, file: usize, diagnostic: OxcDiagnostic) -> Result<(), AllocError>
-        requires file { file < length self.old.found.files }
-        requires stand { LabelsStand (file_at self.old.found.files file).held diagnostic.labels }
-        requires listed { IsListedWith self.old.numbers self.old.found file }
-        ensures texts { self.new.texts.items ≡ self.old.texts.items }
-        ensures files { self.new.found.files ≡ self.old.found.files }
-        ensures listed { OnOk result (IsListed self.new.numbers self.new.found) }
-        ensures found { OnOk result (self.new.found.found ≡ self.old.found.found
-            ++ found_on (file_at self.old.found.files file) diagnostic None ∷ []) }
-    {
         self.found.push(file, diagnostic, None)?;
         Ok(())
     }
@@ -421,6 +322,7 @@ impl<'s> Gathered<'s> {
     }
 
     /// Adds the report of a finding alone, which is in this file, and then its labels in others.
+    #[tactic(auto, using(crate::proofs::NumberLemmas::alone_rules))]
     fn push_with(
         &mut self,
         alloc: Global,
@@ -442,41 +344,16 @@ impl<'s> Gathered<'s> {
             (file_at self.old.found.files file) (told_parts told.now)) }
     {
         let asides = told.asides(alloc, sources)?;
-        self.push_in(alloc, columns, file, told, asides.as_slice())?;
-        self.push_asides(alloc, sources, told, asides.as_slice())
-    }
-
-    /// Adds the report of a finding alone, which is in this file.
-    #[tactic(auto, using(crate::proofs::NumberLemmas::alone_rules))]
-    fn push_in(
-        &mut self,
-        alloc: Global,
-        columns: Columns,
-        file: usize,
-        told: &Told<'_>,
-        asides: &[Option<Aside>],
-    ) -> Result<(), AllocError>
-        requires texts { AreTexts self.old.texts.items self.old.found.files }
-        requires file { file < length self.old.found.files }
-        requires listed { IsListedWith self.old.numbers self.old.found file }
-        ensures texts { OnOk result (AreTexts self.new.texts.items self.new.found.files) }
-        ensures files { self.new.found.files ≡ self.old.found.files }
-        ensures listed { OnOk result (IsListed self.new.numbers self.new.found) }
-        ensures found { OnOk result (self.new.found.found
-            ≡ self.old.found.found
-            ++ report_in columns (file_at self.old.found.files file) (told_parts told.now)
-            (map (option_map aside_parts) asides.now) ∷ []) }
-    {
         let span = self.span(columns, file, told);
         let drawings = self.drawings_on(alloc, columns, file, told, &span)?;
         let labels = own_labels(alloc, &span, drawings.labels.as_slice())?;
-        let shown = either(alloc, drawings.shown.as_slice(), asides)?;
-        let body = told.characters(alloc)?;
+        let shown = either(alloc, drawings.shown.as_slice(), asides.as_slice())?;
+        let body = characters(alloc, told.body)?;
         let body = lent_lines(alloc, body.as_slice())?;
         let lines = told.lines(alloc, body.as_slice(), shown.as_slice())?;
         let diagnostic = diagnostic(alloc, told, labels, lines.as_slice())?;
         self.found.push(file, diagnostic, kept_place(told, &span))?;
-        Ok(())
+        self.push_asides(alloc, sources, told, asides.as_slice())
     }
 
     /// The notes with their spans in a file.
@@ -575,7 +452,7 @@ impl<'s> Gathered<'s> {
     {
         match span {
             Some(range) => {
-                let body = told.characters(alloc)?;
+                let body = characters(alloc, told.body)?;
                 let body = lent_lines(alloc, body.as_slice())?;
                 self.drawings(alloc, columns, file, told, range, body.as_slice())
             }

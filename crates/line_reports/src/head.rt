@@ -12,11 +12,10 @@ ghost use Rattle.line_reports.specs.Told.{body_lines, told_parts};
 
 use crate::asides::{Aside, either};
 use crate::drawings::{Drawings, no_drawings};
-use crate::fixes::fixes_with;
 use crate::gathered::Gathered;
 use crate::groups::Group;
 use crate::labels::{Mark, diagnostic, labels, lines};
-use crate::pieces::lent;
+use crate::pieces::{characters, lent};
 use crate::told::Told;
 use found_reports::FoundFix;
 use line_shapes::tools::Columns;
@@ -49,7 +48,7 @@ impl<'s> Gathered<'s> {
             ++ head_report columns (file_at self.old.found.files file)
             (group_parts group.now).head (map (option_map aside_parts) asides.now) range.now (map mark_parts marks.now) ∷ []) }
     {
-        let body = group.head.characters(alloc)?;
+        let body = characters(alloc, group.head.body)?;
         let body = lent(alloc, body.as_slice())?;
         let drawings = self.drawings(alloc, columns, file, &group.head, range, body.as_slice())?;
         let labels = labels(alloc, range, drawings.labels.as_slice(), marks)?;
@@ -92,23 +91,32 @@ impl<'s> Gathered<'s> {
         }
     }
 
-    /// The exact edits of a file that a finding and its notes suggest.
+    /// The exact edits of a file that a finding suggests, and then those of its notes that are
+    /// labels.
     fn fixes(
         &self,
         alloc: Global,
         file: usize,
         head: &Told<'_>,
-        marks: &[Mark<'_, '_>],
+        mut marks: &[Mark<'_, '_>],
     ) -> Result<Vec<FoundFix>, AllocError>
         requires texts { AreTexts self.now.texts.items self.now.found.files }
         requires file { file < length self.now.found.files }
         ensures { IfOk result (λ it. map fix_view it.items
             ≡ held_fixes (file_at self.now.found.files file).held (told_parts head.now)
-            (map mark_parts marks.now)) }
+            (map mark_parts marks.entry.now)) }
     {
-        match self.text(file) {
-            Some(text) => fixes_with(alloc, text, head, marks),
-            None => Ok(Vec::new(alloc)),
+        let Some(text) = self.text(file) else {
+            return Ok(Vec::new(alloc));
+        };
+        let mut fixes = head.fixes(alloc, text)?;
+        while let [mark, rest @ ..] = marks {
+            if mark.span.is_some() {
+                let mut more = mark.note.fixes(alloc, text)?;
+                fixes.append(&mut more)?;
+            }
+            marks = rest;
         }
+        Ok(fixes)
     }
 }

@@ -1,9 +1,9 @@
 //! Blocks with what was read of their lines.
-ghost use Rattle.std.specs.Prelude.{◌≡◌, ◌++◌, ◌∷◌, [], IfNone, IfOk, IfSome, OnOk, map, option_map};
+ghost use Rattle.std.specs.Prelude.{◌≡◌, IfNone, IfOk, IfSome, map};
 ghost use Rattle.std.specs.Str.{IsAscii, chars};
 ghost use Rattle.line_shapes.specs.Part.{seen};
 ghost use Rattle.tool_lines.specs.Lines.{piece_parts};
-ghost use Rattle.line_reports.specs.Pieces.{AreRead, BodyRead, IsPieceRead, excerpt_parts};
+ghost use Rattle.line_reports.specs.Pieces.{AreRead, IsPieceRead};
 ghost use Rattle.line_reports.specs.Pieces.{line_chars, read_parts, spot_in};
 
 use crate::groups::{back, front};
@@ -43,19 +43,11 @@ pub fn read_pieces<'a>(
     let mut rest = pieces;
     while let [piece, more @ ..] = rest {
         let next = piece_read(alloc, front(left, piece.lines), *piece)?;
-        push_piece(&mut read, next)?;
+        read.push(next)?;
         left = back(left, piece.lines);
         rest = more;
     }
     Ok(read)
-}
-
-fn push_piece<'a>(read: &mut Vec<ReadPiece<'a>>, piece: ReadPiece<'a>) -> Result<(), AllocError>
-    ensures { OnOk result (map read_parts read.new.items
-        ≡ map read_parts read.old.items ++ read_parts piece.entry ∷ []) }
-{
-    read.push(piece)?;
-    Ok(())
 }
 
 /// Reads the lines of a block that has these.
@@ -73,18 +65,10 @@ fn piece_read<'a>(
             excerpt: None,
         });
     };
-    let excerpt = body_read(alloc, spot(finding.place.found), after_first(run))?;
-    Ok(ReadPiece { piece, excerpt })
-}
-
-/// Reads the lines of a body.
-fn body_read(alloc: Global, spot: Spot, lines: &[&[u8]]) -> Result<Option<Excerpt>, AllocError>
-    ensures { IfOk result (λ it. BodyRead spot
-        (map line_chars (map (λ line. line.now) lines.now)) (option_map excerpt_parts it)) }
-{
-    let lines = characters(alloc, lines)?;
+    let lines = characters(alloc, after_first(run))?;
     let lent = lent(alloc, lines.as_slice())?;
-    read(alloc, spot, lent.as_slice())
+    let excerpt = read(alloc, spot(finding.place.found), lent.as_slice())?;
+    Ok(ReadPiece { piece, excerpt })
 }
 
 /// The characters of lines.
@@ -113,7 +97,7 @@ pub(crate) fn line_characters(alloc: Global, line: &[u8]) -> Result<Vec<char>, A
         return Ok(all);
     }
     let text = String::from_utf8_lossy(alloc, line)?;
-    all_characters(alloc, text.as_str())
+    text_characters(alloc, text.as_str())
 }
 
 #[tactic(auto, using(crate::proofs::CharacterLemmas::ascii_rules))]
@@ -123,13 +107,6 @@ pub(crate) fn text_characters(alloc: Global, text: &str) -> Result<Vec<char>, Al
     if let Some(all) = ascii_characters(alloc, text.as_bytes())? {
         return Ok(all);
     }
-    all_characters(alloc, text)
-}
-
-#[tactic(auto, using(std::proofs::lemmas::Str::chars_from_encodes))]
-fn all_characters(alloc: Global, text: &str) -> Result<Vec<char>, AllocError>
-    ensures { IfOk result (λ all. all.items ≡ chars text.now) }
-{
     text.chars().collect(alloc)
 }
 

@@ -4,7 +4,7 @@ ghost use Rattle.oxc_protocol.specs.Source.{Fits};
 ghost use Rattle.sarif_spans.specs.Rows.{IsRowOf, rows_in};
 ghost use Rattle.sarif_spans.specs.Span.{IsSpanOf};
 ghost use Rattle.source_location.specs.Index.{index_of};
-ghost use Rattle.source_location.specs.Locations.{begins_with_mark as begins_so, counted_from};
+ghost use Rattle.source_location.specs.Locations.{counted_from};
 ghost use Rattle.std.specs.Str.{IsCharBoundary};
 ghost use Rattle.line_reports.specs.Rows.{break_start as start_of_break, row_end as end_of_row};
 ghost use Rattle.line_reports.specs.Span.{breaks, end_of, row_numbered, span_of};
@@ -81,18 +81,11 @@ fn row_begin(text: &str, index: &LineIndex, number: usize) -> usize
     requires there { number < length index.now.line_starts }
     ensures { result ≡ counted_from text.now number }
 {
-    if number == 0 && begins_with_mark(text) {
+    if number == 0 && matches!(text.as_bytes(), [0xEF, 0xBB, 0xBF, ..]) {
         3
     } else {
         index.line_starts()[number].to_usize()
     }
-}
-
-/// Whether a text begins with a byte order mark.
-fn begins_with_mark(text: &str) -> bool
-    ensures { result ≡ begins_so text.now }
-{
-    matches!(text.as_bytes(), [0xEF, 0xBB, 0xBF, ..])
 }
 
 /// Where a row ends: before its break, or where the text ends.

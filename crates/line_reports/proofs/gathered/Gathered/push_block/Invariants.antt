@@ -6,7 +6,7 @@ use Rattle.line_reports.specs.Drawings.{placed_parts}
 use Rattle.line_reports.specs.Gathered.{AreTexts, IsListed}
 use Rattle.line_reports.specs.Reports.{aside_report}
 use Rattle.line_reports.specs.Told.{told_parts}
-use Rattle.line_reports.proofs.gathered.Gathered.push_labels.Given as goal
+use Rattle.line_reports.proofs.gathered.Gathered.push_block.Given as goal
 
 abbrev pub invariant-loop-labels : goal.invariant-loop-labels
 invariant-loop-labels l =
@@ -16,7 +16,7 @@ invariant-loop-labels l =
       held : AreTold told l.self.found.files;
       listed : IsListed l.self.numbers l.self.found;
       labels : PlacedHeld (told l.name) (map placed_parts l.labels);
-      found : l.self.found.found ++ map (aside_report told (told_parts l.told) l.name) (map placed_parts l.labels) ≡ l.initial.self.found.found ++ map (aside_report told (told_parts l.told) l.name) (map placed_parts l.initial.labels);
+      found : l.self.found.found ++ map (aside_report told (told_parts l.told) l.name) (map placed_parts l.labels) ≡ l.initial.self.found.found ++ map (aside_report told (told_parts l.told) l.name) (map placed_parts l.aside.labels.items);
     }
 
 abbrev pub decreases-loop-labels : goal.decreases-loop-labels
