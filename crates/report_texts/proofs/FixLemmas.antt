@@ -46,8 +46,6 @@ all_fixes raw fixes are = rw (sym are) refl
 pub no_fixes : (raw : Bool) (fixes : List (List ChangeParts)) → false ≡ are_written raw fixes → [] ≡ written_fixes raw fixes
 no_fixes raw fixes arent = rw (sym arent) refl
 
-pub ruleset whole_lists = (one_fails, one_passes)
+pub ruleset written_or_not = (one_fails, one_passes, none_written, some_written)
 
-pub ruleset written_or_not = (none_written, some_written)
-
-pub ruleset all_or_none = (all_fixes, no_fixes)
+pub ruleset all_or_none = (one_fails, one_passes, all_fixes, no_fixes)

@@ -1,8 +1,9 @@
 -- Rows that are too long.
-use Rattle.std.proofs.Common.{◌≡◌, ℕ, suc, ◌+◌, ◌-◌, ◌<◌, ◌≤◌, if◌then◌else◌, true, false, List, [], ◌∷◌, All, length, get_or, drop, Option, Some, None, refl, sym, ap, ap₂, subst, ◌∙◌, IfSome, arith}
+use Rattle.std.proofs.Common.{◌≡◌, ℕ, suc, ◌+◌, ◌-◌, ◌<◌, ◌≤◌, ◌&&◌, nat_lt, Bool, if◌then◌else◌, true, false, List, [], ◌∷◌, All, length, get_or, drop, Option, Some, None, refl, sym, ap, ap₂, subst, ◌∙◌, IfSome, arith}
 use Rattle.std.specs.Option.{option_map_or, option_or}
 use Rattle.std.specs.Str.{IsUtf8}
 use Rattle.std.specs.declared.ops.Range.{Range}
+use Rattle.std.proofs.lemmas.Bool.{lt-ltb, le-ltb}
 use Rattle.std.proofs.lemmas.List.{drop_all, drop_more}
 use Rattle.std.proofs.lemmas.List.Elements.{All-nil, All-cons, All-head}
 use Rattle.oxc_span.specs.Label.{Label, label_end}
@@ -18,7 +19,7 @@ use Rattle.oxc_windows.specs.Window.{window_at}
 use Rattle.oxc_plan.specs.Scanned.{CanGroup, CanPlan, ReadsRound}
 use Rattle.oxc_handlers.specs.Scanners.{CanDraw}
 use Rattle.oxc_protocol.specs.Parts.{Parts}
-use Rattle.report_texts.specs.LongRows.{IsAmong, fitted, is_long, long_among, long_from, long_in, long_row, without_rows}
+use Rattle.report_texts.specs.LongRows.{IsAmong, columns_in, fitted, is_long, long_among, long_from, long_in, long_note, long_row, start_of, without_rows}
 
 -- ---- scanners that read on
 
@@ -85,6 +86,12 @@ pub joint_within : (len : ℕ) (spans : List Span) (group : Range ℕ) (span : S
     → span.end ≡ largest_end spans group.start group.end → span.end ≤ len
 joint_within len spans group span all among end =
     omega (arith, end, largest_end_within spans group.start group.end len all (omega (arith, among.some)) among.upto)
+
+pub joint_long : (most : ℕ) (source : List ℕ) (spans : List Span) (group : Range ℕ) (span : Span) → span.start ≡ (span_at spans group.start).start
+    → span.end ≡ largest_end spans group.start group.end
+    → long_in most source (window_round source span) ≡ long_in most source (group_window (length source) (breaks_of source) spans group)
+joint_long most source spans group span start end =
+    ap₂ (λ s e. long_in most source (window_at (length source) (breaks_of source) 1 1 s e)) start end
 
 -- the first group has a long row, or those after it
 pub here_long : (most : ℕ) (source : List ℕ) (spans : List Span) (group : Range ℕ) (groups : List (Range ℕ)) (row : ℕ)
@@ -155,14 +162,32 @@ long_step most source end row last upto =
     ap (long_from most source end row) one
 
 -- the first row is long, or those after it, or there is none
-pub long_here : (most : ℕ) (source : List ℕ) (end row last : ℕ) → row ≤ last → is_long most source end row ≡ true → long_from most source end row (last + 1 - row) ≡ Some row
-long_here most source end row last upto is =
-    long_step most source end row last upto ∙ ap (λ b. if b then Some row else long_from most source end (row + 1) (last + 1 - (row + 1))) is
+pub long_here : (most : ℕ) (source : List ℕ) (end row last : ℕ) → row ≤ last → start_of source row < end → most < columns_in source row
+    → long_from most source end row (last + 1 - row) ≡ Some row
+long_here most source end row last upto before many =
+    long_step most source end row last upto
+    ∙ ap₂ (λ a b. if a && b then Some row else long_from most source end (row + 1) (last + 1 - (row + 1)))
+    (lt-ltb (start_of source row) end before) (lt-ltb most (columns_in source row) many)
 
-pub long_next : (most : ℕ) (source : List ℕ) (end row last : ℕ) → row ≤ last → is_long most source end row ≡ false
+and_false : (b : Bool) → b && false ≡ false
+and_false true = refl
+and_false false = refl
+
+isnt_long : (most : ℕ) (source : List ℕ) (end row last : ℕ) → row ≤ last → is_long most source end row ≡ false
     → long_from most source end row (last + 1 - row) ≡ long_from most source end (row + 1) (last + 1 - (row + 1))
-long_next most source end row last upto isnt =
+isnt_long most source end row last upto isnt =
     long_step most source end row last upto ∙ ap (λ b. if b then Some row else long_from most source end (row + 1) (last + 1 - (row + 1))) isnt
+
+pub long_past : (most : ℕ) (source : List ℕ) (end row last : ℕ) → row ≤ last → end ≤ start_of source row
+    → long_from most source end row (last + 1 - row) ≡ long_from most source end (row + 1) (last + 1 - (row + 1))
+long_past most source end row last upto past =
+    isnt_long most source end row last upto (ap (λ b. b && nat_lt most (columns_in source row)) (le-ltb (start_of source row) end past))
+
+pub long_fits : (most : ℕ) (source : List ℕ) (end row last : ℕ) → row ≤ last → columns_in source row ≤ most
+    → long_from most source end row (last + 1 - row) ≡ long_from most source end (row + 1) (last + 1 - (row + 1))
+long_fits most source end row last upto fits =
+    isnt_long most source end row last upto
+    (ap (λ b. nat_lt (start_of source row) end && b) (le-ltb most (columns_in source row) fits) ∙ and_false (nat_lt (start_of source row) end))
 
 pub long_end : (most : ℕ) (source : List ℕ) (end row last : ℕ) → last < row → long_from most source end row (last + 1 - row) ≡ None
 unfolding long_from
@@ -187,6 +212,11 @@ pub fitted_long : (limit : Option ℕ) (most : ℕ) (name source : List ℕ) (pa
 unfolding fitted
 fitted_long limit most name source parts row is long =
     ap (λ l. fitted l name source parts) (sym is) ∙ ap (λ r. option_map_or (without_rows name source parts most) r parts) (sym long)
+
+-- a view without its labels, with that note
+pub shortened : (name source : List ℕ) (parts short : Parts) (most row : ℕ) (note : List ℕ) → short ≡ record parts { labels = []; note = Some note }
+    → note ≡ long_note name source parts.note parts.labels most row → short ≡ without_rows name source parts most row
+shortened name source parts short most row note is noted = is ∙ ap (λ n. let p : Parts = record parts { labels = []; note = Some n } in p) noted
 
 pub fitted_short : (limit : Option ℕ) (most : ℕ) (name source : List ℕ) (parts : Parts) → Some most ≡ limit → None ≡ long_row most source parts.labels → fitted limit name source parts ≡ parts
 unfolding fitted

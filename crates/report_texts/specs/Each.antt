@@ -1,11 +1,10 @@
 -- The drawing of each report by itself.
-use Rattle.std.specs.Prelude.{unwrap_or}
 use Rattle.oxc_handlers.specs.declared.theme.GraphicalTheme.{GraphicalTheme}
 use Rattle.oxc_handlers.specs.Theme.{none_theme, unicode_theme}
-use Rattle.oxc_handlers.specs.Handler.{Handler}
 use Rattle.girzohal_options.specs.declared.Asked.{Asked}
 use Rattle.girzohal_options.specs.declared.ThemeChoice.{ThemeChoice}
 use Rattle.girzohal_options.specs.declared.ThemeChoice.TheVariants.{Auto, Plain, Unicode, UnicodeNocolor}
+use Rattle.report_texts.specs.Texts.{themed}
 use Rattle.report_texts.specs.declared.look.Look.{Look}
 
 -- styles stand in a page as classes, whatever a terminal shows
@@ -15,8 +14,5 @@ page_theme Plain = none_theme
 page_theme Unicode = unicode_theme
 page_theme UnicodeNocolor = unicode_theme
 
-abbrev pub page_handler : Asked → Handler
-page_handler asked = record { theme = page_theme asked.theme; width = unwrap_or asked.width 80; tab = asked.tabs }
-
 abbrev pub page_look : Asked → Look
-page_look asked = record { handler = page_handler asked; max_row = asked.max_row }
+page_look asked = themed asked (page_theme asked.theme)

@@ -130,6 +130,7 @@ pub fn found_findings(
 }
 
 /// Findings with their texts sanitized unless `raw`.
+#[tactic(auto, unfolding(crate::specs::CiTexts::shown_finding))]
 fn shown_findings(
     alloc: Global,
     raw: bool,
@@ -140,23 +141,14 @@ fn shown_findings(
 {
     let mut shown = Vec::with_capacity(alloc, findings.len())?;
     for finding in findings {
-        shown.push(shown_finding(alloc, raw, finding)?)?;
+        shown.push(Finding {
+            name: shown_text(alloc, raw, Kind::Name, finding.name.as_str())?,
+            start: finding.start,
+            end: finding.end,
+            severity: finding.severity,
+            code: shown_if(alloc, raw, Kind::Name, finding.code.as_deref())?,
+            message: shown_text(alloc, raw, Kind::Prose, finding.message.as_str())?,
+        })?;
     }
     Ok(shown)
-}
-
-/// A finding with its texts sanitized.
-#[tactic(auto, unfolding(crate::specs::CiTexts::shown_finding))]
-fn shown_finding(alloc: Global, raw: bool, finding: &Finding) -> Result<Finding, AllocError>
-    ensures { IfOk result (λ shown. finding_parts shown
-        ≡ finding_shown raw (finding_parts finding.now)) }
-{
-    Ok(Finding {
-        name: shown_text(alloc, raw, Kind::Name, finding.name.as_str())?,
-        start: finding.start,
-        end: finding.end,
-        severity: finding.severity,
-        code: shown_if(alloc, raw, Kind::Name, finding.code.as_deref())?,
-        message: shown_text(alloc, raw, Kind::Prose, finding.message.as_str())?,
-    })
 }

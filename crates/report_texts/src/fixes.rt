@@ -1,9 +1,8 @@
 // The exact edits of reports that a log has.
 ghost use Rattle.std.specs.Prelude.{◌≡◌, IfOk, map, string_bytes};
-ghost use Rattle.std.specs.List.{list_all};
 ghost use Rattle.found_reports.specs.Fixes.{change_view, fix_view};
-ghost use Rattle.report_texts.specs.Fixes.{are_written as are_so, is_written as is_so};
-ghost use Rattle.report_texts.specs.Fixes.{stays as stays_so, written_fixes};
+ghost use Rattle.report_texts.specs.Fixes.{is_written as is_so, stays as stays_so};
+ghost use Rattle.report_texts.specs.Fixes.{written_fixes};
 
 use found_reports::{FoundFix, RowChange};
 use harmless::changed_source;
@@ -22,26 +21,14 @@ pub(crate) fn fixes_of<'f>(
 ) -> Result<&'f [FoundFix], AllocError>
     ensures { IfOk result (λ own. map fix_view own.now ≡ written_fixes raw (map fix_view fixes.now)) }
 {
-    if are_written(alloc, raw, fixes)? {
-        Ok(fixes)
-    } else {
-        Ok(&[])
-    }
-}
-
-/// Whether each edit can be written.
-#[tactic(auto, using(crate::proofs::FixLemmas::whole_lists))]
-fn are_written(alloc: Global, raw: bool, fixes: &[FoundFix]) -> Result<bool, AllocError>
-    ensures { IfOk result (λ all. all ≡ are_so raw (map fix_view fixes.now)) }
-{
     let mut rest = fixes;
     while let [fix, more @ ..] = rest {
         if !is_written(alloc, raw, fix)? {
-            return Ok(false);
+            return Ok(&[]);
         }
         rest = more;
     }
-    Ok(true)
+    Ok(fixes)
 }
 
 /// Whether an edit can be written: it has changes, and none of their texts would be sanitized.
@@ -52,15 +39,7 @@ fn is_written(alloc: Global, raw: bool, fix: &FoundFix) -> Result<bool, AllocErr
     if fix.changes.is_empty() {
         return Ok(false);
     }
-    all_stay(alloc, raw, &fix.changes)
-}
-
-/// Whether no text of changes would be sanitized.
-#[tactic(auto, using(crate::proofs::FixLemmas::whole_lists))]
-fn all_stay(alloc: Global, raw: bool, changes: &[RowChange]) -> Result<bool, AllocError>
-    ensures { IfOk result (λ all. all ≡ list_all (stays_so raw) (map change_view changes.now)) }
-{
-    let mut rest = changes;
+    let mut rest: &[RowChange] = &fix.changes;
     while let [change, more @ ..] = rest {
         if !stays(alloc, raw, change)? {
             return Ok(false);

@@ -3,6 +3,7 @@
 //!
 //! - [`drawing_text`]: reports drawn, and their numbers; [`first_drawings`] and [`ending_text`]
 //!   are its two parts.
+//! - [`drawn_count`]: how many reports are drawn.
 //! - [`Drawings`]: reports drawn on sources that are kept, one list of reports after another.
 //! - [`each_drawing`]: one drawing for each report, for a page.
 //! - [`json_text`]: each report as a line of JSON.
@@ -27,7 +28,7 @@ mod texts;
 
 pub use ci_formats::CiFormat;
 pub use ci_texts::{ci_text, ci_text_on, found_findings, gitlab_text, markdown_text, summary_text};
-pub use drawing::{drawing_text, ending_text, first_drawings};
+pub use drawing::{drawing_text, drawn_count, ending_text, first_drawings};
 pub use each::each_drawing;
 pub use runs::Drawings;
 pub use texts::{document_text, json_text, named_tool, sarif_text};

@@ -1,18 +1,15 @@
 // Rows that are too long to be drawn.
 ghost use Rattle.std.specs.Prelude.{◌≡◌, ◌++◌, ◌+◌, ◌-◌, ◌<◌, ◌≤◌, IfOk, IfSome, OnOk};
-ghost use Rattle.std.specs.Prelude.{All, fold, length, map, max, string_bytes};
-ghost use Rattle.std.specs.List.{flat_map};
+ghost use Rattle.std.specs.Prelude.{All, length, string_bytes};
 ghost use Rattle.std.specs.Option.{option_copied};
-ghost use Rattle.oxc_windows.specs.Breaks.{breaks_of};
-ghost use Rattle.oxc_plan.specs.Groups.{group_window, largest_end as end_of};
+ghost use Rattle.oxc_plan.specs.Groups.{largest_end as end_of};
 ghost use Rattle.oxc_plan.specs.Groups.{span_at as span_in, window_round};
 ghost use Rattle.oxc_plan.specs.Order.{LieWithin, label_at, span_of, spans_in_order as spans_of};
 ghost use Rattle.oxc_plan.specs.Scanned.{CanGroup, ReadsRound};
-ghost use Rattle.oxc_windows.specs.Scan.{IsNumbered, IsSameReader, contents_of};
+ghost use Rattle.oxc_windows.specs.Scan.{IsNumbered, IsSameReader};
 ghost use Rattle.found_reports.specs.Place.{number_text};
 ghost use Rattle.oxc_plan.specs.Rows.{ends_at as ends_so};
 ghost use Rattle.report_texts.specs.LongRows.{IsAmong, break_len as break_before, columns_in};
-ghost use Rattle.report_texts.specs.LongRows.{is_long as is_so_long};
 ghost use Rattle.report_texts.specs.LongRows.{long_among as long_of_groups};
 ghost use Rattle.report_texts.specs.LongRows.{label_line, limit_line, long_from};
 ghost use Rattle.report_texts.specs.LongRows.{long_in as long_window};
@@ -33,7 +30,7 @@ use std::ops::Range;
 /// # Errors
 ///
 /// Out of memory.
-#[tactic(auto, using(crate::proofs::LongLemmas::one_label, crate::proofs::LongLemmas::one_within))]
+#[tactic(auto, using(crate::proofs::LongLemmas::one_label, crate::proofs::LongLemmas::one_within, crate::proofs::LongLemmas::many_within, crate::proofs::LongLemmas::many_among, crate::proofs::LongLemmas::many_long, crate::proofs::LongLemmas::round_still, crate::proofs::LongLemmas::same_then))]
 pub(crate) fn long_row(
     alloc: Global,
     source: &ShownText<'_>,
@@ -47,34 +44,16 @@ pub(crate) fn long_row(
     ensures few { IfOk result (λ row. IfSome row (λ row. row < 4294967295)) }
     ensures same { IsSameReader scanner.old scanner.new }
 {
-    match labels {
-        [label] => long_round(source, scanner, label.span(), most),
-        _ => long_of_many(alloc, source, scanner, labels, most),
+    if let [label] = labels {
+        return long_round(source, scanner, label.span(), most);
     }
-}
-
-/// The same for any number of labels.
-#[tactic(auto, using(crate::proofs::LongLemmas::many_within, crate::proofs::LongLemmas::many_among, crate::proofs::LongLemmas::many_long, crate::proofs::LongLemmas::round_still, crate::proofs::LongLemmas::same_then))]
-fn long_of_many(
-    alloc: Global,
-    source: &ShownText<'_>,
-    scanner: &mut SpanScanner<'_>,
-    labels: &[LabeledSpan],
-    most: usize,
-) -> Result<Option<usize>, AllocError>
-    requires source { scanner.old.input ≡ source.now }
-    requires group { CanGroup scanner.old labels.now }
-    ensures row { IfOk result (λ row. row ≡ long_of most source.now labels.now) }
-    ensures few { IfOk result (λ row. IfSome row (λ row. row < 4294967295)) }
-    ensures same { IsSameReader scanner.old scanner.new }
-{
     let spans = spans_in_order(alloc, labels)?;
     let groups = groups(alloc, scanner, labels)?;
     long_among(source, scanner, &spans, &groups, most)
 }
 
 /// The first row of groups of spans that has more columns than `most`.
-#[tactic(auto, using(crate::proofs::LongLemmas::here_at, crate::proofs::LongLemmas::later_at, crate::proofs::LongLemmas::end_at, crate::proofs::LongLemmas::round_still, crate::proofs::LongLemmas::same_then))]
+#[tactic(auto, using(crate::proofs::LongLemmas::joint_ordered, crate::proofs::LongLemmas::joint_within, crate::proofs::LongLemmas::joint_long, crate::proofs::LongLemmas::here_at, crate::proofs::LongLemmas::later_at, crate::proofs::LongLemmas::end_at, crate::proofs::LongLemmas::round_still, crate::proofs::LongLemmas::same_then))]
 fn long_among(
     source: &ShownText<'_>,
     scanner: &mut SpanScanner<'_>,
@@ -92,32 +71,11 @@ fn long_among(
     ensures same { IsSameReader scanner.old scanner.new }
 {
     for group in groups {
-        if let Some(row) = long_group(source, scanner, spans, group, most)? {
+        if let Some(row) = long_round(source, scanner, joint_span(spans, group), most)? {
             return Ok(Some(row));
         }
     }
     Ok(None)
-}
-
-/// The first row of a group of spans that has more columns than `most`.
-#[tactic(auto, using(crate::proofs::LongLemmas::joint_ordered, crate::proofs::LongLemmas::joint_within))]
-fn long_group(
-    source: &ShownText<'_>,
-    scanner: &mut SpanScanner<'_>,
-    spans: &[Span],
-    group: &Range<usize>,
-    most: usize,
-) -> Result<Option<usize>, AllocError>
-    requires source { scanner.old.input ≡ source.now }
-    requires round { ReadsRound scanner.old }
-    requires within { LieWithin (length source.now) spans.now }
-    requires among { IsAmong spans.now group.now }
-    ensures row { IfOk result (λ row. row ≡ long_window most source.now
-        (group_window (length source.now) (breaks_of source.now) spans.now group.now)) }
-    ensures few { IfOk result (λ row. IfSome row (λ row. row < 4294967295)) }
-    ensures same { IsSameReader scanner.old scanner.new }
-{
-    long_round(source, scanner, joint_span(spans, group), most)
 }
 
 /// The spans of labels in label order.
@@ -126,14 +84,6 @@ fn spans_in_order(alloc: Global, labels: &[LabeledSpan]) -> Result<Vec<Span>, Al
     ensures { IfOk result (λ spans. spans.items ≡ spans_of labels.now) }
 {
     let order = label_order(alloc, labels)?;
-    spans_at(alloc, labels, &order)
-}
-
-/// The spans of the labels at these indices.
-fn spans_at(alloc: Global, labels: &[LabeledSpan], order: &[usize]) -> Result<Vec<Span>, AllocError>
-    ensures { IfOk result (λ spans. spans.items
-        ≡ map (λ at. span_of (label_at labels.now at)) order.now) }
-{
     let spans = order.iter().map(|at| span_at(labels, *at)).collect(alloc)?;
     Ok(spans)
 }
@@ -155,23 +105,14 @@ fn joint_span(spans: &[Span], group: &Range<usize>) -> Span
     ensures start { result.start ≡ (span_in spans.now group.now.start).start }
     ensures end { result.end ≡ end_of spans.now group.now.start group.now.end }
 {
-    Span {
-        start: spans[group.start].start,
-        end: largest_end(&spans[group.start..group.end]),
-    }
-}
-
-/// The largest end of spans, or 0.
-fn largest_end(spans: &[Span]) -> u32
-    ensures { result ≡ fold (λ most span. max most span.end) 0 spans.now }
-{
-    let mut most: u32 = 0;
-    let mut rest = spans;
+    let start = spans[group.start].start;
+    let mut end: u32 = 0;
+    let mut rest = &spans[group.start..group.end];
     while let [span, more @ ..] = rest {
-        most = most.max(span.end);
+        end = end.max(span.end);
         rest = more;
     }
-    most
+    Span { start, end }
 }
 
 /// The first row round a span that has more columns than `most`.
@@ -191,28 +132,14 @@ fn long_round(
     ensures few { IfOk result (λ row. IfSome row (λ row. row < 4294967295)) }
     ensures same { IsSameReader scanner.old scanner.new }
 {
-    let contents = read_round(scanner, span)?;
-    Ok(long_in(source, &contents, most))
-}
-
-/// What the scanner reads round a span.
-fn read_round<'s>(scanner: &mut SpanScanner<'s>, span: Span) -> Result<SpanContents<'s>, AllocError>
-    requires round { ReadsRound scanner.old }
-    requires ordered { span.start ≤ span.end }
-    requires within { span.end ≤ length scanner.old.input }
-    ensures exact { IfOk result (λ contents. contents
-        ≡ contents_of scanner.old.input (window_round scanner.old.input span)) }
-    ensures numbered { IfOk result IsNumbered }
-    ensures same { IsSameReader scanner.old scanner.new }
-{
     match scanner.read_span(span)? {
-        Some(contents) => Ok(contents),
+        Some(contents) => Ok(long_in(source, &contents, most)),
         None => unreachable!(),
     }
 }
 
 /// The first row of what was read that has more columns than `most`.
-#[tactic(auto, using(crate::proofs::LongLemmas::long_here, crate::proofs::LongLemmas::long_next, crate::proofs::LongLemmas::long_end))]
+#[tactic(auto, using(crate::proofs::LongLemmas::long_here, crate::proofs::LongLemmas::long_past, crate::proofs::LongLemmas::long_fits, crate::proofs::LongLemmas::long_end))]
 fn long_in(source: &ShownText<'_>, contents: &SpanContents<'_>, most: usize) -> Option<usize>
     requires { IsNumbered contents.now }
     ensures row { result ≡ long_from most source.now contents.now.span.end contents.now.line
@@ -223,20 +150,12 @@ fn long_in(source: &ShownText<'_>, contents: &SpanContents<'_>, most: usize) -> 
     let last = contents.line_count();
     let mut row = contents.line();
     while row <= last {
-        if is_long(source, row, end, most) {
+        if source.row_start(row) < end && columns(source, row) > most {
             return Some(row);
         }
         row += 1;
     }
     None
-}
-
-/// Whether a row starts before an end, and has more columns than `most`.
-fn is_long(source: &ShownText<'_>, row: usize, end: usize, most: usize) -> bool
-    requires { row < 4294967295 }
-    ensures { result ≡ is_so_long most source.now end row }
-{
-    source.row_start(row) < end && columns(source, row) > most
 }
 
 /// How many columns a row has: its bytes, without its break.
@@ -298,27 +217,13 @@ pub(crate) fn long_note(
         text.push_str(note)?;
         text.push_str("\n")?;
     }
-    push_labels(&mut text, source, name, labels)?;
-    push_row(&mut text, source, most, row)?;
-    Ok(text)
-}
-
-/// Appends the lines of labels.
-fn push_labels(
-    out: &mut String,
-    source: &ShownText<'_>,
-    name: &str,
-    labels: &[LabeledSpan],
-) -> Result<(), AllocError>
-    ensures { OnOk result (string_bytes out.new ≡ string_bytes out.old
-        ++ flat_map (label_line name.now source.now) labels.now) }
-{
     let mut rest = labels;
     while let [label, more @ ..] = rest {
-        push_label(out, source, name, label)?;
+        push_label(&mut text, source, name, label)?;
         rest = more;
     }
-    Ok(())
+    push_row(&mut text, source, most, row)?;
+    Ok(text)
 }
 
 /// Appends the line of a label.

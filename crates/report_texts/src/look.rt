@@ -1,12 +1,11 @@
 // How reports are drawn.
-ghost use Rattle.std.specs.Prelude.{◌≡◌, ◌++◌, ◌<◌, OnOk, string_bytes};
+ghost use Rattle.std.specs.Prelude.{◌≡◌, ◌++◌, OnOk, string_bytes};
 ghost use Rattle.oxc_handlers.specs.Report.{report_of, view_parts};
 ghost use Rattle.oxc_handlers.specs.Scanners.{CanDraw};
 ghost use Rattle.oxc_windows.specs.Scan.{IsSameReader};
-ghost use Rattle.report_texts.specs.Each.{page_handler as handler_of_pages, page_look};
-ghost use Rattle.report_texts.specs.Each.{page_theme};
-ghost use Rattle.report_texts.specs.LongRows.{fitted, without_rows};
-ghost use Rattle.report_texts.specs.Texts.{handler_of, look_of, theme_of};
+ghost use Rattle.report_texts.specs.Each.{page_look};
+ghost use Rattle.report_texts.specs.LongRows.{fitted};
+ghost use Rattle.report_texts.specs.Texts.{look_of, themed};
 
 use crate::long_rows::{long_note, long_row};
 use girzohal_options::{Asked, ThemeChoice};
@@ -32,9 +31,12 @@ impl Look {
     pub fn new(asked: &Asked) -> Look
         ensures { result ≡ look_of asked.now }
     {
-        Look {
-            handler: handler(asked),
-            max_row: asked.max_row,
+        match asked.theme {
+            ThemeChoice::Plain => Look::with_theme(asked, GraphicalTheme::none()),
+            ThemeChoice::Unicode => Look::with_theme(asked, GraphicalTheme::unicode()),
+            ThemeChoice::Auto | ThemeChoice::UnicodeNocolor => {
+                Look::with_theme(asked, GraphicalTheme::unicode_nocolor())
+            }
         }
     }
 
@@ -42,8 +44,22 @@ impl Look {
     pub fn of_page(asked: &Asked) -> Look
         ensures { result ≡ page_look asked.now }
     {
+        match asked.theme {
+            ThemeChoice::Plain => Look::with_theme(asked, GraphicalTheme::none()),
+            ThemeChoice::Auto | ThemeChoice::Unicode | ThemeChoice::UnicodeNocolor => {
+                Look::with_theme(asked, GraphicalTheme::unicode())
+            }
+        }
+    }
+
+    /// As it was asked for, but for the theme.
+    fn with_theme(asked: &Asked, theme: GraphicalTheme) -> Look
+        ensures { result ≡ themed asked.now theme }
+    {
         Look {
-            handler: page_handler(asked),
+            handler: GraphicalReportHandler::new_themed(theme)
+                .with_width(asked.width.unwrap_or(WIDTH))
+                .with_tabs(asked.tabs),
             max_row: asked.max_row,
         }
     }
@@ -53,7 +69,7 @@ impl Look {
     /// # Errors
     ///
     /// Out of memory.
-    #[tactic(auto, using(crate::proofs::LongLemmas::can_group, crate::proofs::LongLemmas::can_still, crate::proofs::LongLemmas::fitted_all, crate::proofs::LongLemmas::fitted_long, crate::proofs::LongLemmas::fitted_short, crate::proofs::LongLemmas::same_then))]
+    #[tactic(auto, using(crate::proofs::LongLemmas::can_bare, crate::proofs::LongLemmas::can_group, crate::proofs::LongLemmas::can_still, crate::proofs::LongLemmas::fitted_all, crate::proofs::LongLemmas::fitted_long, crate::proofs::LongLemmas::fitted_short, crate::proofs::LongLemmas::same_then))]
     pub fn push(
         &self,
         alloc: Global,
@@ -76,82 +92,19 @@ impl Look {
                 .push_view_with_scanner(alloc, out, view, scanner);
         };
         match long_row(alloc, source, scanner, view.labels, most)? {
-            Some(row) => self.push_short(alloc, out, name, source, view, scanner, most, row),
+            Some(row) => {
+                let note = long_note(alloc, source, name, view.note, view.labels, most, row)?;
+                let short = DiagnosticView {
+                    note: Some(note.as_str()),
+                    labels: &[],
+                    ..*view
+                };
+                self.handler
+                    .push_view_with_scanner(alloc, out, &short, scanner)
+            }
             None => self
                 .handler
                 .push_view_with_scanner(alloc, out, view, scanner),
-        }
-    }
-
-    /// Appends the drawing of a view without its labels, since this row has more columns than
-    /// `most`.
-    #[tactic(auto, using(crate::proofs::LongLemmas::can_bare))]
-    fn push_short(
-        &self,
-        alloc: Global,
-        out: &mut String,
-        name: &str,
-        source: &ShownText<'_>,
-        view: &DiagnosticView<'_>,
-        scanner: &mut SpanScanner<'_>,
-        most: usize,
-        row: usize,
-    ) -> Result<(), AllocError>
-        requires draw { CanDraw scanner.old (view_parts view.now) }
-        requires few { row < 4294967295 }
-        ensures text { OnOk result (string_bytes out.new ≡ string_bytes out.old
-            ++ report_of self.now.handler
-            (without_rows name.now source.now (view_parts view.now) most row)) }
-        ensures same { IsSameReader scanner.old scanner.new }
-    {
-        let note = long_note(alloc, source, name, view.note, view.labels, most, row)?;
-        let short = DiagnosticView {
-            note: Some(note.as_str()),
-            labels: &[],
-            ..*view
-        };
-        self.handler
-            .push_view_with_scanner(alloc, out, &short, scanner)
-    }
-}
-
-/// The handler that draws the reports.
-fn handler(asked: &Asked) -> GraphicalReportHandler
-    ensures { result ≡ handler_of asked.now }
-{
-    GraphicalReportHandler::new_themed(theme(asked.theme))
-        .with_width(asked.width.unwrap_or(WIDTH))
-        .with_tabs(asked.tabs)
-}
-
-/// The theme of a choice.
-fn theme(choice: ThemeChoice) -> GraphicalTheme
-    ensures { result ≡ theme_of choice }
-{
-    match choice {
-        ThemeChoice::Plain => GraphicalTheme::none(),
-        ThemeChoice::Unicode => GraphicalTheme::unicode(),
-        ThemeChoice::Auto | ThemeChoice::UnicodeNocolor => GraphicalTheme::unicode_nocolor(),
-    }
-}
-
-/// The handler that draws reports for a page.
-fn page_handler(asked: &Asked) -> GraphicalReportHandler
-    ensures { result ≡ handler_of_pages asked.now }
-{
-    GraphicalReportHandler::new_themed(theme_of_pages(asked.theme))
-        .with_width(asked.width.unwrap_or(WIDTH))
-        .with_tabs(asked.tabs)
-}
-
-/// The theme of a page.
-fn theme_of_pages(choice: ThemeChoice) -> GraphicalTheme
-    ensures { result ≡ page_theme choice }
-{
-    match choice {
-        ThemeChoice::Plain => GraphicalTheme::none(),
-        ThemeChoice::Auto | ThemeChoice::Unicode | ThemeChoice::UnicodeNocolor => {
-            GraphicalTheme::unicode()
         }
     }
 }

@@ -25,7 +25,7 @@ use found_reports::{FoundFile, FoundReport, FoundReports};
 use girzohal_options::Asked;
 use harmless::Kind;
 use oxc_handlers::DiagnosticView;
-use oxc_protocol::{Diagnostic, LabeledSpan, OxcDiagnostic, SourceRef};
+use oxc_protocol::{Diagnostic, OxcDiagnostic, SourceRef};
 use oxc_windows::SpanScanner;
 use shown_reports::{ShownSources, ShownText, shown_diagnostic, shown_text};
 use std::alloc::{AllocError, Global};
@@ -233,7 +233,8 @@ impl<'s> Drawings<'s> {
         ensures unchanged { self.new ≡ self.old }
     {
         let alloc = self.alloc;
-        let from = self.ready(place, least_start(view.labels));
+        let starts = view.labels.iter().map(|label| label.offset());
+        let from = self.ready(place, starts.min().unwrap_or(0));
         if let Some(scanner) = self.scanners.get_mut(&place) {
             return self.look.push(alloc, text, name, source, view, scanner);
         }
@@ -249,12 +250,17 @@ impl<'s> Drawings<'s> {
     fn ready(&mut self, place: usize, start: u32) -> u32
         ensures { self.new ≡ self.old }
     {
-        match self.scanners.get(&place) {
-            Some(scanner) if !keeps(scanner.kept(), start) => {
+        let Some(scanner) = self.scanners.get(&place) else {
+            return start;
+        };
+        // The first row that is kept is for context.
+        match scanner.kept() {
+            [0, ..] => start,
+            [_, second, ..] if *second <= start => start,
+            _ => {
                 let _scanner = self.scanners.remove(&place);
                 0
             }
-            _ => start,
         }
     }
 }
@@ -293,20 +299,6 @@ fn draw_bare(
     let mut scanner = SpanScanner::of_text(alloc, "", 1, 1);
     look.handler
         .push_view_with_scanner(alloc, text, view, &mut scanner)
-}
-
-/// The least start of the labels, or 0.
-fn least_start(labels: &[LabeledSpan]) -> u32 {
-    labels.iter().map(|label| label.offset()).min().unwrap_or(0)
-}
-
-/// Whether rows that start there, of which the first is for context, are those of an offset too.
-fn keeps(rows: &[u32], start: u32) -> bool {
-    match rows {
-        [0, ..] => true,
-        [_, second, ..] => *second <= start,
-        _ => false,
-    }
 }
 
 /// What a diagnostic shows, with its code, on a source of this name.

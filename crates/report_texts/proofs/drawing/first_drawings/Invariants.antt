@@ -2,7 +2,7 @@
 use Rattle.std.proofs.Common.{◌≡◌, map, string_bytes, take}
 use Rattle.found_reports.specs.Kept.{file_view, report_view}
 use Rattle.report_texts.specs.Texts.{drawings, look_of}
-use Rattle.report_texts.proofs.drawing.drawings.Given as goal
+use Rattle.report_texts.proofs.drawing.first_drawings.Given as goal
 
 abbrev pub invariant-loop-report : goal.invariant-loop-report
 invariant-loop-report l = record {

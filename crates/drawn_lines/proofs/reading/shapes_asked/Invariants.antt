@@ -1,9 +1,0 @@
--- The shapes before are there, and the others come next.
-use Rattle.std.proofs.Common.{◌≡◌, ◌++◌, drop, map}
-use Rattle.line_shapes.specs.Shape.{shape_parts}
-use Rattle.drawn_lines.specs.Lines.{own_parts}
-use Rattle.drawn_lines.proofs.reading.shapes_asked.Given as goal
-
-abbrev pub invariant-loop-shape : goal.invariant-loop-shape
-invariant-loop-shape l =
-    map shape_parts l.shapes.items ++ map own_parts (drop l.shape-index l.asked.shapes.items) ≡ map own_parts l.asked.shapes.items
