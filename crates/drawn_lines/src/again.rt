@@ -5,7 +5,6 @@ ghost use Rattle.std.specs.Option.{option_copied};
 ghost use Rattle.build_dirs.specs.Again.{seen_in};
 ghost use Rattle.tool_lines.specs.Lines.{finding_parts, piece_parts};
 ghost use Rattle.drawn_lines.specs.Again.{Sign, begun_by, flags_from, flags_in, fresh as fresh_of};
-ghost use Rattle.drawn_lines.specs.Again.{is_unique as is_unique_for, muted as muted_piece};
 ghost use Rattle.drawn_lines.specs.Again.{muted_at as muted_there, muted_if as muted_or, name_by, no_run};
 ghost use Rattle.drawn_lines.specs.Again.{repeated as repeated_of, run_parts, seen_behind};
 ghost use Rattle.drawn_lines.specs.Again.{seen_from, seen_with, sign_of, signs, was_printed};
@@ -39,13 +38,6 @@ struct Run {
     count: usize,
     /// Whether there is a finding.
     found: bool,
-}
-
-/// Whether findings that are printed again are left out.
-fn is_unique(asked: &Asked) -> bool
-    ensures { result ≡ is_unique_for asked.now }
-{
-    asked.unique.unwrap_or(true)
 }
 
 /// Parts blocks by whether their findings were printed before, with the same notes. The new ones
@@ -85,7 +77,7 @@ fn flags_of(
     ensures seen { OnOk result (seen_in seen.new ≡ seen_behind asked.now (seen_in seen.old)
         (map (λ line. line.now) lines.now) (map piece_parts pieces.now)) }
 {
-    if is_unique(asked) {
+    if asked.unique.unwrap_or(true) {
         return compared(alloc, seen, lines, pieces);
     }
     let mut flags = Vec::new(alloc);
@@ -267,13 +259,9 @@ fn is_flag(which: bool, flag: bool) -> bool
 fn muted_if<'p>(is: bool, piece: &Piece<'p>) -> Piece<'p>
     ensures { piece_parts result ≡ muted_or is (piece_parts piece.now) }
 {
-    if is { muted(piece) } else { *piece }
-}
-
-/// A block without its finding.
-fn muted<'p>(piece: &Piece<'p>) -> Piece<'p>
-    ensures { piece_parts result ≡ muted_piece (piece_parts piece.now) }
-{
+    if !is {
+        return *piece;
+    }
     Piece {
         lines: piece.lines,
         begun: Begun {

@@ -1,18 +1,16 @@
 // How many reports there were.
-ghost use Rattle.std.specs.Prelude.{◌≡◌, ◌≤◌, ◌+◌, ◌++◌, [], IfOk, OnOk, codes, decimal, length};
-ghost use Rattle.std.specs.Prelude.{string_bytes, unwrap_or};
+ghost use Rattle.std.specs.Prelude.{◌≡◌, ◌+◌, IfOk, string_bytes};
 ghost use Rattle.report_counts.specs.Counted.{summary_line};
-ghost use Rattle.report_texts.specs.Texts.{drawn_count as drawn_of};
-ghost use Rattle.drawn_lines.specs.Counts.{count_of as count_meant, count_text as count_said};
+ghost use Rattle.drawn_lines.specs.Counts.{count_of as count_meant};
 ghost use Rattle.drawn_lines.specs.Counts.{again_text, count_with, counts_with, ending_by};
 ghost use Rattle.drawn_lines.specs.Counts.{no_count};
-ghost use Rattle.escapes.specs.Cuts.{without_last as lf_less};
 
 use crate::form::annotates;
 use escapes::without_last;
 use found_reports::FoundReports;
 use girzohal_options::Asked;
 use report_counts::{Counts, counts_of, more_line, one_reaches, summary_line};
+use report_texts::drawn_count;
 use std::alloc::{AllocError, Global};
 
 /// How many reports there are, and whether one is at or above the level.
@@ -88,22 +86,8 @@ pub(crate) fn ending(
     ensures { IfOk result (λ text. string_bytes text ≡ ending_by asked.now count again) }
 {
     if annotates(asked.to) {
-        Ok(String::new(alloc))
-    } else {
-        count_text(alloc, asked, count, again)
+        return Ok(String::new(alloc));
     }
-}
-
-/// The line that says how many reports there are more than were drawn, and the line with their
-/// numbers.
-fn count_text(
-    alloc: Global,
-    asked: &Asked,
-    count: Count,
-    again: Count,
-) -> Result<String, AllocError>
-    ensures { IfOk result (λ text. string_bytes text ≡ count_said asked.now count again) }
-{
     let mut text = more_line(alloc, count.total - drawn_count(asked.most, count.total))?;
     if !asked.quiet {
         text.push_str(numbers_line(alloc, count, again)?.as_str())?;
@@ -122,35 +106,8 @@ fn numbers_line(alloc: Global, count: Count, again: Count) -> Result<String, All
     if again.total == 0 {
         return Ok(line);
     }
-    let mut text = String::from_str(alloc, without_lf(line.as_str()))?;
-    push_again(&mut text, again.total)?;
+    let line = line.as_str();
+    let mut text = String::from_str(alloc, without_last(line, '\n').unwrap_or(line))?;
+    write!(text, " ({} printed again)\n", again.total)?;
     Ok(text)
-}
-
-/// A line without its LF.
-fn without_lf(line: &str) -> &str
-    ensures { result.now ≡ unwrap_or (lf_less 0x0A line.now) line.now }
-{
-    match without_last(line, '\n') {
-        Some(line) => line,
-        None => line,
-    }
-}
-
-fn push_again(text: &mut String, again: usize) -> Result<(), AllocError>
-    ensures { OnOk result (string_bytes text.new ≡ string_bytes text.old
-        ++ (codes " (" ++ decimal again ++ codes " printed again)\n")) }
-{
-    write!(text, " ({again} printed again)\n")
-}
-
-/// How many of `count` reports are drawn.
-fn drawn_count(most: Option<usize>, count: usize) -> usize
-    ensures count { result ≡ drawn_of most count }
-    ensures within { result ≤ count }
-{
-    match most {
-        Some(most) => most.min(count),
-        None => count,
-    }
 }

@@ -6,10 +6,9 @@ ghost use Rattle.std.specs.Str.Lossy.{utf8_lossy};
 ghost use Rattle.harmless.specs.declared.Kind.TheVariants.{Prose};
 ghost use Rattle.shown_reports.specs.Shown.{shown_text as shown_text_of};
 ghost use Rattle.tool_lines.specs.Lines.{PieceParts, piece_parts, is_kept as is_kept_sort};
-ghost use Rattle.drawn_lines.specs.Lines.{aside_text as aside_of, begins_link as begins_a_link};
+ghost use Rattle.drawn_lines.specs.Lines.{aside_text as aside_of};
 ghost use Rattle.drawn_lines.specs.Lines.{holds_link as holds_a_link, kept_if, kept_line};
 ghost use Rattle.drawn_lines.specs.Lines.{kept_text as kept_of, line_text as line_text_of};
-ghost use Rattle.drawn_lines.specs.Lines.{painted_text as painted_text_of};
 
 use crate::form::annotates;
 use crate::held::read_line;
@@ -79,13 +78,15 @@ fn keep_next<'l, 'a>(
     Ok(KeptLines { text, left })
 }
 
-/// The first `count` lines of a list, or all.
-#[tactic(auto, using(crate::proofs::LineLemmas::take_within))]
-pub(crate) fn front<'l, 'a>(lines: &'l [&'a [u8]], count: usize) -> &'l [&'a [u8]]
-    ensures { result.now ≡ take count lines.now }
+/// The first `count` items of a list, or all.
+pub(crate) fn front<T>(items: &[T], count: usize) -> &[T]
+    ensures { result.now ≡ take count items.now }
 {
-    let count = count.min(lines.len());
-    lines.split_at(count).0
+    if count < items.len() {
+        &items[..count]
+    } else {
+        items
+    }
 }
 
 /// The lines of a list after the first `count`.
@@ -154,43 +155,21 @@ fn push_lines(
         ++ flat_map (kept_line painted raw) (map (λ line. line.now) run.now)) }
 {
     for line in run {
-        push_line(alloc, text, painted, raw, line)?;
+        text.push_str(line_text(alloc, painted, raw, line)?.as_str())?;
+        text.push('\n')?;
     }
     Ok(())
 }
 
-/// Appends a line.
-fn push_line(
-    alloc: Global,
-    text: &mut String,
-    painted: bool,
-    raw: bool,
-    line: &[u8],
-) -> Result<(), AllocError>
-    ensures { OnOk result (string_bytes text.new
-        ≡ string_bytes text.old ++ kept_line painted raw line.now) }
-{
-    text.push_str(line_text(alloc, painted, raw, line)?.as_str())?;
-    text.push('\n')
-}
-
-/// A line as it is shown: as it came with its colors, or as it was read.
+/// A line as it is shown: as it came with its colors, without them if it has a link; or as it was
+/// read.
+#[tactic(auto, unfolding(crate::specs::Lines::painted_text))]
 fn line_text(alloc: Global, painted: bool, raw: bool, line: &[u8]) -> Result<String, AllocError>
     ensures { IfOk result (λ text. string_bytes text ≡ line_text_of painted raw line.now) }
 {
-    if painted {
-        painted_text(alloc, raw, line)
-    } else {
+    if !painted {
         plain_text(alloc, raw, line)
-    }
-}
-
-/// A line as it came, with its colors; without them if it has a link.
-#[tactic(auto, unfolding(crate::specs::Lines::painted_text))]
-fn painted_text(alloc: Global, raw: bool, line: &[u8]) -> Result<String, AllocError>
-    ensures { IfOk result (λ text. string_bytes text ≡ painted_text_of raw line.now) }
-{
-    if raw {
+    } else if raw {
         String::from_utf8_lossy(alloc, without_cr(line))
     } else if holds_link(line) {
         plain_text(alloc, false, &read_line(alloc, line)?)
@@ -222,19 +201,10 @@ fn holds_link(line: &[u8]) -> bool
 {
     let mut rest = line;
     while let [_, behind @ ..] = rest {
-        if begins_link(rest) {
+        if let [0x1B, b']', ..] = rest {
             return true;
         }
         rest = behind;
     }
     false
-}
-
-fn begins_link(text: &[u8]) -> bool
-    ensures { result ≡ begins_a_link text.now }
-{
-    match text {
-        [0x1B, b']', ..] => true,
-        _ => false,
-    }
 }

@@ -4,7 +4,7 @@ ghost use Rattle.tool_lines.specs.Lines.{piece_parts};
 ghost use Rattle.drawn_lines.specs.Parting.{begins_empty as begins_empty_line};
 ghost use Rattle.drawn_lines.specs.Parting.{begins_passed as begins_passed_there};
 ghost use Rattle.drawn_lines.specs.Parting.{is_blank as is_blank_piece};
-ghost use Rattle.drawn_lines.specs.Parting.{is_parting as is_parting_piece, passed as passed_piece};
+ghost use Rattle.drawn_lines.specs.Parting.{is_parting as is_parting_piece};
 ghost use Rattle.drawn_lines.specs.Parting.{passed_if as passed_or, unparted as unparted_of};
 ghost use Rattle.drawn_lines.specs.Parting.{waits as waits_there};
 
@@ -44,16 +44,9 @@ fn push_next<'p>(
         ++ passed_or (is_parting_piece (map (λ line. line.now) run.now) (piece_parts piece.now)
         (map piece_parts more.now)) (piece_parts piece.now) ∷ []) }
 {
-    all.push(passed_if(is_parting(run, piece, more), piece))?;
+    let is_parting = is_blank(run, piece) && begins_passed(more);
+    all.push(passed_if(is_parting, piece))?;
     Ok(())
-}
-
-/// Whether a block with these lines is an empty line right before a block that isn't kept.
-fn is_parting(run: &[&[u8]], piece: &Piece<'_>, more: &[Piece<'_>]) -> bool
-    ensures { result ≡ is_parting_piece (map (λ line. line.now) run.now) (piece_parts piece.now)
-        (map piece_parts more.now) }
-{
-    is_blank(run, piece) && begins_passed(more)
 }
 
 /// Whether the last of these blocks is an empty line: what follows decides whether it is written.
@@ -99,17 +92,13 @@ fn begins_passed(pieces: &[Piece<'_>]) -> bool
     }
 }
 
-/// A block, passed if `is`.
+/// A block, whose lines aren't written if `is`.
 fn passed_if<'p>(is: bool, piece: &Piece<'p>) -> Piece<'p>
     ensures { piece_parts result ≡ passed_or is (piece_parts piece.now) }
 {
-    if is { passed(piece) } else { *piece }
-}
-
-/// A block whose lines aren't written.
-fn passed<'p>(piece: &Piece<'p>) -> Piece<'p>
-    ensures { piece_parts result ≡ passed_piece (piece_parts piece.now) }
-{
+    if !is {
+        return *piece;
+    }
     Piece {
         lines: piece.lines,
         begun: Begun {

@@ -1,7 +1,7 @@
 // How lines are read: by which patterns, and what their columns count.
 ghost use Rattle.std.specs.Prelude.{◌≡◌, IfOk, map};
 ghost use Rattle.line_shapes.specs.Shape.{shape_parts};
-ghost use Rattle.drawn_lines.specs.Lines.{columns_of as columns_meant, own_parts};
+ghost use Rattle.drawn_lines.specs.Lines.{columns_of as columns_meant};
 ghost use Rattle.drawn_lines.specs.Lines.{shapes_of as shapes_meant, tool_columns as columns_known};
 ghost use Rattle.drawn_lines.specs.Lines.{tool_parts};
 
@@ -19,7 +19,10 @@ use std::alloc::{AllocError, Global};
 pub fn shapes_of(alloc: Global, asked: &Asked) -> Result<Vec<Shape<'_>>, AllocError>
     ensures { IfOk result (λ shapes. map shape_parts shapes.items ≡ shapes_meant asked.entry.now) }
 {
-    let mut shapes = shapes_asked(alloc, asked)?;
+    let mut shapes = Vec::new(alloc);
+    for own in &asked.shapes {
+        shapes.push(own.shape())?;
+    }
     for shape in &shapes_known(alloc, &asked.tool)? {
         shapes.push(*shape)?;
     }
@@ -51,18 +54,6 @@ fn tool_columns(tool: &Option<String>) -> Columns
         Some(tool) => columns_of_tool(tool.as_str()).unwrap_or(usual),
         None => usual,
     }
-}
-
-/// The user's own patterns.
-fn shapes_asked(alloc: Global, asked: &Asked) -> Result<Vec<Shape<'_>>, AllocError>
-    ensures { IfOk result (λ shapes. map shape_parts shapes.items
-        ≡ map own_parts asked.entry.now.shapes.items) }
-{
-    let mut shapes = Vec::new(alloc);
-    for shape in &asked.shapes {
-        shapes.push(shape.shape())?;
-    }
-    Ok(shapes)
 }
 
 /// The patterns of the tool, if one was named.

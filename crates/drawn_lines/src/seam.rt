@@ -62,20 +62,11 @@ fn full_part(lines: &[&[u8]], pieces: &[Piece<'_>], part: Part) -> Option<Part>
     ensures full { IfSome result (IsFull (map (λ line. line.now) lines.now)
         (map piece_parts pieces.now)) }
 {
-    if waits(lines, front_of(pieces, part.pieces)) {
+    if waits(lines, front(pieces, part.pieces)) {
         None
     } else {
         Some(part)
     }
-}
-
-/// The first `count` blocks of a list, or all.
-#[tactic(auto, using(crate::proofs::LineLemmas::take_within))]
-fn front_of<'r, 'p>(pieces: &'r [Piece<'p>], count: usize) -> &'r [Piece<'p>]
-    ensures { result.now ≡ take count pieces.now }
-{
-    let count = count.min(pieces.len());
-    pieces.split_at(count).0
 }
 
 /// All blocks but the last, if that is the last line and ends them.
@@ -176,7 +167,8 @@ fn past(sought: Sought, at: usize, left: &[&[u8]], piece: &Piece<'_>, lines: usi
     ensures blank { result.blank ≡ is_blank_piece
         (map (λ line. line.now) (take piece.now.lines left.now)) (piece_parts piece.now) }
 {
-    let may = sought.closed && opens(piece) && left.len() >= 2 && !sought.blank;
+    let opens = !says_aside(&piece.begun.finding);
+    let may = sought.closed && opens && left.len() >= 2 && !sought.blank;
     let here = Part {
         pieces: at,
         lines: lines.saturating_sub(left.len()),
@@ -186,13 +178,6 @@ fn past(sought: Sought, at: usize, left: &[&[u8]], piece: &Piece<'_>, lines: usi
         closed: closes(piece.begun.sort),
         blank: is_blank(front(left, piece.lines), piece),
     }
-}
-
-/// Whether a block is no note of a finding before it.
-fn opens(piece: &Piece<'_>) -> bool
-    ensures { result ≡ opens_there (piece_parts piece.now) }
-{
-    !says_aside(&piece.begun.finding)
 }
 
 pub(crate) fn says_aside(finding: &Option<Finding<'_>>) -> bool

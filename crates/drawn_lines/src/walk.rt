@@ -1,7 +1,6 @@
 // Lines as they are drawn: their reports, and between them the lines that are kept.
 ghost use Rattle.std.specs.Prelude.{◌≡◌, ◌∷◌, ◌++◌, [], ℕ, List, IfOk, OnOk, true, false};
-ghost use Rattle.std.specs.Prelude.{drop, map, take};
-ghost use Rattle.std.specs.Prelude.{string_bytes};
+ghost use Rattle.std.specs.Prelude.{drop, map, string_bytes};
 ghost use Rattle.found_reports.specs.Held.{Held};
 ghost use Rattle.found_reports.specs.Listed.{held_in};
 ghost use Rattle.tool_lines.specs.Lines.{is_kept as is_kept_sort};
@@ -184,7 +183,7 @@ fn keep<'l, 'a, 'p>(
         left,
         shown,
     } = walk;
-    let before = front_of(first, len);
+    let before = front(first, len);
     let here = push_reports(
         alloc, &mut text, asked, most, sources, drawings, from, before,
     )?;
@@ -258,15 +257,6 @@ fn pass<'l, 'a, 'p>(
     })
 }
 
-/// The first `count` blocks of a list, or all.
-#[tactic(auto, using(crate::proofs::LineLemmas::take_within))]
-fn front_of<'r, 'p>(pieces: &'r [ReadPiece<'p>], count: usize) -> &'r [ReadPiece<'p>]
-    ensures { result.now ≡ take count pieces.now }
-{
-    let count = count.min(pieces.len());
-    pieces.split_at(count).0
-}
-
 /// Draws the reports after the last line that was kept.
 fn finish(
     alloc: Global,
@@ -291,7 +281,7 @@ fn finish(
         left: _,
         shown: _,
     } = walk;
-    let before = front_of(first, len);
+    let before = front(first, len);
     let here = push_reports(
         alloc, &mut text, asked, most, sources, drawings, from, before,
     )?;

@@ -8,4 +8,4 @@ use Rattle.drawn_lines.proofs.seam.full_part.Goals as goal
 pub returns-else-waits-clause-full : goal.returns-else-waits-clause-full
 returns-else-waits-clause-full c =
     let lines = map (λ (line : Bor (List ℕ)). line.now) c.args.lines.now in
-    ap (waits false lines) (take-map piece_parts c.args.part.pieces c.args.pieces.now ∙ ap (map piece_parts) (sym c.front_of.ensures)) ∙ (sym c.waits.ensures ∙ c.if-waits.false)
+    ap (waits false lines) (take-map piece_parts c.args.part.pieces c.args.pieces.now ∙ ap (map piece_parts) (sym c.front.ensures)) ∙ (sym c.waits.ensures ∙ c.if-waits.false)

@@ -14,7 +14,7 @@ returns-clause-text c =
     let found = reports_before c.args.asked.now given from (before_of c.args.walk) in
     finish_is c.args.asked.now given c.args.walk.most (string_bytes c.args.walk.text) (string_bytes c.push_reports.new.text) (before_of c.args.walk)
     c.args.walk.from.now c.args.walk.left.now c.args.walk.shown.now found refl
-    (c.in_ok-here.ensures.text ∙ ap (λ b. string_bytes c.args.walk.text ++ drawings_before c.args.asked.now given c.args.walk.most from (map read_parts b)) c.front_of-before.ensures)
+    (c.in_ok-here.ensures.text ∙ ap (λ b. string_bytes c.args.walk.text ++ drawings_before c.args.asked.now given c.args.walk.most from (map read_parts b)) c.front-before.ensures)
 
 pub returns-clause-count : goal.returns-clause-count
 returns-clause-count c =
@@ -22,4 +22,4 @@ returns-clause-count c =
     let from = map (λ line. line.now) c.args.walk.from.now in
     finish_counts c.args.asked.now given c.args.walk.count c.in_ok-here.here c.in_ok-count.count (before_of c.args.walk)
     c.args.walk.from.now c.args.walk.left.now
-    (c.in_ok-here.ensures.count ∙ ap (λ b. count_of c.args.asked.now (reports_before c.args.asked.now given from (map read_parts b))) c.front_of-before.ensures) c.in_ok-count.ensures
+    (c.in_ok-here.ensures.count ∙ ap (λ b. count_of c.args.asked.now (reports_before c.args.asked.now given from (map read_parts b))) c.front-before.ensures) c.in_ok-count.ensures
