@@ -1,12 +1,10 @@
 //! The values that options are given, each read once, and the first wrong argument.
 ghost use Rattle.std.specs.Prelude.{◌≡◌, ◌∷◌, ◌++◌, [], IfOk, OnOk, is_some, map, option_map};
 ghost use Rattle.std.specs.Option.{option_or};
-ghost use Rattle.line_shapes.specs.Parse.{shape_of};
-ghost use Rattle.girzohal_options.specs.Given.{Takes, first_wrong, given_with, nothing, once, shapes_by};
-ghost use Rattle.girzohal_options.specs.Given.{unless, wrong, wrong_choice, wrong_in, wrong_shape, wrong_value};
-ghost use Rattle.girzohal_options.specs.Said.{file as file_said, flag as flag_said, said};
+ghost use Rattle.girzohal_options.specs.Given.{Takes, first_wrong, given_with, nothing, once};
+ghost use Rattle.girzohal_options.specs.Given.{unless, wrong, wrong_choice, wrong_in, wrong_value};
+ghost use Rattle.girzohal_options.specs.Said.{said};
 ghost use Rattle.girzohal_options.specs.Said.{setting as setting_said};
-ghost use Rattle.girzohal_options.specs.Shapes.{own_parts};
 ghost use Rattle.girzohal_options.specs.Values.{is_text as is_some_text};
 
 use crate::items::Item;
@@ -164,42 +162,27 @@ impl<'w> Taken<'w> {
         ensures taken { OnOk result (Takes self.old (said item.entry ∷ []) self.new) }
     {
         match item {
-            Item::Flag(name) => {
-                self.take_flag(name);
+            Item::Flag("--unique") => {
+                self.given.unique = Some(true);
                 Ok(None)
             }
+            Item::Flag("--no-unique") => {
+                self.given.unique = Some(false);
+                Ok(None)
+            }
+            Item::Flag(_) => Ok(None),
             Item::Given(setting, value) => self.set(alloc, program, setting, value),
-            Item::File(name) => Ok(self.take_file(program, name)),
+            Item::File(name) => {
+                let again = self.given.file;
+                self.given.file = true;
+                match program {
+                    Program::Server if again => Ok(Some(Fault::SecondFile(name))),
+                    _ => Ok(None),
+                }
+            }
             Item::Unknown(name) => Ok(Some(Fault::Unknown(name))),
             Item::Bare(setting) => Ok(Some(Fault::Bare(setting))),
             Item::Valued(name, value) => Ok(Some(Fault::Valued(name, value))),
-        }
-    }
-
-    /// Takes a file, and returns what is wrong with it.
-    #[tactic(auto, unfolding(crate::specs::Given::given_with))]
-    fn take_file(&mut self, program: Program, name: &'w str) -> Option<Fault<'w>>
-        ensures fault { option_map wrong result
-            ≡ wrong_in program self.old.given (file_said name.entry.now) }
-        ensures taken { Takes self.old (file_said name.entry.now ∷ []) self.new }
-    {
-        let again = self.given.file;
-        self.given.file = true;
-        match program {
-            Program::Server if again => Some(Fault::SecondFile(name)),
-            _ => None,
-        }
-    }
-
-    /// Takes an option without a value.
-    #[tactic(auto, unfolding(crate::specs::Given::given_with))]
-    fn take_flag(&mut self, name: &str)
-        ensures { Takes self.old (flag_said name.now ∷ []) self.new }
-    {
-        match name {
-            "--unique" => self.given.unique = Some(true),
-            "--no-unique" => self.given.unique = Some(false),
-            _ => {}
         }
     }
 
@@ -222,7 +205,14 @@ impl<'w> Taken<'w> {
                 self.tool = Some(value);
                 Ok(fault_unless(is_tool(alloc, program, value)?, setting, value))
             }
-            Setting::Shape => push_shape(alloc, &mut self.shapes, value),
+            Setting::Shape => match parse(alloc, value) {
+                Ok(shape) => {
+                    self.shapes.push(shape)?;
+                    Ok(None)
+                }
+                Err(ShapeError::OutOfMemory) => Err(AllocError),
+                Err(why) => Ok(Some(Fault::Shape(why, value))),
+            },
             Setting::Output => Ok(fault_unless(output_in(value).is_some(), setting, value)),
             Setting::Root => {
                 self.root = Some(value);
@@ -327,26 +317,5 @@ fn fault_unless(takes: bool, setting: Setting, text: &str) -> Option<Fault<'_>>
         None
     } else {
         Some(Fault::Value(setting, text))
-    }
-}
-
-/// Appends the pattern that a text is, and returns what is wrong with it.
-fn push_shape<'w>(
-    alloc: Global,
-    shapes: &mut Vec<OwnShape>,
-    text: &'w str,
-) -> Result<Option<Fault<'w>>, AllocError>
-    ensures shapes { OnOk result (map own_parts shapes.new.items
-        ≡ map own_parts shapes.old.items ++ shapes_by (shape_of text.entry.now)) }
-    ensures fault { IfOk result (λ fault. option_map wrong fault
-        ≡ wrong_shape (shape_of text.entry.now) text.entry.now) }
-{
-    match parse(alloc, text) {
-        Ok(shape) => {
-            shapes.push(shape)?;
-            Ok(None)
-        }
-        Err(ShapeError::OutOfMemory) => Err(AllocError),
-        Err(why) => Ok(Some(Fault::Shape(why, text))),
     }
 }

@@ -4,7 +4,7 @@ ghost use Rattle.escapes.specs.Cuts.{cut_at};
 ghost use Rattle.girzohal_options.specs.Said.{file as file_said, is_file as is_no_option};
 ghost use Rattle.girzohal_options.specs.Said.{kind as kind_said, kind_of as kind_meant};
 ghost use Rattle.girzohal_options.specs.Said.{parted as said_parted};
-ghost use Rattle.girzohal_options.specs.Said.{said, said_behind, said_by, valued_by as said_valued};
+ghost use Rattle.girzohal_options.specs.Said.{said, said_behind, said_by};
 
 use crate::table::{Program, Setting, is_flag, setting_named};
 use escapes::cut;
@@ -28,7 +28,7 @@ pub(crate) enum Item<'w> {
 }
 
 /// What an argument is.
-#[derive(Clone, Copy)]
+#[derive(Drop)]
 pub(crate) enum Kind<'w> {
     /// An option that takes the next argument as its value.
     Takes(Setting),
@@ -37,7 +37,7 @@ pub(crate) enum Kind<'w> {
 }
 
 /// An item, and the arguments after it.
-#[derive(Clone, Copy)]
+#[derive(Drop)]
 struct Read<'w> {
     item: Item<'w>,
     rest: &'w [String],
@@ -119,16 +119,9 @@ fn kind_of(program: Program, word: &str) -> Kind<'_>
 fn parted(program: Program, word: &str) -> Item<'_>
     ensures { said result ≡ said_parted program word.now (cut_at 0x3D word.now) }
 {
-    match cut(word, '=') {
-        Some((name, value)) => valued(program, name, value),
-        None => Item::Unknown(word),
-    }
-}
-
-/// An option with a value after an equals sign.
-fn valued<'w>(program: Program, name: &'w str, value: &'w str) -> Item<'w>
-    ensures { said result ≡ said_valued program name.entry.now value.entry.now }
-{
+    let Some((name, value)) = cut(word, '=') else {
+        return Item::Unknown(word);
+    };
     match setting_named(program, name) {
         Some(setting) => Item::Given(setting, value),
         None if is_flag(program, name) => Item::Valued(name, value),

@@ -81,7 +81,7 @@ pub enum OutputForm {
 }
 
 /// The characters and colors of a drawing.
-#[derive(Clone, Copy, PartialEq, Eq)]
+#[derive(Clone, Copy)]
 pub enum ThemeChoice {
     /// With colors if a person looks, else as `UnicodeNocolor`.
     Auto,

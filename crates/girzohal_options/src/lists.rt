@@ -57,21 +57,12 @@ pub(crate) fn outputs_in(alloc: Global, items: &[Item<'_>]) -> Result<Vec<Output
 {
     let mut outputs = Vec::new(alloc);
     for item in items {
-        push_output(alloc, &mut outputs, *item)?;
+        if let Some((to, path)) = output_of(*item) {
+            let path = String::from_str(alloc, path)?;
+            outputs.push(Output { to, path })?;
+        }
     }
     Ok(outputs)
-}
-
-/// Appends the output that an item asks for, if it does.
-fn push_output(alloc: Global, outputs: &mut Vec<Output>, item: Item<'_>) -> Result<(), AllocError>
-    ensures { OnOk result (map output_parts outputs.new.items
-        ≡ map output_parts outputs.old.items ++ listed (output_meant (said item.entry))) }
-{
-    if let Some((to, path)) = output_of(item) {
-        let path = String::from_str(alloc, path)?;
-        outputs.push(Output { to, path })?;
-    }
-    Ok(())
 }
 
 /// The output that an item asks for.

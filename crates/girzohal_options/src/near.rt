@@ -1,6 +1,5 @@
 //! The known option that an unknown one may mean.
-ghost use Rattle.std.specs.Prelude.{◌≡◌, ◌∷◌, ◌++◌, [], IfOk, OnOk, map};
-ghost use Rattle.std.specs.Prelude.{if◌then◌else◌, nat_lt, Some};
+ghost use Rattle.std.specs.Prelude.{◌≡◌, ◌++◌, IfOk, if◌then◌else◌, map, nat_lt, Some};
 ghost use Rattle.std.specs.List.{filter};
 ghost use Rattle.std.specs.Option.{option_copied};
 ghost use Rattle.girzohal_options.specs.Names.{long_names as names_of, setting_name};
@@ -72,25 +71,12 @@ fn beginning(
     let mut begun = Vec::new(alloc);
     let mut rest = names;
     while let [name, more @ ..] = rest {
-        push_begun(&mut begun, name, text)?;
+        if name.as_bytes().starts_with(text.as_bytes()) {
+            begun.push(*name)?;
+        }
         rest = more;
     }
     Ok(begun)
-}
-
-/// Appends a name if it begins with a text.
-fn push_begun(
-    begun: &mut Vec<&'static str>,
-    name: &'static str,
-    text: &str,
-) -> Result<(), AllocError>
-    ensures { OnOk result (map (λ it. it.now) begun.new.items
-        ≡ map (λ it. it.now) begun.old.items ++ filter (begins text.now) (name.entry.now ∷ [])) }
-{
-    if name.as_bytes().starts_with(text.as_bytes()) {
-        begun.push(name)?;
-    }
-    Ok(())
 }
 
 /// The best name so far.

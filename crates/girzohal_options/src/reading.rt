@@ -10,7 +10,7 @@ ghost use Rattle.girzohal_options.specs.Reads.{asks_quiet as quiet_asked};
 ghost use Rattle.girzohal_options.specs.Reads.{asks_version as version_asked};
 ghost use Rattle.girzohal_options.specs.Reads.{has_flag as has_flag_of, prints_with as prints_so};
 ghost use Rattle.girzohal_options.specs.Reads.{theme_with};
-ghost use Rattle.girzohal_options.specs.Said.{is_named as is_named_so, said, said_by};
+ghost use Rattle.girzohal_options.specs.Said.{said, said_by};
 ghost use Rattle.girzohal_options.specs.Shapes.{own_parts};
 
 use crate::given::{Fault, Taken};
@@ -64,6 +64,7 @@ impl<'w> From<AllocError> for Refusal<'w> {
 ///
 /// The first wrong argument, or else options that make no sense together, unless help or the version
 /// is asked for; and out of memory.
+#[tactic(auto, using(crate::proofs::GivenLemmas::nothing_before))]
 pub fn read_words<'w>(
     alloc: Global,
     program: Program,
@@ -72,32 +73,20 @@ pub fn read_words<'w>(
     ensures { Reads program (said_by program (map string_bytes words.now)) result }
 {
     let items = items_of(alloc, program, words)?;
-    request_in(alloc, program, &items)
-}
-
-/// What items ask for.
-#[tactic(auto, using(crate::proofs::GivenLemmas::nothing_before))]
-fn request_in<'w>(
-    alloc: Global,
-    program: Program,
-    items: &[Item<'w>],
-) -> Result<Request, Refusal<'w>>
-    ensures { Reads program (map said items.now) result }
-{
-    if has_flag(items, "--help") || has_flag(items, "-h") {
+    if has_flag(&items, "--help") || has_flag(&items, "-h") {
         return Ok(Request::Help);
     }
-    if has_flag(items, "--version") || has_flag(items, "-V") {
+    if has_flag(&items, "--version") || has_flag(&items, "-V") {
         return Ok(Request::Version);
     }
     let mut taken = Taken::new(alloc);
-    if let Some(fault) = taken.take_all(alloc, program, items)? {
+    if let Some(fault) = taken.take_all(alloc, program, &items)? {
         return Err(Refusal::Fault(fault));
     }
-    if let Some(fault) = wrong_together(alloc, program, items, &taken)? {
+    if let Some(fault) = wrong_together(alloc, program, &items, &taken)? {
         return Err(Refusal::Fault(fault));
     }
-    Ok(Request::Run(asked(alloc, program, items, taken)?))
+    Ok(Request::Run(asked(alloc, program, &items, taken)?))
 }
 
 impl Asked {
@@ -314,20 +303,11 @@ fn has_flag(items: &[Item<'_>], name: &str) -> bool
 {
     let mut rest = items;
     while let [item, more @ ..] = rest {
-        if is_named(*item, name) {
-            return true;
+        match item {
+            Item::Flag(other) if *other == name => return true,
+            _ => {}
         }
         rest = more;
     }
     false
-}
-
-/// Whether an item is the option of this name, without a value.
-fn is_named(item: Item<'_>, name: &str) -> bool
-    ensures { result ≡ is_named_so name.now (said item.entry) }
-{
-    match item {
-        Item::Flag(other) => other == name,
-        _ => false,
-    }
 }

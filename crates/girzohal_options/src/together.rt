@@ -95,20 +95,11 @@ fn written_in<'w>(
         paths.push("-")?;
     }
     for item in items {
-        push_path(&mut paths, *item)?;
+        if let Some((_, path)) = output_of(*item) {
+            paths.push(path)?;
+        }
     }
     Ok(paths)
-}
-
-/// Appends the file of the output that an item asks for, if it does.
-fn push_path<'w>(paths: &mut Vec<&'w str>, item: Item<'w>) -> Result<(), AllocError>
-    ensures { OnOk result (map (λ it. it.now) paths.new.items ≡ map (λ it. it.now) paths.old.items
-        ++ listed (option_map (λ output. output.1) (output_by (said item.entry)))) }
-{
-    if let Some((_, path)) = output_of(item) {
-        paths.push(path)?;
-    }
-    Ok(())
 }
 
 /// The first text that comes again.

@@ -5,15 +5,13 @@ ghost use Rattle.girzohal_options.specs.Values.{filter_named as filter_meant, fo
 ghost use Rattle.girzohal_options.specs.Values.{form_of_tool as form_written};
 ghost use Rattle.girzohal_options.specs.Values.{has_json as json_known, has_lines as lines_known};
 ghost use Rattle.girzohal_options.specs.Values.{is_text as is_some_text, is_tool as is_known_tool};
-ghost use Rattle.girzohal_options.specs.Values.{json_or_auto as json_or_auto_so};
 ghost use Rattle.girzohal_options.specs.Values.{level_named as level_meant};
-ghost use Rattle.girzohal_options.specs.Values.{lines_or_auto as lines_or_auto_so};
 ghost use Rattle.girzohal_options.specs.Values.{max_row_named as max_row_meant};
 ghost use Rattle.girzohal_options.specs.Values.{output_in as output_said, output_named as output_meant};
 ghost use Rattle.girzohal_options.specs.Values.{positive as from_one, severity_named as severity_meant};
 ghost use Rattle.girzohal_options.specs.Values.{tabs_named as tabs_meant};
 ghost use Rattle.girzohal_options.specs.Values.{unit_named as unit_meant};
-ghost use Rattle.girzohal_options.specs.Values.{width_named as width_meant, within as within_range};
+ghost use Rattle.girzohal_options.specs.Values.{width_named as width_meant};
 
 use crate::table::{JSON_TOOLS, Program, is_among};
 use crate::{InputForm, OutputForm, ThemeChoice};
@@ -160,12 +158,7 @@ pub(crate) fn first_named(value: &str) -> Option<u32>
 pub(crate) fn tabs_named(value: &str) -> Option<TabWidth>
     ensures { result ≡ tabs_meant value.now }
 {
-    tab_width(number(value)?)
-}
-
-fn tab_width(columns: usize) -> Option<TabWidth>
-    ensures { result ≡ within_range 1 16 columns }
-{
+    let columns = number(value)?;
     if 1 <= columns && columns <= 16 {
         TabWidth::new(columns)
     } else {
@@ -249,26 +242,14 @@ pub(crate) fn form_of_tool(
         return Ok(InputForm::Sarif);
     }
     if !has_json(program, tool) {
-        return Ok(lines_or_auto(program));
+        return match program {
+            Program::Girzohal => Ok(InputForm::Lines),
+            Program::Server => Ok(InputForm::Auto),
+        };
     }
-    Ok(json_or_auto(has_lines(alloc, tool)?))
-}
-
-fn lines_or_auto(program: Program) -> InputForm
-    ensures { result ≡ lines_or_auto_so program }
-{
-    match program {
-        Program::Girzohal => InputForm::Lines,
-        Program::Server => InputForm::Auto,
-    }
-}
-
-fn json_or_auto(has_lines: bool) -> InputForm
-    ensures { result ≡ json_or_auto_so has_lines }
-{
-    if has_lines {
-        InputForm::Auto
+    if has_lines(alloc, tool)? {
+        Ok(InputForm::Auto)
     } else {
-        InputForm::Json
+        Ok(InputForm::Json)
     }
 }
