@@ -37,21 +37,15 @@ impl Counts {
             if *byte == b'\n' {
                 self.at = 0;
             } else {
-                if self.at == 2 {
-                    self.take_letter(*byte);
+                // by the first letter of its level
+                match (self.at, *byte) {
+                    (2, b'e') => self.errors = self.errors.saturating_add(1),
+                    (2, b'w') => self.warnings = self.warnings.saturating_add(1),
+                    (2, b'n') => self.notices = self.notices.saturating_add(1),
+                    _ => {}
                 }
                 self.at = self.at.saturating_add(1);
             }
-        }
-    }
-
-    /// Counts an annotation by the first letter of its level.
-    fn take_letter(&mut self, letter: u8) {
-        match letter {
-            b'e' => self.errors = self.errors.saturating_add(1),
-            b'w' => self.warnings = self.warnings.saturating_add(1),
-            b'n' => self.notices = self.notices.saturating_add(1),
-            _ => {}
         }
     }
 

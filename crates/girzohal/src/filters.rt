@@ -91,21 +91,31 @@ pub(crate) fn bytes_of(
     if name == "-" {
         return whole(rt, alloc, name, limit, &mut StdinSource::new(rt.stdin()));
     }
+    let opened = open(rt, alloc, name)?;
+    whole(rt, alloc, name, limit, &mut ReaderSource::new(opened))
+}
+
+/// Opens a file, or writes why it isn't read.
+pub(crate) fn open(
+    rt: &HostRuntime,
+    alloc: Global,
+    name: &str,
+) -> Result<<HostRuntime as Files>::File, Status> {
     if let Ok(about) = rt.metadata(name) {
         if about.is_dir() {
             return Err(refuse(rt, alloc, name, " ", "is a folder", Status::ReadFault));
         }
     }
     match fs::open(rt, name) {
-        Ok(opened) => whole(rt, alloc, name, limit, &mut ReaderSource::new(opened)),
-        Err(e) => Err(refuse(
-            rt,
-            alloc,
-            name,
-            " ",
-            why_closed(e.kind()),
-            Status::ReadFault,
-        )),
+        Ok(opened) => Ok(opened),
+        Err(e) => {
+            let why = match e.kind() {
+                ErrorKind::NotFound => "isn't there",
+                ErrorKind::PermissionDenied => "may not be read",
+                _ => "can't be read",
+            };
+            Err(refuse(rt, alloc, name, " ", why, Status::ReadFault))
+        }
     }
 }
 
@@ -125,16 +135,7 @@ fn whole<I: Source>(
     }
 }
 
-/// Why a file can't be opened.
-pub(crate) fn why_closed(kind: ErrorKind) -> &'static str {
-    match kind {
-        ErrorKind::NotFound => "isn't there",
-        ErrorKind::PermissionDenied => "may not be read",
-        _ => "can't be read",
-    }
-}
-
-/// Writes why a file isn't read, with its name sanitized.
+/// Writes why a file isn't read or written, with its name sanitized.
 pub(crate) fn refuse(
     rt: &HostRuntime,
     alloc: Global,

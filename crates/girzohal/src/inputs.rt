@@ -1,30 +1,16 @@
 // Several inputs.
 use crate::filters::bytes_of;
-use crate::outputs::write_several;
 use crate::tell_waiting;
-use girzohal_options::{Asked, ThemeChoice};
 use girzohal_run::{Input, LIMIT, Status};
-use source_store::DiskStore;
 use std::alloc::Global;
-use std::process::ExitCode;
-
-/// Reads all files, and writes their findings together.
-pub(crate) fn run_inputs(
-    rt: &HostRuntime,
-    alloc: Global,
-    asked: &mut Asked,
-    in_files: ThemeChoice,
-    store: &DiskStore<'_, HostRuntime>,
-) -> ExitCode {
-    match inputs_in(rt, alloc, &asked.files) {
-        Ok(inputs) => write_several(rt, alloc, asked, in_files, &inputs, store),
-        Err(status) => ExitCode::from(status.code()),
-    }
-}
 
 /// The files, or why the first one isn't read that can't be. Together they have as many bytes as
 /// one may have.
-fn inputs_in(rt: &HostRuntime, alloc: Global, names: &[String]) -> Result<Vec<Input>, Status> {
+pub(crate) fn inputs_in(
+    rt: &HostRuntime,
+    alloc: Global,
+    names: &[String],
+) -> Result<Vec<Input>, Status> {
     let mut inputs = Vec::new(alloc);
     let mut left = LIMIT;
     for name in names {

@@ -23,22 +23,22 @@ mod surroundings;
 
 use annotations::print_annotations;
 use documents::{ReaderSource, Source, StderrSink, StdinSource, StdoutSink};
-use filters::{read_filters, why_closed};
+use filters::{open, read_filters};
 use girzohal_options::{
-    Asked, Fault, OutputForm, Program, Refusal, Request, ThemeChoice, message, read_words,
+    Asked, OutputForm, Program, Refusal, Request, ThemeChoice, message, read_words,
 };
 use girzohal_run::{Status, run};
 use harmless::{Kind, harmless};
 use help::{HELP, MORE, VERSION};
-use inputs::run_inputs;
-use outputs::{has_files, printed_form, write_outputs};
+use inputs::inputs_in;
+use outputs::{is_file, printed_form, write_outputs, write_several};
 use shapes::read_shapes;
 use source_store::DiskStore;
 use std::alloc::Global;
+use std::env;
 use std::fs::Files;
 use std::io::IsTerminal;
 use std::process::ExitCode;
-use std::{env, fs};
 use surroundings::Surroundings;
 
 fn main(rt: HostRuntime) -> ExitCode {
@@ -54,7 +54,10 @@ fn main(rt: HostRuntime) -> ExitCode {
         Ok(Request::Help) => tell(&rt, HELP),
         Ok(Request::Version) => tell(&rt, VERSION),
         Ok(Request::Run(asked)) => obey(&rt, alloc, asked),
-        Err(Refusal::Fault(fault)) => refuse_argument(&rt, alloc, fault),
+        Err(Refusal::Fault(fault)) => match message(alloc, Program::Girzohal, fault) {
+            Ok(line) => refuse(&rt, line.as_str()),
+            Err(_) => ExitCode::from(Status::OutOfMemory.code()),
+        },
         Err(Refusal::OutOfMemory) => ExitCode::from(Status::OutOfMemory.code()),
     }
 }
@@ -88,14 +91,23 @@ fn obey(rt: &HostRuntime, alloc: Global, mut asked: Asked) -> ExitCode {
         return ExitCode::from(status.code());
     }
     if asked.files.len() > 1 {
-        return run_inputs(rt, alloc, &mut asked, in_files, &store);
+        return match inputs_in(rt, alloc, &asked.files) {
+            Ok(inputs) => write_several(rt, alloc, &mut asked, in_files, &inputs, &store),
+            Err(status) => ExitCode::from(status.code()),
+        };
     }
     let Some(file) = take_file(&mut asked) else {
         tell_waiting(rt);
         let mut input = StdinSource::new(rt.stdin());
         return start(rt, alloc, &mut asked, in_files, &mut input, &store);
     };
-    read_file(rt, alloc, &mut asked, in_files, file.as_str(), &store)
+    match open(rt, alloc, file.as_str()) {
+        Ok(opened) => {
+            let mut input = ReaderSource::new(opened);
+            start(rt, alloc, &mut asked, in_files, &mut input, &store)
+        }
+        Err(status) => ExitCode::from(status.code()),
+    }
 }
 
 /// Writes that the program waits for a terminal, if standard input is one.
@@ -118,29 +130,6 @@ fn take_file(asked: &mut Asked) -> Option<String> {
     }
 }
 
-/// Runs over a file, or writes why it isn't read.
-fn read_file(
-    rt: &HostRuntime,
-    alloc: Global,
-    asked: &mut Asked,
-    in_files: ThemeChoice,
-    file: &str,
-    store: &DiskStore<'_, HostRuntime>,
-) -> ExitCode {
-    if let Ok(about) = rt.metadata(file) {
-        if about.is_dir() {
-            return refuse_file(rt, alloc, file, "is a folder");
-        }
-    }
-    match fs::open(rt, file) {
-        Ok(opened) => {
-            let mut input = ReaderSource::new(opened);
-            start(rt, alloc, asked, in_files, &mut input, store)
-        }
-        Err(e) => refuse_file(rt, alloc, file, why_closed(e.kind())),
-    }
-}
-
 /// The absolute path of a folder, without links.
 fn folder_at(rt: &HostRuntime, alloc: Global, path: &str) -> Option<String> {
     let real = rt.canonicalize(alloc, path).ok()?;
@@ -148,15 +137,6 @@ fn folder_at(rt: &HostRuntime, alloc: Global, path: &str) -> Option<String> {
         Ok(about) if about.is_dir() => Some(real.into_string()),
         _ => None,
     }
-}
-
-/// Writes why a file isn't read, with its name sanitized.
-fn refuse_file(rt: &HostRuntime, alloc: Global, file: &str, why: &str) -> ExitCode {
-    let Ok(name) = harmless(alloc, Kind::Name, file) else {
-        return ExitCode::from(Status::OutOfMemory.code());
-    };
-    let _told = eprintln!(rt; "girzohal: {name} {why}");
-    ExitCode::from(Status::ReadFault.code())
 }
 
 /// Runs over an input.
@@ -168,7 +148,7 @@ fn start<I: Source>(
     input: &mut I,
     store: &DiskStore<'_, HostRuntime>,
 ) -> ExitCode {
-    if has_files(asked) {
+    if asked.outputs.iter().any(|output| is_file(output)) {
         return write_outputs(rt, alloc, asked, in_files, input, store);
     }
     if let Some(to) = printed_form(asked) {
@@ -181,14 +161,6 @@ fn start<I: Source>(
     let mut err = StderrSink::new(rt.stderr());
     let status = run(alloc, asked, input, store, &mut out, &mut err);
     ExitCode::from(status.code())
-}
-
-/// Writes which argument is wrong, and why.
-fn refuse_argument(rt: &HostRuntime, alloc: Global, fault: Fault<'_>) -> ExitCode {
-    match message(alloc, Program::Girzohal, fault) {
-        Ok(line) => refuse(rt, line.as_str()),
-        Err(_) => ExitCode::from(Status::OutOfMemory.code()),
-    }
 }
 
 /// Writes that there is no such folder, with its name sanitized.

@@ -1,21 +1,16 @@
 // Several outputs.
 use crate::annotations::tell_annotations;
+use crate::filters::refuse;
 use documents::{Source, StderrSink, StdoutSink};
 use girzohal_options::{Asked, Output, OutputForm, ThemeChoice};
 use girzohal_run::{Input, Made, Status, Wanted, run_each, run_several};
-use harmless::{Kind, harmless};
 use oxc_protocol::write_all;
 use source_store::{DiskStore, Text, WriteError, replace_all};
 use std::alloc::{AllocError, Global};
 use std::process::ExitCode;
 
-/// Whether an output is a file.
-pub(crate) fn has_files(asked: &Asked) -> bool {
-    asked.outputs.iter().any(|output| is_file(output))
-}
-
 /// Whether an output is a file, and not standard output.
-fn is_file(output: &Output) -> bool {
+pub(crate) fn is_file(output: &Output) -> bool {
     output.path.as_str() != "-"
 }
 
@@ -114,7 +109,11 @@ fn write_made(
     };
     match replace_all(alloc, rt, &texts) {
         Ok(()) => {}
-        Err(WriteError::File(path)) => return refuse_output(rt, alloc, path),
+        Err(WriteError::File(path)) => {
+            let why = "can't be written";
+            let status = refuse(rt, alloc, path, " ", why, Status::SinkFault);
+            return ExitCode::from(status.code());
+        }
         Err(WriteError::OutOfMemory) => return ExitCode::from(Status::OutOfMemory.code()),
     }
     if let Some(first) = first {
@@ -124,7 +123,12 @@ fn write_made(
         }
     }
     tell_annotations(rt, wanted, made);
-    ExitCode::from(status_of(made).code())
+    let status = if made.iter().any(|it| it.reached()) {
+        Status::Reached
+    } else {
+        Status::Clean
+    };
+    ExitCode::from(status.code())
 }
 
 /// The files with their texts.
@@ -148,22 +152,4 @@ fn texts_of<'a>(
         }
     }
     Ok(texts)
-}
-
-/// How a run ended that made this.
-fn status_of(made: &[Made]) -> Status {
-    if made.iter().any(|it| it.reached()) {
-        Status::Reached
-    } else {
-        Status::Clean
-    }
-}
-
-/// Writes that a file can't be written, with its name sanitized.
-fn refuse_output(rt: &HostRuntime, alloc: Global, path: &str) -> ExitCode {
-    let Ok(name) = harmless(alloc, Kind::Name, path) else {
-        return ExitCode::from(Status::OutOfMemory.code());
-    };
-    let _told = eprintln!(rt; "girzohal: {name} can't be written");
-    ExitCode::from(Status::SinkFault.code())
 }

@@ -49,16 +49,12 @@ impl Surroundings {
             then Unicode else UnicodeNocolor) }
     {
         match choice {
-            ThemeChoice::Auto if self.has_colors() => ThemeChoice::Unicode,
+            ThemeChoice::Auto if self.forced || self.terminal && !self.refused && !self.dumb => {
+                ThemeChoice::Unicode
+            }
             ThemeChoice::Auto => ThemeChoice::UnicodeNocolor,
             chosen => chosen,
         }
-    }
-
-    fn has_colors(self) -> bool
-        ensures { result ≡ (self.forced || (self.terminal && not self.refused && not self.dumb)) }
-    {
-        self.forced || self.terminal && !self.refused && !self.dumb
     }
 
     /// The width of a drawing.
