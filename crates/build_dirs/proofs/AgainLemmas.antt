@@ -10,22 +10,20 @@ use Rattle.std.specs.String.{string_cmp}
 use Rattle.std.specs.declared.alloc.Global.{Global}
 use Rattle.std.proofs.lemmas.Map.Text.{btree_set_updates_text}
 use Rattle.std.specs.List.{flat_map, list_all, list_any}
+use Rattle.std.proofs.lemmas.Bool.{and_from, and_parts, not-true}
 use Rattle.std.proofs.lemmas.List.{append-nil, map_more}
+use Rattle.std.proofs.lemmas.List.Folds.{list_all-append}
+use Rattle.std.proofs.lemmas.Option.{some_pair_parts}
 use Rattle.std.proofs.lemmas.Grind.{flat_map-append}
 use Rattle.escapes.specs.Cuts.{cut_at}
 use Rattle.escapes.proofs.CutLemmas.{cut_here}
 use Rattle.build_dirs.specs.declared.again.PrintedPiece.{PrintedPiece}
 use Rattle.build_dirs.specs.Again.{KeysAreExact, Piece, Seen, ended, is_clean, is_clean_line, key_lines, key_text, lines_of, lossy_piece, none_seen, piece_of, tagged, with_seen}
-use Rattle.build_dirs.proofs.ChangeLemmas.{both_left, both_right, firsts, seconds}
 
 -- ---- lines with their ends
 
 free : (line : List ℕ) → is_clean_line line ≡ true → list_any (λ byte. byte == 0x0A) line ≡ false
-free line is = go (list_any (λ byte. byte == 0x0A) line) is
-  where
-    go : (there : Bool) → not there ≡ true → there ≡ false
-    go true is = cc
-    go false is = refl
+free line is = not-true (list_any (λ byte. byte == 0x0A) line) is
 
 first_line : (line : List ℕ) (lines : List (List ℕ)) → is_clean_line line ≡ true → cut_at 0x0A (key_lines (line ∷ lines)) ≡ Some (line, key_lines lines)
 first_line line lines is = ap (cut_at 0x0A) (append_assoc line (0x0A ∷ []) (key_lines lines)) ∙ cut_here 0x0A line (key_lines lines) (free line is)
@@ -37,13 +35,14 @@ nothing front rest is = cc
 lines_once : (xs ys : List (List ℕ)) → list_all is_clean_line xs ≡ true → list_all is_clean_line ys ≡ true → key_lines xs ≡ key_lines ys → xs ≡ ys
 lines_once [] [] clean others same = refl
 lines_once [] (y ∷ ys) clean others same =
-    (let found = ap (cut_at 0x0A) same ∙ first_line y ys (both_left (is_clean_line y) (list_all is_clean_line ys) others) in absurd (nothing y (key_lines ys) found))
+    (let found = ap (cut_at 0x0A) same ∙ first_line y ys (and_parts (is_clean_line y) (list_all is_clean_line ys) others).0 in absurd (nothing y (key_lines ys) found))
 lines_once (x ∷ xs) [] clean others same =
-    (let found = ap (cut_at 0x0A) (sym same) ∙ first_line x xs (both_left (is_clean_line x) (list_all is_clean_line xs) clean) in absurd (nothing x (key_lines xs) found))
+    (let found = ap (cut_at 0x0A) (sym same) ∙ first_line x xs (and_parts (is_clean_line x) (list_all is_clean_line xs) clean).0 in absurd (nothing x (key_lines xs) found))
 lines_once (x ∷ xs) (y ∷ ys) clean others same =
-    let e = sym (first_line x xs (both_left (is_clean_line x) (list_all is_clean_line xs) clean)) ∙ ap (cut_at 0x0A) same ∙ first_line y ys (both_left (is_clean_line y) (list_all is_clean_line ys) others) in
-    ap₂ (λ z zs. z ∷ zs) (firsts x (key_lines xs) y (key_lines ys) e)
-    (lines_once xs ys (both_right (is_clean_line x) (list_all is_clean_line xs) clean) (both_right (is_clean_line y) (list_all is_clean_line ys) others) (seconds x (key_lines xs) y (key_lines ys) e))
+    let one = and_parts (is_clean_line x) (list_all is_clean_line xs) clean in
+    let other = and_parts (is_clean_line y) (list_all is_clean_line ys) others in
+    let e = some_pair_parts x y (key_lines xs) (key_lines ys) (sym (first_line x xs one.0) ∙ ap (cut_at 0x0A) same ∙ first_line y ys other.0) in
+    ap₂ (λ z zs. z ∷ zs) e.0 (lines_once xs ys one.1 other.1 e.1)
 
 -- ---- pieces
 
@@ -78,33 +77,21 @@ pieces_once (p ∷ ps) (q ∷ qs) same =
     ap₂ (λ x xs. x ∷ xs) (ap₂ make path parts.0) (pieces_once ps qs parts.1)
 
 clean_append : (xs ys : List (List ℕ)) → list_all is_clean_line xs ≡ true → list_all is_clean_line ys ≡ true → list_all is_clean_line (xs ++ ys) ≡ true
-clean_append [] ys first second = second
-clean_append (x ∷ xs) ys first second =
-    go (is_clean_line x) (both_left (is_clean_line x) (list_all is_clean_line xs) first) (clean_append xs ys (both_right (is_clean_line x) (list_all is_clean_line xs) first) second)
-  where
-    go : (a : Bool) → a ≡ true → list_all is_clean_line (xs ++ ys) ≡ true → (a && list_all is_clean_line (xs ++ ys)) ≡ true
-    go true is rest = rest
-    go false is rest = cc
+clean_append xs ys first second = list_all-append is_clean_line xs ys ∙ and_from (list_all is_clean_line xs) (list_all is_clean_line ys) first second
 
 clean_tags : (lines : List (List ℕ)) → list_all is_clean_line lines ≡ true → list_all is_clean_line (map (tagged 0x20) lines) ≡ true
 clean_tags [] is = refl
 clean_tags (line ∷ lines) is =
-    go (is_clean_line line) (both_left (is_clean_line line) (list_all is_clean_line lines) is) (clean_tags lines (both_right (is_clean_line line) (list_all is_clean_line lines) is))
-  where
-    go : (a : Bool) → a ≡ true → list_all is_clean_line (map (tagged 0x20) lines) ≡ true → (a && list_all is_clean_line (map (tagged 0x20) lines)) ≡ true
-    go true is rest = rest
-    go false is rest = cc
+    let both = and_parts (is_clean_line line) (list_all is_clean_line lines) is in
+    and_from (is_clean_line line) (list_all is_clean_line (map (tagged 0x20) lines)) both.0 (clean_tags lines both.1)
 
 clean_lines : (pieces : List Piece) → list_all is_clean pieces ≡ true → list_all is_clean_line (flat_map lines_of pieces) ≡ true
 clean_lines [] is = refl
 clean_lines (p ∷ ps) is =
-    let here = both_left (is_clean p) (list_all is_clean ps) is in
-    go (is_clean_line p.path) (both_left (is_clean_line p.path) (list_all is_clean_line p.lines) here)
-    (clean_append (map (tagged 0x20) p.lines) (flat_map lines_of ps) (clean_tags p.lines (both_right (is_clean_line p.path) (list_all is_clean_line p.lines) here)) (clean_lines ps (both_right (is_clean p) (list_all is_clean ps) is)))
-  where
-    go : (a : Bool) → a ≡ true → list_all is_clean_line (map (tagged 0x20) p.lines ++ flat_map lines_of ps) ≡ true → (a && list_all is_clean_line (map (tagged 0x20) p.lines ++ flat_map lines_of ps)) ≡ true
-    go true is rest = rest
-    go false is rest = cc
+    let both = and_parts (is_clean p) (list_all is_clean ps) is in
+    let here = and_parts (is_clean_line p.path) (list_all is_clean_line p.lines) both.0 in
+    and_from (is_clean_line p.path) (list_all is_clean_line (map (tagged 0x20) p.lines ++ flat_map lines_of ps)) here.0
+    (clean_append (map (tagged 0x20) p.lines) (flat_map lines_of ps) (clean_tags p.lines here.1) (clean_lines ps both.1))
 
 pub keys_are_exact : KeysAreExact
 unfolding key_text

@@ -1,10 +1,12 @@
 -- A line of a build, taken apart.
 use Rattle.std.proofs.Common.{◌≡◌, ◌⊎◌, ◌==◌, ◌&&◌, ◌||◌, not, ℕ, ◌+◌, ◌<◌, ◌^◌, if◌then◌else◌, nat_lt, Bool, true, false, List, [], ◌∷◌, ◌++◌, length, take, drop, get_or, Option, Some, None, refl, sym, ap, ap₂, ◌∙◌, subst, inl, inr, arith, option_map, unwrap_or}
 use Rattle.std.specs.List.{list_all, list_any, position_or_len}
-use Rattle.std.proofs.lemmas.Bool.{eq-eqb, eqb-true}
+use Rattle.std.proofs.lemmas.Bool.{and_parts, eq-eqb, eqb-true, or_from, or_left, or_right}
 use Rattle.std.proofs.lemmas.Bool.Decides.{nat_tests}
 use Rattle.std.proofs.lemmas.List.{append-nil, append_cancel_left, length-append, drop_more, take-append-drop}
+use Rattle.std.proofs.lemmas.List.Folds.{list_any-append}
 use Rattle.std.proofs.lemmas.List.Sums.{prefix_len_stops}
+use Rattle.std.proofs.lemmas.Option.{cond_some, some_pair_parts}
 use Rattle.std.specs.Str.Parse.{digits_value}
 use Rattle.escapes.specs.Cuts.{behind, cut_at, is_digit, leads_well, looks_as_number, number_of, without_last}
 use Rattle.escapes.proofs.CutLemmas.{behind_front, cut_here, last_taken}
@@ -39,29 +41,15 @@ ends_by byte (x ∷ (y ∷ rest)) front is = go (without_last byte (y ∷ rest))
     go None none some later = cc
     go (Some inner) there some later = (let e : front ≡ x ∷ inner = cc in rw e (ap (λ (xs : List ℕ). x ∷ xs) (later inner there)))
 
-pub both_left : (a b : Bool) → (a && b) ≡ true → a ≡ true
-both_left true b is = refl
-both_left false b is = is
-
-pub both_right : (a b : Bool) → (a && b) ≡ true → b ≡ true
-both_right true b is = is
-both_right false b is = cc
-
-pub firsts : (a b c d : List ℕ) → ◌≡◌ {A = Option (List ℕ × List ℕ)} (Some (a, b)) (Some (c, d)) → a ≡ c
-firsts a b c d e = ap (λ (o : Option (List ℕ × List ℕ)). (unwrap_or o (a, b)).0) e
-
-pub seconds : (a b c d : List ℕ) → ◌≡◌ {A = Option (List ℕ × List ℕ)} (Some (a, b)) (Some (c, d)) → b ≡ d
-seconds a b c d e = ap (λ (o : Option (List ℕ × List ℕ)). (unwrap_or o (a, b)).1) e
-
 cut_by : (byte n : ℕ) (text front rest : List ℕ) (within : Bool) (value : Option (List ℕ × List ℕ)) → n ≡ position_or_len (λ b. b == byte) text → nat_lt n (length text) ≡ within → value ≡ Some (take n text, drop (n + 1) text)
     → (if within then value else None) ≡ Some (front, rest) → text ≡ front ++ byte ∷ rest
 cut_by byte n text front rest true value is within value_is found =
     let less : n < length text = grind (arith, nat_tests) in
     let here : not (get_or text n 0 == byte) ≡ false = subst (λ k. not (get_or text k 0 == byte) ≡ false) (sym is) (prefix_len_stops (λ b. not (b == byte)) text 0 (omega (arith, is, less))) in
     let same : get_or text n 0 ≡ byte = grind (arith, nat_tests) in
-    let e = sym value_is ∙ found in
+    let e = some_pair_parts (take n text) front (drop (n + 1) text) rest (sym value_is ∙ found) in
     sym (take-append-drop n text) ∙ ap (λ (xs : List ℕ). take n text ++ xs) (drop_more text n 0 less ∙ ap (λ b. b ∷ drop (n + 1) text) same)
-    ∙ ap₂ (λ (xs ys : List ℕ). xs ++ byte ∷ ys) (firsts (take n text) (drop (n + 1) text) front rest e) (seconds (take n text) (drop (n + 1) text) front rest e)
+    ∙ ap₂ (λ (xs ys : List ℕ). xs ++ byte ∷ ys) e.0 e.1
 cut_by byte n text front rest false value is within value_is found = cc
 
 pub cuts : (byte : ℕ) (text front rest : List ℕ) → cut_at byte text ≡ Some (front, rest) → text ≡ front ++ byte ∷ rest
@@ -75,33 +63,27 @@ cuts byte text front rest is =
 
 free_from : (test : ℕ → Bool) (byte : ℕ) (xs : List ℕ) → test byte ≡ false → list_all test xs ≡ true → list_any (λ b. b == byte) xs ≡ false
 free_from test byte [] never all = refl
-free_from test byte (x ∷ xs) never all = go (x == byte) refl (free_from test byte xs never (both_right (test x) (list_all test xs) all))
+free_from test byte (x ∷ xs) never all = go (x == byte) refl (free_from test byte xs never (and_parts (test x) (list_all test xs) all).1)
   where
     go : (same : Bool) → (x == byte) ≡ same → list_any (λ b. b == byte) xs ≡ false → (same || list_any (λ b. b == byte) xs) ≡ false
-    go true same rest = (let named : test byte ≡ true = subst (λ b. test b ≡ true) (eqb-true x byte same) (both_left (test x) (list_all test xs) all) in cc)
+    go true same rest = (let named : test byte ≡ true = subst (λ b. test b ≡ true) (eqb-true x byte same) (and_parts (test x) (list_all test xs) all).0 in cc)
     go false other rest = rest
 
 program_all : (program : List ℕ) → is_program program ≡ true → list_all is_program_byte program ≡ true
 unfolding is_program
-program_all program is = both_right (not (length program == 0)) (list_all is_program_byte program) is
-
-if_some : (test : Bool) (value level : ℕ) → (if test then Some value else None) ≡ Some level → test ≡ true
-if_some true value level is = refl
-if_some false value level is = cc
+program_all program is = (and_parts (not (length program == 0)) (list_all is_program_byte program) is).1
 
 digits_all : (digits : List ℕ) (level : ℕ) → number_of digits ≡ Some level → list_all is_digit digits ≡ true
 unfolding number_of
 digits_all digits level is =
-    let both : (looks_as_number digits && nat_lt (digits_value 10 digits) (2 ^ 64)) ≡ true = if_some (looks_as_number digits && nat_lt (digits_value 10 digits) (2 ^ 64)) (digits_value 10 digits) level is in
-    both_left (list_all is_digit digits) (leads_well digits) (both_left (looks_as_number digits) (nat_lt (digits_value 10 digits) (2 ^ 64)) both)
+    let looks = looks_as_number digits in
+    let fits = nat_lt (digits_value 10 digits) (2 ^ 64) in
+    let both = (cond_some (looks && fits) (digits_value 10 digits) level is).0 in
+    (and_parts (list_all is_digit digits) (leads_well digits) (and_parts looks fits both).0).0
 
 free_append : (byte : ℕ) (xs ys : List ℕ) → list_any (λ b. b == byte) xs ≡ false → list_any (λ b. b == byte) ys ≡ false → list_any (λ b. b == byte) (xs ++ ys) ≡ false
-free_append byte [] ys first second = second
-free_append byte (x ∷ xs) ys first second = go (x == byte) first (λ found. free_append byte xs ys found second)
-  where
-    go : (same : Bool) → (same || list_any (λ b. b == byte) xs) ≡ false → (list_any (λ b. b == byte) xs ≡ false → list_any (λ b. b == byte) (xs ++ ys) ≡ false) → (same || list_any (λ b. b == byte) (xs ++ ys)) ≡ false
-    go true found later = cc
-    go false found later = later found
+free_append byte xs ys first second =
+    list_any-append (λ b. b == byte) xs ys ∙ or_from (list_any (λ b. b == byte) xs) (list_any (λ b. b == byte) ys) first second
 
 program_free : (byte : ℕ) (program : List ℕ) → is_program_byte byte ≡ false → is_program program ≡ true → list_any (λ b. b == byte) program ≡ false
 program_free byte program never is = free_from is_program_byte byte program never (program_all program is)
@@ -118,12 +100,9 @@ head_free head program level is =
     ap (list_any (λ b. b == 0x3A)) is.whole ∙ free_append 0x3A program is.text (program_free 0x3A program refl is.program_is) (level_free is.text level is.level_is)
 
 has_byte : (byte : ℕ) (xs ys : List ℕ) → list_any (λ b. b == byte) (xs ++ byte ∷ ys) ≡ true
-has_byte byte [] ys = (let e : (byte == byte) ≡ true = eq-eqb byte byte refl in rw e refl)
-has_byte byte (x ∷ xs) ys = go (x == byte) (has_byte byte xs ys)
-  where
-    go : (same : Bool) → list_any (λ b. b == byte) (xs ++ byte ∷ ys) ≡ true → (same || list_any (λ b. b == byte) (xs ++ byte ∷ ys)) ≡ true
-    go true found = refl
-    go false found = found
+has_byte byte xs ys =
+    list_any-append (λ b. b == byte) xs (byte ∷ ys)
+    ∙ or_right (list_any (λ b. b == byte) xs) (list_any (λ b. b == byte) (byte ∷ ys)) (or_left (byte == byte) (list_any (λ b. b == byte) ys) (eq-eqb byte byte refl))
 
 -- ---- the head
 
@@ -162,7 +141,7 @@ bracketed head front rest program level cut is =
       | inr some ↦
           (let e : head ≡ program ++ 0x5B ∷ (some.0 ++ 0x5D ∷ []) = is.whole ∙ ap (λ (t : List ℕ). program ++ t) some.1.0 in
           let found : cut_at 0x5B head ≡ Some (program, some.0 ++ 0x5D ∷ []) = ap (cut_at 0x5B) e ∙ cut_here 0x5B program (some.0 ++ 0x5D ∷ []) (program_free 0x5B program refl is.program_is) in
-          (let e = sym cut ∙ found in record { program_is = firsts front rest program (some.0 ++ 0x5D ∷ []) e; digits = some.0; rest_is = seconds front rest program (some.0 ++ 0x5D ∷ []) e; level_is = some.1.1 }))
+          (let e = some_pair_parts front program rest (some.0 ++ 0x5D ∷ []) (sym cut ∙ found) in record { program_is = e.0; digits = some.0; rest_is = e.1; level_is = some.1.1 }))
     ]
 
 pub no_program : (head front rest : List ℕ) → cut_at 0x5B head ≡ Some (front, rest) → is_program front ≡ false → HasNoHead head
@@ -275,19 +254,19 @@ no_colon line none = λ program level opens path is. (let found = line_cut line 
 pub not_head : (line head says : List ℕ) → cut_at 0x3A line ≡ Some (head, says) → HasNoHead head → IsNoChange line
 not_head line head says cut none = λ program level opens path is.
     (let found = line_cut line program path level opens is in
-    let e : is.head ≡ head = sym (firsts head says is.head is.says (sym cut ∙ found)) in
+    let e : is.head ≡ head = sym (some_pair_parts head is.head says is.says (sym cut ∙ found)).0 in
     none program level (subst (λ (h : List ℕ). IsHead h program level) e is.head_is))
 
 pub not_verb : (line head says : List ℕ) → cut_at 0x3A line ≡ Some (head, says) → HasNoVerb says → IsNoChange line
 not_verb line head says cut none = λ program level opens path is.
     (let found = line_cut line program path level opens is in
-    let e : is.says ≡ says = sym (seconds head says is.head is.says (sym cut ∙ found)) in
+    let e : is.says ≡ says = sym (some_pair_parts head is.head says is.says (sym cut ∙ found)).1 in
     none opens is.quoted (subst (λ (s : List ℕ). IsVerb s opens is.quoted) e is.verb_is))
 
 pub not_path : (line head says quoted : List ℕ) (way : Bool) → cut_at 0x3A line ≡ Some (head, says) → IsVerb says way quoted → HasNoPath quoted → IsNoChange line
 not_path line head says quoted way cut verb_is none = λ program level opens path is.
     (let found = line_cut line program path level opens is in
-    let e : is.says ≡ says = sym (seconds head says is.head is.says (sym cut ∙ found)) in
+    let e : is.says ≡ says = sym (some_pair_parts head is.head says is.says (sym cut ∙ found)).1 in
     let same : is.quoted ≡ quoted = verb_once says is.quoted quoted opens way (subst (λ (s : List ℕ). IsVerb s opens is.quoted) e is.verb_is) verb_is in
     none path (subst (λ (q : List ℕ). IsPath q path) same is.path_is))
 

@@ -3,7 +3,7 @@ use Rattle.std.proofs.Common.{◌≡◌, ℕ, zero, suc, ◌+◌, ◌-◌, ◌<�
 use Rattle.std.specs.List.{find, list_any}
 use Rattle.std.specs.Str.{bytes_eq}
 use Rattle.std.specs.String.{string_bytes}
-use Rattle.std.proofs.lemmas.Bool.{cases_lt, eq-eqb, eqb-true}
+use Rattle.std.proofs.lemmas.Bool.{and_parts, cases_lt, eq-eqb, eqb-true}
 use Rattle.std.proofs.lemmas.Slice.Eq.{bytes_eq-Decides}
 use Rattle.std.proofs.lemmas.Bool.Decides.{nat_tests}
 use Rattle.std.proofs.lemmas.List.{drop-map, get_or_append_left, get_or-append_right, get_or-reverse, length-append, length-map, length-reverse, map-append, reverse-append, take-map, take_more}
@@ -172,23 +172,16 @@ is_itself dir =
     let path : bytes_eq dir.path dir.path ≡ true = (bytes_eq-Decides dir.path dir.path).1 refl in
     rw (program, level, path) refl
 
-and_left : (a b : Bool) → (a && b) ≡ true → a ≡ true
-and_left true b is = refl
-and_left false b is = is
-
-and_right : (a b : Bool) → (a && b) ≡ true → b ≡ true
-and_right true b is = is
-and_right false b is = cc
-
 is_same_dir : (dir other : Dir) → is_dir dir other ≡ true → other ≡ dir
 is_same_dir dir other is =
     let P : Bool = bytes_eq other.program dir.program in
     let L : Bool = other.level == dir.level in
     let Q : Bool = bytes_eq other.path dir.path in
-    let front : (P && L) ≡ true = and_left (P && L) Q is in
-    let program : other.program ≡ dir.program = (bytes_eq-Decides other.program dir.program).0 (and_left P L front) in
-    let level : other.level ≡ dir.level = eqb-true other.level dir.level (and_right P L front) in
-    let path : other.path ≡ dir.path = (bytes_eq-Decides other.path dir.path).0 (and_right (P && L) Q is) in
+    let all = and_parts (P && L) Q is in
+    let front = and_parts P L all.0 in
+    let program : other.program ≡ dir.program = (bytes_eq-Decides other.program dir.program).0 front.0 in
+    let level : other.level ≡ dir.level = eqb-true other.level dir.level front.1 in
+    let path : other.path ≡ dir.path = (bytes_eq-Decides other.path dir.path).0 all.1 in
     let one : List ℕ → Dir = λ p. record { program = p; level = other.level; path = other.path } in
     let two : ℕ → Dir = λ n. record { program = dir.program; level = n; path = other.path } in
     let three : List ℕ → Dir = λ p. record { program = dir.program; level = dir.level; path = p } in
