@@ -1,6 +1,7 @@
 -- The rows of what is shown of a source are told by the index of its text.
 use Rattle.std.proofs.Common.{◌≡◌, ℕ, zero, suc, Bool, List, [], Some, length, map, refl, sym, ap, ◌∙◌, subst}
 use Rattle.std.specs.Prelude.{slice_get}
+use Rattle.std.proofs.lemmas.Option.{same_Some}
 use Rattle.oxc_windows.specs.Breaks.{breaks_before, breaks_of}
 use Rattle.oxc_windows.specs.Rows.{row_of, row_start}
 use Rattle.oxc_protocol.specs.Source.{Fits}
@@ -27,9 +28,6 @@ rows_shown raw entry held shown is are fits keeps =
     subst (λ h. HasRowsOf h shown) (sym is)
     (record { short = fits; len = ap length are ∙ keeps.places.length_kept; breaks = ap breaks_of are ∙ keeps.rows })
 
-some_is : {A : Type 0} {a b : A} → Some a ≡ Some b → a ≡ b
-some_is e = cc
-
 pub held_there : (entries : List Source) (place : ℕ) (entry : Source) (held : Held) → Some (held_by entry) ≡ slice_get (map held_by entries) place
     → Some held ≡ slice_get (map held_by entries) place → held ≡ held_by entry
-held_there entries place entry held is are = some_is (are ∙ sym is)
+held_there entries place entry held is are = same_Some held (held_by entry) (are ∙ sym is)

@@ -2,7 +2,7 @@
 use Rattle.std.proofs.Common.{◌≡◌, ℕ, ◌+◌, ◌<◌, Bool, List, [], ◌∷◌, ◌++◌, length, map, take, get_or, Some, option_map, refl, sym, ap, ap₂, ◌∙◌, arith}
 use Rattle.std.specs.Prelude.{slice_get}
 use Rattle.std.proofs.lemmas.List.{get_or-map, map_push, take_more}
-use Rattle.std.proofs.lemmas.Option.{slice_get-map, slice_get_read}
+use Rattle.std.proofs.lemmas.Option.{same_Some, slice_get-map, slice_get_read}
 use Rattle.oxc_protocol.specs.Source.{Fits}
 use Rattle.found_reports.specs.Held.{Held, held_text}
 use Rattle.found_reports.specs.Found.{NamedHeld}
@@ -22,13 +22,10 @@ at_both f g xs ys k x y same low few is are =
 pub slice_at : {A B : Type 0} (f : A → B) (xs : List A) (k : ℕ) (x : A) → k < length xs → x ≡ get_or xs k x → Some (f x) ≡ slice_get (map f xs) k
 slice_at f xs k x low is = sym (slice_get-map f xs k ∙ ap (option_map f) (slice_get_read xs (length xs) k x refl low is))
 
-some_is : {A : Type 0} {a b : A} → Some a ≡ Some b → a ≡ b
-some_is e = cc
-
 -- what is held of the entry at a place
 pub held_at : (entries : List Source) (held : Held) (place : ℕ) (entry : Source) → place < length entries → slice_get (map held_by entries) place ≡ Some held
     → entry ≡ get_or entries place entry → held_by entry ≡ held
-held_at entries held place entry within there is = some_is (slice_at held_by entries place entry within is ∙ there)
+held_at entries held place entry within there is = same_Some (held_by entry) held (slice_at held_by entries place entry within is ∙ there)
 
 -- what is shown is as long as the text
 pub shown_fits : (raw : Bool) (held : Held) (text shown : List ℕ) → text ≡ held_text held → Fits text → KeepsHeld raw held → shown ≡ shown_source raw (held_text held) → Fits shown
