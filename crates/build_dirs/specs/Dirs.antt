@@ -121,5 +121,13 @@ in_order dirs = reverse (map (λ dir. dir.path) dirs.opens) ++ [] ∷ reverse di
 abbrev pub dirs_in_order : BuildDirs → List (List ℕ)
 dirs_in_order dirs = in_order (dirs_parts dirs)
 
+-- an item is one of those before it
+pub record IsAgain (items : List (List ℕ)) (k : ℕ) : Type 0 where
+  pub item : List ℕ
+  pub here : slice_get items k ≡ Some item
+  pub at : ℕ
+  pub before : at < k
+  pub there : slice_get items at ≡ Some item
+
 abbrev pub place_of : BuildDirs → List ℕ → ℕ → Option (List ℕ)
 place_of dirs name k = if is_absolute name then slice_get (name ∷ []) k else option_map (λ dir. joined dir name) (slice_get (dirs_in_order dirs) k)

@@ -1,11 +1,12 @@
 //! The directories of a build, and where a name may be.
 ghost use Rattle.std.specs.Prelude.{◌≡◌, ◌↔◌, [], IfOk, IsTrue, MatchBool, MatchOption, OnOk};
 ghost use Rattle.std.specs.Prelude.{OnErr, option_map};
+ghost use Rattle.std.specs.Bool.{OnTrue};
 ghost use Rattle.std.specs.Option.{option_copied};
 ghost use Rattle.std.specs.String.{string_bytes};
 ghost use Rattle.build_dirs.specs.Changes.{IsNoChange};
 ghost use Rattle.build_dirs.specs.Dirs.{IsEntered, IsEqual, IsLastEqual, IsLeft, IsTaken};
-ghost use Rattle.build_dirs.specs.Dirs.{IsUnchanged, NoneEqual};
+ghost use Rattle.build_dirs.specs.Dirs.{IsAgain, IsUnchanged, NoneEqual};
 ghost use Rattle.build_dirs.specs.Dirs.{appended, base_of, dirs_in_order, dirs_parts, ever_of};
 ghost use Rattle.build_dirs.specs.Dirs.{left as left_dir, no_dirs, taken as taken_line};
 ghost use Rattle.build_dirs.specs.Dirs.{is_absolute as is_absolute_path};
@@ -163,6 +164,23 @@ impl BuildDirs {
             Some(dir) => Ok(Some(joined(alloc, dir, name)?)),
             None => Ok(None),
         }
+    }
+
+    /// Whether the directory that is tried after `k` others is one of them.
+    pub fn is_again(&self, k: usize) -> bool
+        ensures { OnTrue result (IsAgain (dirs_in_order self.now) k) }
+    {
+        let Some(dir) = self.dir(k) else {
+            return false;
+        };
+        let mut j = k;
+        while j > 0 {
+            j -= 1;
+            if self.dir(j) == Some(dir) {
+                return true;
+            }
+        }
+        false
     }
 
     /// The directory that is tried after `k` others.
