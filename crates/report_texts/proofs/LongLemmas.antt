@@ -3,9 +3,10 @@ use Rattle.std.proofs.Common.{◌≡◌, ℕ, suc, ◌+◌, ◌-◌, ◌<◌, �
 use Rattle.std.specs.Option.{option_map_or, option_or}
 use Rattle.std.specs.Str.{IsUtf8}
 use Rattle.std.specs.declared.ops.Range.{Range}
-use Rattle.std.proofs.lemmas.Bool.{lt-ltb, le-ltb}
+use Rattle.std.proofs.lemmas.Bool.{and_left, and_right, le-ltb, lt-ltb}
 use Rattle.std.proofs.lemmas.List.{drop_all, drop_more}
 use Rattle.std.proofs.lemmas.List.Elements.{All-nil, All-cons, All-head}
+use Rattle.base_lemmas.proofs.Choices.{option_or-none}
 use Rattle.oxc_span.specs.Label.{Label, label_end}
 use Rattle.oxc_span.specs.declared.span.Span.{Span}
 use Rattle.oxc_windows.specs.Breaks.{breaks_of}
@@ -22,9 +23,6 @@ use Rattle.oxc_protocol.specs.Parts.{Parts}
 use Rattle.report_texts.specs.LongRows.{IsAmong, columns_in, fitted, is_long, long_among, long_from, long_in, long_note, long_row, start_of, without_rows}
 
 -- ---- scanners that read on
-
-pub same_then : (a b c : Scan) → IsSameReader a b → IsSameReader b c → IsSameReader a c
-same_then a b c one two = record { input = two.input ∙ one.input; before = two.before ∙ one.before; after = two.after ∙ one.after }
 
 pub round_still : (a b : Scan) → IsSameReader a b → ReadsRound a → ReadsRound b
 round_still a b same round = record { before = same.before ∙ round.before; after = same.after ∙ round.after }
@@ -136,10 +134,6 @@ only_one [] label some few is = absurd (omega (arith, some))
 only_one (x ∷ []) label some few is = ap (λ l. l ∷ []) is
 only_one (x ∷ y ∷ rest) label some few is = absurd (omega (arith, few))
 
-last_or : {A : Type 0} (o : Option A) → option_or o None ≡ o
-last_or None = refl
-last_or (Some x) = refl
-
 -- one label is a group
 pub one_within : (len : ℕ) (label : Label) (labels : List Label) → labels ≡ label ∷ [] → All (λ l. label_end l ≤ len) labels → label_end label ≤ len
 one_within len label labels is all = All-head (λ (l : Label). label_end l ≤ len) label [] (subst (λ ls. All (λ (l : Label). label_end l ≤ len) ls) is all)
@@ -149,7 +143,7 @@ unfolding long_row long_among groups_of groups_from group_end spans_in_order lab
 one_label most source label =
     let span = span_of label in
     let end : largest_end (span ∷ []) 0 1 ≡ span.end = largest_end_one (span ∷ []) 0 (omega arith) in
-    last_or (long_in most source (group_window (length source) (breaks_of source) (span ∷ []) (record { start = 0; end = 1 })))
+    option_or-none (long_in most source (group_window (length source) (breaks_of source) (span ∷ []) (record { start = 0; end = 1 })))
     ∙ ap (λ e. long_in most source (window_at (length source) (breaks_of source) 1 1 span.start e)) end
 
 -- ---- rows
@@ -169,10 +163,6 @@ long_here most source end row last upto before many =
     ∙ ap₂ (λ a b. if a && b then Some row else long_from most source end (row + 1) (last + 1 - (row + 1)))
     (lt-ltb (start_of source row) end before) (lt-ltb most (columns_in source row) many)
 
-and_false : (b : Bool) → b && false ≡ false
-and_false true = refl
-and_false false = refl
-
 isnt_long : (most : ℕ) (source : List ℕ) (end row last : ℕ) → row ≤ last → is_long most source end row ≡ false
     → long_from most source end row (last + 1 - row) ≡ long_from most source end (row + 1) (last + 1 - (row + 1))
 isnt_long most source end row last upto isnt =
@@ -181,13 +171,13 @@ isnt_long most source end row last upto isnt =
 pub long_past : (most : ℕ) (source : List ℕ) (end row last : ℕ) → row ≤ last → end ≤ start_of source row
     → long_from most source end row (last + 1 - row) ≡ long_from most source end (row + 1) (last + 1 - (row + 1))
 long_past most source end row last upto past =
-    isnt_long most source end row last upto (ap (λ b. b && nat_lt most (columns_in source row)) (le-ltb (start_of source row) end past))
+    isnt_long most source end row last upto (and_left (nat_lt (start_of source row) end) (nat_lt most (columns_in source row)) (le-ltb (start_of source row) end past))
 
 pub long_fits : (most : ℕ) (source : List ℕ) (end row last : ℕ) → row ≤ last → columns_in source row ≤ most
     → long_from most source end row (last + 1 - row) ≡ long_from most source end (row + 1) (last + 1 - (row + 1))
 long_fits most source end row last upto fits =
     isnt_long most source end row last upto
-    (ap (λ b. nat_lt (start_of source row) end && b) (le-ltb most (columns_in source row) fits) ∙ and_false (nat_lt (start_of source row) end))
+    (and_right (nat_lt (start_of source row) end) (nat_lt most (columns_in source row)) (le-ltb most (columns_in source row) fits))
 
 pub long_end : (most : ℕ) (source : List ℕ) (end row last : ℕ) → last < row → long_from most source end row (last + 1 - row) ≡ None
 unfolding long_from

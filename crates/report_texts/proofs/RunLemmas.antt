@@ -5,7 +5,7 @@ use Rattle.std.specs.declared.alloc.Global.{Global}
 use Rattle.std.specs.Option.{option_map_or}
 use Rattle.std.specs.Str.{IsUtf8}
 use Rattle.std.proofs.lemmas.List.Elements.{All-nil, All-cons, All-head, All-tail}
-use Rattle.std.proofs.lemmas.Option.{slice_get-map, slice_get_read}
+use Rattle.std.proofs.lemmas.Option.{same_Some, slice_get-map, slice_get_read}
 use Rattle.codespan.specs.Texts.{text_of}
 use Rattle.oxc_span.specs.Label.{Label, label_end}
 use Rattle.oxc_protocol.specs.Parts.{OxcParts, Parts, parts_with}
@@ -43,9 +43,6 @@ text_there raw [] place text is = cc
 text_there raw (entry ∷ rest) zero text is = cc
 text_there raw (entry ∷ rest) (suc n) text is = text_there raw rest n text is
 
-some_is : {A : Type 0} {a b : A} → Some a ≡ Some b → a ≡ b
-some_is e = cc
-
 shown_mapped : (raw : Bool) (entries : List Source) → map (shown_by raw) entries ≡ map (λ held. shown_source raw (held_text held)) (map held_by entries)
 shown_mapped raw [] = refl
 shown_mapped raw (entry ∷ rest) = ap (λ xs. shown_by raw entry ∷ xs) (shown_mapped raw rest)
@@ -54,7 +51,7 @@ shown_mapped raw (entry ∷ rest) = ap (λ xs. shown_by raw entry ∷ xs) (shown
 held_shown : (raw : Bool) (entries : List Source) (held : Held) (place : ℕ) (text : List ℕ) → HoldsAt entries held place
     → Some text ≡ slice_get (map (shown_by raw) entries) place → text ≡ shown_source raw (held_text held)
 held_shown raw entries held place text at is =
-    some_is (is ∙ ap (λ xs. slice_get xs place) (shown_mapped raw entries)
+    same_Some text (shown_source raw (held_text held)) (is ∙ ap (λ xs. slice_get xs place) (shown_mapped raw entries)
     ∙ slice_get-map (λ held. shown_source raw (held_text held)) (map held_by entries) place
     ∙ ap (λ o. option_map (λ held. shown_source raw (held_text held)) o) at.held_is)
 

@@ -30,7 +30,7 @@ use std::ops::Range;
 /// # Errors
 ///
 /// Out of memory.
-#[tactic(auto, using(crate::proofs::LongLemmas::one_label, crate::proofs::LongLemmas::one_within, crate::proofs::LongLemmas::many_within, crate::proofs::LongLemmas::many_among, crate::proofs::LongLemmas::many_long, crate::proofs::LongLemmas::round_still, crate::proofs::LongLemmas::same_then))]
+#[tactic(auto, using(crate::proofs::LongLemmas::one_label, crate::proofs::LongLemmas::one_within, crate::proofs::LongLemmas::many_within, crate::proofs::LongLemmas::many_among, crate::proofs::LongLemmas::many_long, crate::proofs::LongLemmas::round_still, oxc_windows::proofs::TotalLemmas::same_then))]
 pub(crate) fn long_row(
     alloc: Global,
     source: &ShownText<'_>,
@@ -53,7 +53,7 @@ pub(crate) fn long_row(
 }
 
 /// The first row of groups of spans that has more columns than `most`.
-#[tactic(auto, using(crate::proofs::LongLemmas::joint_ordered, crate::proofs::LongLemmas::joint_within, crate::proofs::LongLemmas::joint_long, crate::proofs::LongLemmas::here_at, crate::proofs::LongLemmas::later_at, crate::proofs::LongLemmas::end_at, crate::proofs::LongLemmas::round_still, crate::proofs::LongLemmas::same_then))]
+#[tactic(auto, using(crate::proofs::LongLemmas::joint_ordered, crate::proofs::LongLemmas::joint_within, crate::proofs::LongLemmas::joint_long, crate::proofs::LongLemmas::here_at, crate::proofs::LongLemmas::later_at, crate::proofs::LongLemmas::end_at, crate::proofs::LongLemmas::round_still, oxc_windows::proofs::TotalLemmas::same_then))]
 fn long_among(
     source: &ShownText<'_>,
     scanner: &mut SpanScanner<'_>,

@@ -69,7 +69,7 @@ impl Look {
     /// # Errors
     ///
     /// Out of memory.
-    #[tactic(auto, using(crate::proofs::LongLemmas::can_bare, crate::proofs::LongLemmas::can_group, crate::proofs::LongLemmas::can_still, crate::proofs::LongLemmas::fitted_all, crate::proofs::LongLemmas::fitted_long, crate::proofs::LongLemmas::fitted_short, crate::proofs::LongLemmas::same_then))]
+    #[tactic(auto, using(crate::proofs::LongLemmas::can_bare, crate::proofs::LongLemmas::can_group, crate::proofs::LongLemmas::can_still, crate::proofs::LongLemmas::fitted_all, crate::proofs::LongLemmas::fitted_long, crate::proofs::LongLemmas::fitted_short, oxc_windows::proofs::TotalLemmas::same_then))]
     pub fn push(
         &self,
         alloc: Global,
