@@ -2,6 +2,7 @@
 use Rattle.std.proofs.Common.{◌≡◌, ℕ, zero, suc, ◌+◌, ◌-◌, ◌&&◌, ◌≤◌, Bor, get_or, not, Bool, true, false, if◌then◌else◌, List, [], ◌∷◌, ◌++◌, length, map, take, drop, replicate, None, refl, sym, ap, ap₂, ◌∙◌, append_assoc, append-nil, arith, length-drop}
 use Rattle.std.specs.Prelude.{⊤}
 use Rattle.std.specs.List.{drop-map}
+use Rattle.std.proofs.lemmas.Bool.{not-true}
 use Rattle.std.proofs.lemmas.List.{length-append, length-replicate, drop-append-le, take-append-le, take-map, take_rest, drop-drop}
 use Rattle.build_dirs.specs.Again.{Seen}
 use Rattle.tool_lines.specs.declared.lines.Piece.{Piece}
@@ -74,14 +75,10 @@ signs_parted lines more (p ∷ front) ps within =
     (signs_parted left more front ps (omega (arith, within, length-drop p.lines lines))
     ∙ ap (λ ls. signs left front ++ signs (ls ++ more) ps) (drop-drop (span front) p.lines lines))
 
-not_false : (b : Bool) → not b ≡ true → b ≡ false
-not_false true is = sym is
-not_false false is = refl
-
 open_begin : (lines : List (List ℕ)) (ps : List PieceParts) → all_open ps ≡ true → all_begin (signs lines ps)
 unfolding sign_of
 open_begin lines [] is = tt
-open_begin lines (p ∷ ps) is = not_false _ is
+open_begin lines (p ∷ ps) is = not-true _ is
 
 times_append : {X : Type 0} (a b : ℕ) (x : X) → replicate (a + b) x ≡ replicate a x ++ replicate b x
 times_append zero b x = let same : zero + b ≡ b = omega arith in ap (λ n. replicate n x) same

@@ -37,7 +37,7 @@ asked_push P from lines before r is all here =
     (All-append P (asked_names from before) (asked_names (drop (lines_in before) from) (r ∷ [])) all
     (subst (λ ls. All P (asked_names ls (r ∷ []))) is (All-append P (finding_names (take r.piece.lines lines) r r.piece.begun.finding) [] here (All-nil P))))
 
-lines_on : (from lines : List (List ℕ)) (before : List ReadParts) (r : ReadParts) → lines ≡ drop (lines_in before) from → drop r.piece.lines lines ≡ drop (lines_in (before ++ r ∷ [])) from
+pub lines_on : (from lines : List (List ℕ)) (before : List ReadParts) (r : ReadParts) → lines ≡ drop (lines_in before) from → drop r.piece.lines lines ≡ drop (lines_in (before ++ r ∷ [])) from
 lines_on from lines before r is =
     ap (drop r.piece.lines) is ∙ (sym (drop_on (lines_in before) r.piece.lines from) ∙ ap (λ n. drop n from) (sym (lines_push before r)))
 

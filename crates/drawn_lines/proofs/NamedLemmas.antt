@@ -3,9 +3,9 @@ use Rattle.std.proofs.Common.{◌≡◌, ℕ, zero, suc, ◌+◌, ◌-◌, ◌�
 use Rattle.std.specs.List.{drop-map, find, list_all}
 use Rattle.std.specs.Option.{is_none}
 use Rattle.std.specs.Str.Lossy.{utf8_lossy}
-use Rattle.std.proofs.lemmas.List.{drop-append-le, take-append-le, take-map, take_rest, drop-drop, length-map, map-append, take-append-drop}
+use Rattle.std.proofs.lemmas.List.{drop-append-le, take-append-le, take-map, take_rest, drop-drop, length-map, map-append}
 use Rattle.std.proofs.lemmas.Option.{slice_get-map}
-use Rattle.std.proofs.lemmas.List.Elements.{All-nil, All-cons, All-head, All-tail, All-append}
+use Rattle.std.proofs.lemmas.List.Elements.{All-nil, All-cons, All-head, All-tail, All-append, All-drop, All-take}
 use Rattle.found_reports.specs.Held.{Held}
 use Rattle.found_reports.specs.Listed.{held_in, listed}
 use Rattle.found_reports.specs.declared.sources.Source.{Source}
@@ -17,6 +17,7 @@ use Rattle.build_dirs.specs.declared.dirs.BuildDirs.{BuildDirs}
 use Rattle.build_dirs.specs.Dirs.{DirsParts, dirs_parts, in_order, is_absolute, joined, no_dirs, place_of, taken, taken_by}
 use Rattle.tool_lines.specs.declared.lines.Piece.{Piece}
 use Rattle.tool_lines.specs.Lines.{FindingParts, PieceParts, is_kept, piece_parts}
+use Rattle.line_reports.proofs.NamesLemmas.{all_front, all_rest}
 use Rattle.drawn_lines.specs.declared.tally.Tally.{Tally}
 use Rattle.girzohal_options.specs.declared.Asked.{Asked}
 use Rattle.drawn_lines.specs.Coming.{Draws, DrawsNamed, Seeks, Told, dirs_of, root_of, seen_of, sources_of}
@@ -142,14 +143,6 @@ named_bare root given dirs lines ps bare = renamed_bare (names_for root given di
 
 -- ---- what is given of the places that are tried decides the names
 
-pub all_left : {X : Type 0} (P : X → Type 0) (xs ys : List X) → All P (xs ++ ys) → All P xs
-all_left P [] ys all = All-nil P
-all_left P (x ∷ xs) ys all = All-cons P x xs (All-head P x (xs ++ ys) all) (all_left P xs ys (All-tail P x (xs ++ ys) all))
-
-pub all_right : {X : Type 0} (P : X → Type 0) (xs ys : List X) → All P (xs ++ ys) → All P ys
-all_right P [] ys all = all
-all_right P (x ∷ xs) ys all = all_right P xs ys (All-tail P x (xs ++ ys) all)
-
 tried_same : (given other : List ℕ → Held) (places : List (List ℕ)) → All (λ name. given name ≡ other name) (tried given places) → tried given places ≡ tried other places
 unfolding tried
 tried_same given other [] all = refl
@@ -218,8 +211,8 @@ names_same root given other dirs lines (p ∷ ps) all =
     let next : DirsParts = turned dirs (take p.lines lines) p in
     let later : List (List ℕ) = tried_in root given next (drop p.lines lines) ps in
     ap₂ (λ (n : Option (List ℕ)) (ns : List (Option (List ℕ))). n ∷ ns)
-    (name_same root given other dirs p.begun.finding (all_left (λ it. given it ≡ other it) (tried_by root given dirs p.begun.finding) later all))
-    (names_same root given other next (drop p.lines lines) ps (all_right (λ it. given it ≡ other it) (tried_by root given dirs p.begun.finding) later all))
+    (name_same root given other dirs p.begun.finding (all_front (λ it. given it ≡ other it) (tried_by root given dirs p.begun.finding) later all))
+    (names_same root given other next (drop p.lines lines) ps (all_rest (λ it. given it ≡ other it) (tried_by root given dirs p.begun.finding) later all))
 
 pub tried_in_same : (root : List ℕ) (given other : List ℕ → Held) (dirs : DirsParts) (lines : List (List ℕ)) (ps : List PieceParts)
     → All (λ it. given it ≡ other it) (tried_in root given dirs lines ps) → tried_in root given dirs lines ps ≡ tried_in root other dirs lines ps
@@ -229,8 +222,8 @@ tried_in_same root given other dirs lines (p ∷ ps) all =
     let next : DirsParts = turned dirs (take p.lines lines) p in
     let later : List (List ℕ) = tried_in root given next (drop p.lines lines) ps in
     ap₂ (λ (a b : List (List ℕ)). a ++ b)
-    (tried_by_same root given other dirs p.begun.finding (all_left (λ it. given it ≡ other it) (tried_by root given dirs p.begun.finding) later all))
-    (tried_in_same root given other next (drop p.lines lines) ps (all_right (λ it. given it ≡ other it) (tried_by root given dirs p.begun.finding) later all))
+    (tried_by_same root given other dirs p.begun.finding (all_front (λ it. given it ≡ other it) (tried_by root given dirs p.begun.finding) later all))
+    (tried_in_same root given other next (drop p.lines lines) ps (all_rest (λ it. given it ≡ other it) (tried_by root given dirs p.begun.finding) later all))
 
 pub named_same : (root : List ℕ) (given other : List ℕ → Held) (dirs : DirsParts) (lines : List (List ℕ)) (ps : List PieceParts)
     → All (λ it. given it ≡ other it) (tried_in root given dirs lines ps) → named_in root given dirs lines ps ≡ named_in root other dirs lines ps
@@ -581,12 +574,6 @@ keeps_start lines run (Some finding) all = refl
 keeps_start lines [] None all = refl
 keeps_start lines (line ∷ run) None all = ap (taken_by no_dirs) (All-head (λ it. change_of (utf8_lossy it) ≡ None) line run all)
 
-all_taken : (P : List ℕ → Type 0) (n : ℕ) (lines : List (List ℕ)) → All P lines → All P (take n lines)
-all_taken P n lines all = all_left P (take n lines) (drop n lines) (subst (All P) (sym (take-append-drop n lines)) all)
-
-all_dropped : (P : List ℕ → Type 0) (n : ℕ) (lines : List (List ℕ)) → All P lines → All P (drop n lines)
-all_dropped P n lines all = all_right P (take n lines) (drop n lines) (subst (All P) (sym (take-append-drop n lines)) all)
-
 no_name : (root : List ℕ) (given : List ℕ → Held) (finding : Option FindingParts) → name_by root given no_dirs finding ≡ None
 unfolding found_name
 no_name root given None = refl
@@ -604,8 +591,8 @@ names_stay root given lines [] all = refl
 names_stay root given lines (p ∷ ps) all =
     let P : List ℕ → Type 0 = λ line. change_of (utf8_lossy line) ≡ None in
     ap₂ (λ n (d : DirsParts). renamed n p ∷ renamed_by (names_for root given d (drop p.lines lines) ps) ps) (no_name root given p.begun.finding)
-    (keeps_start lines (take p.lines lines) p.begun.finding (all_taken P p.lines lines all))
-    ∙ ap (λ qs. p ∷ qs) (names_stay root given (drop p.lines lines) ps (all_dropped P p.lines lines all))
+    (keeps_start lines (take p.lines lines) p.begun.finding (All-take P p.lines lines all))
+    ∙ ap (λ qs. p ∷ qs) (names_stay root given (drop p.lines lines) ps (All-drop P p.lines lines all))
 
 none_tried_in : (root : List ℕ) (given : List ℕ → Held) (lines : List (List ℕ)) (pieces : List PieceParts) → All (λ line. change_of (utf8_lossy line) ≡ None) lines
     → tried_in root given no_dirs lines pieces ≡ []
@@ -614,8 +601,8 @@ none_tried_in root given lines [] all = refl
 none_tried_in root given lines (p ∷ ps) all =
     let P : List ℕ → Type 0 = λ line. change_of (utf8_lossy line) ≡ None in
     ap₂ (λ ts (d : DirsParts). ts ++ tried_in root given d (drop p.lines lines) ps) (none_tried_by root given p.begun.finding)
-    (keeps_start lines (take p.lines lines) p.begun.finding (all_taken P p.lines lines all))
-    ∙ none_tried_in root given (drop p.lines lines) ps (all_dropped P p.lines lines all)
+    (keeps_start lines (take p.lines lines) p.begun.finding (All-take P p.lines lines all))
+    ∙ none_tried_in root given (drop p.lines lines) ps (All-drop P p.lines lines all)
 
 pub keeps_names : KeepsNames
 unfolding named_in

@@ -25,6 +25,7 @@ use Rattle.girzohal_options.specs.declared.Asked.{Asked}
 use Rattle.drawn_lines.specs.Lines.{annotates, columns_of, has_colors, in_place, kept_if, shown_of, still, written}
 use Rattle.drawn_lines.specs.Seam.{BarePieces, all_open, opens, says_aside, span}
 use Rattle.drawn_lines.proofs.LineLemmas.{take_within}
+use Rattle.drawn_lines.proofs.NameLemmas.{lines_on}
 use Rattle.drawn_lines.specs.Walk.{reports_placed}
 
 -- ---- pieces with their lines, and what is shown of these
@@ -44,10 +45,6 @@ pieces_of reads = map (λ (it : ReadParts). it.piece) reads
 pub lines_span : (reads : List ReadParts) → lines_in reads ≡ span (pieces_of reads)
 lines_span [] = refl
 lines_span (read ∷ reads) = ap (λ n. read.piece.lines + n) (lines_span reads)
-
-lines_push : (reads : List ReadParts) (read : ReadParts) → lines_in (reads ++ read ∷ []) ≡ lines_in reads + read.piece.lines
-lines_push [] read = omega arith
-lines_push (a ∷ reads) read = omega (arith, lines_push reads read)
 
 abbrev pub parcels : List (List ℕ) → List (List ℕ) → List ReadParts → List Parcel
 parcels lines shown [] = []
@@ -208,9 +205,6 @@ text_from asked given most before (q ∷ qs) =
 abbrev with_kept : Asked → (List ℕ → Held) → Option ℕ → List ℕ → List Parcel → List Found → List ℕ
 with_kept asked given most kept qs found = first_drawings asked most found ++ kept ++ text_from asked given (still most (length found)) [] qs
 
-one_behind : (before : List ReadParts) (p : ReadParts) (from lines : List (List ℕ)) → lines ≡ drop (lines_in before) from → drop p.piece.lines lines ≡ drop (lines_in (before ++ p ∷ [])) from
-one_behind before p from lines is = ap (drop p.piece.lines) is ∙ (drop-drop p.piece.lines (lines_in before) from ∙ ap (λ n. drop n from) (sym (lines_push before p)))
-
 placed_from : (asked : Asked) (given : List ℕ → Held) (most : Option ℕ) (before : List ReadParts) (from lines first shown : List (List ℕ)) (ps : List ReadParts)
     → lines ≡ drop (lines_in before) from → shown ≡ drop (lines_in before) first
     → in_place asked given most before from lines shown ps ≡ text_from asked given most (parcels from first before) (parcels lines shown ps)
@@ -228,7 +222,7 @@ placed_from asked given most before from lines first shown (p ∷ ps) is shown_i
     else text_from asked given most (parcels from first before ++ parcel p (take p.piece.lines lines) (take p.piece.lines shown) ∷ []) (parcels behind later ps))) [
       | true ↦ ap (λ t. first_drawings asked most R ++ kept ++ t) (placed_from asked given (still most (length R)) [] behind behind later later ps refl refl)
           ∙ ap (with_kept asked given most kept (parcels behind later ps)) (reports_are asked given from first before)
-      | false ↦ placed_from asked given most (before ++ p ∷ []) from behind first later ps (one_behind before p from lines is) (one_behind before p first shown shown_is)
+      | false ↦ placed_from asked given most (before ++ p ∷ []) from behind first later ps (lines_on from lines before p is) (lines_on first shown before p shown_is)
           ∙ ap (λ qs. text_from asked given most qs (parcels behind later ps))
           (parcels_append from first before (p ∷ [])
           ∙ ap₂ (λ ls ss. parcels from first before ++ parcel p (take p.piece.lines ls) (take p.piece.lines ss) ∷ []) (sym is) (sym shown_is))
@@ -388,7 +382,7 @@ placed_parcels asked given before from lines (p ∷ ps) is =
     ≡ (if v then reports asked given (parcels from from before) ++ reports_from asked given [] (parcels behind behind ps)
     else reports_from asked given (parcels from from before ++ parcel p (take p.piece.lines lines) (take p.piece.lines lines) ∷ []) (parcels behind behind ps))) [
       | true ↦ ap₂ (λ fore bs. fore ++ bs) (reports_are asked given from from before) (placed_parcels asked given [] behind behind ps refl)
-      | false ↦ placed_parcels asked given (before ++ p ∷ []) from behind ps (one_behind before p from lines is)
+      | false ↦ placed_parcels asked given (before ++ p ∷ []) from behind ps (lines_on from lines before p is)
           ∙ ap (λ qs. reports_from asked given qs (parcels behind behind ps))
           (parcels_append from from before (p ∷ [])
           ∙ ap₂ (λ ls ss. parcels from from before ++ parcel p (take p.piece.lines ls) (take p.piece.lines ss) ∷ []) (sym is) (sym is))

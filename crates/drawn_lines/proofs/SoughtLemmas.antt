@@ -3,7 +3,7 @@ use Rattle.std.proofs.Common.{◌≡◌, ℕ, ◌+◌, ◌-◌, ◌<◌, ◌≤�
 use Rattle.std.specs.Prelude.{IfSome}
 use Rattle.std.specs.List.{drop-map}
 use Rattle.std.proofs.lemmas.List.{take_more, drop_more, drop-drop, length-map, get_or-map, take-map}
-use Rattle.std.proofs.lemmas.Bool.{and_parts}
+use Rattle.std.proofs.lemmas.Bool.{and_parts, not-true}
 use Rattle.std.proofs.lemmas.Bool.Decides.{nat_tests}
 use Rattle.tool_lines.specs.declared.lines.Piece.{Piece}
 use Rattle.tool_lines.specs.Lines.{PieceParts, piece_parts}
@@ -31,10 +31,6 @@ waits_push : (before : Bool) (lines : List (List ℕ)) (ps : List PieceParts) (p
 waits_push before lines [] p = refl
 waits_push before lines (q ∷ ps) p =
     waits_push (is_blank (take q.lines lines) q) (drop q.lines lines) ps p ∙ ap (λ ls. is_blank (take p.lines ls) p) (drop-drop (span ps) q.lines lines)
-
-not_blank : (is : Bool) → not is ≡ true → is ≡ false
-not_blank true never = sym never
-not_blank false never = refl
 
 part_here : (pieces : List PieceParts) (count at left : ℕ) (closed : Bool) (p : PieceParts) → left ≡ count - span (take at pieces) → closed ≡ ends_closed true (take at pieces)
     → at < length pieces → drop at pieces ≡ p ∷ drop (at + 1) pieces → (closed && opens p && nat_le 2 left) ≡ true → IsGap pieces count (record { pieces = at; lines = count - left })
@@ -79,7 +75,7 @@ sought_next pieces lines left at here other before next within same is left_is p
       part = subst (λ o. IfSome o (IsGap ps (length lines))) (sym part_is)
           (chosen (IsGap ps (length lines)) (may && not before.blank) found before.part (λ e. part_here ps (length lines) at (length left) before.closed p some is.closed inside rest (and_parts may (not before.blank) e).0) is.part);
       full = subst (λ o. IfSome o (IsFull ls ps)) (sym part_is)
-          (chosen (IsFull ls ps) (may && not before.blank) found before.part (λ e. sym is.blank ∙ not_blank before.blank (and_parts may (not before.blank) e).1) is.full);
+          (chosen (IsFull ls ps) (may && not before.blank) found before.part (λ e. sym is.blank ∙ not-true before.blank (and_parts may (not before.blank) e).1) is.full);
     }
 
 -- the lines that are left behind a piece more
