@@ -1,11 +1,11 @@
 -- The names of findings between lines that say that a build enters or leaves a directory.
-use Rattle.std.proofs.Common.{◌≡◌, ℕ, zero, suc, ◌+◌, ◌-◌, ◌≤◌, ◌==◌, ◌&&◌, Bor, get_or, slice_get, not, Bool, true, false, if◌then◌else◌, List, [], ◌∷◌, ◌++◌, length, map, take, drop, Option, Some, None, option_map, unwrap_or, All, refl, sym, ap, ap₂, ◌∙◌, subst, append_assoc, append-nil, arith, length-drop, string_bytes, String, Global}
+use Rattle.std.proofs.Common.{◌≡◌, ℕ, zero, suc, ◌+◌, ◌-◌, ◌<◌, ◌≤◌, ◌==◌, ◌&&◌, Bor, get_or, slice_get, not, Bool, true, false, if◌then◌else◌, List, [], ◌∷◌, ◌++◌, length, map, take, drop, Option, Some, None, option_map, unwrap_or, All, refl, sym, ap, ap₂, ◌∙◌, subst, append_assoc, append-nil, arith, length-drop, string_bytes, String, Global}
 use Rattle.std.specs.List.{drop-map, find, list_all}
 use Rattle.std.specs.Option.{is_none}
 use Rattle.std.specs.Str.Lossy.{utf8_lossy}
-use Rattle.std.proofs.lemmas.List.{drop-append-le, take-append-le, take-map, take_rest, drop-drop, length-map, map-append}
-use Rattle.std.proofs.lemmas.Option.{slice_get-map}
-use Rattle.std.proofs.lemmas.List.Elements.{All-nil, All-cons, All-head, All-tail, All-append, All-drop, All-take}
+use Rattle.std.proofs.lemmas.List.{get_or-take, length-take, drop-append-le, take-append-le, take-map, take_rest, drop-drop, length-map, map-append}
+use Rattle.std.proofs.lemmas.Option.{get_or_from_slice_get, slice_get-map, slice_get_within}
+use Rattle.std.proofs.lemmas.List.Elements.{All-nil, All-cons, All-head, All-tail, All-append, All-drop, All-get_or, All-take}
 use Rattle.found_reports.specs.Held.{Held}
 use Rattle.found_reports.specs.Listed.{held_in, listed}
 use Rattle.found_reports.specs.declared.sources.Source.{Source}
@@ -14,7 +14,7 @@ use Rattle.source_store.specs.declared.named.Spelling.TheVariants.{Path}
 use Rattle.source_store.proofs.GivenLemmas.{still_held, still_listed}
 use Rattle.build_dirs.specs.Changes.{change_of}
 use Rattle.build_dirs.specs.declared.dirs.BuildDirs.{BuildDirs}
-use Rattle.build_dirs.specs.Dirs.{DirsParts, dirs_parts, in_order, is_absolute, joined, no_dirs, place_of, taken, taken_by}
+use Rattle.build_dirs.specs.Dirs.{DirsParts, IsAgain, dirs_parts, in_order, is_absolute, joined, no_dirs, place_of, taken, taken_by}
 use Rattle.tool_lines.specs.declared.lines.Piece.{Piece}
 use Rattle.tool_lines.specs.Lines.{FindingParts, PieceParts, is_kept, piece_parts}
 use Rattle.line_reports.proofs.NamesLemmas.{all_front, all_rest}
@@ -361,6 +361,25 @@ tried_next told first before now places k n place n_is so here adds is =
           (All-cons (λ it. has_text (given it) ≡ false) place [] (ap has_text (agrees place (All-head (λ name. listed now name ≡ true) place [] adds.there)) ∙ sym is)
           (All-nil (λ it. has_text (given it) ≡ false))));
     }
+
+-- what holds of the first items holds of one of them
+among_first : (P : List ℕ → Type 0) (items : List (List ℕ)) (k at : ℕ) (item : List ℕ) → at < k → slice_get items at ≡ Some item → All P (take k items) → P item
+among_first P items k at item before there all =
+    subst P (get_or-take k items at item before ∙ get_or_from_slice_get items at item item there)
+    (All-get_or P (take k items) at item (omega (arith, before, slice_get_within items at item there, length-take k items)) all)
+
+-- a place that comes again has no text either
+pub tried_again : (told : List ℕ → Option Held) (first now : List Source) (root : List ℕ) (dirs : DirsParts) (name : List ℕ) (k n : ℕ) → n ≡ k + 1 → IsAgain (in_order dirs) k
+    → Tried told first now (places root dirs name) k → Tried told first now (places root dirs name) n
+tried_again told first now root dirs name k n n_is again so =
+    let all = places root dirs name in
+    let at_dir : List ℕ → List ℕ = λ dir. from_root root (joined dir name) in
+    let place : List ℕ = at_dir again.item in
+    let there : slice_get all again.at ≡ Some place = slice_get-map at_dir (in_order dirs) again.at ∙ ap (option_map at_dir) again.there in
+    let known = among_first (λ it. listed now it ≡ true) all k again.at place again.before there so.adds.there in
+    let bare = among_first (λ it. has_text (held_in now it) ≡ false) all k again.at place again.before there (so.none (held_in now) (λ it is. refl)) in
+    tried_next told first now now all k n place n_is so (sym (slice_get-map at_dir (in_order dirs) k ∙ ap (option_map at_dir) again.here))
+    (record { more = []; is = sym (append-nil now); told_so = All-nil (MeetsTold told Path); there = All-cons (λ it. listed now it ≡ true) place [] known (All-nil (λ it. listed now it ≡ true)) }) (sym bare)
 
 pub found_first : (told : List ℕ → Option Held) (first before now : List Source) (places : List (List ℕ)) (k : ℕ) (place : List ℕ) (given : List ℕ → Held) → Tried told first before places k
     → Some place ≡ slice_get places k → AddsAll told Path before now (place ∷ []) → true ≡ has_text (held_in now place) → Agrees now given → Some place ≡ first_text given places

@@ -165,7 +165,7 @@ fn is_sought(dirs: &BuildDirs, name: &str) -> bool
     !dirs.ever.is_empty() && !is_absolute(name)
 }
 
-/// The first place of a name that has a text.
+/// The first place of a name that has a text. A directory that comes again isn't tried again.
 fn try_places<S: Store>(
     alloc: Global,
     root: &str,
@@ -183,13 +183,17 @@ fn try_places<S: Store>(
         (tried given (places root.now (dirs_parts dirs.now) name.now))) }
 {
     let mut k = 0;
-    while let Some(place) = place_at(alloc, root, dirs, name, k)? {
-        if try_place(alloc, store, sources, place.as_str())? {
-            return Ok(Some(place));
+    loop {
+        if !dirs.is_again(k) {
+            let Some(place) = place_at(alloc, root, dirs, name, k)? else {
+                return Ok(None);
+            };
+            if try_place(alloc, store, sources, place.as_str())? {
+                return Ok(Some(place));
+            }
         }
         k = next(k)?;
     }
-    Ok(None)
 }
 
 /// The number after this one.

@@ -5,9 +5,9 @@ use Rattle.drawn_lines.proofs.NamedLemmas.{Tried}
 use Rattle.drawn_lines.proofs.naming.try_places.Given as goal
 
 -- the places before have no text
-abbrev pub invariant-loop-place : goal.invariant-loop-place
-invariant-loop-place g l =
+abbrev pub invariant-loop-k : goal.invariant-loop-k
+invariant-loop-k g l =
     Tried (g.S.Store.told l.store) l.initial.sources.entries.items l.sources.entries.items (places l.root (dirs_parts l.dirs) l.name) l.k
 
-abbrev pub decreases-loop-place : goal.decreases-loop-place
-decreases-loop-place g l = length (places l.root (dirs_parts l.dirs) l.name) - l.k
+abbrev pub decreases-loop-k : goal.decreases-loop-k
+decreases-loop-k g l = length (places l.root (dirs_parts l.dirs) l.name) - l.k
