@@ -19,7 +19,8 @@ use Rattle.drawn_lines.specs.Coming.{Reads, named_whole, root_of, tried_whole}
 use Rattle.drawn_lines.specs.Lines.{shapes_of}
 use Rattle.drawn_lines.specs.Named.{Agrees, named_in, names_for, renamed_by, tried_in}
 use Rattle.drawn_lines.specs.Text.{lines_of}
-use Rattle.drawn_lines.proofs.NamedLemmas.{adds_both, agrees_added, all_left, all_right, named_same, renamed_none, tried_in_same}
+use Rattle.line_reports.proofs.NamesLemmas.{all_front as all_left, all_rest as all_right}
+use Rattle.drawn_lines.proofs.NamedLemmas.{adds_both, agrees_added, named_same, renamed_none, tried_in_same}
 use Rattle.girzohal_run.specs.Finds.{FindsLines, FindsNamed, FindsOld, FindsPieces}
 use Rattle.girzohal_run.specs.Lines.{AreNamed, AreSought, ListsLines, ListsNamed, NamesLines, ReadsNamed, WritesPieces}
 use Rattle.girzohal_run.specs.Told.{Told}
