@@ -1,6 +1,6 @@
 //! Counts by words: eight bytes at a time, each with its own small counter.
-ghost use Rattle.std.specs.Prelude.{◌≡◌, ◌≤◌, ◌<◌, ◌-◌, ◌^◌, ◌==◌, count_by, drop, length, sum};
-ghost use Rattle.std.specs.Prelude.{sum_by, replicate, if◌then◌else◌};
+ghost use Rattle.std.specs.Prelude.{◌≡◌, ◌≤◌, ◌<◌, ◌-◌, ◌==◌, count_by, drop, length, sum, sum_by};
+ghost use Rattle.std.specs.Prelude.{replicate, if◌then◌else◌};
 ghost use Rattle.std.specs.Simd.Lanes.{zip2};
 ghost use Rattle.std.specs.Str.{IsUtf8, chars};
 ghost use Rattle.bytecount.specs.Counts.{begins_char, char_count};
@@ -85,30 +85,22 @@ fn count_in_block(block: &[[u8; 8]], needle: u8) -> usize
     sum_usize(counts)
 }
 
-/// How many bytes in `words` equal the needle.
-fn count_in_words(words: &[[u8; 8]], needle: u8) -> usize
-    requires { sum_by (λ word. count_by (λ byte. byte == needle) word) words.now < 2 ^ 64 }
-    ensures { result ≡ sum_by (λ word. count_by (λ byte. byte == needle) word) words.now }
-{
-    let mut count = 0;
-    let mut rest = words;
-    while rest.len() > 255 {
-        let (block, after) = rest.split_at(255);
-        count += count_in_block(block, needle);
-        rest = after;
-    }
-    count + count_in_block(rest, needle)
-}
-
 /// How many bytes of `haystack`, which must have at least eight, equal `needle`.
 pub fn chunk_count(haystack: &[u8], needle: u8) -> usize
     requires { 8 ≤ length haystack.now }
     ensures { result ≡ count_by (λ byte. byte == needle) haystack.now }
 {
     let (words, rest) = haystack.as_chunks::<8>();
-    let count = count_in_words(words, needle);
+    let mut count = 0;
+    let mut left = words;
+    while left.len() > 255 {
+        let (block, after) = left.split_at(255);
+        count += count_in_block(block, needle);
+        left = after;
+    }
+    let in_words = count + count_in_block(left, needle);
     let last = haystack.last_chunk::<8>().unwrap();
-    count + sum_of_last(bytewise_equal(word_of(last), splat(needle)), rest.len())
+    in_words + sum_of_last(bytewise_equal(word_of(last), splat(needle)), rest.len())
 }
 
 /// How many bytes of at most 255 words begin a character. No byte's counter passes 255.
@@ -123,21 +115,6 @@ fn num_chars_in_block(block: &[[u8; 8]]) -> usize
     sum_usize(counts)
 }
 
-/// How many bytes in `words` begin a character.
-fn num_chars_in_words(words: &[[u8; 8]]) -> usize
-    requires { sum_by (λ word. count_by begins_char word) words.now < 2 ^ 64 }
-    ensures { result ≡ sum_by (λ word. count_by begins_char word) words.now }
-{
-    let mut count = 0;
-    let mut rest = words;
-    while rest.len() > 255 {
-        let (block, after) = rest.split_at(255);
-        count += num_chars_in_block(block);
-        rest = after;
-    }
-    count + num_chars_in_block(rest)
-}
-
 /// How many bytes of `utf8_chars`, which must have at least eight, begin a character.
 pub fn chunk_num_chars(utf8_chars: &[u8]) -> usize
     requires { 8 ≤ length utf8_chars.now }
@@ -146,7 +123,14 @@ pub fn chunk_num_chars(utf8_chars: &[u8]) -> usize
     ensures chars { IsUtf8 utf8_chars.now → result ≡ length (chars utf8_chars.now) }
 {
     let (words, rest) = utf8_chars.as_chunks::<8>();
-    let count = num_chars_in_words(words);
+    let mut count = 0;
+    let mut left = words;
+    while left.len() > 255 {
+        let (block, after) = left.split_at(255);
+        count += num_chars_in_block(block);
+        left = after;
+    }
+    let in_words = count + num_chars_in_block(left);
     let last = utf8_chars.last_chunk::<8>().unwrap();
-    count + sum_of_last(is_leading_utf8_byte(word_of(last)), rest.len())
+    in_words + sum_of_last(is_leading_utf8_byte(word_of(last)), rest.len())
 }

@@ -1,5 +1,5 @@
 //! Counts by vectors: thirty-two bytes at a time, each with its own small counter.
-ghost use Rattle.std.specs.Prelude.{◌≡◌, ◌≤◌, ◌<◌, ◌^◌, ◌==◌, count_by, length, sum, sum_by};
+ghost use Rattle.std.specs.Prelude.{◌≡◌, ◌≤◌, ◌==◌, count_by, length, sum, sum_by};
 ghost use Rattle.std.specs.Str.{IsUtf8, chars};
 ghost use Rattle.bytecount.specs.Counts.{begins_char, char_count};
 ghost use Rattle.bytecount.specs.Words.{flags};
@@ -47,21 +47,6 @@ fn count_in_block(block: &[[u8; 32]], needle: u8) -> usize
     sum_of(counts)
 }
 
-/// How many bytes of the vectors equal the needle.
-fn count_in_vectors(vectors: &[[u8; 32]], needle: u8) -> usize
-    requires { sum_by (λ lanes. count_by (λ byte. byte == needle) lanes) vectors.now < 2 ^ 64 }
-    ensures { result ≡ sum_by (λ lanes. count_by (λ byte. byte == needle) lanes) vectors.now }
-{
-    let mut count = 0;
-    let mut rest = vectors;
-    while rest.len() > 255 {
-        let (block, after) = rest.split_at(255);
-        count += count_in_block(block, needle);
-        rest = after;
-    }
-    count + count_in_block(rest, needle)
-}
-
 /// How many bytes after the last whole vector equal the needle: by words, if there is one.
 fn count_in_rest(rest: &[u8], needle: u8) -> usize
     ensures { result ≡ count_by (λ byte. byte == needle) rest.now }
@@ -77,7 +62,15 @@ pub(crate) fn chunk_count(haystack: &[u8], needle: u8) -> usize
     ensures { result ≡ count_by (λ byte. byte == needle) haystack.now }
 {
     let (vectors, rest) = haystack.as_chunks::<32>();
-    count_in_vectors(vectors, needle) + count_in_rest(rest, needle)
+    let mut count = 0;
+    let mut left = vectors;
+    while left.len() > 255 {
+        let (block, after) = left.split_at(255);
+        count += count_in_block(block, needle);
+        left = after;
+    }
+    let in_vectors = count + count_in_block(left, needle);
+    in_vectors + count_in_rest(rest, needle)
 }
 
 /// How many bytes of at most 255 vectors begin a character. No byte's counter passes 255.
@@ -90,21 +83,6 @@ fn num_chars_in_block(block: &[[u8; 32]]) -> usize
         counts += is_leading_utf8_byte(u8x32::from_array(*lanes));
     }
     sum_of(counts)
-}
-
-/// How many bytes of the vectors begin a character.
-fn num_chars_in_vectors(vectors: &[[u8; 32]]) -> usize
-    requires { sum_by (λ lanes. count_by begins_char lanes) vectors.now < 2 ^ 64 }
-    ensures { result ≡ sum_by (λ lanes. count_by begins_char lanes) vectors.now }
-{
-    let mut count = 0;
-    let mut rest = vectors;
-    while rest.len() > 255 {
-        let (block, after) = rest.split_at(255);
-        count += num_chars_in_block(block);
-        rest = after;
-    }
-    count + num_chars_in_block(rest)
 }
 
 /// How many bytes after the last whole vector begin a character: by words, if there is one.
@@ -124,5 +102,13 @@ pub(crate) fn chunk_num_chars(utf8_chars: &[u8]) -> usize
     ensures chars { IsUtf8 utf8_chars.now → result ≡ length (chars utf8_chars.now) }
 {
     let (vectors, rest) = utf8_chars.as_chunks::<32>();
-    num_chars_in_vectors(vectors) + num_chars_in_rest(rest)
+    let mut count = 0;
+    let mut left = vectors;
+    while left.len() > 255 {
+        let (block, after) = left.split_at(255);
+        count += num_chars_in_block(block);
+        left = after;
+    }
+    let in_vectors = count + num_chars_in_block(left);
+    in_vectors + num_chars_in_rest(rest)
 }

@@ -1,28 +1,42 @@
-use Rattle.std.proofs.Common.{◌≡◌, ◌+◌, ◌-◌, length, drop, count_by, ap, ◌∙◌, arith}
-use Rattle.std.proofs.lemmas.List.Sums.{count_by-le-length}
+use Rattle.std.proofs.Common.{◌≡◌, ℕ, ◌+◌, ◌-◌, List, length, take, drop, sum_by, count_by, ap, ◌∙◌, arith}
+use Rattle.std.proofs.lemmas.List.Sums.{count_by-le-length, sum_by-take-le}
 use Rattle.bytecount.specs.Counts.{begins_char, char_count}
 use Rattle.bytecount.specs.Words.{flags}
 use Rattle.bytecount.proofs.CharsLemmas.{char_count-chars, char_count-le-length}
 use Rattle.bytecount.proofs.SumLemmas.{count_in_chunks-le, whole_count}
 use Rattle.bytecount.proofs.integer_simd.chunk_num_chars.Goals as goal
 
-pub num_chars_in_words-count-requires : goal.num_chars_in_words-count-requires
-num_chars_in_words-count-requires c = omega (arith, count_in_chunks-le begins_char c.args.utf8_chars.now c.as_chunks.result.0.now c.as_chunks.ensures.front)
+pub overflow_add-count : goal.overflow_add-count
+overflow_add-count c =
+    let hits : List ℕ → ℕ = λ word. count_by begins_char word in
+    let kept : c.loop-left.count + sum_by hits c.loop-left.left.now ≡ sum_by hits c.as_chunks.result.0.now = c.loop-left.invariant in
+    let block : c.num_chars_in_block-count.result ≡ sum_by hits (take 255 c.loop-left.left.now) = c.num_chars_in_block-count.ensures ∙ ap (sum_by hits) c.split_at.ensures.front in
+    record { fits = omega (arith, kept, block, sum_by-take-le hits c.loop-left.left.now 255, count_in_chunks-le begins_char c.args.utf8_chars.now c.as_chunks.result.0.now c.as_chunks.ensures.front) }
+
+pub overflow_add-in_words : goal.overflow_add-in_words
+overflow_add-in_words c =
+    let hits : List ℕ → ℕ = λ word. count_by begins_char word in
+    let kept : c.loop-left.count + sum_by hits c.loop-left.left.now ≡ sum_by hits c.as_chunks.result.0.now = c.loop-left.invariant in
+    let block : c.num_chars_in_block.result ≡ sum_by hits c.loop-left.left.now = c.num_chars_in_block.ensures in
+    record { fits = omega (arith, kept, block, count_in_chunks-le begins_char c.args.utf8_chars.now c.as_chunks.result.0.now c.as_chunks.ensures.front) }
 
 last_eight : (c : goal.After-sum_of_last) → c.unwrap-last.result.now ≡ drop (length c.args.utf8_chars.now - 8) c.args.utf8_chars.now
 last_eight c = grind (arith, c.last_chunk.ensures.cases, c.unwrap-last.ensures)
 
-whole : (c : goal.After-sum_of_last) → c.num_chars_in_words-count.result + c.sum_of_last.result ≡ count_by begins_char c.args.utf8_chars.now
+counted_in_words : (c : goal.After-sum_of_last) → c.loop-left.count + c.num_chars_in_block.result ≡ sum_by (λ word. count_by begins_char word) c.as_chunks.result.0.now
+counted_in_words c = ap (λ n. c.loop-left.count + n) c.num_chars_in_block.ensures ∙ c.loop-left.invariant
+
+whole : (c : goal.After-sum_of_last) → (c.loop-left.count + c.num_chars_in_block.result) + c.sum_of_last.result ≡ count_by begins_char c.args.utf8_chars.now
 whole c =
     whole_count begins_char c.args.utf8_chars.now c.as_chunks.result.0.now c.unwrap-last.result.now _ c.is_leading_utf8_byte.result _ _
-    c.requires c.as_chunks.ensures.front c.num_chars_in_words-count.ensures (last_eight c)
+    c.requires c.as_chunks.ensures.front (counted_in_words c) (last_eight c)
     (c.is_leading_utf8_byte.ensures ∙ ap (flags begins_char) c.word_of.ensures)
     c.as_chunks.ensures.back_len c.sum_of_last.ensures.sum
 
 pub overflow_add-result : goal.overflow_add-result
 overflow_add-result c = record { fits = omega (arith, whole c, count_by-le-length begins_char c.args.utf8_chars.now) }
 
-counted : (c : goal.After-sum_of_last) → c.num_chars_in_words-count.result + c.sum_of_last.result ≡ char_count c.args.utf8_chars.now
+counted : (c : goal.After-sum_of_last) → (c.loop-left.count + c.num_chars_in_block.result) + c.sum_of_last.result ≡ char_count c.args.utf8_chars.now
 unfolding char_count
 counted c = whole c
 

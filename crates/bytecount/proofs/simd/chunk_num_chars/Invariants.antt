@@ -1,0 +1,9 @@
+use Rattle.std.proofs.Common.{◌≡◌, ◌+◌, length, sum_by, count_by}
+use Rattle.bytecount.specs.Counts.{begins_char}
+use Rattle.bytecount.proofs.simd.chunk_num_chars.Given as goal
+
+abbrev pub invariant-loop-left : goal.invariant-loop-left
+invariant-loop-left l = l.count + sum_by (λ lanes. count_by begins_char lanes) l.left ≡ sum_by (λ lanes. count_by begins_char lanes) l.initial.left
+
+abbrev pub decreases-loop-left : goal.decreases-loop-left
+decreases-loop-left l = length l.left
