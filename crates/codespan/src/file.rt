@@ -187,8 +187,13 @@ impl<Source: SourceText> Files<Source> {
         let file_id = FileId {
             index: self.files.len() as u32,
         };
-        let Ok(file) = File::new(self.alloc, name, source) else {
+        let Ok(line_starts) = line_starts(self.alloc, source.text()) else {
             return Err(AddError::OutOfMemory);
+        };
+        let file = File {
+            name,
+            source,
+            line_starts,
         };
         if self.files.push(file).is_err() {
             return Err(AddError::OutOfMemory);
@@ -235,7 +240,7 @@ impl<Source: SourceText> Files<Source> {
         requires { file_id < length self.now }
         ensures { result.now ≡ name_of self.now file_id }
     {
-        self.get(file_id).name()
+        self.get(file_id).name.as_str()
     }
 
     /// The span of a line, with its line feed. Lines end at line feeds only, and count from 0.
@@ -286,7 +291,7 @@ impl<Source: SourceText> Files<Source> {
         ensures text { Source.text result.now ≡ text_of self.now file_id }
         ensures fits { Fits (Source.text result.now) }
     {
-        self.get(file_id).source()
+        &self.get(file_id).source
     }
 
     /// The span of the whole source.
@@ -373,32 +378,6 @@ struct File<Source: SourceText> {
 }
 
 impl<Source: SourceText> File<Source> {
-    fn new(alloc: Global, name: String, source: Source) -> Result<File<Source>, AllocError>
-        requires { Fits (Source.text source) }
-        ensures name { IfOk result (λ file. string_bytes file.name ≡ string_bytes name) }
-        ensures text { IfOk result (λ file. Source.text file.source ≡ Source.text source) }
-    {
-        let line_starts = line_starts(alloc, source.text())?;
-        Ok(File {
-            name,
-            source,
-            line_starts,
-        })
-    }
-
-    fn name(&self) -> &str
-        ensures { result.now ≡ string_bytes self.now.name }
-    {
-        self.name.as_str()
-    }
-
-    fn source(&self) -> &Source
-        ensures same { Source.text result.now ≡ Source.text self.now.source }
-        ensures fits { Fits (Source.text result.now) }
-    {
-        &self.source
-    }
-
     fn source_span(&self) -> Span
         ensures { result ≡ record { start = 0; end = length (Source.text self.now.source) } }
     {
@@ -456,9 +435,23 @@ impl<Source: SourceText> File<Source> {
             (λ slice. IsSlice (Source.text self.now.source) span slice.now)
             (λ error. IsSpanRefusal (Source.text self.now.source) span.start span.end error) }
     {
+        let source = self.source.text();
         let start = span.start().to_usize();
         let end = span.end().to_usize();
-        slice_between(self.source.text(), start, end)
+        if end > source.len() {
+            let max = last_index(source);
+            return Err(Error::IndexTooLarge {
+                given: if max < start { start } else { end },
+                max,
+            });
+        }
+        if !source.is_char_boundary(start) {
+            return Err(Error::InvalidCharBoundary { given: start });
+        }
+        if !source.is_char_boundary(end) {
+            return Err(Error::InvalidCharBoundary { given: end });
+        }
+        Ok(&source[start..end])
     }
 }
 
@@ -523,7 +516,8 @@ fn check_place(source: &str, place: usize) -> Result<(), Error>
     Ok(())
 }
 
-/// How many characters are between two boundaries.
+/// How many characters are between two boundaries. Their first bytes are counted; nothing is
+/// decoded.
 fn characters_between(source: &str, start: usize, end: usize) -> usize
     requires order { start ≤ end }
     requires start { IsCharBoundary source.now start }
@@ -531,36 +525,6 @@ fn characters_between(source: &str, start: usize, end: usize) -> usize
     ensures exact { result ≡ length (chars (slice_range source.now start end)) }
     ensures bound { result ≤ length source.now }
 {
-    characters_in(&source[start..end])
-}
-
-/// How many characters the text has. Their first bytes are counted; nothing is decoded.
-fn characters_in(text: &str) -> usize
-    ensures exact { result ≡ length (chars text.now) }
-    ensures bound { result ≤ length text.now }
-{
+    let text = &source[start..end];
     num_chars(text.as_bytes())
-}
-
-/// The text between two places, the first not after the second.
-fn slice_between(source: &str, start: usize, end: usize) -> Result<&str, Error>
-    requires { start ≤ end }
-    ensures { MatchResult result
-        (λ slice. IsSlice source.now (record { start = start; end = end }) slice.now)
-        (λ error. IsSpanRefusal source.now start end error) }
-{
-    if end > source.len() {
-        let max = last_index(source);
-        return Err(Error::IndexTooLarge {
-            given: if max < start { start } else { end },
-            max,
-        });
-    }
-    if !source.is_char_boundary(start) {
-        return Err(Error::InvalidCharBoundary { given: start });
-    }
-    if !source.is_char_boundary(end) {
-        return Err(Error::InvalidCharBoundary { given: end });
-    }
-    Ok(&source[start..end])
 }
