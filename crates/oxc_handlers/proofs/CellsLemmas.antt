@@ -126,15 +126,6 @@ blocks_end s text n =
     let whole : n / 128 * 128 + n % 128 ≡ n = omega arith in
     append_assoc s (repeated (n / 128 * 128) text) (repeated (n % 128) text) ∙ ap (λ l. s ++ l) (sym (repeated_add (n / 128 * 128) (n % 128) text)) ∙ ap (λ k. s ++ repeated k text) whole
 
-repeated_plus : (m n : ℕ) (text : List ℕ) → repeated (m + n) text ≡ repeated m text ++ repeated n text
-repeated_plus zero n text =
-    let here : zero + n ≡ n = omega arith in
-    rw (here, repeated_none text) refl
-repeated_plus (suc m) n text =
-    let here : suc m + n ≡ suc (m + n) = omega arith in
-    rw (here, repeated_first (m + n) text, repeated_first m text)
-    (ap (λ l. text ++ l) (repeated_plus m n text) ∙ sym (append_assoc text (repeated m text) (repeated n text)))
-
 length-repeated : (n : ℕ) (text : List ℕ) → length (repeated n text) ≡ n * length text
 length-repeated zero text = ap length (repeated_none text) ∙ sym (zero-mul (length text))
 length-repeated (suc n) text =
@@ -143,7 +134,7 @@ length-repeated (suc n) text =
 front_and_rest : (n all : ℕ) (text : List ℕ) → n ≤ all → repeated all text ≡ repeated n text ++ repeated (all - n) text
 front_and_rest n all text le =
     let whole : all ≡ n + (all - n) = omega (arith, le) in
-    ap (λ k. repeated k text) whole ∙ repeated_plus n (all - n) text
+    ap (λ k. repeated k text) whole ∙ repeated_add n (all - n) text
 
 pub front_repeated : (n all : ℕ) (block text : List ℕ) → n ≤ all → block ≡ repeated all text → take (n * length text) block ≡ repeated n text
 front_repeated n all block text le is_block =

@@ -4,7 +4,7 @@ use Rattle.std.specs.Prelude.{decimal}
 use Rattle.std.specs.List.{slice_get}
 use Rattle.std.specs.Option.{option_map_or}
 use Rattle.std.proofs.lemmas.Fmt.{length-decimal-le}
-use Rattle.std.proofs.lemmas.List.Elements.{All-nil, All-head, All-tail, All-weaker}
+use Rattle.std.proofs.lemmas.List.Elements.{All-head, All-tail, All-weaker}
 use Rattle.oxc_plan.specs.Drawable.{IsDrawable, IsDrawableRow}
 use Rattle.oxc_plan.specs.Marks.{AreInOrder}
 use Rattle.oxc_plan.specs.Plan.{Ordered, RowPlanView, SnippetView}
@@ -55,7 +55,3 @@ pub drawable_snippets : (theme : GraphicalTheme) (tab : ℕ) (labels : List Orde
     → AreDrawable count snippets → All (IsSnippet theme tab labels) snippets
 drawable_snippets theme tab labels count snippets few (len, short, all) =
     All-weaker (IsDrawable len count) (IsSnippet theme tab labels) (λ snippet is. drawable_snippet theme tab labels len count snippet short few is) snippets all
-
--- no snippets can be drawn
-pub none_drawable : (count : ℕ) → AreDrawable count []
-none_drawable count = (0, omega arith, All-nil (IsDrawable 0 count))

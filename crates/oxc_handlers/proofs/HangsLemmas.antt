@@ -80,10 +80,6 @@ bars_to_more : (setting : SettingView) (label from : ℕ) (m : MarkCells) (more 
 unfolding bars_to
 bars_to_more setting label from m more other = rw other refl
 
-bars_to_here : (setting : SettingView) (label from : ℕ) (m : MarkCells) (more : List MarkCells) → eqb m.label label ≡ true → bars_to setting label from (m ∷ more) ≡ repeated (m.bar - from) (encode_utf8 0x20)
-unfolding bars_to
-bars_to_here setting label from m more here = rw here refl
-
 bars_are : (setting : SettingView) (label from : ℕ) (marks : List MarkCells) → AreOrdered from marks → has_mark label marks ≡ true
     → cells (bar_cell setting (earlier label marks)) from (bar_of label marks - from) ≡ bars_to setting label from marks
 unfolding bars_to

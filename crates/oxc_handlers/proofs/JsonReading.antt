@@ -1,5 +1,5 @@
 -- A written report is read as its value.
-use Rattle.std.proofs.Common.{◌≡◌, ℕ, suc, ◌^◌, ◌<◌, ◌≤◌, true, false, List, [], ◌∷◌, ◌++◌, Option, Some, None, option_and_then, option_map, codes, decimal, refl, sym, ap, ap₂, ◌∙◌, subst, inl, inr, ◌⊎◌, arith, append_assoc, All, OnOk, Result, Ok, Err}
+use Rattle.std.proofs.Common.{◌≡◌, ℕ, suc, ◌^◌, ◌<◌, ◌≤◌, true, false, List, [], ◌∷◌, ◌++◌, Option, Some, None, option_and_then, option_map, codes, decimal, refl, sym, ap, ap₂, ◌∙◌, subst, inl, inr, ◌⊎◌, arith, append_assoc, All}
 use Rattle.std.specs.List.{flat_map}
 use Rattle.std.proofs.lemmas.Bool.{cases_eq, cases_lt, le-ltb, ne_eqb}
 use Rattle.json.specs.Json as json
@@ -318,7 +318,3 @@ shallow r =
 
 pub reads_back : (r : Parts) → All (IsInRange (source_bytes r.source)) r.labels → ReadsBack r
 reads_back r small = ap read (text_is r) ∙ read_spaced (report_tree r) (value_of r) (numbers r small) (shallow r) (of_report r small)
-
-pub reads_back_on_ok : {T E : Type 0} (result : Result T E) (r : Parts) → All (IsInRange (source_bytes r.source)) r.labels → OnOk result (ReadsBack r)
-reads_back_on_ok (Ok value) r small = reads_back r small
-reads_back_on_ok (Err error) r small = tt

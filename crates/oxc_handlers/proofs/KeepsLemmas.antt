@@ -1,5 +1,5 @@
 -- Texts that are handed on one by one.
-use Rattle.std.proofs.Common.{◌≡◌, ℕ, ◌+◌, ◌<◌, ◌≤◌, Bool, true, false, List, [], ◌∷◌, map, drop, length, get_or, refl, sym, ap, subst, arith, add-one, drop-cons, suc, inl, inr, Result, Ok, Err, IfErr, OnErr}
+use Rattle.std.proofs.Common.{◌≡◌, ℕ, ◌+◌, ◌<◌, ◌≤◌, Bool, true, false, List, [], ◌∷◌, map, drop, length, get_or, refl, sym, ap, subst, arith, add-one, drop-cons, suc, inl, inr, Result, Ok, Err, IfErr}
 use Rattle.std.proofs.Math.ListN.{drop_of_length-le}
 use Rattle.oxc_protocol.specs.Parts.{Parts}
 use Rattle.oxc_handlers.specs.Handler.{Handler}
@@ -11,10 +11,6 @@ use Rattle.oxc_handlers.specs.Reports.{text_of}
 -- the item at a place and those behind it
 front : {B : Type 0} (xs : List B) (i : ℕ) (x : B) → i < length xs → x ≡ get_or xs i x → drop i xs ≡ x ∷ drop (i + 1) xs
 front {B} xs i x lt is = rw (add-one, drop-cons xs i x) (ap (λ (y : B). y ∷ drop (suc i) xs) (sym is))
-
-pub on_err : {T E P : Type 0} → P → (r : Result T E) → OnErr r P
-on_err p (Ok value) = tt
-on_err p (Err error) = p
 
 pub if_err : {T E : Type 0} (P : E → Type 0) → ((error : E) → P error) → (r : Result T E) → IfErr r P
 if_err P p (Ok value) = tt

@@ -1,9 +1,9 @@
 -- The lines of a text, taken one by one.
-use Rattle.std.proofs.Common.{◌≡◌, ℕ, ◌+◌, ◌<◌, ◌≤◌, true, false, List, [], ◌∷◌, ◌++◌, Option, Some, None, length, take, get_or, reverse, eqb, refl, sym, ap, ◌∙◌, arith, append_assoc, append-nil}
+use Rattle.std.proofs.Common.{◌≡◌, ℕ, ◌+◌, ◌<◌, ◌≤◌, true, false, List, [], ◌∷◌, ◌++◌, Option, Some, None, length, take, reverse, eqb, refl, sym, ap, ◌∙◌, arith, append_assoc, append-nil}
 use Rattle.std.specs.List.{flat_map, position_or_len, before_first, after_first}
 use Rattle.std.specs.Option.{option_map_or}
 use Rattle.std.proofs.lemmas.Bool.Decides.{nat_tests}
-use Rattle.std.proofs.lemmas.List.{take_more, take_all, reverse-append}
+use Rattle.std.proofs.lemmas.List.{take_all}
 use Rattle.std.proofs.lemmas.List.Splits.{slice_split_first, length-slice_split}
 use Rattle.oxc_handlers.specs.declared.text_lines.LabelRenderMode.{LabelRenderMode}
 use Rattle.oxc_handlers.specs.declared.text_lines.LabelRenderMode.TheVariants.{SingleLine, BlockFirst, BlockRest}
@@ -62,13 +62,5 @@ unfolding lines_left
 lines_all F out mode text e = ap (λ m. out ++ flat_map F (modes_from m (lines_of text))) e
 
 -- a list from its end
-reverse_last : {A : Type 0} (xs : List A) (i : ℕ) (d : A) → i < length xs → reverse (take (i + 1) xs) ≡ get_or xs i d ∷ reverse (take i xs)
-reverse_last xs i d lt = ap reverse (take_more xs i d lt) ∙ reverse-append (take i xs) (get_or xs i d ∷ [])
-
-pub back_more : {A : Type 0} (F : A → List ℕ) (out : List ℕ) (xs : List A) (i j : ℕ) (d : A) → i < length xs → j ≡ i + 1
-    → out ++ F (get_or xs i d) ++ flat_map F (reverse (take i xs)) ≡ out ++ flat_map F (reverse (take j xs))
-back_more F out xs i j d lt next =
-    append_assoc out _ _ ∙ ap (λ l. out ++ l) (sym (ap (λ k. flat_map F (reverse (take k xs))) next ∙ ap (flat_map F) (reverse_last xs i d lt)))
-
 pub back_all : {A : Type 0} (F : A → List ℕ) (xs : List A) (n : ℕ) → n ≡ length xs → flat_map F (reverse (take n xs)) ≡ flat_map F (reverse xs)
 back_all F xs n e = ap (λ l. flat_map F (reverse l)) (take_all n xs (omega arith))

@@ -11,7 +11,7 @@ use Rattle.oxc_handlers.specs.Handler.{Handler}
 use Rattle.oxc_handlers.specs.JsonView.{with_url}
 use Rattle.oxc_handlers.specs.Refusals.{IsFaultless, IsNoText, IsRefusal, error_at, outside_in}
 use Rattle.oxc_handlers.specs.Report.{drawn, name_in, plan_of, severity_in, snippets_in, title_of, view_parts, without_url}
-use Rattle.oxc_handlers.specs.Reports.{IsListRefusal, IsSendRefusal, text_of}
+use Rattle.oxc_handlers.specs.Reports.{IsListRefusal, text_of}
 use Rattle.oxc_handlers.proofs.SettingLemmas.{get_or_map}
 
 -- a view shows all of a diagnostic that is drawn
@@ -64,13 +64,6 @@ refused_at list place parts OutOfMemory there before is = is
 pub alike_at : {A B C : Type 0} (f : A → C) (h : B → C) (xs : List A) (ys : List B) (i : ℕ) (x : A) (y : B) → map f xs ≡ map h ys → i < length xs → i < length ys → x ≡ get_or xs i x → y ≡ get_or ys i y → f x ≡ h y
 alike_at f h xs ys i x y same in_xs in_ys is_x is_y =
     ap f is_x ∙ sym (get_or_map f xs i x (f x) in_xs) ∙ ap (λ l. get_or l i (f x)) same ∙ get_or_map h ys i y (f x) in_ys ∙ ap h (sym is_y)
-
--- what is drawn and can't be sent
-pub not_drawn : (faultless : Type 0) (refusal : RenderError → Type 0) (error : RenderError) → (refusal SinkFault → faultless) → refusal error → IsSendRefusal faultless refusal error
-not_drawn faultless refusal (LabelOutside report label) f is = is
-not_drawn faultless refusal (NotUtf8 report upto) f is = is
-not_drawn faultless refusal SinkFault f is = f is
-not_drawn faultless refusal OutOfMemory f is = tt
 
 -- one item more
 codes_step : {A B C : Type 0} (f : A → C) (h : B → C) (xs : List A) (ys : List B) (i : ℕ) (x : A) (y : B) → f x ≡ h y → i < length ys → y ≡ get_or ys i y

@@ -1,9 +1,8 @@
 //! What is drawn to the left of a source text: row numbers, and the bars of multi-row labels.
-ghost use Rattle.std.specs.Prelude.{◌≡◌, ◌+◌, ◌-◌, ◌≤◌, ◌<◌, ◌^◌, OnOk, length};
+ghost use Rattle.std.specs.Prelude.{◌≤◌, ◌<◌, ◌^◌, OnOk, length};
 ghost use Rattle.textwrap.specs.Appends.{Appends};
-ghost use Rattle.oxc_handlers.specs.Gutters.{bar_piece, below_from, corner, ending, ends, gutter};
-ghost use Rattle.oxc_handlers.specs.Gutters.{gutter_below, gutter_from, passes, turn};
-ghost use Rattle.oxc_handlers.specs.RowLines.{other_front, padded, row_front};
+ghost use Rattle.oxc_handlers.specs.Gutters.{bar_piece, ending, gutter, gutter_below, turn};
+ghost use Rattle.oxc_handlers.specs.RowLines.{other_front, row_front};
 
 use crate::runs::{write_spaces, write_styled_run};
 use crate::setting::Setting;
@@ -12,8 +11,8 @@ use itoa::Buffer;
 use oxc_plan::{Bar, BarKind};
 use std::alloc::AllocError;
 
-/// Appends what is drawn before a row: its number, and a bar.
-#[tactic(auto, unfolding(crate::specs::RowLines::row_front))]
+/// Appends what is drawn before a row: its number, aligned to the right, and a bar.
+#[tactic(auto, unfolding(crate::specs::RowLines::row_front, crate::specs::RowLines::padded, crate::specs::Theme::styled))]
 pub(crate) fn write_linum(
     out: &mut String,
     setting: &Setting<'_>,
@@ -21,26 +20,17 @@ pub(crate) fn write_linum(
 ) -> Result<(), AllocError>
     ensures { OnOk result (Appends out.old out.new (row_front setting.now linum)) }
 {
-    out.push(' ')?;
-    write_padded(out, setting, linum)?;
-    out.push(' ')?;
-    out.push(setting.theme.characters.vbar)?;
-    out.push(' ')?;
-    Ok(())
-}
-
-/// Appends the number of a row, aligned to the right.
-#[tactic(auto, unfolding(crate::specs::RowLines::padded, crate::specs::Theme::styled))]
-fn write_padded(out: &mut String, setting: &Setting<'_>, linum: usize) -> Result<(), AllocError>
-    ensures { OnOk result (Appends out.old out.new (padded setting.now linum)) }
-{
     let style = setting.theme.styles.linum;
     let mut buffer = Buffer::new();
     let text = buffer.format(linum);
+    out.push(' ')?;
     style.begin(out)?;
     write_spaces(out, setting.digits.saturating_sub(text.len()))?;
     out.push_str(text)?;
     style.end(out)?;
+    out.push(' ')?;
+    out.push(setting.theme.characters.vbar)?;
+    out.push(' ')?;
     Ok(())
 }
 
@@ -73,7 +63,7 @@ pub(crate) fn render_line_gutter(
     }
     let mut place = 0;
     for bar in bars {
-        if !passes_row(bar.kind) {
+        if !matches!(bar.kind, BarKind::Passes) {
             return write_turn(out, setting, place, *bar);
         }
         write_bar(out, setting, bar.label)?;
@@ -100,7 +90,7 @@ pub(crate) fn render_highlight_gutter(
     }
     let mut place = 0;
     for bar in bars {
-        if ends_there(bar.kind) {
+        if matches!(bar.kind, BarKind::Ends) {
             return write_ending(out, setting, mode, place, bar.label);
         }
         write_bar(out, setting, bar.label)?;
@@ -126,35 +116,8 @@ pub(crate) fn write_bar(
     )
 }
 
-fn passes_row(kind: BarKind) -> bool
-    ensures { result ≡ passes kind }
-{
-    matches!(kind, BarKind::Passes)
-}
-
-fn ends_there(kind: BarKind) -> bool
-    ensures { result ≡ ends kind }
-{
-    matches!(kind, BarKind::Ends)
-}
-
-/// The corner of a label that starts or ends.
-#[tactic(auto, unfolding(crate::specs::Gutters::corner))]
-fn corner_of(setting: &Setting<'_>, bar: Bar) -> char
-    ensures { result ≡ corner setting.now bar }
-{
-    let chars = setting.theme.characters;
-    match bar.kind {
-        BarKind::Starts => chars.ltop,
-        _ => match setting.text_at(bar.label) {
-            Some(_) => chars.lcross,
-            None => chars.lbot,
-        },
-    }
-}
-
-/// Appends what is drawn from a corner to the row's text.
-#[tactic(auto, unfolding(crate::specs::Gutters::turn))]
+/// Appends what is drawn from the corner of a label that starts or ends to the row's text.
+#[tactic(auto, unfolding(crate::specs::Gutters::turn, crate::specs::Gutters::corner))]
 fn write_turn(
     out: &mut String,
     setting: &Setting<'_>,
@@ -166,7 +129,12 @@ fn write_turn(
 {
     let chars = setting.theme.characters;
     let style = setting.highlight(bar.label);
-    write_styled_run(out, style, corner_of(setting, bar), 1)?;
+    let corner = match bar.kind {
+        BarKind::Starts => chars.ltop,
+        _ if setting.text_at(bar.label).is_some() => chars.lcross,
+        _ => chars.lbot,
+    };
+    write_styled_run(out, style, corner, 1)?;
     write_styled_run(out, style, chars.hbar, setting.gutter - place)?;
     write_styled_run(out, style, chars.rarrow, 1)?;
     write_spaces(out, 1)

@@ -1,13 +1,10 @@
 //! The texts that hang below the marks of a row, each after the bars of the labels before it.
-ghost use Rattle.std.specs.Prelude.{◌≡◌, ◌≤◌, OnOk, true};
-ghost use Rattle.std.specs.List.{flat_map};
+ghost use Rattle.std.specs.Prelude.{◌≡◌, OnOk, true};
 ghost use Rattle.textwrap.specs.Appends.{Appends};
 ghost use Rattle.oxc_plan.specs.Plan.{row_plan_view};
-ghost use Rattle.oxc_handlers.specs.Hangs.{bars_before, connector, hanging_line, has_mark, hung};
-ghost use Rattle.oxc_handlers.specs.Hangs.{hung_bar};
+ghost use Rattle.oxc_handlers.specs.Hangs.{bars_before, connector, has_mark, hung};
 ghost use Rattle.oxc_handlers.specs.Marks.{AreOrdered};
 ghost use Rattle.oxc_handlers.specs.RowLines.{IsRow, hang_line, hang_lines, hanging_lines};
-ghost use Rattle.oxc_handlers.specs.RowLines.{lines_of, with_modes};
 
 use crate::gutter::{render_highlight_gutter, write_bar, write_no_linum};
 use crate::runs::{write_repeated_char, write_spaces};
@@ -36,7 +33,7 @@ pub(crate) fn write_hangs(
     Ok(())
 }
 
-/// Appends the lines of a hanging text.
+/// Appends the lines of a text that hangs at a mark.
 #[tactic(auto, unfolding(crate::specs::RowLines::hang_lines, crate::specs::RowLines::label_lines))]
 fn write_hang(
     out: &mut String,
@@ -49,26 +46,9 @@ fn write_hang(
     ensures { OnOk result
         (Appends out.old out.new (hang_lines setting.now (row_plan_view row.now) hang)) }
 {
-    match setting.text_at(hang.label) {
-        Some(text) => write_label_text(out, setting, row, hang, text),
-        None => Ok(()),
-    }
-}
-
-/// Appends the lines of a text that hangs at a mark.
-fn write_label_text(
-    out: &mut String,
-    setting: &Setting<'_>,
-    row: &RowPlan<'_>,
-    hang: Hang,
-    text: &str,
-) -> Result<(), AllocError>
-    requires row { IsRow setting.now (row_plan_view row.now) }
-    requires there { has_mark hang.at (row_plan_view row.now).marks ≡ true }
-    ensures { OnOk result
-        (Appends out.old out.new (flat_map (hang_line setting.now (row_plan_view row.now) hang)
-        (with_modes (lines_of text.now)))) }
-{
+    let Some(text) = setting.text_at(hang.label) else {
+        return Ok(());
+    };
     let mut mode = first_mode(text);
     let mut rest = Some(text);
     while let Some(lines) = rest {
@@ -81,7 +61,7 @@ fn write_label_text(
 }
 
 /// Appends a line of a text that hangs at a mark.
-#[tactic(auto, unfolding(crate::specs::RowLines::hang_line))]
+#[tactic(auto, unfolding(crate::specs::RowLines::hang_line, crate::specs::Hangs::hanging_line))]
 fn write_label_line(
     out: &mut String,
     setting: &Setting<'_>,
@@ -98,31 +78,13 @@ fn write_label_line(
 {
     write_no_linum(out, setting)?;
     render_highlight_gutter(out, setting, LabelRenderMode::SingleLine, &row.bars)?;
-    write_hanging_line(out, setting, &row.marks, hang, mode, line)?;
+    write_bars(out, setting, &row.marks, hang.at)?;
+    write_hung(out, setting, hang.label, mode, line)?;
     out.push('\n')
 }
 
-/// Appends a line of a hanging text.
-#[tactic(auto, unfolding(crate::specs::Hangs::hanging_line))]
-fn write_hanging_line(
-    out: &mut String,
-    setting: &Setting<'_>,
-    marks: &[MarkCells],
-    hang: Hang,
-    mode: LabelRenderMode,
-    line: &str,
-) -> Result<(), AllocError>
-    requires ordered { AreOrdered 0 marks.now }
-    requires there { has_mark hang.at marks.now ≡ true }
-    ensures { OnOk result
-        (Appends out.old out.new (hanging_line setting.now marks.now hang mode line.now)) }
-{
-    write_bars(out, setting, marks, hang.at)?;
-    write_hung(out, setting, hang.label, mode, line)
-}
-
 /// Appends the line up to the bar of a label.
-#[tactic(auto, using(crate::proofs::HangsLemmas::bars_one_by_one))]
+#[tactic(auto, unfolding(crate::specs::Hangs::hung_bar), using(crate::proofs::HangsLemmas::bars_one_by_one))]
 fn write_bars(
     out: &mut String,
     setting: &Setting<'_>,
@@ -139,25 +101,11 @@ fn write_bars(
         if m.label == at {
             return write_spaces(out, m.bar - from);
         }
-        write_hung_bar(out, setting, from, m)?;
+        write_spaces(out, m.bar - from)?;
+        write_bar(out, setting, m.label)?;
         from = m.bar + 1;
     }
     Ok(())
-}
-
-/// Appends the bar of an earlier label, and the spaces before it.
-#[tactic(auto, unfolding(crate::specs::Hangs::hung_bar))]
-fn write_hung_bar(
-    out: &mut String,
-    setting: &Setting<'_>,
-    from: usize,
-    m: MarkCells,
-) -> Result<(), AllocError>
-    requires { from ≤ m.bar }
-    ensures { OnOk result (Appends out.old out.new (hung_bar setting.now from m)) }
-{
-    write_spaces(out, m.bar - from)?;
-    write_bar(out, setting, m.label)
 }
 
 /// Appends a line of a label's text, after the bars.

@@ -1,5 +1,5 @@
 //! Reports as JSON, for programs to read.
-ghost use Rattle.std.specs.Prelude.{◌≡◌, ◌≤◌, OnOk, IfOk, IfErr, IsErrOf, string_bytes, All};
+ghost use Rattle.std.specs.Prelude.{◌≡◌, ◌≤◌, OnOk, IfOk, IfErr, IsErrOf, string_bytes};
 ghost use Rattle.std.specs.Option.{option_copied};
 ghost use Rattle.textwrap.specs.Appends.{Appends};
 ghost use Rattle.oxc_protocol.specs.Faults.{Rose};
@@ -11,7 +11,6 @@ ghost use Rattle.oxc_handlers.specs.JsonText.{details, file_name, json_of};
 ghost use Rattle.oxc_handlers.specs.JsonText.{severity_name as word_for, source_bytes};
 ghost use Rattle.oxc_handlers.specs.JsonValue.{ReadsBack};
 ghost use Rattle.oxc_handlers.specs.JsonSent.{LeavesJson, Receives};
-ghost use Rattle.oxc_handlers.specs.JsonRange.{IsInRange};
 
 mod escape;
 mod labels;
@@ -109,7 +108,10 @@ pub fn push_json(
         (json_of (with_url view.now (option_copied url.entry)))) }
     ensures reads_back { OnOk result (ReadsBack (with_url view.now (option_copied url.entry))) }
 {
-    let mut scanner = scanner_of(alloc, view.source);
+    let mut scanner = match view.source {
+        Some(source) => Some(SpanScanner::new(alloc, source.bytes(), 0, 0)),
+        None => None,
+    };
     push_json_with_scanner(out, view, url, &mut scanner)
 }
 
@@ -136,21 +138,12 @@ pub fn push_json_with_scanner<'a>(
     ensures same { read_bytes scanner.new ≡ read_bytes scanner.old }
     ensures alone { ReadsRowsAlone scanner.new }
 {
-    let mut places = Places::new(scanner.take());
+    let mut places = Places {
+        scanner: scanner.take(),
+    };
     let answer = push_report(out, view, url, &mut places);
-    *scanner = places.into_scanner();
+    *scanner = places.scanner;
     answer
-}
-
-/// A scanner that finds the locations of labels in a source. It allocates no memory.
-fn scanner_of<'a>(alloc: Global, source: Option<SourceRef<'a>>) -> Option<SpanScanner<'a>>
-    ensures source { read_bytes result ≡ source_bytes (ref_views source.entry) }
-    ensures alone { ReadsRowsAlone result }
-{
-    match source {
-        Some(source) => Some(SpanScanner::new(alloc, source.bytes(), 0, 0)),
-        None => None,
-    }
 }
 
 /// Appends a report whose labels have these locations.
@@ -173,7 +166,8 @@ fn push_report(
     push_text(out, "severity", severity_name(view.severity))?;
     push_details(out, view, url)?;
     push_labels_member(out, places, view.labels)?;
-    out.push_str("}")
+    out.push_str("}")?;
+    Ok(())
 }
 
 #[tactic(auto, unfolding(crate::specs::JsonText::details))]

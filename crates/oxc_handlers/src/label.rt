@@ -1,12 +1,10 @@
 //! What is drawn under a row: its marks, the texts that hang at them, and the texts of the
 //! multi-row labels that end there.
-ghost use Rattle.std.specs.Prelude.{◌≡◌, ◌++◌, OnOk};
-ghost use Rattle.std.specs.List.{flat_map};
+ghost use Rattle.std.specs.Prelude.{◌++◌, OnOk};
 ghost use Rattle.textwrap.specs.Appends.{Appends};
 ghost use Rattle.oxc_plan.specs.Plan.{row_plan_view};
-ghost use Rattle.oxc_handlers.specs.RowLines.{IsRow, end_connector, end_line, end_lines};
-ghost use Rattle.oxc_handlers.specs.RowLines.{ending_lines, hanging_lines, lines_of, marks_line};
-ghost use Rattle.oxc_handlers.specs.RowLines.{with_modes};
+ghost use Rattle.oxc_handlers.specs.RowLines.{IsRow, end_line, end_lines};
+ghost use Rattle.oxc_handlers.specs.RowLines.{ending_lines, hanging_lines, marks_line};
 
 use crate::gutter::{render_highlight_gutter, write_no_linum};
 use crate::hangs::write_hangs;
@@ -17,7 +15,9 @@ use crate::text_lines::{LabelRenderMode, first_line, first_mode};
 use oxc_plan::RowPlan;
 use std::alloc::AllocError;
 
-/// Appends the marks under a row, and the texts that hang at them, the last label's first.
+/// Appends the mark line under a row, if it has marks, and the texts that hang at them, the last
+/// label's first.
+#[tactic(auto, unfolding(crate::specs::RowLines::marks_line))]
 pub(crate) fn render_single_line_highlights(
     out: &mut String,
     setting: &Setting<'_>,
@@ -27,28 +27,14 @@ pub(crate) fn render_single_line_highlights(
     ensures { OnOk result (Appends out.old out.new (marks_line setting.now (row_plan_view row.now)
         ++ hanging_lines setting.now (row_plan_view row.now))) }
 {
-    write_mark_line(out, setting, row)?;
-    write_hangs(out, setting, row)
-}
-
-/// Appends the mark line under a row, if it has marks.
-#[tactic(auto, unfolding(crate::specs::RowLines::marks_line))]
-fn write_mark_line(
-    out: &mut String,
-    setting: &Setting<'_>,
-    row: &RowPlan<'_>,
-) -> Result<(), AllocError>
-    requires { IsRow setting.now (row_plan_view row.now) }
-    ensures { OnOk result
-        (Appends out.old out.new (marks_line setting.now (row_plan_view row.now))) }
-{
     if row.marks.len() == 0 {
-        return Ok(());
+        return write_hangs(out, setting, row);
     }
     write_no_linum(out, setting)?;
     render_highlight_gutter(out, setting, LabelRenderMode::SingleLine, &row.bars)?;
     write_marks(out, setting, &row.marks)?;
-    out.push('\n')
+    out.push('\n')?;
+    write_hangs(out, setting, row)
 }
 
 /// Appends the texts of the multi-row labels that end in a row.
@@ -67,7 +53,7 @@ pub(crate) fn render_multi_line_ends(
     Ok(())
 }
 
-/// Appends the text of a label that ends in a row.
+/// Appends the lines of the text of a label that ends in a row.
 #[tactic(auto, unfolding(crate::specs::RowLines::end_lines, crate::specs::RowLines::label_lines))]
 fn render_multi_line_end(
     out: &mut String,
@@ -79,25 +65,9 @@ fn render_multi_line_end(
     ensures { OnOk result
         (Appends out.old out.new (end_lines setting.now (row_plan_view row.now) label)) }
 {
-    match setting.text_at(label) {
-        Some(text) => write_end_text(out, setting, row, label, text),
-        None => Ok(()),
-    }
-}
-
-/// Appends the lines of the text of a label that ends in a row.
-fn write_end_text(
-    out: &mut String,
-    setting: &Setting<'_>,
-    row: &RowPlan<'_>,
-    label: usize,
-    text: &str,
-) -> Result<(), AllocError>
-    requires { IsRow setting.now (row_plan_view row.now) }
-    ensures { OnOk result
-        (Appends out.old out.new (flat_map (end_line setting.now (row_plan_view row.now) label)
-        (with_modes (lines_of text.now)))) }
-{
+    let Some(text) = setting.text_at(label) else {
+        return Ok(());
+    };
     let mut mode = first_mode(text);
     let mut rest = Some(text);
     while let Some(lines) = rest {
@@ -110,7 +80,7 @@ fn write_end_text(
 }
 
 /// Appends a line of the text of a label that ends in a row.
-#[tactic(auto, unfolding(crate::specs::RowLines::end_line))]
+#[tactic(auto, unfolding(crate::specs::RowLines::end_line, crate::specs::RowLines::end_connector))]
 fn render_multi_line_end_single(
     out: &mut String,
     setting: &Setting<'_>,
@@ -124,24 +94,17 @@ fn render_multi_line_end_single(
         (Appends out.old out.new (end_line setting.now (row_plan_view row.now) label
         (mode, line.now))) }
 {
-    let style = setting.highlight(label);
-    write_no_linum(out, setting)?;
-    render_highlight_gutter(out, setting, mode, &row.bars)?;
-    write_styled_run(out, style, connector_of(setting, mode), 1)?;
-    out.push(' ')?;
-    style.write(out, line)?;
-    out.push('\n')
-}
-
-/// The characters that connect a label's text to the gutter in which it ends.
-#[tactic(auto, unfolding(crate::specs::RowLines::end_connector))]
-fn connector_of(setting: &Setting<'_>, mode: LabelRenderMode) -> char
-    ensures { result ≡ end_connector setting.now mode }
-{
     let chars = setting.theme.characters;
-    match mode {
+    let connector = match mode {
         LabelRenderMode::SingleLine => chars.hbar,
         LabelRenderMode::BlockFirst => chars.rcross,
         LabelRenderMode::BlockRest => chars.vbar,
-    }
+    };
+    let style = setting.highlight(label);
+    write_no_linum(out, setting)?;
+    render_highlight_gutter(out, setting, mode, &row.bars)?;
+    write_styled_run(out, style, connector, 1)?;
+    out.push(' ')?;
+    style.write(out, line)?;
+    out.push('\n')
 }

@@ -1,5 +1,5 @@
 //! The text of a row as it is drawn.
-ghost use Rattle.std.specs.Prelude.{◌≡◌, ◌+◌, ◌*◌, ◌^◌, ◌<◌, ◌≤◌, ◌↔◌, IfOk, IsTrue, OnOk, fold};
+ghost use Rattle.std.specs.Prelude.{◌≡◌, ◌+◌, ◌*◌, ◌^◌, ◌<◌, ◌≤◌, IfOk, OnOk, fold};
 ghost use Rattle.std.specs.Prelude.{length};
 ghost use Rattle.textwrap.specs.Appends.{Appends};
 ghost use Rattle.oxc_plan.specs.Width.{led, moved};
@@ -24,17 +24,12 @@ pub(crate) fn render_line_text(
     ensures { OnOk result (Appends out.old out.new (shown_text tabs text.now)) }
 {
     match memchr(b'\t', text.as_bytes()) {
-        Some(_) if is_ascii_without_escapes(text) => write_between_tabs(out, text, tabs),
+        Some(_) if text.is_ascii() && memchr(0x1B, text.as_bytes()).is_none() => {
+            write_between_tabs(out, text, tabs)
+        }
         Some(_) => write_clusters(out, text, tabs),
         None => out.push_str(text),
     }
-}
-
-/// Whether a text is ASCII and no escape begins in it.
-fn is_ascii_without_escapes(text: &str) -> bool
-    ensures { IsTrue result ↔ IsAsciiWithoutEscapes text.now }
-{
-    text.is_ascii() && memchr(0x1B, text.as_bytes()).is_none()
 }
 
 /// Appends the text of an ASCII row without escapes, slice by slice between its tabs. (Clusters

@@ -1,7 +1,7 @@
 //! The marks under a row.
-ghost use Rattle.std.specs.Prelude.{◌≡◌, OnOk};
+ghost use Rattle.std.specs.Prelude.{OnOk};
 ghost use Rattle.textwrap.specs.Appends.{Appends};
-ghost use Rattle.oxc_handlers.specs.Marks.{AreOrdered, IsMark, drawn_mark, mark_line, marker};
+ghost use Rattle.oxc_handlers.specs.Marks.{AreOrdered, IsMark, drawn_mark, mark_line};
 
 use crate::runs::{write_repeated_char, write_spaces};
 use crate::setting::Setting;
@@ -26,8 +26,9 @@ pub(crate) fn write_marks(
     Ok(())
 }
 
-/// Appends a mark, and the spaces before it.
-#[tactic(auto, unfolding(crate::specs::Marks::drawn_mark, crate::specs::Theme::styled))]
+/// Appends a mark, and the spaces before it. Its character at the bar is an arrow if the label is
+/// empty, and the beginning of a bar if it has a text.
+#[tactic(auto, unfolding(crate::specs::Marks::drawn_mark, crate::specs::Marks::marker, crate::specs::Theme::styled))]
 fn write_mark(
     out: &mut String,
     setting: &Setting<'_>,
@@ -37,28 +38,21 @@ fn write_mark(
     requires { IsMark before m }
     ensures { OnOk result (Appends out.old out.new (drawn_mark setting.now before m)) }
 {
-    let line = setting.theme.characters.underline;
+    let chars = setting.theme.characters;
+    let line = chars.underline;
+    let marker = if setting.is_empty_at(m.label) {
+        chars.uarrow
+    } else if setting.text_at(m.label).is_some() {
+        chars.underbar
+    } else {
+        line
+    };
     let style = setting.highlight(m.label);
     style.begin(out)?;
     write_spaces(out, m.start - before)?;
     write_repeated_char(out, line, m.bar - m.start)?;
-    out.push(marker_of(setting, m.label))?;
+    out.push(marker)?;
     write_repeated_char(out, line, m.end - m.bar - 1)?;
     style.end(out)?;
     Ok(())
-}
-
-/// The character at the bar of a label.
-#[tactic(auto, unfolding(crate::specs::Marks::marker))]
-fn marker_of(setting: &Setting<'_>, label: usize) -> char
-    ensures { result ≡ marker setting.now label }
-{
-    let chars = setting.theme.characters;
-    if setting.is_empty_at(label) {
-        return chars.uarrow;
-    }
-    match setting.text_at(label) {
-        Some(_) => chars.underbar,
-        None => chars.underline,
-    }
 }

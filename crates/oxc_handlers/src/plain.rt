@@ -4,7 +4,6 @@ ghost use Rattle.oxc_span.specs.Views.{text_bytes};
 ghost use Rattle.oxc_protocol.specs.Parts.{parts_with};
 ghost use Rattle.oxc_protocol.specs.SourceViews.{ref_view};
 ghost use Rattle.oxc_handlers.specs.Refusals.{IsJudged};
-ghost use Rattle.oxc_handlers.specs.Report.{view_parts, without_url};
 ghost use Rattle.oxc_handlers.specs.Reports.{plain_handler, text_of};
 
 use crate::handler::GraphicalReportHandler;
@@ -65,22 +64,7 @@ fn render_source<'a>(
         ≡ text_of plain_handler (parts_with diagnostic.now (Some (ref_view source.now)))) }
     ensures cause { IsJudged (parts_with diagnostic.now (Some (ref_view source.now))) result }
 {
-    let view = view_with(diagnostic, code, source);
-    let mut scanner = None;
-    plain_handler().render_view(alloc, &view, &mut scanner)
-}
-
-/// What is drawn of a diagnostic with a source; `code` is its code.
-fn view_with<'a>(
-    diagnostic: &'a OxcDiagnostic,
-    code: &'a Option<String>,
-    source: &SourceRef<'a>,
-) -> DiagnosticView<'a>
-    requires { text_bytes code.now ≡ (parts_with diagnostic.now None).code }
-    ensures { view_parts result
-        ≡ without_url (parts_with diagnostic.now (Some (ref_view source.now))) }
-{
-    DiagnosticView {
+    let view = DiagnosticView {
         message: diagnostic.message(),
         code: code.as_deref(),
         severity: diagnostic.severity(),
@@ -88,5 +72,7 @@ fn view_with<'a>(
         note: diagnostic.note(),
         source: Some(*source),
         labels: diagnostic.labels(),
-    }
+    };
+    let mut scanner = None;
+    plain_handler().render_view(alloc, &view, &mut scanner)
 }

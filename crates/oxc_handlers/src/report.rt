@@ -1,12 +1,9 @@
 //! Drawn reports: a title, the snippets, help and note.
-ghost use Rattle.std.specs.Prelude.{◌≡◌, ◌++◌, ◌-◌, ◌^◌, ◌<◌, ◌≤◌, ◌↔◌, All, IsFalse, IsTrue};
-ghost use Rattle.std.specs.Prelude.{IsSome, Some, IfOk, IfSome, IsOkUnless, OnOk, drop, length};
-ghost use Rattle.std.specs.Prelude.{map, string_bytes};
+ghost use Rattle.std.specs.Prelude.{◌≡◌, ◌++◌, ◌^◌, ◌<◌, ◌≤◌, All, IsFalse, IsTrue};
+ghost use Rattle.std.specs.Prelude.{IsSome, Some, IfOk, IsOkUnless, OnOk, length, map, string_bytes};
 ghost use Rattle.std.specs.Option.{option_copied};
-ghost use Rattle.std.specs.Str.{IsCharBoundary};
 ghost use Rattle.textwrap.specs.Appends.{Appends};
 ghost use Rattle.textwrap.specs.Filled.{filled};
-ghost use Rattle.textwrap.specs.OneLine.{FitsOnLine};
 ghost use Rattle.oxc_span.specs.Label.{label_end};
 ghost use Rattle.oxc_plan.specs.Keeping.{ReadsOn};
 ghost use Rattle.oxc_plan.specs.Order.{label_order};
@@ -15,8 +12,8 @@ ghost use Rattle.oxc_plan.specs.Scanned.{ReadsRound};
 ghost use Rattle.oxc_handlers.specs.Refusals.{IsFaultless, IsJudged, first_outside};
 ghost use Rattle.oxc_handlers.specs.Report.{code_part, drawn_snippets, filled_title, footer};
 ghost use Rattle.oxc_handlers.specs.Report.{help_of, icon, name_in, note_of, plan_of, report_of};
-ghost use Rattle.oxc_handlers.specs.Report.{severity_in, severity_style, snippets_in, title};
-ghost use Rattle.oxc_handlers.specs.Report.{title_indent, title_of, view_parts};
+ghost use Rattle.oxc_handlers.specs.Report.{severity_style, snippets_in, title, title_indent};
+ghost use Rattle.oxc_handlers.specs.Report.{title_of, view_parts};
 ghost use Rattle.oxc_handlers.specs.RowLines.{lf};
 ghost use Rattle.oxc_handlers.specs.Scanners.{CanDraw, HoldsLabels, IsDrawerOf, IsTaken};
 ghost use Rattle.oxc_handlers.specs.Scanners.{ReadsRoundIfThere, StaysReader};
@@ -241,7 +238,7 @@ impl GraphicalReportHandler {
     }
 
     /// Appends the title of a report.
-    #[tactic(auto, unfolding(crate::specs::Report::title, crate::specs::Report::plan_of))]
+    #[tactic(auto, unfolding(crate::specs::Report::title, crate::specs::Report::plan_of, crate::specs::Report::severity_in))]
     fn render_title(
         &self,
         alloc: Global,
@@ -251,7 +248,8 @@ impl GraphicalReportHandler {
         ensures { OnOk result (Appends out.old out.new
             (title self.now.theme self.now.width (plan_of self.now.tab (view_parts view.now)))) }
     {
-        let severity = severity_of(view);
+        // (without a severity, a diagnostic is drawn as an error)
+        let severity = view.severity.unwrap_or(Severity::Error);
         let width = self.termwidth.saturating_sub(2);
         if write_short_title(out, &self.theme, severity, width, view)? {
             return Ok(());
@@ -408,14 +406,6 @@ fn reader_of<'a>(alloc: Global, held: Option<SpanScanner<'a>>, source: &'a [u8])
     }
 }
 
-/// The severity of a view's diagnostic: an error if it has none.
-#[tactic(auto, unfolding(crate::specs::Report::severity_in))]
-fn severity_of(view: &DiagnosticView<'_>) -> Severity
-    ensures { result ≡ severity_in (view_parts view.now) }
-{
-    view.severity.unwrap_or(Severity::Error)
-}
-
 /// The name of a view's source.
 #[tactic(auto, unfolding(crate::specs::Report::name_in))]
 fn source_name<'a>(view: &DiagnosticView<'a>) -> Option<&'a str>
@@ -469,22 +459,13 @@ fn write_short_title(
     write_title_indent(out, theme, severity, icon_of(theme, severity))?;
     let behind = out.as_str().len();
     write_title_text(out, theme, severity, view)?;
-    if fits_behind(out, start, behind, width) {
+    let room = width.saturating_sub(behind - start);
+    if fits_on_line(&out.as_str()[behind..], room) {
         out.push('\n')?;
         return Ok(true);
     }
     out.truncate(start);
     Ok(false)
-}
-
-/// Whether the text from `behind` on surely fits on a line whose indent is the bytes from `start`
-/// to `behind`.
-fn fits_behind(text: &str, start: usize, behind: usize, width: usize) -> bool
-    requires order { start ≤ behind }
-    requires boundary { IsCharBoundary text.now behind }
-    ensures { IsTrue result ↔ FitsOnLine (width - (behind - start)) (drop behind text.now) }
-{
-    fits_on_line(&text[behind..], width.saturating_sub(behind - start))
 }
 
 /// Appends the indent of a line of the title.

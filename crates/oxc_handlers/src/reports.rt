@@ -9,13 +9,11 @@ ghost use Rattle.oxc_handlers.specs.Refusals.{IsFaultless, IsJudged, IsRefusal};
 ghost use Rattle.oxc_handlers.specs.Report.{view_parts, without_url};
 ghost use Rattle.oxc_handlers.specs.Reports.{AreJudged, IsListRefusal, IsSendJudged, Sends};
 ghost use Rattle.oxc_handlers.specs.Reports.{text_of, texts_of};
-ghost use Rattle.oxc_handlers.specs.Scanners.{ReadsRoundIfThere};
 
 use crate::handler::GraphicalReportHandler;
 use crate::report::judge;
 use crate::view::{DiagnosticView, RenderError};
 use oxc_protocol::{Diagnostic, Error, Sink, write_all};
-use oxc_windows::SpanScanner;
 use std::alloc::{AllocError, Global};
 
 /// Receives each text, as a closure would. (A trait, since the bound on a closure can't name a
@@ -133,38 +131,16 @@ impl GraphicalReportHandler {
         let mut scanner = None;
         let mut count = 0;
         for diagnostic in diagnostics {
-            let code = &codes[count];
-            let kept = self.hand_one(alloc, diagnostic, code, &mut scanner, keep)?;
+            let view = view_of_box(diagnostic, &codes[count]);
+            let Ok(text) = self.render_view(alloc, &view, &mut scanner) else {
+                return Err(AllocError);
+            };
             count += 1;
-            if !kept {
+            if !ask(keep, diagnostic, text.as_str()) {
                 return Ok(count);
             }
         }
         Ok(count)
-    }
-
-    /// Passes on the text of a diagnostic that can be drawn, with this code.
-    fn hand_one<'a, K: Keep>(
-        &self,
-        alloc: Global,
-        diagnostic: &'a Error,
-        code: &'a Option<String>,
-        scanner: &mut Option<SpanScanner<'a>>,
-        keep: &mut K,
-    ) -> Result<bool, AllocError>
-        requires code { text_bytes code.now ≡ (parts diagnostic.now).code }
-        requires faultless { IsFaultless (parts diagnostic.now) }
-        requires round { ReadsRoundIfThere scanner.old }
-        ensures handed { IfOk result (λ kept. K.keeps keep.old (parts diagnostic.now)
-            (text_of self.now (parts diagnostic.now)) kept keep.new) }
-        ensures still { OnErr result (keep.new ≡ keep.old) }
-        ensures round { ReadsRoundIfThere scanner.new }
-    {
-        let view = view_of_box(diagnostic, code);
-        match self.render_view(alloc, &view, scanner) {
-            Ok(text) => Ok(ask(keep, diagnostic, text.as_str())),
-            Err(_) => Err(AllocError),
-        }
     }
 
     /// The text of a diagnostic.
@@ -211,37 +187,15 @@ impl GraphicalReportHandler {
         let mut scanner = None;
         let mut report = 0;
         for diagnostic in diagnostics {
-            let code = &codes[report];
-            let written = self.write_text(alloc, out, diagnostic, code, &mut scanner);
-            if let Err(error) = written {
-                return Err(error.at(report));
-            }
+            let view = view_of_box(diagnostic, &codes[report]);
+            let text = match self.render_view(alloc, &view, &mut scanner) {
+                Ok(text) => text,
+                Err(error) => return Err(error.at(report)),
+            };
+            out.push_str(text.as_str())?;
             report += 1;
         }
         Ok(())
-    }
-
-    /// Appends the text of a diagnostic with this code.
-    fn write_text<'a>(
-        &self,
-        alloc: Global,
-        out: &mut String,
-        diagnostic: &'a Error,
-        code: &'a Option<String>,
-        scanner: &mut Option<SpanScanner<'a>>,
-    ) -> Result<(), RenderError>
-        requires code { text_bytes code.now ≡ (parts diagnostic.now).code }
-        requires round { ReadsRoundIfThere scanner.old }
-        ensures text { OnOk result
-            (Appends out.old out.new (text_of self.now (parts diagnostic.now))) }
-        ensures cause { IsJudged (parts diagnostic.now) result }
-        ensures round { ReadsRoundIfThere scanner.new }
-    {
-        let view = view_of_box(diagnostic, code);
-        match self.render_view(alloc, &view, scanner) {
-            Ok(text) => Ok(out.push_str(text.as_str())?),
-            Err(error) => Err(error),
-        }
     }
 }
 
@@ -258,30 +212,14 @@ fn judge_all<'a>(
     let mut scanner = None;
     let mut report = 0;
     for diagnostic in diagnostics {
-        let code = &codes[report];
-        let judged = judge_box(alloc, diagnostic, code, &mut scanner);
+        let view = view_of_box(diagnostic, &codes[report]);
+        let judged = judge(alloc, &view, &mut scanner);
         if let Err(error) = judged {
             return Err(error.at(report));
         }
         report += 1;
     }
     Ok(())
-}
-
-/// Whether a boxed diagnostic with this code can be drawn.
-fn judge_box<'a>(
-    alloc: Global,
-    diagnostic: &'a Error,
-    code: &'a Option<String>,
-    scanner: &mut Option<SpanScanner<'a>>,
-) -> Result<(), RenderError>
-    requires code { text_bytes code.now ≡ (parts diagnostic.now).code }
-    requires round { ReadsRoundIfThere scanner.old }
-    ensures cause { IsJudged (parts diagnostic.now) result }
-    ensures round { ReadsRoundIfThere scanner.new }
-{
-    let view = view_of_box(diagnostic, code);
-    judge(alloc, &view, scanner)
 }
 
 /// What is drawn of a boxed diagnostic with this code.

@@ -11,7 +11,8 @@ use std::alloc::AllocError;
 /// The number of characters in a block.
 const BLOCK: usize = 128;
 
-/// Appends a character `count` times.
+/// Appends a character `count` times, in blocks if there is a block of it.
+#[tactic(auto, using(crate::proofs::CellsLemmas::chars_one_by_one))]
 pub(crate) fn write_repeated_char(out: &mut String, c: char, count: usize) -> Result<(), AllocError>
     ensures { OnOk result (Appends out.old out.new (repeated count (encode_utf8 c))) }
 {
@@ -22,7 +23,13 @@ pub(crate) fn write_repeated_char(out: &mut String, c: char, count: usize) -> Re
         out.push(c)?;
         return Ok(());
     }
-    write_run(out, c, count)
+    if let Some(block) = block_of(c) {
+        return write_blocks(out, c, block, count);
+    }
+    for _i in 0..count {
+        out.push(c)?;
+    }
+    Ok(())
 }
 
 /// A block of spaces.
@@ -39,16 +46,6 @@ pub(crate) fn write_spaces(out: &mut String, count: usize) -> Result<(), AllocEr
         return Ok(());
     }
     write_blocks(out, ' ', SPACES, count)
-}
-
-/// Appends a character `count` times, in blocks if there is a block of it.
-fn write_run(out: &mut String, c: char, count: usize) -> Result<(), AllocError>
-    ensures { OnOk result (Appends out.old out.new (repeated count (encode_utf8 c))) }
-{
-    match block_of(c) {
-        Some(block) => write_blocks(out, c, block, count),
-        None => write_chars(out, c, count),
-    }
 }
 
 /// A block of a character of which long runs are drawn.
@@ -89,17 +86,6 @@ fn front_of(block: &str, c: char, count: usize) -> &str
     ensures { result.now ≡ repeated count (encode_utf8 c) }
 {
     &block[..count * c.len_utf8()]
-}
-
-/// Appends a character `count` times, one by one.
-#[tactic(auto, using(crate::proofs::CellsLemmas::chars_one_by_one))]
-fn write_chars(out: &mut String, c: char, count: usize) -> Result<(), AllocError>
-    ensures { OnOk result (Appends out.old out.new (repeated count (encode_utf8 c))) }
-{
-    for _i in 0..count {
-        out.push(c)?;
-    }
-    Ok(())
 }
 
 /// Appends a character `count` times, in a style.

@@ -1,11 +1,11 @@
 //! Drawn snippets: a head, the lines of each row, and a close.
-ghost use Rattle.std.specs.Prelude.{◌≡◌, ◌<◌, ◌≤◌, ◌^◌, All, OnOk, length, map, decimal};
+ghost use Rattle.std.specs.Prelude.{◌≡◌, ◌<◌, ◌≤◌, ◌^◌, All, OnOk, map};
 ghost use Rattle.std.specs.List.{flat_map};
 ghost use Rattle.std.specs.Option.{option_copied};
 ghost use Rattle.textwrap.specs.Appends.{Appends};
 ghost use Rattle.oxc_plan.specs.Plan.{row_plan_view, snippet_view};
-ghost use Rattle.oxc_handlers.specs.RowLines.{IsRow, row_line, row_lines};
-ghost use Rattle.oxc_handlers.specs.Snippet.{IsSnippetIn, close, drawn_all, drawn_one, head};
+ghost use Rattle.oxc_handlers.specs.RowLines.{IsRow, row_lines};
+ghost use Rattle.oxc_handlers.specs.Snippet.{IsSnippetIn, drawn_all, drawn_one, head};
 ghost use Rattle.oxc_handlers.specs.Snippet.{head_text, location, number_width};
 
 use crate::gutter::{render_line_gutter, write_linum};
@@ -36,8 +36,8 @@ pub(crate) fn render_snippets(
     Ok(())
 }
 
-/// Appends a snippet.
-#[tactic(auto, unfolding(crate::specs::Snippet::drawn_snippet))]
+/// Appends a snippet: its head, its rows, and the close.
+#[tactic(auto, unfolding(crate::specs::Snippet::drawn_snippet, crate::specs::Snippet::close))]
 fn render_snippet(
     out: &mut String,
     setting: &Setting<'_>,
@@ -56,7 +56,11 @@ fn render_snippet(
     };
     write_head(out, &setting, name, snippet)?;
     render_rows(out, &setting, &snippet.rows)?;
-    write_close(out, &setting)
+    write_spaces(out, setting.digits + 2)?;
+    out.push(setting.theme.characters.lbot)?;
+    write_repeated_char(out, setting.theme.characters.hbar, 4)?;
+    out.push('\n')?;
+    Ok(())
 }
 
 /// The number of digits of the last row's number; 1 without rows.
@@ -66,17 +70,12 @@ fn width_of_numbers(rows: &[RowPlan<'_>]) -> usize
     ensures few { result ≤ 40 }
 {
     match rows.last() {
-        Some(row) => digits_of(row.row.number),
+        Some(row) => {
+            let mut buffer = Buffer::new();
+            buffer.format(row.row.number).len()
+        }
         None => 1,
     }
-}
-
-fn digits_of(number: usize) -> usize
-    ensures exact { result ≡ length (decimal number) }
-    ensures few { result ≤ 40 }
-{
-    let mut buffer = Buffer::new();
-    buffer.format(number).len()
 }
 
 /// Appends the head of a snippet.
@@ -156,38 +155,17 @@ fn render_rows(
     Ok(())
 }
 
-/// Appends the lines of a row.
-#[tactic(auto, unfolding(crate::specs::RowLines::row_lines))]
+/// Appends the lines of a row: itself, and what is drawn under it.
+#[tactic(auto, unfolding(crate::specs::RowLines::row_lines, crate::specs::RowLines::row_line))]
 fn render_row(out: &mut String, setting: &Setting<'_>, row: &RowPlan<'_>) -> Result<(), AllocError>
     requires { IsRow setting.now (row_plan_view row.now) }
     ensures { OnOk result
         (Appends out.old out.new (row_lines setting.now (row_plan_view row.now))) }
 {
-    render_line(out, setting, row)?;
-    render_single_line_highlights(out, setting, row)?;
-    render_multi_line_ends(out, setting, row)
-}
-
-/// Appends the row itself.
-#[tactic(auto, unfolding(crate::specs::RowLines::row_line))]
-fn render_line(out: &mut String, setting: &Setting<'_>, row: &RowPlan<'_>) -> Result<(), AllocError>
-    requires { IsRow setting.now (row_plan_view row.now) }
-    ensures { OnOk result (Appends out.old out.new (row_line setting.now (row_plan_view row.now))) }
-{
     write_linum(out, setting, row.row.number)?;
     render_line_gutter(out, setting, &row.bars)?;
     render_line_text(out, row.row.text, setting.tabs)?;
-    out.push('\n')
-}
-
-/// Appends the close of a snippet.
-#[tactic(auto, unfolding(crate::specs::Snippet::close))]
-fn write_close(out: &mut String, setting: &Setting<'_>) -> Result<(), AllocError>
-    requires { setting.now.digits < 2 ^ 62 }
-    ensures { OnOk result (Appends out.old out.new (close setting.now)) }
-{
-    write_spaces(out, setting.digits + 2)?;
-    out.push(setting.theme.characters.lbot)?;
-    write_repeated_char(out, setting.theme.characters.hbar, 4)?;
-    out.push('\n')
+    out.push('\n')?;
+    render_single_line_highlights(out, setting, row)?;
+    render_multi_line_ends(out, setting, row)
 }

@@ -4,7 +4,7 @@ ghost use Rattle.std.specs.Option.{option_copied, option_map_or};
 ghost use Rattle.oxc_handlers.specs.RowLines.{first_mode, lines_of};
 
 /// How a line of a label's text is drawn.
-#[derive(Clone, Copy, Debug, PartialEq, Eq)]
+#[derive(Clone, Copy)]
 pub(crate) enum LabelRenderMode {
     /// The text has only this line.
     SingleLine,

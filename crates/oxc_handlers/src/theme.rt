@@ -1,8 +1,7 @@
 //! The characters and the styles of a drawing.
 ghost use Rattle.std.specs.Prelude.{◌≡◌, OnOk, OnErr, string_bytes};
 ghost use Rattle.textwrap.specs.Appends.{Appends};
-ghost use Rattle.oxc_handlers.specs.Theme.{ascii_characters, box_characters, none_theme};
-ghost use Rattle.oxc_handlers.specs.Theme.{plain_styles, prefix_of, reset_of, rgb_styles, styled};
+ghost use Rattle.oxc_handlers.specs.Theme.{none_theme, prefix_of, reset_of, styled};
 ghost use Rattle.oxc_handlers.specs.Theme.{unicode_nocolor_theme, unicode_theme};
 
 use std::alloc::AllocError;
@@ -10,7 +9,7 @@ use std::alloc::AllocError;
 /// The characters and styles of a drawing; each style is plain or an escape sequence.
 ///
 /// A theme is one of the three that its constructors make.
-#[derive(Clone, Copy, Debug, PartialEq, Eq)]
+#[derive(Clone, Copy, Debug)]
 pub struct GraphicalTheme {
     pub(crate) characters: ThemeCharacters,
     pub(crate) styles: ThemeStyles,
@@ -22,8 +21,8 @@ impl GraphicalTheme {
         ensures { result ≡ unicode_theme }
     {
         GraphicalTheme {
-            characters: ThemeCharacters::unicode(),
-            styles: ThemeStyles::rgb(),
+            characters: ThemeCharacters::UNICODE,
+            styles: ThemeStyles::RGB,
         }
     }
 
@@ -32,8 +31,8 @@ impl GraphicalTheme {
         ensures { result ≡ unicode_nocolor_theme }
     {
         GraphicalTheme {
-            characters: ThemeCharacters::unicode(),
-            styles: ThemeStyles::none(),
+            characters: ThemeCharacters::UNICODE,
+            styles: ThemeStyles::PLAIN,
         }
     }
 
@@ -42,8 +41,8 @@ impl GraphicalTheme {
         ensures { result ≡ none_theme }
     {
         GraphicalTheme {
-            characters: ThemeCharacters::ascii(),
-            styles: ThemeStyles::none(),
+            characters: ThemeCharacters::ASCII,
+            styles: ThemeStyles::PLAIN,
         }
     }
 
@@ -68,7 +67,7 @@ impl GraphicalTheme {
 }
 
 /// The style of a text.
-#[derive(Clone, Copy, Debug, PartialEq, Eq)]
+#[derive(Clone, Copy, Debug)]
 pub(crate) enum Style {
     /// No style.
     Plain,
@@ -143,7 +142,7 @@ impl Style {
 }
 
 /// The styles of a drawing.
-#[derive(Clone, Copy, Debug, PartialEq, Eq)]
+#[derive(Clone, Copy, Debug)]
 pub(crate) struct ThemeStyles {
     pub(crate) error: Style,
     pub(crate) warning: Style,
@@ -156,40 +155,31 @@ pub(crate) struct ThemeStyles {
 }
 
 impl ThemeStyles {
-    fn rgb() -> Self
-        ensures { result ≡ rgb_styles }
-    {
-        let highlights = [Style::Highlight1, Style::Highlight2, Style::Highlight3];
-        ThemeStyles {
-            error: Style::Error,
-            warning: Style::Warning,
-            advice: Style::Info,
-            help: Style::Info,
-            note: Style::Info,
-            link: Style::Link,
-            linum: Style::LineNumber,
-            highlights,
-        }
-    }
+    const RGB: Self = ThemeStyles {
+        error: Style::Error,
+        warning: Style::Warning,
+        advice: Style::Info,
+        help: Style::Info,
+        note: Style::Info,
+        link: Style::Link,
+        linum: Style::LineNumber,
+        highlights: [Style::Highlight1, Style::Highlight2, Style::Highlight3],
+    };
 
-    fn none() -> Self
-        ensures { result ≡ plain_styles }
-    {
-        ThemeStyles {
-            error: Style::Plain,
-            warning: Style::Plain,
-            advice: Style::Plain,
-            help: Style::Plain,
-            note: Style::Plain,
-            link: Style::Plain,
-            linum: Style::Plain,
-            highlights: [Style::Plain, Style::Plain, Style::Plain],
-        }
-    }
+    const PLAIN: Self = ThemeStyles {
+        error: Style::Plain,
+        warning: Style::Plain,
+        advice: Style::Plain,
+        help: Style::Plain,
+        note: Style::Plain,
+        link: Style::Plain,
+        linum: Style::Plain,
+        highlights: [Style::Plain, Style::Plain, Style::Plain],
+    };
 }
 
 /// The characters of a drawing.
-#[derive(Clone, Copy, Debug, PartialEq, Eq)]
+#[derive(Clone, Copy, Debug)]
 pub(crate) struct ThemeCharacters {
     pub(crate) hbar: char,
     pub(crate) vbar: char,
@@ -208,45 +198,37 @@ pub(crate) struct ThemeCharacters {
 }
 
 impl ThemeCharacters {
-    fn unicode() -> Self
-        ensures { result ≡ box_characters }
-    {
-        ThemeCharacters {
-            hbar: '─',
-            vbar: '│',
-            vbar_break: '·',
-            uarrow: '▲',
-            rarrow: '▶',
-            ltop: '╭',
-            lbot: '╰',
-            lcross: '├',
-            rcross: '┤',
-            underbar: '┬',
-            underline: '─',
-            error: '×',
-            warning: '⚠',
-            advice: '☞',
-        }
-    }
+    const UNICODE: Self = ThemeCharacters {
+        hbar: '─',
+        vbar: '│',
+        vbar_break: '·',
+        uarrow: '▲',
+        rarrow: '▶',
+        ltop: '╭',
+        lbot: '╰',
+        lcross: '├',
+        rcross: '┤',
+        underbar: '┬',
+        underline: '─',
+        error: '×',
+        warning: '⚠',
+        advice: '☞',
+    };
 
-    fn ascii() -> Self
-        ensures { result ≡ ascii_characters }
-    {
-        ThemeCharacters {
-            hbar: '-',
-            vbar: '|',
-            vbar_break: ':',
-            uarrow: '^',
-            rarrow: '>',
-            ltop: ',',
-            lbot: '`',
-            lcross: '|',
-            rcross: '|',
-            underbar: '|',
-            underline: '^',
-            error: 'x',
-            warning: '!',
-            advice: '>',
-        }
-    }
+    const ASCII: Self = ThemeCharacters {
+        hbar: '-',
+        vbar: '|',
+        vbar_break: ':',
+        uarrow: '^',
+        rarrow: '>',
+        ltop: ',',
+        lbot: '`',
+        lcross: '|',
+        rcross: '|',
+        underbar: '|',
+        underline: '^',
+        error: 'x',
+        warning: '!',
+        advice: '>',
+    };
 }

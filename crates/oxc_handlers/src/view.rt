@@ -47,7 +47,7 @@ impl<'a> DiagnosticView<'a> {
 }
 
 /// Why reports were not drawn, or not written.
-#[derive(Clone, Copy, Debug, PartialEq, Eq, Error)]
+#[derive(Clone, Copy, Debug, PartialEq, Error)]
 pub enum RenderError {
     /// A label ends past its source.
     #[error("report {report}: label {label} is outside")]

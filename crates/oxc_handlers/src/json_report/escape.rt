@@ -3,7 +3,7 @@ ghost use Rattle.std.specs.Prelude.{◌≡◌, ◌<◌, OnOk, IsTrue};
 ghost use Rattle.textwrap.specs.Appends.{Appends};
 ghost use Rattle.std.specs.List.{position};
 ghost use Rattle.std.specs.Char.{digit_char};
-ghost use Rattle.oxc_handlers.specs.JsonEscape.{ComesBack, escape, escape_byte, hex_escape};
+ghost use Rattle.oxc_handlers.specs.JsonEscape.{ComesBack, escape, escape_byte};
 ghost use Rattle.oxc_handlers.specs.JsonEscape.{IsFirstEscape, needs_escape as is_escaped};
 
 use std::alloc::AllocError;
@@ -48,8 +48,9 @@ fn needs_escape(byte: u8) -> bool
     byte < 0x20 || byte == b'"' || byte == b'\\'
 }
 
-// Appends the escape of a byte.
-#[tactic(auto, unfolding(crate::specs::JsonEscape::escape_byte))]
+// Appends the escape of a byte. A control character without a short one is written as `\u` and four
+// hexadecimal digits.
+#[tactic(auto, unfolding(crate::specs::JsonEscape::escape_byte, crate::specs::JsonEscape::hex_escape))]
 fn push_escape(out: &mut String, byte: u8) -> Result<(), AllocError>
     requires { IsTrue (is_escaped byte) }
     ensures { OnOk result (Appends out.old out.new (escape_byte byte)) }
@@ -62,19 +63,12 @@ fn push_escape(out: &mut String, byte: u8) -> Result<(), AllocError>
         0x0A => out.push_str("\\n"),
         0x0C => out.push_str("\\f"),
         0x0D => out.push_str("\\r"),
-        _ => push_hex(out, byte),
+        _ => {
+            out.push_str("\\u00")?;
+            out.push(hex_digit(byte / 16))?;
+            out.push(hex_digit(byte % 16))
+        }
     }
-}
-
-// Appends a control character as `\u` and four hexadecimal digits.
-#[tactic(auto, unfolding(crate::specs::JsonEscape::hex_escape))]
-fn push_hex(out: &mut String, byte: u8) -> Result<(), AllocError>
-    requires { byte < 0x20 }
-    ensures { OnOk result (Appends out.old out.new (hex_escape byte)) }
-{
-    out.push_str("\\u00")?;
-    out.push(hex_digit(byte / 16))?;
-    out.push(hex_digit(byte % 16))
 }
 
 fn hex_digit(digit: u8) -> char

@@ -1,9 +1,8 @@
 //! The labels of a report as JSON.
 ghost use Rattle.std.specs.Prelude.{◌≡◌, ◌<◌, ◌^◌, OnOk, All};
 ghost use Rattle.textwrap.specs.Appends.{Appends};
-ghost use Rattle.std.specs.List.{flat_map};
-ghost use Rattle.oxc_handlers.specs.JsonText.{label_list, label_object, label_place, labels_member};
-ghost use Rattle.oxc_handlers.specs.JsonText.{later_label, place_members, span_object};
+ghost use Rattle.oxc_handlers.specs.JsonText.{label_list, label_object, labels_member};
+ghost use Rattle.oxc_handlers.specs.JsonText.{place_members, span_object};
 ghost use Rattle.oxc_handlers.specs.JsonRange.{IsInRange};
 
 use crate::json_report::members::{push_key, push_number_member, push_optional};
@@ -30,7 +29,7 @@ pub fn push_labels_member(
 }
 
 // Appends the labels, separated by commas.
-#[tactic(auto, unfolding(crate::specs::JsonText::label_list))]
+#[tactic(auto, unfolding(crate::specs::JsonText::label_list, crate::specs::JsonText::later_label))]
 fn push_labels(
     out: &mut String,
     places: &mut Places<'_>,
@@ -40,41 +39,15 @@ fn push_labels(
     ensures range { OnOk result (All (IsInRange places.old) labels.now) }
     ensures same { places.new ≡ places.old }
 {
-    let Some((label, later)) = labels.split_first() else {
+    let Some((first, later)) = labels.split_first() else {
         return Ok(());
     };
-    push_label(out, places, label)?;
-    push_later_labels(out, places, later)
-}
-
-fn push_later_labels(
-    out: &mut String,
-    places: &mut Places<'_>,
-    labels: &[LabeledSpan],
-) -> Result<(), AllocError>
-    ensures text { OnOk result
-        (Appends out.old out.new (flat_map (later_label places.old) labels.now)) }
-    ensures range { OnOk result (All (IsInRange places.old) labels.now) }
-    ensures same { places.new ≡ places.old }
-{
-    for label in labels {
-        push_later_label(out, places, label)?;
+    push_label(out, places, first)?;
+    for label in later {
+        out.push_str(",")?;
+        push_label(out, places, label)?;
     }
     Ok(())
-}
-
-#[tactic(auto, unfolding(crate::specs::JsonText::later_label))]
-fn push_later_label(
-    out: &mut String,
-    places: &mut Places<'_>,
-    label: &LabeledSpan,
-) -> Result<(), AllocError>
-    ensures text { OnOk result (Appends out.old out.new (later_label places.old label.now)) }
-    ensures range { OnOk result (IsInRange places.old label.now) }
-    ensures same { places.new ≡ places.old }
-{
-    out.push_str(",")?;
-    push_label(out, places, label)
 }
 
 #[tactic(auto, unfolding(crate::specs::JsonText::label_object))]

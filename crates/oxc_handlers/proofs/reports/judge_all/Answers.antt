@@ -2,11 +2,11 @@ use Rattle.std.proofs.Common.{◌≡◌, ◌∙◌, ap, arith, get_or, map, subs
 use Rattle.oxc_span.specs.Views.{text_bytes}
 use Rattle.oxc_handlers.specs.Refusals.{IsFaultless, error_at}
 use Rattle.oxc_handlers.specs.Reports.{IsListRefusal}
-use Rattle.oxc_handlers.proofs.ReportsLemmas.{alike_at, before_all, before_more, got_map, refused_at, same_length}
+use Rattle.oxc_handlers.proofs.ReportsLemmas.{alike_at, before_all, before_more, faultless_of_view, got_map, refusal_of_view, refused_at, same_length}
 use Rattle.oxc_handlers.proofs.reports.judge_all.Goals as goal
 
-pub judge_box-judged-requires-clause-code : goal.judge_box-judged-requires-clause-code
-judge_box-judged-requires-clause-code g c =
+pub view_of_box-view-requires : goal.view_of_box-view-requires
+view_of_box-view-requires g c =
     let len = same_length text_bytes (λ b. ((goal.Diagnostic-dyn g (b.vtable, b.value)).parts b.value).code) c.args.codes.now c.args.diagnostics.now c.requires in
     alike_at text_bytes (λ b. ((goal.Diagnostic-dyn g (b.vtable, b.value)).parts b.value).code) c.args.codes.now c.args.diagnostics.now c.loop-diagnostic.diagnostic-index c.index-codes-report.result c.diagnostic-item.result c.requires
     (omega (arith, len, c.loop-diagnostic-test.true)) c.loop-diagnostic-test.true
@@ -18,15 +18,15 @@ returns-in-Err g c =
     subst (IsListRefusal list) (sym (c.at.ensures ∙ ap (λ i. error_at i c.in-Err.error) c.loop-diagnostic.invariant.report))
     (refused_at list c.loop-diagnostic.diagnostic-index _ c.in-Err.error
     (got_map (λ b. (goal.Diagnostic-dyn g (b.vtable, b.value)).parts b.value) c.args.diagnostics.now c.loop-diagnostic.diagnostic-index c.diagnostic-item.result c.loop-diagnostic-test.true c.diagnostic-item.is)
-    c.loop-diagnostic.invariant.before c.in-Err.ensures.cause)
+    c.loop-diagnostic.invariant.before (refusal_of_view 0 _ _ c.in-Err.error c.view_of_box-view.ensures c.in-Err.ensures.cause))
 
 pub loop-diagnostic-preserved : goal.loop-diagnostic-preserved
 loop-diagnostic-preserved g c =
     record {
       report = omega (arith, c.loop-diagnostic.invariant.report);
-      round = c.judge_box-judged.ensures.round;
+      round = c.judge-judged.ensures.round;
       before = before_more IsFaultless (λ b. (goal.Diagnostic-dyn g (b.vtable, b.value)).parts b.value) c.args.diagnostics.now c.loop-diagnostic.diagnostic-index c.diagnostic-item.result c.loop-diagnostic-test.true c.diagnostic-item.is
-          c.loop-diagnostic.invariant.before c.in_default.ensures.cause;
+          c.loop-diagnostic.invariant.before (faultless_of_view _ _ c.view_of_box-view.ensures c.in_default.ensures.cause);
     }
 
 pub returns : goal.returns

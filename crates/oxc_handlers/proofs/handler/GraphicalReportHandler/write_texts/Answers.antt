@@ -1,12 +1,12 @@
-use Rattle.std.proofs.Common.{◌≡◌, ◌∙◌, ap, arith, get_or, map, string_bytes, subst, sym}
+use Rattle.std.proofs.Common.{◌≡◌, ◌++◌, ◌∙◌, ap, arith, get_or, map, string_bytes, subst, sym}
 use Rattle.oxc_span.specs.Views.{text_bytes}
 use Rattle.oxc_handlers.specs.Refusals.{IsFaultless, error_at}
 use Rattle.oxc_handlers.specs.Reports.{IsListRefusal, text_of}
-use Rattle.oxc_handlers.proofs.ReportsLemmas.{alike_at, before_all, before_more, got_map, items_more, refused_at, same_length}
+use Rattle.oxc_handlers.proofs.ReportsLemmas.{alike_at, before_all, before_more, faultless_of_view, got_map, items_more, refusal_of_view, refused_at, same_length, text_of_view}
 use Rattle.oxc_handlers.proofs.handler.GraphicalReportHandler.write_texts.Goals as goal
 
-pub write_text-written-requires-clause-code : goal.write_text-written-requires-clause-code
-write_text-written-requires-clause-code g c =
+pub view_of_box-view-requires : goal.view_of_box-view-requires
+view_of_box-view-requires g c =
     let len = same_length text_bytes (λ b. ((goal.Diagnostic-dyn g (b.vtable, b.value)).parts b.value).code) c.args.codes.now c.args.diagnostics.now c.requires in
     alike_at text_bytes (λ b. ((goal.Diagnostic-dyn g (b.vtable, b.value)).parts b.value).code) c.args.codes.now c.args.diagnostics.now c.loop-diagnostic.diagnostic-index c.index-codes-report.result c.diagnostic-item.result c.requires
     (omega (arith, len, c.loop-diagnostic-test.true)) c.loop-diagnostic-test.true
@@ -18,16 +18,17 @@ returns-in-Err-clause-cause g c =
     subst (IsListRefusal list) (sym (c.at.ensures ∙ ap (λ i. error_at i c.in-Err.error) c.loop-diagnostic.invariant.report))
     (refused_at list c.loop-diagnostic.diagnostic-index _ c.in-Err.error
     (got_map (λ b. (goal.Diagnostic-dyn g (b.vtable, b.value)).parts b.value) c.args.diagnostics.now c.loop-diagnostic.diagnostic-index c.diagnostic-item.result c.loop-diagnostic-test.true c.diagnostic-item.is)
-    c.loop-diagnostic.invariant.before c.in-Err.ensures.cause)
+    c.loop-diagnostic.invariant.before (refusal_of_view 0 _ _ c.in-Err.error c.view_of_box-view.ensures c.in-Err.ensures.cause))
 
 pub loop-diagnostic-preserved : goal.loop-diagnostic-preserved
 loop-diagnostic-preserved g c =
+    let written = c.in_ok-push_str.ensures.bytes ∙ ap (λ text. string_bytes c.loop-diagnostic.out ++ text) (c.as_str.ensures.value ∙ c.in-Ok.ensures.text ∙ text_of_view c.args.self.now _ _ c.view_of_box-view.ensures) in
     record {
       report = omega (arith, c.loop-diagnostic.invariant.report);
-      round = c.write_text-written.ensures.round;
+      round = c.render_view.ensures.round;
       before = before_more IsFaultless (λ b. (goal.Diagnostic-dyn g (b.vtable, b.value)).parts b.value) c.args.diagnostics.now c.loop-diagnostic.diagnostic-index c.diagnostic-item.result c.loop-diagnostic-test.true c.diagnostic-item.is
-          c.loop-diagnostic.invariant.before c.in_default.ensures.cause;
-      ahead = rw c.in_default.ensures.text
+          c.loop-diagnostic.invariant.before (faultless_of_view _ _ c.view_of_box-view.ensures c.in-Ok.ensures.cause);
+      ahead = rw written
           (items_more (text_of c.args.self.now) (λ b. (goal.Diagnostic-dyn g (b.vtable, b.value)).parts b.value) (string_bytes c.loop-diagnostic.out) c.args.diagnostics.now c.loop-diagnostic.diagnostic-index c.diagnostic-item.result
           c.loop-diagnostic-test.true c.diagnostic-item.is
           ∙ c.loop-diagnostic.invariant.ahead);
