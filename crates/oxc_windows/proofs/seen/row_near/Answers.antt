@@ -2,7 +2,7 @@ use Rattle.std.proofs.Common.{rules, arith, leb, sym, ap, ◌∙◌, ◌-◌}
 use Rattle.std.proofs.lemmas.List.Sorted.{IsPartitionPoint-from_clause, IsPartitionedBy-leb}
 use Rattle.oxc_windows.specs.Seen.{row_seen}
 use Rattle.oxc_windows.proofs.Counting.{count_by_cut}
-use Rattle.oxc_windows.proofs.seen.row_seen.Goals as goal
+use Rattle.oxc_windows.proofs.seen.row_near.Goals as goal
 
 pub returns-clause-exact : goal.returns-clause-exact
 unfolding row_seen
