@@ -3,7 +3,7 @@ use Rattle.std.specs.List.{range_with_len}
 use Rattle.oxc_plan.specs.Plan.{ordered_view, row_plan_of, row_plan_view}
 use Rattle.oxc_plan.specs.Rows.{rows_from, rows_of}
 use Rattle.oxc_plan.specs.Sweep.{MeetNoOthers, is_open}
-use Rattle.oxc_plan.proofs.snippets.plan_rows_of_many.Given as goal
+use Rattle.oxc_plan.proofs.snippets.plan_rows.Given as goal
 
 -- the rows that are cut off have their plans, and of the group's labels before `next` those that go on past the next row's start are held
 abbrev pub invariant-loop-row : goal.invariant-loop-row

@@ -6,7 +6,7 @@ use Rattle.oxc_plan.specs.Plan.{ordered_view, row_plan_of, row_plan_view}
 use Rattle.oxc_plan.specs.Rows.{row_view, rows_from}
 use Rattle.oxc_plan.proofs.RowsLemmas.{rows_none}
 use Rattle.oxc_plan.proofs.SweepLemmas.{all_open, alone_head, alone_tail, open_later, open_more}
-use Rattle.oxc_plan.proofs.snippets.plan_rows_of_many.Goals as goal
+use Rattle.oxc_plan.proofs.snippets.plan_rows.Goals as goal
 
 pub loop-row-init : goal.loop-row-init
 loop-row-init c =

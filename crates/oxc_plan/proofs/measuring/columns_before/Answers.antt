@@ -4,7 +4,7 @@ use Rattle.unicode_segmentation.specs.Iter.{graphemes_left}
 use Rattle.oxc_plan.specs.Measuring.{HaveColumnsUpTo, IsGoneThrough}
 use Rattle.oxc_plan.specs.Width.{at_margin}
 use Rattle.oxc_plan.proofs.MeasuringLemmas.{gone_all, gone_end, gone_more, gone_none, have_none}
-use Rattle.oxc_plan.proofs.measuring.columns_by_clusters.Goals as goal
+use Rattle.oxc_plan.proofs.measuring.columns_before.Goals as goal
 
 pub loop-cluster-init : goal.loop-cluster-init
 loop-cluster-init c =

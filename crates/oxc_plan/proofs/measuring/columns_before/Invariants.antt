@@ -1,7 +1,7 @@
 use Rattle.std.proofs.Common.{◌*◌, ◌≤◌}
 use Rattle.unicode_segmentation.specs.Iter.{graphemes_left}
 use Rattle.oxc_plan.specs.Measuring.{HaveColumnsUpTo, IsGoneThrough}
-use Rattle.oxc_plan.proofs.measuring.columns_by_clusters.Given as goal
+use Rattle.oxc_plan.proofs.measuring.columns_before.Given as goal
 
 -- the columns before the places in the clusters so far are known
 abbrev pub invariant-loop-cluster : goal.invariant-loop-cluster

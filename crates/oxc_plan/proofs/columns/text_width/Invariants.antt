@@ -2,7 +2,7 @@ use Rattle.std.proofs.Common.{◌≡◌, ◌+◌, ◌*◌, ◌≤◌, fold, leng
 use Rattle.std.specs.List.{flat_map, concat}
 use Rattle.unicode_segmentation.specs.Iter.{graphemes_left}
 use Rattle.oxc_plan.specs.Width.{led, led_text, moved, at_margin}
-use Rattle.oxc_plan.proofs.columns.width_by_clusters.Given as goal
+use Rattle.oxc_plan.proofs.columns.text_width.Given as goal
 
 -- the clusters that are left lead to the same pen, and there is room for them
 abbrev pub invariant-loop-cluster : goal.invariant-loop-cluster
