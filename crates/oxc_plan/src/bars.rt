@@ -9,7 +9,7 @@ use oxc_span::Span;
 use std::alloc::{AllocError, Global};
 
 /// How a bar is drawn beside a row: its label passes, starts there, or ends there.
-#[derive(Clone, Copy, Debug, PartialEq, Eq)]
+#[derive(Clone, Copy)]
 pub enum BarKind {
     /// The label begins above the row and goes on below it.
     Passes,
@@ -20,7 +20,7 @@ pub enum BarKind {
 }
 
 /// The bar of a multi-row label, beside one of its rows.
-#[derive(Clone, Copy, Debug, PartialEq, Eq)]
+#[derive(Clone, Copy)]
 pub struct Bar {
     /// The index of the label in label order.
     pub label: usize,

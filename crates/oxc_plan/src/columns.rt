@@ -18,12 +18,18 @@ use unicode_width::UnicodeWidthStr;
 /// It is the width of the row's text before the offset, measured alone. Inside a character, a start
 /// moves down to the character's first byte, and an end moves up past its last. Past the row's
 /// text, the column is one more than the width of the whole text.
+#[tactic(auto, unfolding(crate::specs::Columns::column_in))]
 pub fn column_of(row: &Row<'_>, offset: usize, at_start: bool, tabs: TabWidth) -> usize
     requires from { row.now.offset ≤ offset }
     requires fits { length row.now.text.now < 4294967295 }
     ensures { result ≡ column_at tabs (row_view row.now) offset at_start }
 {
-    column_in(row.text, offset - row.offset, at_start, tabs)
+    let offset = offset - row.offset;
+    if offset > row.text.len() {
+        return text_width(row.text, tabs) + 1;
+    }
+    let at = boundary_near(row.text, offset, at_start);
+    text_width(&row.text[..at], tabs)
 }
 
 /// The law that in an ASCII row the drawn text before an offset, without escapes, has as many
@@ -32,18 +38,6 @@ pub fn column_of(row: &Row<'_>, offset: usize, at_start: bool, tabs: TabWidth) -
 pub fn columns_as_drawn(_row: &Row<'_>, _tab: usize)
     ensures { HasColumnsAsDrawn _tab (row_view _row.now) }
 {}
-
-/// The column of an offset in a text.
-#[tactic(auto, unfolding(crate::specs::Columns::column_in))]
-fn column_in(text: &str, offset: usize, at_start: bool, tabs: TabWidth) -> usize
-    requires fits { length text.now < 2 ^ 32 }
-    ensures { result ≡ column_in tabs text.now offset at_start }
-{
-    if offset > text.len() {
-        return text_width(text, tabs) + 1;
-    }
-    text_width(&text[..boundary_near(text, offset, at_start)], tabs)
-}
 
 /// The columns of two offsets in a text, a start and an end, if everything before the end is ASCII.
 pub fn ascii_columns(text: &str, start: usize, end: usize, tabs: TabWidth) -> Option<(usize, usize)>
@@ -106,15 +100,6 @@ pub fn text_width(text: &str, tabs: TabWidth) -> usize
     if text.is_ascii() {
         return pen_over(AT_MARGIN, text.as_bytes(), tabs).column;
     }
-    width_by_clusters(text, tabs)
-}
-
-/// The columns that a text takes, measured cluster by cluster.
-fn width_by_clusters(text: &str, tabs: TabWidth) -> usize
-    requires fits { length text.now < 2 ^ 32 }
-    ensures exact { result ≡ text_width tabs text.now }
-    ensures bound { result ≤ 18 * length text.now }
-{
     let mut pen = AT_MARGIN;
     for cluster in text.graphemes(true) {
         pen = over_cluster(pen, cluster, tabs);
@@ -123,7 +108,7 @@ fn width_by_clusters(text: &str, tabs: TabWidth) -> usize
 }
 
 /// The state while a text is drawn.
-#[derive(Clone, Copy, Debug, PartialEq, Eq)]
+#[derive(Clone, Copy)]
 pub struct Pen {
     /// The columns taken so far.
     pub column: usize,

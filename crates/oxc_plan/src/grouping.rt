@@ -1,11 +1,11 @@
 //! The labels that share a snippet.
-ghost use Rattle.std.specs.Prelude.{◌≡◌, ◌+◌, ◌<◌, ◌≤◌, IfOk, OnOk, Some, length, All};
+ghost use Rattle.std.specs.Prelude.{◌≡◌, ◌+◌, ◌<◌, IfOk, OnOk, Some, length, All};
 ghost use Rattle.std.specs.Option.{unwrap_or};
 ghost use Rattle.oxc_windows.specs.Breaks.{breaks_of};
 ghost use Rattle.oxc_windows.specs.Scan.{IsSameReader};
 ghost use Rattle.oxc_plan.specs.GroupRead.{IsGroupFrom, IsReadTogether};
 ghost use Rattle.oxc_plan.specs.Groups.{AreApartIn, AreGroups, AreGroupsIn, HasOneGrouping};
-ghost use Rattle.oxc_plan.specs.Groups.{HoldTheirLabels, groups_in, span_at, window_round};
+ghost use Rattle.oxc_plan.specs.Groups.{HoldTheirLabels, groups_in, span_at};
 ghost use Rattle.oxc_plan.specs.Keeping.{KeepsGroup, KeepsGroups, ReadsOn, least_start};
 ghost use Rattle.oxc_plan.specs.Order.{LieWithin};
 ghost use Rattle.oxc_plan.specs.Scanned.{CanGroup, ReadsRound};
@@ -144,22 +144,11 @@ pub fn group_read<'a>(
     };
     while group.places.end < spans.len() {
         let reach = group.contents.line() + group.contents.line_count();
-        if reach < line_of(scanner, spans[group.places.end])? {
+        let next = read(scanner, spans[group.places.end])?;
+        if reach < next.line() {
             return Ok(group);
         }
         group.join_next(scanner, spans)?;
     }
     Ok(group)
-}
-
-/// The first row of a span's window.
-fn line_of<'a>(scanner: &mut SpanScanner<'a>, span: Span) -> Result<usize, AllocError>
-    requires round { ReadsRound scanner.old }
-    requires ordered { span.start ≤ span.end }
-    requires within { span.end ≤ length scanner.old.input }
-    ensures line { IfOk result (λ line. line ≡ (window_round scanner.old.input span).line) }
-    ensures stays { ReadsOn scanner.old scanner.new }
-{
-    let contents = read(scanner, span)?;
-    Ok(contents.line())
 }

@@ -11,7 +11,7 @@ use crate::labels::{OrderedLabel, ordered_at};
 use std::alloc::{AllocError, Global};
 
 /// A text that hangs below a row, and the label at whose bar it hangs.
-#[derive(Clone, Copy, Debug, PartialEq, Eq)]
+#[derive(Clone, Copy)]
 pub struct Hang {
     /// The index in label order of the label whose text it is.
     pub label: usize,

@@ -9,7 +9,7 @@ use std::alloc::{AllocError, Global};
 
 /// A label of a list in label order. It is `pub` only because the definitions name it; no public
 /// call takes or returns one.
-#[derive(Clone, Copy, Debug)]
+#[derive(Clone, Copy)]
 pub struct OrderedLabel<'a> {
     /// Its bytes.
     pub span: Span,

@@ -1,5 +1,5 @@
 //! The marks under a row: which labels meet it, and the cells in which they are marked.
-ghost use Rattle.std.specs.Prelude.{[], ◌∷◌, ◌≡◌, ◌+◌, ◌^◌, ◌<◌, ◌≤◌, ◌↔◌};
+ghost use Rattle.std.specs.Prelude.{◌≡◌, ◌+◌, ◌^◌, ◌<◌, ◌≤◌, ◌↔◌};
 ghost use Rattle.std.specs.Prelude.{IfOk, IfSome, IsTrue, true, length, All};
 ghost use Rattle.std.specs.Str.{IsCharBoundary};
 ghost use Rattle.oxc_plan.specs.Groups.{span_at};
@@ -18,7 +18,7 @@ use oxc_span::Span;
 use std::alloc::{AllocError, Global};
 
 /// The mark of a one-row label: its cells under the row, from 0, and the cell of its bar.
-#[derive(Clone, Copy, Debug, PartialEq, Eq)]
+#[derive(Clone, Copy)]
 pub struct MarkCells {
     /// The label, by its index in label order.
     pub label: usize,
@@ -31,7 +31,7 @@ pub struct MarkCells {
 }
 
 /// The cells that a one-row label takes, before the marks are placed.
-#[derive(Clone, Copy, Debug, PartialEq, Eq)]
+#[derive(Drop)]
 pub struct LabelCells {
     /// The label, by its index in label order.
     pub label: usize,
@@ -68,30 +68,11 @@ pub fn placed(
 {
     match places {
         [] => Ok(Vec::new(alloc)),
-        [at] => placed_alone(alloc, row, spans, *at, tabs),
+        [at] => match ascii_cells(row, *at, spans[*at], tabs) {
+            Some(cells) => Vec::from_slice(alloc, &[mark_after(0, cells)]),
+            None => placed_by_measure(alloc, row, spans, places, tabs),
+        },
         _ => placed_by_measure(alloc, row, spans, places, tabs),
-    }
-}
-
-/// The mark of a row's only label, at this index in label order, placed.
-fn placed_alone(
-    alloc: Global,
-    row: &Row<'_>,
-    spans: &[Span],
-    at: usize,
-    tabs: TabWidth,
-) -> Result<Vec<MarkCells>, AllocError>
-    requires starts { row.now.offset ≤ (span_at spans.now at).start }
-    requires ordered { (span_at spans.now at).start ≤ (span_at spans.now at).end }
-    requires within { at < length spans.now }
-    requires fits { length row.now.text.now < 2 ^ 32 }
-    ensures exact { IfOk result
-        (λ marks. marks.items ≡ marks_at tabs (row_view row.now) spans.now (at ∷ [])) }
-    ensures order { IfOk result (λ marks. AreInOrder 0 marks.items) }
-{
-    match ascii_cells(row, at, spans[at], tabs) {
-        Some(cells) => Vec::from_slice(alloc, &[mark_after(0, cells)]),
-        None => placed_by_measure(alloc, row, spans, &[at], tabs),
     }
 }
 
@@ -112,62 +93,22 @@ fn placed_by_measure(
         (λ marks. marks.items ≡ marks_at tabs (row_view row.now) spans.now places.now) }
     ensures order { IfOk result (λ marks. AreInOrder 0 marks.items) }
 {
-    let ends = ends_of(alloc, row, spans, places)?;
-    let text = measure(alloc, row.text, ends, tabs)?;
-    placed_in_turn(alloc, row, &text, spans, places, tabs)
-}
-
-/// The marks of labels, placed one after another in a row whose text was measured.
-fn placed_in_turn(
-    alloc: Global,
-    row: &Row<'_>,
-    text: &MeasuredText<'_>,
-    spans: &[Span],
-    places: &[usize],
-    tabs: TabWidth,
-) -> Result<Vec<MarkCells>, AllocError>
-    requires starts { All (λ at. row.now.offset ≤ (span_at spans.now at).start) places.now }
-    requires ordered { All
-        (λ at. (span_at spans.now at).start ≤ (span_at spans.now at).end) places.now }
-    requires within { All (λ at. at < length spans.now) places.now }
-    requires fits { length row.now.text.now < 2 ^ 32 }
-    requires text { text.now.text.now ≡ row.now.text.now }
-    requires known { HoldsColumns tabs text.now }
-    ensures exact { IfOk result
-        (λ marks. marks.items ≡ marks_at tabs (row_view row.now) spans.now places.now) }
-    ensures order { IfOk result (λ marks. AreInOrder 0 marks.items) }
-{
-    let mut before = 0;
-    let mut marks = Vec::new(alloc);
-    for at in places {
-        let mark = mark_after(before, cells_of(row, text, *at, spans[*at], tabs));
-        before = mark.end;
-        marks.push(mark)?;
-    }
-    Ok(marks)
-}
-
-/// Where the labels of a row at these indices start and end in its text, each moved to a character
-/// boundary.
-fn ends_of(
-    alloc: Global,
-    row: &Row<'_>,
-    spans: &[Span],
-    places: &[usize],
-) -> Result<Vec<usize>, AllocError>
-    requires starts { All (λ at. row.now.offset ≤ (span_at spans.now at).start) places.now }
-    requires ordered { All
-        (λ at. (span_at spans.now at).start ≤ (span_at spans.now at).end) places.now }
-    requires within { All (λ at. at < length spans.now) places.now }
-    ensures { IfOk result (λ ends. All (IsCharBoundary row.now.text.now) ends.items) }
-{
+    // where the labels start and end in the row's text
     let mut ends = Vec::new(alloc);
     for at in places {
         let span = spans[*at];
         ends.push(end_in(row, span.start as usize, true))?;
         ends.push(end_in(row, span.end as usize, false))?;
     }
-    Ok(ends)
+    let text = measure(alloc, row.text, ends, tabs)?;
+    let mut before = 0;
+    let mut marks = Vec::new(alloc);
+    for label in places {
+        let mark = mark_after(before, cells_of(row, &text, *label, spans[*label], tabs));
+        before = mark.end;
+        marks.push(mark)?;
+    }
+    Ok(marks)
 }
 
 /// An offset of the source as one in a row's text, at most the text's end, moved to a character

@@ -14,7 +14,7 @@ use std::alloc::{AllocError, Global};
 use unicode_segmentation::UnicodeSegmentation;
 
 /// A text that was measured: offsets, and the column of each.
-#[derive(Debug, Drop)]
+#[derive(Drop)]
 pub struct MeasuredText<'a> {
     /// The text.
     pub text: &'a str,
@@ -97,10 +97,21 @@ fn columns_before(
     ensures { IfOk result (λ columns. HaveColumns tabs text.now places.now columns.items) }
 {
     if text.is_ascii() {
-        columns_by_bytes(alloc, text, places, tabs)
-    } else {
-        columns_by_clusters(alloc, text, places, tabs)
+        return columns_by_bytes(alloc, text, places, tabs);
     }
+    let mut columns = Vec::new(alloc);
+    let mut pen = AT_MARGIN;
+    let mut offset = 0;
+    for cluster in text.graphemes(true) {
+        push_within(&mut columns, text, places, offset, pen, cluster, tabs)?;
+        if columns.len() == places.len() {
+            return Ok(columns);
+        }
+        pen = over_cluster(pen, cluster, tabs);
+        offset += cluster.len();
+    }
+    push_at_end(&mut columns, text, places, pen, tabs)?;
+    Ok(columns)
 }
 
 /// The same for an ASCII text.
@@ -124,33 +135,6 @@ fn columns_by_bytes(
         offset = *place;
         columns.push(pen.column)?;
     }
-    Ok(columns)
-}
-
-/// The same, cluster by cluster.
-fn columns_by_clusters(
-    alloc: Global,
-    text: &str,
-    places: &[usize],
-    tabs: TabWidth,
-) -> Result<Vec<usize>, AllocError>
-    requires fits { length text.now < 2 ^ 32 }
-    requires ascend { IsNonDecreasingBy (λ at. at) places.now }
-    requires boundaries { All (IsCharBoundary text.now) places.now }
-    ensures { IfOk result (λ columns. HaveColumns tabs text.now places.now columns.items) }
-{
-    let mut columns = Vec::new(alloc);
-    let mut pen = AT_MARGIN;
-    let mut offset = 0;
-    for cluster in text.graphemes(true) {
-        push_within(&mut columns, text, places, offset, pen, cluster, tabs)?;
-        if columns.len() == places.len() {
-            return Ok(columns);
-        }
-        pen = over_cluster(pen, cluster, tabs);
-        offset += cluster.len();
-    }
-    push_at_end(&mut columns, text, places, pen, tabs)?;
     Ok(columns)
 }
 

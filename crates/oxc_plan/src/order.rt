@@ -1,6 +1,5 @@
 //! The label order.
 ghost use Rattle.std.specs.Prelude.{◌≡◌, ◌<◌, IfOk, length, map, All};
-ghost use Rattle.std.specs.List.{range_with_len};
 ghost use Rattle.oxc_plan.specs.Order.{HasOneOrder, IsLabelOrder, label_at, label_order, span_of};
 ghost use Rattle.oxc_plan.specs.Order.{spans_in_order, start_at};
 
@@ -18,7 +17,10 @@ pub fn label_order(alloc: Global, labels: &[LabeledSpan]) -> Result<Vec<usize>, 
     ensures len { IfOk result (λ order. length order.items ≡ length labels.now) }
     ensures within { IfOk result (λ order. All (λ at. at < length labels.now) order.items) }
 {
-    let mut order = given_order(alloc, labels.len())?;
+    let mut order = Vec::new(alloc);
+    for at in 0..labels.len() {
+        order.push(at)?;
+    }
     order.sort_by_key(|at| start_at(labels, *at))?;
     Ok(order)
 }
@@ -56,17 +58,6 @@ fn span_at(labels: &[LabeledSpan], at: usize) -> Span
         Some(label) => label.span(),
         None => Span::new(0, 0),
     }
-}
-
-/// The indices of `count` labels, in the given order.
-fn given_order(alloc: Global, count: usize) -> Result<Vec<usize>, AllocError>
-    ensures { IfOk result (λ order. order.items ≡ range_with_len 0 count) }
-{
-    let mut order = Vec::new(alloc);
-    for at in 0..count {
-        order.push(at)?;
-    }
-    Ok(order)
 }
 
 /// Where the label at an index starts; past the last, 0.

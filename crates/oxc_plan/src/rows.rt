@@ -12,7 +12,7 @@ use std::alloc::{AllocError, Global};
 use std::str::from_utf8_unchecked;
 
 /// A row of a snippet.
-#[derive(Clone, Copy, Debug)]
+#[derive(Clone, Copy)]
 pub struct Row<'a> {
     /// Its number, from 1.
     pub number: usize,

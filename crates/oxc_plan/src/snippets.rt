@@ -1,5 +1,5 @@
 //! The plans of a report's snippets, made before a character is drawn.
-ghost use Rattle.std.specs.Prelude.{[], ◌∷◌, ◌≡◌, ℕ, ◌+◌, ◌^◌, ◌<◌, ◌≤◌, IfOk, OnOk, Some};
+ghost use Rattle.std.specs.Prelude.{[], ◌∷◌, ◌≡◌, ◌+◌, ◌^◌, ◌<◌, ◌≤◌, IfOk, OnOk, Some};
 ghost use Rattle.std.specs.Prelude.{length, map, filter, All};
 ghost use Rattle.std.specs.List.Sorted.{IsNonDecreasingBy};
 ghost use Rattle.std.specs.Option.{unwrap_or};
@@ -10,10 +10,9 @@ ghost use Rattle.oxc_plan.specs.Drawable.{IsDrawable};
 ghost use Rattle.oxc_plan.specs.GroupRead.{IsReadTogether};
 ghost use Rattle.oxc_plan.specs.Groups.{groups_of, span_at};
 ghost use Rattle.oxc_plan.specs.Keeping.{KeepsGroup, KeepsGroups, ReadsOn, least_start};
-ghost use Rattle.oxc_plan.specs.Meets.{is_multi_row, is_one_row, multi_row_labels};
-ghost use Rattle.oxc_plan.specs.Meets.{one_row_labels};
+ghost use Rattle.oxc_plan.specs.Meets.{is_multi_row, is_one_row};
 ghost use Rattle.oxc_plan.specs.Order.{AreOrderedSpans, label_order};
-ghost use Rattle.oxc_plan.specs.Plan.{across_row, bare_plan, within_row};
+ghost use Rattle.oxc_plan.specs.Plan.{bare_plan};
 ghost use Rattle.oxc_plan.specs.Plan.{gutter_of, ordered_view, row_plan_of, row_plan_view};
 ghost use Rattle.oxc_plan.specs.Plan.{snippet_of, snippet_view, snippets_of, spans_of};
 ghost use Rattle.oxc_plan.specs.Rows.{row_view, rows_of};
@@ -36,7 +35,7 @@ use std::alloc::{AllocError, Global};
 use std::ops::Range;
 
 /// A row, and what is drawn beside and below it.
-#[derive(Debug, Drop)]
+#[derive(Drop)]
 pub struct RowPlan<'a> {
     /// The row itself.
     pub row: Row<'a>,
@@ -51,7 +50,7 @@ pub struct RowPlan<'a> {
 }
 
 /// What is drawn of a group of labels.
-#[derive(Debug, Drop)]
+#[derive(Drop)]
 pub struct SnippetPlan<'a> {
     /// The row at which the snippet's head points, from 1.
     pub head_line: usize,
@@ -202,25 +201,6 @@ fn plan_snippet<'a>(
     })
 }
 
-/// The plans of the rows of a group.
-fn plan_rows<'a>(
-    alloc: Global,
-    contents: &SpanContents<'a>,
-    labels: &[OrderedLabel<'_>],
-    spans: &[Span],
-    group: &Range<usize>,
-    tabs: TabWidth,
-) -> Result<Vec<RowPlan<'a>>, AllocError>
-    requires { CanSweep contents.now (map ordered_view labels.now) spans.now group.now }
-    ensures { IfOk result (λ plans. map row_plan_view plans.items
-        ≡ map (row_plan_of tabs (map ordered_view labels.now)) (rows_of contents.now)) }
-{
-    if group.start + 1 == group.end {
-        return plan_rows_of_one(alloc, contents, labels, spans, group, tabs);
-    }
-    plan_rows_of_many(alloc, contents, labels, spans, group, tabs)
-}
-
 /// The plans of the rows of a group of one label, which is tested against each row.
 fn plan_rows_of_one<'a>(
     alloc: Global,
@@ -245,7 +225,7 @@ fn plan_rows_of_one<'a>(
 
 /// The plans of the rows of a group of labels. A label is open from the row in which it starts to
 /// the last row that it meets, and only open labels are tested.
-fn plan_rows_of_many<'a>(
+fn plan_rows<'a>(
     alloc: Global,
     contents: &SpanContents<'a>,
     labels: &[OrderedLabel<'_>],
@@ -257,6 +237,9 @@ fn plan_rows_of_many<'a>(
     ensures { IfOk result (λ plans. map row_plan_view plans.items
         ≡ map (row_plan_of tabs (map ordered_view labels.now)) (rows_of contents.now)) }
 {
+    if group.start + 1 == group.end {
+        return plan_rows_of_one(alloc, contents, labels, spans, group, tabs);
+    }
     let mut ahead = rows_ahead(contents);
     let mut plans = Vec::with_capacity(alloc, USUAL_ROWS)?;
     let mut active = Vec::new(alloc);
@@ -328,61 +311,24 @@ fn plan_alone<'a>(
 {
     let span = span_at(spans, at);
     if is_one_row(row, span) {
-        plan_within(alloc, row, labels, spans, at, tabs)
-    } else if is_multi_row(row, span) {
-        plan_across(alloc, row, labels, at)
-    } else {
-        Ok(bare_row(alloc, row))
+        return Ok(RowPlan {
+            row: *row,
+            bars: Vec::new(alloc),
+            marks: placed(alloc, row, spans, &[at], tabs)?,
+            hangs: hang_alone(alloc, labels, at)?,
+            ends: Vec::new(alloc),
+        });
     }
-}
-
-/// The plan of a row that only the label at this index in label order meets, and that contains it.
-fn plan_within<'a>(
-    alloc: Global,
-    row: &Row<'a>,
-    labels: &[OrderedLabel<'_>],
-    spans: &[Span],
-    at: usize,
-    tabs: TabWidth,
-) -> Result<RowPlan<'a>, AllocError>
-    requires fits { length row.now.text.now < 2 ^ 32 }
-    requires spans { spans.now ≡ spans_of (map ordered_view labels.now) }
-    requires ordered { All (λ span. span.start ≤ span.end) spans.now }
-    requires within { one_row_labels row.now.offset row.now.length spans.now ≡ at ∷ [] }
-    requires across { multi_row_labels row.now.offset row.now.length spans.now ≡ [] }
-    ensures { IfOk result (λ plan. row_plan_view plan
-        ≡ row_plan_of tabs (map ordered_view labels.now) (row_view row.now)) }
-{
-    Ok(RowPlan {
-        row: *row,
-        bars: Vec::new(alloc),
-        marks: placed(alloc, row, spans, &[at], tabs)?,
-        hangs: hang_alone(alloc, labels, at)?,
-        ends: Vec::new(alloc),
-    })
-}
-
-/// The plan of a row that only the label at this index in label order meets, where the label also
-/// meets other rows.
-fn plan_across<'a>(
-    alloc: Global,
-    row: &Row<'a>,
-    labels: &[OrderedLabel<'_>],
-    at: usize,
-) -> Result<RowPlan<'a>, AllocError>
-    requires small { row.now.offset + row.now.length < 2 ^ 32 }
-    requires within { within_row (row_view row.now) (map ordered_view labels.now) ≡ [] }
-    requires across { across_row (row_view row.now) (map ordered_view labels.now) ≡ at ∷ [] }
-    ensures { IfOk result (λ plan. (tab : ℕ) → row_plan_view plan
-        ≡ row_plan_of tab (map ordered_view labels.now) (row_view row.now)) }
-{
-    Ok(RowPlan {
-        row: *row,
-        bars: bars_at(alloc, row, labels, &[at])?,
-        marks: Vec::new(alloc),
-        hangs: Vec::new(alloc),
-        ends: ends_at(alloc, row, labels, &[at])?,
-    })
+    if is_multi_row(row, span) {
+        return Ok(RowPlan {
+            row: *row,
+            bars: bars_at(alloc, row, labels, &[at])?,
+            marks: Vec::new(alloc),
+            hangs: Vec::new(alloc),
+            ends: ends_at(alloc, row, labels, &[at])?,
+        });
+    }
+    Ok(bare_row(alloc, row))
 }
 
 /// The same as [`plan_row`], by testing each of these labels.
@@ -405,33 +351,10 @@ fn plan_active<'a>(
 {
     let within = one_row_of(alloc, row, spans, active)?;
     let across = multi_row_of(alloc, row, spans, active)?;
-    plan_at(alloc, row, labels, spans, &within, &across, tabs)
-}
-
-/// The plan of a row, given the indices of its one-row labels and of its multi-row labels.
-fn plan_at<'a>(
-    alloc: Global,
-    row: &Row<'a>,
-    labels: &[OrderedLabel<'_>],
-    spans: &[Span],
-    within: &[usize],
-    across: &[usize],
-    tabs: TabWidth,
-) -> Result<RowPlan<'a>, AllocError>
-    requires small { row.now.offset + row.now.length < 2 ^ 32 }
-    requires fits { length row.now.text.now < 2 ^ 32 }
-    requires spans { spans.now ≡ spans_of (map ordered_view labels.now) }
-    requires rising { IsNonDecreasingBy (λ span. span.start) spans.now }
-    requires ordered { All (λ span. span.start ≤ span.end) spans.now }
-    requires within { within.now ≡ one_row_labels row.now.offset row.now.length spans.now }
-    requires across { across.now ≡ multi_row_labels row.now.offset row.now.length spans.now }
-    ensures { IfOk result (λ plan. row_plan_view plan
-        ≡ row_plan_of tabs (map ordered_view labels.now) (row_view row.now)) }
-{
-    let marks = placed(alloc, row, spans, within, tabs)?;
-    let bars = bars_at(alloc, row, labels, across)?;
-    let hangs = hangs_at(alloc, labels, within)?;
-    let ends = ends_at(alloc, row, labels, across)?;
+    let marks = placed(alloc, row, spans, &within, tabs)?;
+    let bars = bars_at(alloc, row, labels, &across)?;
+    let hangs = hangs_at(alloc, labels, &within)?;
+    let ends = ends_at(alloc, row, labels, &across)?;
     Ok(RowPlan {
         row: *row,
         bars,

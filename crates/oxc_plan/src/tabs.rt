@@ -5,7 +5,7 @@ use std::marker::Model;
 
 /// The distance between tab stops, in columns: from 1 to 16, 4 by default. Contracts see it as that
 /// number. (The upper bound keeps a text's width linear in its bytes.)
-#[derive(Clone, Copy, Debug, PartialEq, Eq)]
+#[derive(Clone, Copy, Debug)]
 pub struct TabWidth {
     width: usize,
 }

@@ -9,8 +9,6 @@ ghost use Rattle.oxc_protocol.specs.Parts.{bare_diagnostic, parts_with};
 use crate::{Diagnostic, LabeledSpan, Labels, OxcCode, Severity, SourceCode, SourceRef};
 use smallvec::SmallVec;
 use std::alloc::{AllocError, Global};
-use std::fmt;
-use std::fmt::{Debug, Formatter, Write};
 use std::marker::Model;
 
 /// A diagnostic that is built step by step: a message and a severity, then any other parts.
@@ -414,12 +412,6 @@ impl<T: SourceCode> Model for DiagnosticWithSource<T> {
     ghost Value = { Parts };
 
     ghost view = { λ d. parts_with d.diagnostic (Some (T.source d.source_code)) };
-}
-
-impl<T: SourceCode> Debug for DiagnosticWithSource<T> {
-    fn fmt<W: Write>(&self, f: &mut Formatter<W>) -> fmt::Result {
-        self.diagnostic.fmt(f)
-    }
 }
 
 impl<T: SourceCode> Diagnostic for DiagnosticWithSource<T> {

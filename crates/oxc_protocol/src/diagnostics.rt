@@ -147,21 +147,13 @@ impl Diagnostics {
     pub fn try_clone(&self, alloc: Global) -> Result<Self, AllocError>
         ensures { IfOk result (λ copy. copy ≡ self.now) }
     {
-        Ok(Diagnostics {
-            diagnostics: copied(alloc, self.diagnostics.as_slice())?,
-        })
+        let diagnostics = self.diagnostics.as_slice();
+        let mut copy = Vec::with_capacity(alloc, diagnostics.len())?;
+        for diagnostic in diagnostics {
+            copy.push(diagnostic.try_clone(alloc)?)?;
+        }
+        Ok(Diagnostics { diagnostics: copy })
     }
-}
-
-/// Equal diagnostics in a `Vec` of their own.
-fn copied(alloc: Global, diagnostics: &[OxcDiagnostic]) -> Result<Vec<OxcDiagnostic>, AllocError>
-    ensures { IfOk result (λ copy. copy.items ≡ diagnostics.now) }
-{
-    let mut copy = Vec::with_capacity(alloc, diagnostics.len())?;
-    for diagnostic in diagnostics {
-        copy.push(diagnostic.try_clone(alloc)?)?;
-    }
-    Ok(copy)
 }
 
 impl PartialEq for Diagnostics {

@@ -6,7 +6,7 @@ ghost use Rattle.oxc_protocol.specs.Faults.{HasCause};
 ghost use Rattle.oxc_protocol.specs.Sink.{AppendsPrefix};
 
 /// The only error of a device.
-#[derive(Clone, Copy, Debug, PartialEq, Eq)]
+#[derive(Drop)]
 pub struct Failed;
 
 /// A device that takes bytes.

@@ -3,7 +3,7 @@ ghost use Rattle.std.specs.Prelude.{◌≡◌};
 ghost use Rattle.oxc_windows.specs.Breaks.{break_at};
 
 /// A line break: LF, CR, or CRLF taken as one.
-#[derive(Clone, Copy, Debug, PartialEq, Eq)]
+#[derive(Clone, Copy)]
 pub struct LineBreak {
     /// The offset of its first byte.
     pub start: usize,

@@ -34,13 +34,6 @@ fn sum_of(values: u8x32) -> usize
     sum
 }
 
-/// Whether a byte is 0.
-fn has_zero(values: u8x32) -> bool
-    ensures { result ≡ list_any (λ byte. byte == 0) values }
-{
-    values.simd_eq(u8x32::splat(0)).to_bitmask() != 0
-}
-
 /// The LFs of at most 127 pairs of vectors, so that no counter passes 254, and whether there is a
 /// CR.
 fn endings_in_block(block: &[[u8; 64]]) -> (usize, bool)
@@ -58,7 +51,10 @@ fn endings_in_block(block: &[[u8; 64]]) -> (usize, bool)
         counts += feeds_at(second);
         least = least.simd_min(first).simd_min(second);
     }
-    (sum_of(counts), has_zero(least))
+    (
+        sum_of(counts),
+        least.simd_eq(u8x32::splat(0)).to_bitmask() != 0,
+    )
 }
 
 /// The LFs of pairs of vectors, and whether there is a CR.

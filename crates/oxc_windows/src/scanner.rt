@@ -86,7 +86,10 @@ impl<'a> SpanScanner<'a> {
         if let Some(known) = self.text {
             return known;
         }
-        let found = text_of(self.source.bytes());
+        let found = match from_utf8(self.source.bytes()) {
+            Ok(text) => Ok(text),
+            Err(e) => Err(e.valid_up_to()),
+        };
         self.text = Some(found);
         found
     }
@@ -195,14 +198,4 @@ fn begin_on_own<'a, P: Page>(
 {
     let mut steps = Steps::new(OwnLedger::<P>::new(blank));
     index.begin_at(source, start, row, &mut steps)
-}
-
-/// Bytes as a text, or the length of their longest UTF-8 prefix.
-fn text_of(bytes: &[u8]) -> Result<&str, usize>
-    ensures { IsAsText bytes.now result }
-{
-    match from_utf8(bytes) {
-        Ok(text) => Ok(text),
-        Err(e) => Err(e.valid_up_to()),
-    }
 }

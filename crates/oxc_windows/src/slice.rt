@@ -3,7 +3,7 @@ ghost use Rattle.std.specs.Prelude.{◌≡◌, ℕ, ◌+◌, ◌-◌, ◌<◌, �
 ghost use Rattle.std.specs.List.{filter};
 ghost use Rattle.memchr.specs.Find.{is_byte, places};
 ghost use Rattle.oxc_windows.specs.Breaks.{breaks_of};
-ghost use Rattle.oxc_windows.specs.Rows.{row_of, is_second_byte};
+ghost use Rattle.oxc_windows.specs.Rows.{is_second_byte};
 ghost use Rattle.oxc_windows.specs.Source.{first_between, is_before_no_lf, last_before};
 
 use crate::breaks::break_starting;
@@ -54,20 +54,6 @@ fn count_stray(bytes: &[u8], to: usize) -> usize
         .count()
 }
 
-/// The number of breaks that end before an offset: each LF ends one, and each CR that no LF
-/// follows.
-fn count_ended(bytes: &[u8], to: usize) -> usize
-    requires within { to ≤ length bytes.now }
-    requires outside { is_second_byte (breaks_of bytes.now) to ≡ false }
-    ensures { result ≡ row_of (breaks_of bytes.now) to }
-{
-    let (line_feeds, has_return) = endings(&bytes[..to]);
-    if has_return {
-        return line_feeds + count_stray(bytes, to);
-    }
-    line_feeds
-}
-
 /// The first break that starts at or after `from` and before `to`.
 fn first_in(bytes: &[u8], from: usize, to: usize) -> Option<LineBreak>
     requires ordered { from ≤ to }
@@ -98,20 +84,6 @@ fn last_in(bytes: &[u8], to: usize) -> Option<LineBreak>
     }
 }
 
-/// Whether an offset is between a CR and its LF.
-fn is_inside(bytes: &[u8], at: usize) -> bool
-    requires { at ≤ length bytes.now }
-    ensures { result ≡ is_second_byte (breaks_of bytes.now) at }
-{
-    if at == 0 {
-        return false;
-    }
-    match break_starting(bytes, at - 1) {
-        Some(found) => found.end == at,
-        None => false,
-    }
-}
-
 impl<'a, L: Ledger> BreakSource<L> for SliceSource<'a> {
     ghost use Rattle.oxc_windows.specs.Breaks.{breaks_of};
     ghost use Rattle.oxc_windows.specs.Valid.{breaks_valid};
@@ -130,7 +102,12 @@ impl<'a, L: Ledger> BreakSource<L> for SliceSource<'a> {
 
     fn count_breaks(&self, to: usize, steps: &mut Steps<L>) -> usize {
         steps.tick(to);
-        count_ended(self.bytes, to)
+        // each LF ends a break, and each CR that no LF follows
+        let (line_feeds, has_return) = endings(&self.bytes[..to]);
+        if has_return {
+            return line_feeds + count_stray(self.bytes, to);
+        }
+        line_feeds
     }
 
     fn first_break(&self, from: usize, to: usize, steps: &mut Steps<L>) -> Option<LineBreak> {
@@ -161,6 +138,12 @@ impl<'a, L: Ledger> BreakSource<L> for SliceSource<'a> {
 
     fn inside(&self, at: usize, steps: &mut Steps<L>) -> bool {
         steps.tick(2);
-        is_inside(self.bytes, at)
+        if at == 0 {
+            return false;
+        }
+        match break_starting(self.bytes, at - 1) {
+            Some(found) => found.end == at,
+            None => false,
+        }
     }
 }

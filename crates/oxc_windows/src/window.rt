@@ -1,7 +1,7 @@
 //! The window of a span.
 
 /// A part of a source, and the numbers of its rows. All count from 0.
-#[derive(Clone, Copy, Debug, PartialEq, Eq)]
+#[derive(Clone, Copy)]
 pub struct Window {
     /// The offset of its first byte.
     pub begin: usize,

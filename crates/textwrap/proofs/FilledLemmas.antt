@@ -190,8 +190,3 @@ parts_step done text width first later parts more part is_parts so_far =
     ∙ append_assoc done (joined_by_breaks (filled_part width first later part.now)) (flat_map (later_part width later) (texts_of more))
     ∙ ap (λ l. done ++ l) (sym (parts_text width first later part.now (texts_of more)))
     ∙ ap (λ (ps : List (Bor (List ℕ))). done ++ joined_by_breaks (filled_parts width first later (texts_of ps))) (sym is_parts)
-
-pub filled_value : (out : List ℕ) (width : ℕ) (first later text : List ℕ) (parts : List (List ℕ)) → parts ≡ parts_of text
-    → out ≡ [] ++ joined_by_breaks (filled_parts width first later parts) → out ≡ filled width first later text
-unfolding filled
-filled_value out width first later text parts is_parts is_out = is_out ∙ ap (λ ps. joined_by_breaks (filled_parts width first later ps)) is_parts

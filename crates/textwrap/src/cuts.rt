@@ -1,6 +1,6 @@
 //! The longest prefix of a text that fits a width.
-ghost use Rattle.std.specs.Prelude.{◌≡◌, ◌==◌, ◌&&◌, nat_lt, ◌*◌, ◌<◌, ◌≤◌, [], ◌∷◌, length, take};
-ghost use Rattle.std.specs.Prelude.{drop, if◌then◌else◌};
+ghost use Rattle.std.specs.Prelude.{◌≡◌, ◌==◌, ◌*◌, ◌<◌, ◌≤◌, [], ◌∷◌, length, take, drop};
+ghost use Rattle.std.specs.Prelude.{if◌then◌else◌};
 ghost use Rattle.std.specs.Str.{IsCharBoundary};
 ghost use Rattle.textwrap.specs.Width.{display_width as width_of_text};
 ghost use Rattle.textwrap.specs.Cuts.{cuts};
@@ -8,7 +8,7 @@ ghost use Rattle.textwrap.specs.Cuts.{cuts};
 use crate::pen::{moved_over, pen_at_start};
 
 /// A prefix of a text: its bytes, and its width in cells.
-#[derive(Clone, Copy, Debug, PartialEq, Eq)]
+#[derive(Drop)]
 pub struct Front {
     pub len: usize,
     pub width: usize,
@@ -28,7 +28,7 @@ pub fn front_cut(text: &str, room: usize) -> Front
     let mut len = 0;
     for c in text.chars() {
         let next = moved_over(pen, c);
-        if is_over(len, next.width, room) {
+        if len > 0 && next.width > room {
             return Front {
                 len,
                 width: pen.width,
@@ -41,12 +41,4 @@ pub fn front_cut(text: &str, room: usize) -> Front
         len,
         width: pen.width,
     }
-}
-
-/// Whether a character no longer belongs to a prefix of `len` bytes, which it would make `width`
-/// cells wide.
-fn is_over(len: usize, width: usize, room: usize) -> bool
-    ensures { result ≡ (nat_lt 0 len && nat_lt room width) }
-{
-    len > 0 && width > room
 }

@@ -1,12 +1,9 @@
 //! Texts filled to a width.
 ghost use Rattle.std.specs.Prelude.{◌≡◌, ◌==◌, ◌↔◌, ◌-◌, ◌≤◌, All, IfOk, IsFalse, IsTrue, OnOk};
-ghost use Rattle.std.specs.Prelude.{false, length, map, slice_index, string_bytes};
+ghost use Rattle.std.specs.Prelude.{false, length, slice_index, string_bytes};
 ghost use Rattle.textwrap.specs.OneLine.{FitsOnLine};
-ghost use Rattle.std.specs.List.{flat_map};
 ghost use Rattle.textwrap.specs.Appends.{Appends};
-ghost use Rattle.textwrap.specs.Filled.{IsFilled, filled, filled_part, filled_parts};
-ghost use Rattle.textwrap.specs.Filled.{joined_by_breaks, later_part, parts_of as parts_of_text};
-ghost use Rattle.textwrap.specs.Filled.{room};
+ghost use Rattle.textwrap.specs.Filled.{IsFilled, filled, filled_part, joined_by_breaks, room};
 
 use crate::core_::display_width;
 use crate::lines::push_pieces;
@@ -59,8 +56,16 @@ pub fn fill_onto(
         out.push_str(text)?;
         return Ok(());
     }
-    let parts = parts_of(alloc, text)?;
-    push_parts(alloc, out, &parts, options)
+    let parts: Vec<&str> = text.split('\n').collect(alloc)?;
+    let Some((first, later)) = parts.split_first() else {
+        return Ok(());
+    };
+    push_part(alloc, out, first, options, options.initial_indent)?;
+    for part in later {
+        out.push('\n')?;
+        push_part(alloc, out, part, options, options.subsequent_indent)?;
+    }
+    Ok(())
 }
 
 /// A quick check that a text fits on a line of `room` cells: it has at most `room` bytes, no LF,
@@ -94,50 +99,6 @@ fn has_break(bytes: &[u8]) -> bool
     ensures some { IsTrue result → All (λ byte. (byte == 0x0A) ≡ false) bytes.now → ⊥ }
 {
     memchr(b'\n', bytes).is_some()
-}
-
-/// The parts of a text between LFs.
-fn parts_of<'a>(alloc: Global, text: &'a str) -> Result<Vec<&'a str>, AllocError>
-    ensures { IfOk result (λ parts. map (λ part. part.now) parts.items ≡ parts_of_text text.now) }
-{
-    text.split('\n').collect(alloc)
-}
-
-/// Appends the parts of a text, filled, with LFs between them.
-fn push_parts(
-    alloc: Global,
-    out: &mut String,
-    parts: &[&str],
-    options: &Options<'_>,
-) -> Result<(), AllocError>
-    ensures { OnOk result (Appends out.old out.new
-        (joined_by_breaks
-        (filled_parts options.now.width options.now.initial_indent.now
-        options.now.subsequent_indent.now (map (λ part. part.now) parts.now)))) }
-{
-    let Some((first, later)) = parts.split_first() else {
-        return Ok(());
-    };
-    push_part(alloc, out, first, options, options.initial_indent)?;
-    push_later_parts(alloc, out, later, options)
-}
-
-/// Appends the parts after the first.
-fn push_later_parts(
-    alloc: Global,
-    out: &mut String,
-    parts: &[&str],
-    options: &Options<'_>,
-) -> Result<(), AllocError>
-    ensures { OnOk result (Appends out.old out.new
-        (flat_map (later_part options.now.width options.now.subsequent_indent.now)
-        (map (λ part. part.now) parts.now))) }
-{
-    for part in parts {
-        out.push('\n')?;
-        push_part(alloc, out, part, options, options.subsequent_indent)?;
-    }
-    Ok(())
 }
 
 /// Appends a part, filled, with an indent before its first line.

@@ -3,13 +3,13 @@ ghost use Rattle.std.specs.Prelude.{◌≡◌, ◌+◌, ◌^◌, ◌<◌, IfOk, 
 ghost use Rattle.textwrap.specs.Appends.{Appends};
 ghost use Rattle.textwrap.specs.Pieces.{extent, piece_view};
 ghost use Rattle.textwrap.specs.Filled.{spaces};
-ghost use Rattle.textwrap.specs.Layout.{continued, laid_out, line_behind, appended};
+ghost use Rattle.textwrap.specs.Layout.{laid_out, line_behind, appended};
 
 use crate::pieces::Piece;
 use std::alloc::AllocError;
 
 /// A line so far.
-#[derive(Clone, Copy, Debug, PartialEq, Eq)]
+#[derive(Drop)]
 pub struct Line {
     /// The cells that it has room for.
     pub room: usize,
@@ -36,28 +36,12 @@ pub fn push_pieces(
         return Ok(());
     };
     out.push_str(piece.text)?;
-    let line = Line {
+    let mut line = Line {
         room: first,
         used: piece.width,
         gap: piece.gap,
     };
-    push_more(out, line, more, later, indent)
-}
-
-/// Appends pieces to a line so far.
-fn push_more(
-    out: &mut String,
-    first: Line,
-    pieces: &[Piece<'_>],
-    later: usize,
-    indent: &str,
-) -> Result<(), AllocError>
-    requires { first.used + first.gap + extent (map piece_view pieces.now) < 2 ^ 64 }
-    ensures { OnOk result (Appends out.old out.new
-        (continued indent.now later first (map piece_view pieces.now))) }
-{
-    let mut line = first;
-    for piece in pieces {
+    for piece in more {
         line = push_piece(out, line, piece, later, indent)?;
     }
     Ok(())

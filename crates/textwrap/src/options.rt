@@ -2,7 +2,7 @@
 ghost use Rattle.std.specs.Prelude.{◌≡◌, []};
 
 /// The width of a filled text, and the indents of its lines.
-#[derive(Clone, Copy, Debug, PartialEq, Eq)]
+#[derive(Clone, Copy, Debug)]
 pub struct Options<'a> {
     /// The cells that a line may take, including its indent. A piece that is wider still gets its
     /// line.

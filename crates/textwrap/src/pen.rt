@@ -5,7 +5,7 @@ ghost use Rattle.textwrap.specs.Width.{after, at_start, cells, moved};
 use unicode_width::UnicodeWidthChar;
 
 /// Where a character is in a text with escape sequences.
-#[derive(Clone, Copy, Debug, PartialEq, Eq)]
+#[derive(Clone, Copy)]
 pub enum Escape {
     /// Outside of all sequences.
     Outside,
@@ -20,7 +20,7 @@ pub enum Escape {
 }
 
 /// Where the next character is, and the cells so far.
-#[derive(Clone, Copy, Debug, PartialEq, Eq)]
+#[derive(Clone, Copy)]
 pub struct Pen {
     pub escape: Escape,
     pub width: usize,
@@ -72,8 +72,8 @@ fn width_of(escape: Escape, c: char) -> usize
     ensures exact { result ≡ cells escape c }
     ensures bound { result ≤ 2 * length (encode_utf8 c) }
 {
-    if escape != Escape::Outside {
-        return 0;
+    match escape {
+        Escape::Outside => c.width().unwrap_or(0),
+        Escape::Begun | Escape::Control | Escape::Command | Escape::Ending => 0,
     }
-    c.width().unwrap_or(0)
 }

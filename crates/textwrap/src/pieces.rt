@@ -7,7 +7,7 @@ use crate::words::first_word;
 use std::alloc::{AllocError, Global};
 
 /// A piece of a part, which no line break splits.
-#[derive(Clone, Copy, Debug)]
+#[derive(Drop)]
 pub struct Piece<'a> {
     pub text: &'a str,
     /// The cells that the text takes, measured alone.

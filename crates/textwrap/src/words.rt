@@ -6,7 +6,7 @@ ghost use Rattle.std.specs.Str.{IsCharBoundary, IsUtf8};
 ghost use Rattle.textwrap.specs.Words.{is_inner_hyphen, is_letter_or_digit, words};
 
 /// The length of a word in bytes, and the number of spaces after it.
-#[derive(Clone, Copy, Debug, PartialEq, Eq)]
+#[derive(Drop)]
 pub struct WordLength {
     pub len: usize,
     pub gap: usize,

@@ -2,6 +2,7 @@ use Rattle.std.proofs.Common.{◌≡◌, ◌+◌, ◌<◌, ◌≤◌, ◌∙◌,
 use Rattle.std.proofs.lemmas.Bool.{cases_lt}
 use Rattle.oxc_span.specs.declared.span.Span.{Span}
 use Rattle.oxc_windows.specs.Breaks.{breaks_of}
+use Rattle.oxc_windows.specs.Scan.{Contents}
 use Rattle.oxc_plan.specs.GroupRead.{IsReadTogether}
 use Rattle.oxc_plan.specs.Groups.{IsGroup, reach, span_window}
 use Rattle.oxc_plan.specs.Keeping.{KeepsGroup}
@@ -43,19 +44,19 @@ overflow_add-reach c =
     let few = c.loop-group.invariant.read.numbered in
     record { fits = omega (arith, few.0, few.1, c.line.ensures, c.line_count.ensures) }
 
-pub line_of-requires-clause-round : goal.line_of-requires-clause-round
-line_of-requires-clause-round c = round_after c.args.scanner.now c.loop-group.scanner c.loop-group.invariant.scanner c.requires.round
+pub read-requires-in-loop-group-clause-round : goal.read-requires-in-loop-group-clause-round
+read-requires-in-loop-group-clause-round c = round_after c.args.scanner.now c.loop-group.scanner c.loop-group.invariant.scanner c.requires.round
 
-pub line_of-requires-clause-within : goal.line_of-requires-clause-within
-line_of-requires-clause-within c =
+pub read-requires-in-loop-group-clause-within : goal.read-requires-in-loop-group-clause-within
+read-requires-in-loop-group-clause-within c =
     omega (arith, (c.requires.within c.loop-group.group.places.end (record { start = 0; end = 0 }) c.loop-group-test.true).1, ap length c.loop-group.invariant.scanner.same.input)
 
-pub returns-in_err-line_of-clause-stays : goal.returns-in_err-line_of-clause-stays
-returns-in_err-line_of-clause-stays c = on_then c.args.scanner.now c.loop-group.scanner _ c.loop-group.invariant.scanner c.line_of.ensures.stays
+pub returns-in_err-next-clause-stays : goal.returns-in_err-next-clause-stays
+returns-in_err-next-clause-stays c = on_then c.args.scanner.now c.loop-group.scanner _ c.loop-group.invariant.scanner c.read-in-loop-group.ensures.stays
 
 -- the window reaches less far than the next one begins
-pub returns-then-branch-clause-group : goal.returns-then-branch-clause-group
-returns-then-branch-clause-group c =
+pub returns-then-reach-line-clause-group : goal.returns-then-reach-line-clause-group
+returns-then-reach-line-clause-group c =
     let kept = c.loop-group.invariant in
     let source = c.args.scanner.now.input in
     let len = length source in
@@ -63,7 +64,7 @@ returns-then-branch-clause-group c =
     let spans = c.args.spans.now in
     let group = c.loop-group.group in
     let first = c.args.first in
-    let here = rw kept.scanner.same.input at c.in_ok-line_of.ensures.line in
+    let here = rw kept.scanner.same.input at (c.line-in-loop-group.ensures ∙ ap (λ (contents : Contents). contents.line) c.in_ok-next.ensures.exact) in
     record {
       from = kept.start;
       is = subst (λ s. IsGroup len breaks spans s group.places.end) (sym kept.start)
@@ -71,39 +72,39 @@ returns-then-branch-clause-group c =
             some = kept.some;
             within = kept.within;
             joined = kept.joined;
-            full = λ more. omega (arith, reach_read source spans group kept.read, ap (λ s. reach len breaks spans s group.places.end) kept.start, here, c.if-branch.true, c.line.ensures, c.line_count.ensures);
+            full = λ more. omega (arith, reach_read source spans group kept.read, ap (λ s. reach len breaks spans s group.places.end) kept.start, here, c.if-reach-line.true, c.line.ensures, c.line_count.ensures);
           });
       read = kept.read;
     }
 
-pub returns-then-branch-clause-stays : goal.returns-then-branch-clause-stays
-returns-then-branch-clause-stays c = on_then c.args.scanner.now c.loop-group.scanner _ c.loop-group.invariant.scanner c.in_ok-line_of.ensures.stays
+pub returns-then-reach-line-clause-stays : goal.returns-then-reach-line-clause-stays
+returns-then-reach-line-clause-stays c = on_then c.args.scanner.now c.loop-group.scanner _ c.loop-group.invariant.scanner c.in_ok-next.ensures.stays
 
-pub returns-then-branch-clause-first : goal.returns-then-branch-clause-first
-returns-then-branch-clause-first c = c.in_ok-line_of.ensures.stays.first _ c.loop-group.invariant.set
+pub returns-then-reach-line-clause-first : goal.returns-then-reach-line-clause-first
+returns-then-reach-line-clause-first c = c.in_ok-next.ensures.stays.first _ c.loop-group.invariant.set
 
-pub returns-then-branch-clause-keeps : goal.returns-then-branch-clause-keeps
-returns-then-branch-clause-keeps c = keeps_later c.args.scanner.now.input c.loop-group.scanner _ _ _ c.in_ok-line_of.ensures.stays c.loop-group.invariant.keeps
+pub returns-then-reach-line-clause-keeps : goal.returns-then-reach-line-clause-keeps
+returns-then-reach-line-clause-keeps c = keeps_later c.args.scanner.now.input c.loop-group.scanner _ _ _ c.in_ok-next.ensures.stays c.loop-group.invariant.keeps
 
 pub join_next-requires-clause-round : goal.join_next-requires-clause-round
 join_next-requires-clause-round c =
-    round_after c.args.scanner.now _ (on_then c.args.scanner.now c.loop-group.scanner _ c.loop-group.invariant.scanner c.in_ok-line_of.ensures.stays) c.requires.round
+    round_after c.args.scanner.now _ (on_then c.args.scanner.now c.loop-group.scanner _ c.loop-group.invariant.scanner c.in_ok-next.ensures.stays) c.requires.round
 
 pub join_next-requires-clause-within : goal.join_next-requires-clause-within
 join_next-requires-clause-within c =
-    subst (λ source. LieWithin (length source) c.args.spans.now) (sym (c.in_ok-line_of.ensures.stays.same.input ∙ c.loop-group.invariant.scanner.same.input)) c.requires.within
+    subst (λ source. LieWithin (length source) c.args.spans.now) (sym (c.in_ok-next.ensures.stays.same.input ∙ c.loop-group.invariant.scanner.same.input)) c.requires.within
 
 pub join_next-requires-clause-some : goal.join_next-requires-clause-some
 join_next-requires-clause-some c = omega (arith, c.loop-group.invariant.start, c.loop-group.invariant.some)
 
 pub join_next-requires-clause-read : goal.join_next-requires-clause-read
 join_next-requires-clause-read c =
-    subst (λ source. IsReadTogether source c.args.spans.now c.loop-group.group) (sym (c.in_ok-line_of.ensures.stays.same.input ∙ c.loop-group.invariant.scanner.same.input)) c.loop-group.invariant.read
+    subst (λ source. IsReadTogether source c.args.spans.now c.loop-group.group) (sym (c.in_ok-next.ensures.stays.same.input ∙ c.loop-group.invariant.scanner.same.input)) c.loop-group.invariant.read
 
 pub join_next-requires-clause-keeps : goal.join_next-requires-clause-keeps
 join_next-requires-clause-keeps c =
-    subst (λ source. KeepsGroup source c.args.spans.now c.line_of.new.scanner c.loop-group.group.places) (sym (c.in_ok-line_of.ensures.stays.same.input ∙ c.loop-group.invariant.scanner.same.input))
-    (keeps_later c.args.scanner.now.input c.loop-group.scanner _ _ _ c.in_ok-line_of.ensures.stays c.loop-group.invariant.keeps)
+    subst (λ source. KeepsGroup source c.args.spans.now c.read-in-loop-group.new.scanner c.loop-group.group.places) (sym (c.in_ok-next.ensures.stays.same.input ∙ c.loop-group.invariant.scanner.same.input))
+    (keeps_later c.args.scanner.now.input c.loop-group.scanner _ _ _ c.in_ok-next.ensures.stays c.loop-group.invariant.keeps)
 
 pub loop-group-smaller : goal.loop-group-smaller
 loop-group-smaller c = omega (arith, c.join_next.ensures.end, c.loop-group-test.true)
@@ -119,14 +120,14 @@ loop-group-preserved c =
     let source = c.args.scanner.now.input in
     let len = length source in
     let breaks = breaks_of source in
-    let same = c.in_ok-line_of.ensures.stays.same.input ∙ kept.scanner.same.input in
+    let same = c.in_ok-next.ensures.stays.same.input ∙ kept.scanner.same.input in
     let end : next.places.end ≡ past + 1 = c.join_next.ensures.end in
-    let here = rw kept.scanner.same.input at c.in_ok-line_of.ensures.line in
+    let here = rw kept.scanner.same.input at (c.line-in-loop-group.ensures ∙ ap (λ (contents : Contents). contents.line) c.in_ok-next.ensures.exact) in
     let line : (span_window len breaks spans past).line ≤ reach len breaks spans first past =
-    omega (arith, reach_read source spans group kept.read, ap (λ s. reach len breaks spans s past) kept.start, here, c.if-branch.false, c.line.ensures, c.line_count.ensures) in
+    omega (arith, reach_read source spans group kept.read, ap (λ s. reach len breaks spans s past) kept.start, here, c.if-reach-line.false, c.line.ensures, c.line_count.ensures) in
     record {
-      scanner = on_then c.args.scanner.now _ _ (on_then c.args.scanner.now _ _ kept.scanner c.in_ok-line_of.ensures.stays) c.join_next.ensures.stays;
-      set = c.join_next.ensures.stays.first _ (c.in_ok-line_of.ensures.stays.first _ kept.set);
+      scanner = on_then c.args.scanner.now _ _ (on_then c.args.scanner.now _ _ kept.scanner c.in_ok-next.ensures.stays) c.join_next.ensures.stays;
+      set = c.join_next.ensures.stays.first _ (c.in_ok-next.ensures.stays.first _ kept.set);
       keeps = subst (λ s. KeepsGroup s spans c.join_next.new.scanner next.places) same c.in_ok-join_next.ensures.keeps;
       read = subst (λ s. IsReadTogether s spans next) same c.in_ok-join_next.ensures.read;
       start = c.join_next.ensures.start ∙ kept.start;
@@ -140,7 +141,7 @@ loop-group-preserved c =
 
 pub returns-in_err-join_next-clause-stays : goal.returns-in_err-join_next-clause-stays
 returns-in_err-join_next-clause-stays c =
-    on_then c.args.scanner.now _ _ (on_then c.args.scanner.now c.loop-group.scanner _ c.loop-group.invariant.scanner c.in_ok-line_of.ensures.stays) c.join_next.ensures.stays
+    on_then c.args.scanner.now _ _ (on_then c.args.scanner.now c.loop-group.scanner _ c.loop-group.invariant.scanner c.in_ok-next.ensures.stays) c.join_next.ensures.stays
 
 -- no span is left
 pub returns-clause-group : goal.returns-clause-group

@@ -1,8 +1,9 @@
 use Rattle.std.proofs.Common.{ℕ, ◌+◌, ◌==◌, ◌||◌, [], List, Bool, get_or, count_by, sym, ap, ◌∙◌, arith}
 use Rattle.std.specs.List.{list_any}
+use Rattle.std.proofs.lemmas.List.{take_all}
 use Rattle.std.proofs.lemmas.List.Folds.{list_any_more}
 use Rattle.std.proofs.lemmas.List.Sums.{sum_by_more}
-use Rattle.oxc_windows.proofs.EndingsLemmas.{AddsPair, IsLess, adds_pair}
+use Rattle.oxc_windows.proofs.EndingsLemmas.{AddsPair, IsLess, adds_pair, zero_lanes}
 use Rattle.oxc_windows.proofs.endings.endings_in_block.Goals as goal
 
 -- the bytes of one pair more
@@ -24,3 +25,11 @@ loop-pair-preserved c =
       total = (step c).total ∙ ap (λ n. n + hits (get_or block i [])) c.loop-pair.invariant.total ∙ sym (sum_by_more hits block i [] c.loop-pair-test.true);
       found = (step c).found ∙ ap (λ b. b || has (get_or block i [])) c.loop-pair.invariant.found ∙ sym (list_any_more has block i [] c.loop-pair-test.true);
     }
+
+pub returns-clause-returns : goal.returns-clause-returns
+returns-clause-returns c =
+    let block = c.args.block.now in
+    let has : List ℕ → Bool = λ pair. list_any (λ byte. byte == 13) pair in
+    zero_lanes c.loop-pair.least c.loop-pair.auto.least.0
+    ∙ c.loop-pair.invariant.found
+    ∙ ap (list_any has) (take_all c.loop-pair.pair-index block (omega (arith, c.loop-pair-test.false)))

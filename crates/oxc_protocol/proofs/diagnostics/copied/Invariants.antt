@@ -1,6 +1,0 @@
-use Rattle.std.proofs.Common.{◌≡◌, ◌++◌, drop}
-use Rattle.oxc_protocol.proofs.diagnostics.copied.Given as goal
-
--- what is copied and what is still to come make up the diagnostics
-abbrev pub invariant-loop-diagnostic : goal.invariant-loop-diagnostic
-invariant-loop-diagnostic l = l.copy.items ++ drop l.diagnostic-index l.diagnostics ≡ l.diagnostics
