@@ -2,7 +2,7 @@ use Rattle.std.proofs.Common.{length, ◌-◌, ◌≡◌, ◌≤◌}
 use Rattle.source_location.specs.Breaks.{breaks_of}
 use Rattle.source_location.specs.Rows.{row_of}
 use Rattle.text_places.specs.Ends.{AreFirstEnds}
-use Rattle.text_places.proofs.page_text.all_ends.Given as goal
+use Rattle.text_places.proofs.page_text.listed_ends.Given as goal
 
 abbrev pub invariant-loop-skip : goal.invariant-loop-skip
 invariant-loop-skip l = record {

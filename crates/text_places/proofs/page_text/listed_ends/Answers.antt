@@ -6,7 +6,7 @@ use Rattle.oxc_windows.proofs.ByteRowsLemmas.{rows_begin}
 use Rattle.text_places.proofs.EndLemmas.{rows_more, rows_all}
 use Rattle.text_places.proofs.ScanLemmas.{rows_skip, rows_end}
 use Rattle.text_places.proofs.ListedLemmas.{ends_more}
-use Rattle.text_places.proofs.page_text.all_ends.Goals as goal
+use Rattle.text_places.proofs.page_text.listed_ends.Goals as goal
 
 pub loop-skip-init : goal.loop-skip-init
 loop-skip-init c = record {
