@@ -1,5 +1,5 @@
 use Rattle.std.proofs.Common.{length, ◌+◌, ◌-◌, ◌<◌, ◌≤◌, ℕ, get_or}
-use Rattle.utf16_places.proofs.build.ascii_blocks.Given as goal
+use Rattle.utf16_places.proofs.build.first_past_ascii.Given as goal
 
 abbrev pub invariant-loop-passed : goal.invariant-loop-passed
 invariant-loop-passed l = record { within : l.passed ≤ length l.bytes; ascii : (k : ℕ) → k < l.passed → get_or l.bytes k 0 < 128 }
