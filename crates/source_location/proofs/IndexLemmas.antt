@@ -7,15 +7,13 @@ use Rattle.std.specs.Bool.{MatchBool}
 use Rattle.std.proofs.lemmas.Bool.{cases_lt, ltb-true}
 use Rattle.std.proofs.lemmas.Bool.Decides.{nat_tests}
 use Rattle.std.proofs.Math.Nat.{sub-zero}
-use Rattle.std.proofs.lemmas.List.{length-map, get_or-map, get_or_default, get_or_past, length-take, get_or-take, get_or-drop}
+use Rattle.std.proofs.lemmas.List.{length-map, get_or-map, get_or_default, get_or_past, length-take, length-drop, get_or-take, get_or-drop}
 use Rattle.std.proofs.lemmas.List.Sums.{sum_by-cons, list_all-from_AllPass, AllPass-from_list_all}
 use Rattle.std.proofs.lemmas.List.Folds.{list_all_at, list_all-append}
 use Rattle.source_location.specs.Breaks.{LineBreak, breaks_of, AreBreaks, moved}
 use Rattle.source_location.specs.Rows.{line_starts}
 use Rattle.source_location.specs.Characters.{is_char_start}
-use Rattle.source_location.specs.declared.line_index.IndexKind.{IndexKind}
-use Rattle.source_location.specs.declared.line_index.IndexKind.TheVariants.{Ascii}
-use Rattle.source_location.specs.Index.{IndexView, IsIndex, index_of, is_ascii, is_ascii_kind}
+use Rattle.source_location.specs.Index.{IndexView, IsIndex, index_of, is_ascii}
 use Rattle.source_location.proofs.Counting.{count_by_cut}
 use Rattle.source_location.proofs.BreaksLemmas.{breaks_valid, few_breaks, within_nonzero}
 use Rattle.oxc_windows.proofs.StartsLemmas.{count_ends}
@@ -147,10 +145,10 @@ char_count-ascii text e =
     (λ k d h. begins_alike (get_or text k d) ∙ ascii_start (get_or text k d) (omega (arith, get_or_default text k d 0 h, ascii_all text e k)))
     (λ k d low high. absurd (omega (arith, low, high)))
 
--- its boundary after the first characters
--- as a case on the kind of a text needs it
-pub ascii_length : (text : List ℕ) (kind : IndexKind) → kind ≡ Ascii → (is_ascii_kind kind ≡ true → is_ascii text ≡ true) → char_count text ≡ length text
-ascii_length text kind e known = char_count-ascii text (known (ap is_ascii_kind e))
+pub ascii_between : (text : List ℕ) (from to : ℕ) → is_ascii text ≡ true → to ≤ length text → char_count (slice_range text from to) ≡ to - from
+ascii_between text from to e h =
+    char_count-ascii (slice_range text from to) (ascii_part text from to e) ∙ omega (arith, length-take (to - from) (drop from text), length-drop from text)
 
+-- its boundary after the first characters
 pub ascii_boundary : (row : List ℕ) (n : ℕ) → is_ascii row ≡ true → n ≤ length row → IsCharBoundary row n × (char_count (take n row) ≡ n)
 ascii_boundary row n e h = (IsCharBoundary-from_ascii row n (ascii_all row e) h, char_count-ascii (take n row) (subst (λ k. is_ascii (take k row) ≡ true) (sub-zero n) (ascii_part row 0 n e)) ∙ omega (arith, length-take n row))

@@ -112,14 +112,14 @@ impl<'src, 'index> SourceCode<'src, 'index> {
         requires { line ≤ row_count self.now + 1 }
         ensures { result ≡ row_start (length self.now) (breaks_of self.now) (line - 1) }
     {
-        self.index.line_start(line, self.text)
+        self.index.start_of(line.to_zero_indexed_usize())
     }
 
     /// Where a row with its break ends; for the last row and any later one the text's end.
     pub fn line_end(&self, line: OneIndexed) -> TextSize
         ensures { result ≡ row_start (length self.now) (breaks_of self.now) line }
     {
-        self.index.line_end(line, self.text)
+        self.index.start_of(line.to_usize())
     }
 
     /// Where a row with its break starts and ends. The row after the last one is empty, at the
@@ -131,7 +131,7 @@ impl<'src, 'index> SourceCode<'src, 'index> {
           row_start (length self.now) (breaks_of self.now) line,
         ) }
     {
-        self.index.line_range(line, self.text)
+        TextRange::new(self.line_start(line), self.line_end(line))
     }
 
     /// The text of a row with its break. The row after the last one is empty, at the text's end.
@@ -140,8 +140,7 @@ impl<'src, 'index> SourceCode<'src, 'index> {
         requires { index ≤ row_count self.now + 1 }
         ensures { result.now ≡ row_text self.now (index - 1) }
     {
-        let text = self.text();
-        text_size::slice(text, self.index.line_range(index, text))
+        text_size::slice(self.text(), self.line_range(index))
     }
 
     /// The whole text.
@@ -158,7 +157,7 @@ impl<'src, 'index> SourceCode<'src, 'index> {
     {
         // The same.
         let _ = &self.text;
-        self.index.line_count()
+        self.index.line_starts().len()
     }
 }
 
@@ -247,24 +246,15 @@ impl SourceFileBuilder {
         ensures { IfOk result (λ file. file ≡ self) }
     {
         let SourceFileBuilder { name, code, index } = self;
-        let line_index = made_index(alloc, code.as_str(), index)?;
+        let line_index = match index {
+            Some(known) => known,
+            None => LineIndex::from_source_text(alloc, code.as_str())?,
+        };
         Ok(SourceFile {
             name,
             code,
             line_index,
         })
-    }
-}
-
-/// The index that was passed, or else a new one.
-fn made_index(alloc: Global, text: &str, index: Option<LineIndex>) -> Result<LineIndex, AllocError>
-    requires fits { Fits text.now }
-    requires indexed { IfSome index (λ known. known ≡ index_of text.now) }
-    ensures { IfOk result (λ known. known ≡ index_of text.now) }
-{
-    match index {
-        Some(known) => Ok(known),
-        None => LineIndex::from_source_text(alloc, text),
     }
 }
 

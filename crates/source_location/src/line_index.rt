@@ -1,15 +1,15 @@
 // The index of a text's rows, and numbers that count from 1.
 ghost use Rattle.std.specs.Prelude.{◌≡◌, ◌+◌, ◌-◌, ◌^◌, ◌<◌, ◌≤◌, ◌↔◌, ◌&&◌, ℕ, List, Some, []};
 ghost use Rattle.std.specs.Prelude.{◌∷◌, IsErr, IsTrue, IfOk, IfErr, MatchOption, true, min, max};
-ghost use Rattle.std.specs.Prelude.{nat_le, count_by, length, take, slice_range};
+ghost use Rattle.std.specs.Prelude.{nat_le, count_by, length, take};
 ghost use Rattle.std.specs.Option.{SomeIff};
 ghost use Rattle.std.specs.Fmt.{decimal};
 ghost use Rattle.std.specs.Str.{IsCharBoundary};
 ghost use Rattle.std.specs.List.Sorted.{IsNonDecreasing};
 ghost use Rattle.source_location.specs.Breaks.{breaks_of};
 ghost use Rattle.source_location.specs.Rows.{row_of, row_start};
-ghost use Rattle.source_location.specs.Characters.{is_char_start, char_count};
-ghost use Rattle.source_location.specs.Locations.{begins_with_mark, counted_from, location_of};
+ghost use Rattle.source_location.specs.Characters.{char_count};
+ghost use Rattle.source_location.specs.Locations.{counted_from, location_of};
 ghost use Rattle.source_location.specs.Locations.{offset_at, IsOffsetAt};
 ghost use Rattle.source_location.specs.Index.{Fits, index_of, is_ascii, is_ascii_kind};
 
@@ -19,7 +19,7 @@ use std::alloc::{AllocError, Global};
 use std::fmt;
 use std::fmt::{Debug, Display, Formatter, Write};
 use std::marker::Model;
-use text_size::{TextRange, TextSize};
+use text_size::TextSize;
 
 /// Whether a text is short enough for an index: fewer than `u32::MAX` bytes.
 pub fn fits(text: &str) -> bool
@@ -111,10 +111,16 @@ impl LineIndex {
         requires boundary { IsCharBoundary content.now offset }
         ensures { result ≡ location_of content.now offset }
     {
-        let row = self.row_at(offset);
-        let column = self.column_at(row, offset.to_usize(), content);
+        let row = self.line_index(offset);
+        let start = self.counted_start(row.to_zero_indexed_usize(), content);
+        let end = offset.to_usize();
+        let column = match self.kind {
+            _ if end <= start => 0,
+            IndexKind::Ascii => end - start,
+            IndexKind::Utf8 => num_chars(&content.as_bytes()[start..end]),
+        };
         SourceLocation {
-            row: OneIndexed::from_zero_indexed(row as u32),
+            row,
             column: OneIndexed::from_zero_indexed(column as u32),
         }
     }
@@ -139,44 +145,9 @@ impl LineIndex {
         ensures row { (text : List ℕ) → self.now ≡ index_of text
             → result ≡ row_of (breaks_of text) offset + 1 }
     {
-        OneIndexed::from_zero_indexed(self.row_at(offset) as u32)
-    }
-
-    /// How many rows the text has.
-    pub(crate) fn line_count(&self) -> usize
-        ensures { result ≡ length self.now.line_starts }
-    {
-        self.line_starts().len()
-    }
-
-    /// Where a row starts; past the last row, where the text ends.
-    pub(crate) fn line_start(&self, line: OneIndexed, contents: &str) -> TextSize
-        requires indexed { self.now ≡ index_of contents.now }
-        ensures { result ≡ row_start (length contents.now) (breaks_of contents.now) (line - 1) }
-    {
-        TextSize::new(self.start_of(line.to_zero_indexed_usize(), contents) as u32)
-    }
-
-    /// Where a row with its break ends.
-    pub(crate) fn line_end(&self, line: OneIndexed, contents: &str) -> TextSize
-        requires indexed { self.now ≡ index_of contents.now }
-        ensures { result ≡ row_start (length contents.now) (breaks_of contents.now) line }
-    {
-        TextSize::new(self.start_of(line.to_usize(), contents) as u32)
-    }
-
-    /// A row with its break.
-    pub(crate) fn line_range(&self, line: OneIndexed, contents: &str) -> TextRange
-        requires indexed { self.now ≡ index_of contents.now }
-        ensures { result ≡ (
-          row_start (length contents.now) (breaks_of contents.now) (line - 1),
-          row_start (length contents.now) (breaks_of contents.now) line,
-        ) }
-    {
-        TextRange::new(
-            self.line_start(line, contents),
-            self.line_end(line, contents),
-        )
+        // (the first row starts at 0)
+        let rows = self.line_starts().partition_point(|start| *start <= offset);
+        OneIndexed::from_zero_indexed((rows - 1) as u32)
     }
 
     /// Where each row starts: 0, and the place after each break.
@@ -202,7 +173,7 @@ impl LineIndex {
             return None;
         }
         let start = self.counted_start(row, text);
-        let end = self.start_of(row + 1, text);
+        let end = self.start_of(row + 1).to_usize();
         let characters = location.column.to_zero_indexed_usize();
         match self
             .kind
@@ -215,85 +186,32 @@ impl LineIndex {
         }
     }
 
-    /// The row of an offset, from 0.
-    fn row_at(&self, offset: TextSize) -> usize
-        ensures counted { result + 1 ≡ count_by
-            (λ start. nat_le start offset) self.now.line_starts }
-        ensures row { (text : List ℕ) → self.now ≡ index_of text
-            → result ≡ row_of (breaks_of text) offset }
-        ensures within { result < length self.now.line_starts }
-        ensures few { length self.now.line_starts < 2 ^ 32 }
-        ensures fits { (text : List ℕ) → self.now ≡ index_of text → Fits text }
-    {
-        rows_started(self.line_starts(), offset) - 1
-    }
-
     /// Where the columns of a row are counted from.
     #[tactic(auto, using(crate::proofs::LocationsLemmas::counted_from_a_row))]
     fn counted_start(&self, row: usize, text: &str) -> usize
         requires { self.now ≡ index_of text.now }
         ensures { result ≡ counted_from text.now row }
     {
-        if row > 0 {
-            self.start_of(row, text)
-        } else if begins_with_byte_order_mark(text) {
-            3
-        } else {
-            0
+        match text.as_bytes() {
+            _ if row > 0 => self.start_of(row).to_usize(),
+            // a byte order mark is no column
+            [0xEF, 0xBB, 0xBF, ..] => 3,
+            _ => 0,
         }
     }
 
     /// Where a row starts; past the last row, where the text ends.
-    fn start_of(&self, row: usize, text: &str) -> usize
-        requires { self.now ≡ index_of text.now }
-        ensures start { result ≡ row_start (length text.now) (breaks_of text.now) row }
-        ensures fits { Fits text.now }
+    pub(crate) fn start_of(&self, row: usize) -> TextSize
+        ensures { (text : List ℕ) → self.now ≡ index_of text
+            → result ≡ row_start (length text) (breaks_of text) row }
     {
         let starts = self.line_starts();
         if row < starts.len() {
-            starts[row].to_usize()
+            starts[row]
         } else {
-            text.len()
+            self.length
         }
     }
-
-    /// The characters of a row before an offset.
-    fn column_at(&self, row: usize, offset: usize, text: &str) -> usize
-        requires indexed { self.now ≡ index_of text.now }
-        requires within { offset ≤ length text.now }
-        ensures { result ≡ char_count (slice_range text.now (counted_from text.now row) offset) }
-    {
-        let start = self.counted_start(row, text);
-        if offset <= start {
-            return 0;
-        }
-        self.kind.characters_in(&text.as_bytes()[start..offset])
-    }
-}
-
-/// How many rows start at an offset or before it.
-fn rows_started(line_starts: &[TextSize], offset: TextSize) -> usize
-    requires first { take 1 line_starts.now ≡ 0 ∷ [] }
-    requires rise { IsNonDecreasing line_starts.now }
-    ensures counted { result ≡ count_by (λ start. nat_le start offset) line_starts.now }
-    ensures some { 1 ≤ result }
-    ensures bound { result ≤ length line_starts.now }
-{
-    line_starts.partition_point(|start| *start <= offset)
-}
-
-/// Whether a text begins with a byte order mark.
-fn begins_with_byte_order_mark(text: &str) -> bool
-    ensures { result ≡ begins_with_mark text.now }
-{
-    matches!(text.as_bytes(), [0xEF, 0xBB, 0xBF, ..])
-}
-
-/// Whether a character begins with the byte.
-fn begins_character(byte: u8) -> bool
-    ensures { result ≡ is_char_start byte }
-{
-    byte < 128 || byte >= 192
 }
 
 /// Whether a text may have characters of several bytes.
@@ -317,19 +235,8 @@ impl IndexKind {
         }
     }
 
-    /// How many characters begin in bytes of a text of this kind.
-    #[tactic(auto, using(crate::proofs::IndexLemmas::ascii_length))]
-    fn characters_in(self, bytes: &[u8]) -> usize
-        requires { is_ascii_kind self ≡ true → is_ascii bytes.now ≡ true }
-        ensures { result ≡ char_count bytes.now }
-    {
-        match self {
-            IndexKind::Ascii => bytes.len(),
-            IndexKind::Utf8 => character_count(bytes),
-        }
-    }
-
     /// The boundary after the first `characters` characters of a row, if the row has that many.
+    #[tactic(auto, using(crate::proofs::CharactersLemmas::counted_to_a_place))]
     fn nth_boundary(self, row: &[u8], characters: usize) -> Option<usize>
         requires { is_ascii_kind self ≡ true → is_ascii row.now ≡ true }
         ensures { MatchOption result (char_count row.now < characters)
@@ -338,35 +245,21 @@ impl IndexKind {
         match self {
             IndexKind::Ascii if characters <= row.len() => Some(characters),
             IndexKind::Ascii => None,
-            IndexKind::Utf8 => boundary_after(row, characters),
+            IndexKind::Utf8 => {
+                let mut left = characters;
+                for (at, byte) in row.iter().enumerate() {
+                    if 0x80 <= *byte && *byte < 0xC0 {
+                        continue;
+                    }
+                    if left == 0 {
+                        return Some(at);
+                    }
+                    left -= 1;
+                }
+                if left == 0 { Some(row.len()) } else { None }
+            }
         }
     }
-}
-
-/// How many characters begin in the bytes.
-fn character_count(bytes: &[u8]) -> usize
-    ensures { result ≡ char_count bytes.now }
-{
-    num_chars(bytes)
-}
-
-/// The same for any row, byte by byte.
-#[tactic(auto, using(crate::proofs::CharactersLemmas::counted_to_a_place))]
-fn boundary_after(row: &[u8], characters: usize) -> Option<usize>
-    ensures { MatchOption result (char_count row.now < characters)
-        (λ at. IsCharBoundary row.now at × (char_count (take at row.now) ≡ characters)) }
-{
-    let mut left = characters;
-    for (at, byte) in row.iter().enumerate() {
-        if !begins_character(*byte) {
-            continue;
-        }
-        if left == 0 {
-            return Some(at);
-        }
-        left -= 1;
-    }
-    if left == 0 { Some(row.len()) } else { None }
 }
 
 /// A number that counts from 1, as the rows and columns of a text do: from 1 to `u32::MAX`.

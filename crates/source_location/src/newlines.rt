@@ -1,8 +1,6 @@
 // The line endings of a text, and its lines from both ends.
-ghost use Rattle.std.specs.Prelude.{◌≡◌, ℕ, ◌+◌, ◌-◌, ◌^◌, ◌<◌, ◌≤◌, ◌↔◌, List, [], ◌∷◌, ◌++◌};
-ghost use Rattle.std.specs.Prelude.{length, map, take, drop, slice_index, IsTrue, MatchOption};
-ghost use Rattle.std.specs.Prelude.{◌==◌, if◌then◌else◌};
-ghost use Rattle.std.specs.Str.{IsCharBoundary};
+ghost use Rattle.std.specs.Prelude.{◌≡◌, ◌+◌, ◌-◌, ◌^◌, ◌<◌, ◌≤◌, ◌↔◌, List, [], ◌++◌};
+ghost use Rattle.std.specs.Prelude.{length, take, slice_index, IsTrue, MatchOption};
 ghost use Rattle.std.specs.Iterator.{YieldsFirstBy, YieldsLastBy, item_count};
 ghost use Rattle.source_location.specs.Breaks.{breaks_of};
 ghost use Rattle.source_location.specs.Newlines.{ending_bytes, ending_with, IsFirstBreak};
@@ -216,27 +214,18 @@ impl<'a> NewlineWithTrailingNewline<'a> {
         ensures lines { result ≡ lines_with_trailing offset input.now }
         ensures few { length result ≤ length input.now + 1 }
     {
-        let trailing = Self::trailing_line(input, offset);
-        let underlying = UniversalNewlineIterator::with_offset(input, offset);
-        NewlineWithTrailingNewline {
-            trailing,
-            underlying,
-        }
-    }
-
-    /// The empty line at the end of a text that ends in an LF or a CR.
-    fn trailing_line(input: &'a str, offset: TextSize) -> Option<Line<'a>>
-        requires { offset + length input.now < 2 ^ 32 }
-        ensures { line_views result ≡ (if ending_length input.now == 0 then [] else record
-            { text = []; start = offset + length input.now } ∷ []) }
-    {
-        if length_of_ending(input.as_bytes()) == 0 {
+        let trailing = if length_of_ending(input.as_bytes()) == 0 {
             None
         } else {
             Some(Line {
                 text: "",
                 offset: offset + input.text_len(),
             })
+        };
+        let underlying = UniversalNewlineIterator::with_offset(input, offset);
+        NewlineWithTrailingNewline {
+            trailing,
+            underlying,
         }
     }
 }

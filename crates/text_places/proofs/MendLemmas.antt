@@ -1,5 +1,5 @@
 -- A change of a text in its pages.
-use Rattle.std.proofs.Common.{◌≡◌, ◌⊎◌, inl, inr, ℕ, ◌+◌, ◌-◌, ◌<◌, ◌≤◌, true, false, ltb, leb, List, [], ◌++◌, length, take, drop, get_or, refl, sym, ap, subst, ◌∙◌, arith, ⊎_elim, append_assoc}
+use Rattle.std.proofs.Common.{◌≡◌, ◌⊎◌, inl, inr, ℕ, ◌+◌, ◌-◌, ◌<◌, ◌≤◌, true, false, ltb, leb, List, [], ◌++◌, length, take, drop, get_or, refl, sym, ap, subst, ◌∙◌, arith, ⊎_elim, append_assoc, string_bytes}
 use Rattle.std.specs.Str.{IsCharBoundary}
 use Rattle.std.specs.List.{replace_range}
 use Rattle.std.specs.List.Sorted.{IsPartitionPoint}
@@ -12,8 +12,10 @@ use Rattle.source_location.specs.Breaks.{breaks_of}
 use Rattle.source_location.proofs.BreaksLemmas.{few_breaks}
 use Rattle.text_places.specs.Bytes.{begun}
 use Rattle.text_places.specs.Pages.{most_bytes, least_bytes, bytes_in, text_of, front_of, counts_of, IsCleanAt, IsCounted, AreFilled, ArePages, IsPaged}
-use Rattle.text_places.specs.Building.{total, recounted, IsNothing, ArePagesOf, AreSmall}
+use Rattle.text_places.specs.Building.{total, recounted, ArePagesOf, AreSmall}
 use Rattle.text_places.specs.Mending.{IsAheadOf, IsBehind, IsBetween, PartNone, merged_of}
+use Rattle.text_places.specs.Plans.{IsPartOf, IsLong}
+use Rattle.text_places.specs.declared.mend.Part.{Part}
 use Rattle.text_places.specs.declared.page.Counts.{Counts}
 use Rattle.text_places.specs.declared.page.Page.{Page}
 use Rattle.text_places.proofs.PagesLemmas.{some_page, bytes_at, split, rest-more, front-more, front-le, front-all, text-append, text-nil, cut_before, cut_behind, last_behind, text_utf8, IsParted}
@@ -378,19 +380,35 @@ mended_small pages new put first last start end insert text at is k h =
     (omega (arith, fits, ap length (sym (text-append (take first pages) q) ∙ mended_text pages new put first last start end insert text at is)))
     k (omega (arith, h, ap length same)))
 
-nothing_is : (at : Counts) → IsNothing at → at ≡ counts_of (text_of [])
-unfolding counts_of begun
-nothing_is at is =
-    let none : length (breaks_of []) ≡ 0 = omega (arith, few_breaks []) in
-    ap {B = Counts} (λ (x : ℕ). record at { bytes = x }) is.bytes
-    ∙ ap {B = Counts} (λ (x : ℕ). record { bytes = 0; rows = x; units16 = at.units16; units32 = at.units32 }) (is.rows ∙ sym none)
-    ∙ ap {B = Counts} (λ (x : ℕ). record { bytes = 0; rows = length (breaks_of []); units16 = x; units32 = at.units32 }) is.units16
-    ∙ ap {B = Counts} (λ (x : ℕ). record { bytes = 0; rows = length (breaks_of []); units16 = 0; units32 = x }) is.units32
-    ∙ ap counts_of (sym text-nil)
+-- a change, by the part that takes the place of the pages that it touches
+pub mended_by : (pages old put new : List Page) (start end : ℕ) (insert text : List ℕ) (part : Part) (p : Page) → old ≡ pages → ArePages pages → Fits (replace_range (text_of pages) start end insert)
+    → IsPartOf old start end insert part → IsLong old part → text ≡ string_bytes part.text → ArePagesOf text new → p ≡ get_or old part.first p
+    → put ≡ take part.first pages ++ (new ++ drop (part.last + 1) pages) → IsMended pages new put part.first part.last start end insert (string_bytes part.text) p.before
+mended_by pages old put new start end insert text part p same ok fits is long whole made isp stands =
+    let here = subst (λ l. IsPartOf l start end insert part) same is in
+    record {
+      old = ok;
+      fits = fits;
+      between = here;
+      made = subst (λ t. ArePagesOf t new) whole made;
+      long = λ short. ((long short).0, (long short).1 ∙ ap length same);
+      counted = ap (λ (q : Page). q.before) (isp ∙ ap (λ l. get_or l part.first p) same) ∙ (ok.counted part.first p (omega (arith, here.ordered, here.within))).before;
+      stands = stands;
+    }
 
-made_behind : (text : List ℕ) (pages : List Page) (at : Counts) → ArePagesOf text pages → IsNothing at → AreBehind (text_of []) at pages
-made_behind text pages at made none = record {
-  counted = nothing_is at none;
+-- nothing counted
+abbrev nothing : Counts
+nothing = record { bytes = 0; rows = 0; units16 = 0; units32 = 0 }
+
+nothing_is : nothing ≡ counts_of (text_of [])
+unfolding counts_of begun
+nothing_is =
+    let none : length (breaks_of []) ≡ 0 = omega (arith, few_breaks []) in
+    ap {B = Counts} (λ (x : ℕ). record { bytes = 0; rows = x; units16 = 0; units32 = 0 }) (sym none) ∙ ap counts_of (sym text-nil)
+
+made_behind : (text : List ℕ) (pages : List Page) → ArePagesOf text pages → AreBehind (text_of []) nothing pages
+made_behind text pages made = record {
+  counted = nothing_is;
   own = made.own;
   clean = λ k h.
       subst (λ (e : List ℕ). IsCleanAt (e ++ text_of pages) (length (e ++ front_of pages k))) (sym text-nil)
@@ -398,10 +416,10 @@ made_behind text pages at made none = record {
 }
 
 -- pages of a whole text, counted from the beginning
-pub made_small : (text : List ℕ) (pages : List Page) (at : Counts) → Fits text → ArePagesOf text pages → IsNothing at
-    → (k : ℕ) → k ≤ length pages → AreSmall (total at (take k pages))
-made_small text pages at fits made none k h =
-    totals_small (text_of []) at pages (made_behind text pages at made none) (text_utf8 []) (omega (arith, fits, ap length (ap (λ l. l ++ text_of pages) text-nil ∙ made.whole))) k h
+pub made_small : (text : List ℕ) (pages : List Page) → Fits text → ArePagesOf text pages
+    → (k : ℕ) → k ≤ length pages → AreSmall (total nothing (take k pages))
+made_small text pages fits made k h =
+    totals_small (text_of []) nothing pages (made_behind text pages made) (text_utf8 []) (omega (arith, fits, ap length (ap (λ l. l ++ text_of pages) text-nil ∙ made.whole))) k h
 
 made_filled : (text : List ℕ) (pages : List Page) (at : Counts) → ArePagesOf text pages → AreFilled (recounted at pages)
 made_filled text pages at made = record {
@@ -413,11 +431,11 @@ made_filled text pages at made = record {
       (cases_lt (length text) least_bytes);
 }
 
-pub made_paged : (text : List ℕ) (pages left : List Page) (at all : Counts) → Fits text → ArePagesOf text pages → IsNothing at
-    → left ≡ recounted at pages → all ≡ total at pages → IsPaged left all
-made_paged text pages left at all fits made none e s =
-    subst (λ l. IsPaged l all) (sym e) (subst (IsPaged (recounted at pages)) (sym s)
-    (pages_counted [] pages at made.some (subst Fits (sym made.whole) fits) (made_behind text pages at made none) (λ k d h. absurd (omega (arith, h))) (λ k h. absurd (omega (arith, h))) (made_filled text pages at made)))
+pub made_paged : (text : List ℕ) (pages left : List Page) (all : Counts) → Fits text → ArePagesOf text pages
+    → left ≡ recounted nothing pages → all ≡ total nothing pages → IsPaged left all
+made_paged text pages left all fits made e s =
+    subst (λ l. IsPaged l all) (sym e) (subst (IsPaged (recounted nothing pages)) (sym s)
+    (pages_counted [] pages nothing made.some (subst Fits (sym made.whole) fits) (made_behind text pages made) (λ k d h. absurd (omega (arith, h))) (λ k h. absurd (omega (arith, h))) (made_filled text pages nothing made)))
 
 pub made_text : (text : List ℕ) (pages left : List Page) (at : Counts) → ArePagesOf text pages → left ≡ recounted at pages → text_of left ≡ text
 made_text text pages left at made e = ap text_of e ∙ recounted-text at pages ∙ made.whole

@@ -20,7 +20,7 @@ use Rattle.source_location.proofs.RowsLemmas.{row_le, row_start-le, row_start_af
 use Rattle.source_location.proofs.CutLemmas.{PartsNone, breaks_of-append}
 use Rattle.text_places.specs.Bytes.{begun, before}
 use Rattle.text_places.specs.Places.{line_end}
-use Rattle.text_places.specs.Pages.{least_bytes, bytes_in, text_of, front_of, counts_of, units_in, ArePages, IsInPage, IsRowPage, IsUnitPage, HasOffset, HasRowEnd, HasUnits, IsLastWithin, TellsText, ends_pair}
+use Rattle.text_places.specs.Pages.{least_bytes, bytes_in, text_of, front_of, counts_of, units_in, ArePages, HasOffset, HasRowEnd, HasUnits, IsUnitPage, IsLastWithin, TellsText, ends_pair}
 use Rattle.text_places.specs.Ends.{IsRowEnd}
 use Rattle.text_places.specs.Ranges.{IsAmong}
 use Rattle.text_places.specs.declared.seek.Range.{Range}
@@ -355,6 +355,12 @@ first_rows_none pages page ok same = ap (λ (p : Page). p.before.rows) same ∙ 
 pub first_units : (e : Encoding) (pages : List Page) (most : ℕ) → ArePages pages → (d : Page) → leb (units_in e (get_or pages 0 d).before) most ≡ true
 first_units e pages most ok d = leb_zero (units_in e (get_or pages 0 d).before) most (units_at e pages 0 d ok ok.some ∙ ap (begun e) (front_start pages) ∙ begun-nil e)
 
+-- an offset stands in a page, or at its end if that is the text's end
+pub record IsInPage (pages : List Page) (k offset : ℕ) : Type 0 where
+  pub within : k < length pages
+  pub from : length (front_of pages k) ≤ offset
+  pub upto : offset ≤ length (front_of pages (k + 1))
+
 pub in_page : (pages : List Page) (o r : ℕ) → ArePages pages → o ≤ length (text_of pages) → IsParted (λ page. leb page.before.bytes o) pages r → IsInPage pages (r - 1) o
 in_page pages o r ok within is =
     let d = some_page pages ok.some in
@@ -366,6 +372,12 @@ in_page pages o r ok within is =
       upto = subst (λ k. o ≤ length (front_of pages k)) (sym back)
           (⊎_elim (λ lt. omega (arith, leb-false (get_or pages r d).before.bytes o (is.high d lt), bytes_at pages r d ok lt)) (λ ge. omega (arith, within, ap length (front-all pages r ge))) (cases_lt r (length pages)));
     }
+
+-- a row ends in a page, by its number from 1
+pub record IsRowPage (pages : List Page) (k row : ℕ) : Type 0 where
+  pub within : k < length pages
+  pub low : length (breaks_of (front_of pages k)) < row
+  pub high : row ≤ length (breaks_of (front_of pages (k + 1)))
 
 pub row_page : (pages : List Page) (row r : ℕ) → ArePages pages → row ≤ length (breaks_of (text_of pages)) → IsParted (λ page. ltb page.before.rows row) pages r → IsRowPage pages (r - 1) row
 row_page pages row r ok within is =

@@ -27,13 +27,6 @@ pub record AreSmall (counts : Counts) : Type 0 where
   pub units16 : counts.units16 < 2 ^ 32
   pub units32 : counts.units32 < 2 ^ 32
 
--- nothing is counted
-pub record IsNothing (counts : Counts) : Type 0 where
-  pub bytes : counts.bytes ≡ 0
-  pub rows : counts.rows ≡ 0
-  pub units16 : counts.units16 ≡ 0
-  pub units32 : counts.units32 ≡ 0
-
 -- the first page of a longer text may end there: it has bytes enough and not too many, at a boundary, and not within a CRLF
 pub record IsPageEnd (text : List ℕ) (at : ℕ) : Type 0 where
   pub least : least_bytes ≤ at

@@ -92,7 +92,7 @@ pub(crate) fn line_alone<P: LedgerPage>(
 }
 
 /// A range of a text, and what replaces it.
-#[derive(Clone, Copy)]
+#[derive(Drop)]
 pub(crate) struct Replacement<'a> {
     pub(crate) range: TextRange,
     pub(crate) insert: &'a str,

@@ -1,6 +1,6 @@
 // Positions and offsets among the pages of a text.
 ghost use Rattle.std.specs.Prelude.{◌≡◌, ◌+◌, ◌-◌, ◌*◌, ◌^◌, ◌<◌, ◌≤◌, ℕ, length};
-ghost use Rattle.std.specs.Prelude.{List, IfSome};
+ghost use Rattle.std.specs.Prelude.{List};
 ghost use Rattle.std.specs.Str.{IsCharBoundary, IsUtf8};
 ghost use Rattle.source_location.specs.Breaks.{breaks_of};
 ghost use Rattle.text_places.specs.Bytes.{before};
@@ -10,7 +10,6 @@ ghost use Rattle.text_places.specs.Pages.{most_bytes, text_of, ArePages, IsPaged
 ghost use Rattle.text_places.specs.Lines.{LiesIn, IsLineInPage};
 
 use crate::page::{Counts, Page};
-use crate::plain::{nearest_in_plain, plain_line, plain_line_near};
 use crate::seek::{
     LineInPage, break_begin, line_in_page, page_at, place_by, row_start, rows_to, units_before_row,
     units_to_row, units_within,
@@ -181,42 +180,6 @@ pub(crate) fn nearest_in<L: Ledger>(
     match line_in_page(pages, place.line, steps) {
         Some(line) => nearest_of_line(&line, encoding, place),
         None => nearest_anywhere(pages, end, encoding, place, steps),
-    }
-}
-
-/// The boundary nearest to a position, if its line is ASCII and lies in the guessed page. No text
-/// is read.
-#[inline(always)]
-pub(crate) fn nearest_at_once(
-    pages: &[Page],
-    share: u64,
-    encoding: Encoding,
-    place: Place,
-) -> Option<u32>
-    requires { ArePages pages.now }
-    ensures nearest { IfSome result (IsNearest encoding (text_of pages.now) place) }
-    ensures boundary { IfSome result (λ offset. IsCharBoundary (text_of pages.now) offset) }
-{
-    match plain_line(pages, share, place.line) {
-        Some(line) => Some(nearest_in_plain(line, place)),
-        None => None,
-    }
-}
-
-/// The same, if its line starts near that page.
-pub(crate) fn nearest_near(
-    pages: &[Page],
-    share: u64,
-    encoding: Encoding,
-    place: Place,
-) -> Option<u32>
-    requires { ArePages pages.now }
-    ensures nearest { IfSome result (IsNearest encoding (text_of pages.now) place) }
-    ensures boundary { IfSome result (λ offset. IsCharBoundary (text_of pages.now) offset) }
-{
-    match plain_line_near(pages, share, place.line) {
-        Some(line) => Some(nearest_in_plain(line, place)),
-        None => None,
     }
 }
 

@@ -1,12 +1,10 @@
 // Pages made of a text.
-ghost use Rattle.std.specs.Prelude.{◌≡◌, ◌+◌, ◌-◌, ◌^◌, ◌<◌, ◌≤◌, ℕ, length, take, drop, IfOk};
+ghost use Rattle.std.specs.Prelude.{◌≡◌, ◌+◌, ◌-◌, ◌<◌, ◌≤◌, ℕ, length, take, drop, IfOk};
 ghost use Rattle.std.specs.Prelude.{vec_len, ◌++◌};
 ghost use Rattle.std.specs.Str.{IsCharBoundary};
-ghost use Rattle.source_location.specs.Breaks.{breaks_of};
 ghost use Rattle.source_location.specs.Index.{Fits};
-ghost use Rattle.text_places.specs.Bytes.{begun};
-ghost use Rattle.text_places.specs.Pages.{counts_of, text_of, IsCleanAt};
-ghost use Rattle.text_places.specs.Building.{plus, total, recounted, IsNothing, IsPageEnd};
+ghost use Rattle.text_places.specs.Pages.{IsCleanAt};
+ghost use Rattle.text_places.specs.Building.{plus, total, recounted, IsPageEnd};
 ghost use Rattle.text_places.specs.Building.{IsPageOf, ArePagesOf, AreSmall};
 
 use crate::Encoding;
@@ -18,16 +16,12 @@ use std::alloc::{AllocError, Global};
 pub(crate) const FILLED: usize = 768;
 
 /// Nothing counted.
-pub(crate) fn nothing() -> Counts
-    ensures { IsNothing result }
-{
-    Counts {
-        bytes: 0,
-        rows: 0,
-        units16: 0,
-        units32: 0,
-    }
-}
+pub(crate) const NOTHING: Counts = Counts {
+    bytes: 0,
+    rows: 0,
+    units16: 0,
+    units32: 0,
+};
 
 /// The sum of two counts.
 fn plus(first: Counts, second: Counts) -> Counts
@@ -42,30 +36,22 @@ fn plus(first: Counts, second: Counts) -> Counts
     }
 }
 
-/// What is counted in a text.
-#[tactic(auto, unfolding(crate::specs::Pages::counts_of), using(crate::proofs::BuildLemmas::whole))]
-fn counts_in(text: &str) -> Counts
-    requires { Fits text.now }
-    ensures { result ≡ counts_of text.now }
-{
-    let bytes = text.as_bytes();
-    Counts {
-        bytes: bytes.len() as u32,
-        rows: count_rows(bytes, bytes.len()) as u32,
-        units16: count_units(Encoding::Utf16, bytes),
-        units32: count_units(Encoding::Utf32, bytes),
-    }
-}
-
 /// A page of a text, with nothing counted before it yet.
+#[tactic(auto, unfolding(crate::specs::Pages::counts_of), using(crate::proofs::BuildLemmas::whole))]
 fn page_of(alloc: Global, text: &str) -> Result<Page, AllocError>
     requires { Fits text.now }
     ensures { IfOk result (λ page. IsPageOf text.now page) }
 {
-    let own = counts_in(text);
+    let bytes = text.as_bytes();
+    let own = Counts {
+        bytes: bytes.len() as u32,
+        rows: count_rows(bytes, bytes.len()) as u32,
+        units16: count_units(Encoding::Utf16, bytes),
+        units32: count_units(Encoding::Utf32, bytes),
+    };
     Ok(Page {
         text: PageText::new(alloc, text, own.rows as usize)?,
-        before: nothing(),
+        before: NOTHING,
         own,
     })
 }

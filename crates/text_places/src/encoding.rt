@@ -1,7 +1,7 @@
 // The units in which clients count.
 
 /// A unit in which columns are counted: those of the Language Server Protocol's position encodings.
-#[derive(Clone, Copy, PartialEq, Eq)]
+#[derive(Clone, Copy, PartialEq)]
 pub enum Encoding {
     /// `utf-8`: bytes.
     Utf8,

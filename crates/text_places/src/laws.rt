@@ -2,7 +2,7 @@
 ghost use Rattle.std.specs.Prelude.{◌≡◌, ℕ, ◌<◌, Option, Some};
 ghost use Rattle.std.specs.Str.{IsCharBoundary};
 ghost use Rattle.text_places.specs.Places.{place_at, client_offset, IsBefore, IsOffsetOf};
-ghost use Rattle.text_places.specs.Places.{IsNearest, PartsNoCrlf};
+ghost use Rattle.text_places.specs.Places.{IsNearest};
 
 use crate::Encoding;
 

@@ -6,7 +6,7 @@ ghost use Rattle.std.specs.List.{replace_range};
 ghost use Rattle.source_location.specs.Index.{Fits};
 ghost use Rattle.text_places.specs.Pages.{most_bytes, bytes_in, text_of, ArePages, IsPaged};
 ghost use Rattle.text_places.specs.Mending.{IsAheadOf, IsBehind, merged_of};
-ghost use Rattle.text_places.specs.Plans.{IsPartOf, KeepsPart, IsLong, IsPlan};
+ghost use Rattle.text_places.specs.Plans.{IsPartOf, KeepsPart, IsLong};
 
 use crate::build::{pages_of, recount_from};
 use crate::page::{Counts, LEAST, Page, opened};
@@ -176,19 +176,8 @@ fn joined<L: Ledger>(
     Ok(part)
 }
 
-/// Replaces pages by as many others.
-fn put_same(pages: &mut Vec<Page>, first: usize, behind: usize, mut new: Vec<Page>)
-    requires ordered { first ≤ behind }
-    requires within { behind ≤ vec_len pages.old }
-    requires same { vec_len new ≡ behind - first }
-    ensures { pages.new.items
-        ≡ take first pages.old.items ++ (new.items ++ drop behind pages.old.items) }
-{
-    pages[first..behind].swap_with_slice(&mut new);
-}
-
 /// Replaces pages by others. An `Err` changes nothing.
-fn put_others(
+fn put(
     pages: &mut Vec<Page>,
     first: usize,
     behind: usize,
@@ -200,6 +189,10 @@ fn put_others(
         ≡ take first pages.old.items ++ (new.items ++ drop behind pages.old.items)) }
     ensures unchanged { OnErr result (pages.new.items ≡ pages.old.items) }
 {
+    if new.len() == behind - first {
+        pages[first..behind].swap_with_slice(&mut new);
+        return Ok(());
+    }
     let kept = pages.len() - behind;
     pages.append(&mut new)?;
     pages[behind..].rotate_left(kept);
@@ -208,61 +201,6 @@ fn put_others(
     pages.truncate(len);
     pages.shrink_to(len.saturating_mul(2));
     Ok(())
-}
-
-/// Replaces pages by others. An `Err` changes nothing.
-fn put(pages: &mut Vec<Page>, first: usize, behind: usize, new: Vec<Page>) -> Result<(), AllocError>
-    requires ordered { first ≤ behind }
-    requires within { behind ≤ vec_len pages.old }
-    ensures done { OnOk result (pages.new.items
-        ≡ take first pages.old.items ++ (new.items ++ drop behind pages.old.items)) }
-    ensures unchanged { OnErr result (pages.new.items ≡ pages.old.items) }
-{
-    if new.len() == behind - first {
-        put_same(pages, first, behind, new);
-        return Ok(());
-    }
-    put_others(pages, first, behind, new)
-}
-
-/// The pages that replace others.
-#[derive(Drop)]
-pub(crate) struct Plan {
-    first: usize,
-    behind: usize,
-    /// What is counted before them.
-    at: Counts,
-    new: Vec<Page>,
-}
-
-/// The pages that replace others when a range of the text is replaced.
-fn planned<L: Ledger>(
-    alloc: Global,
-    pages: &[Page],
-    start: u32,
-    end: u32,
-    insert: &str,
-    steps: &mut Steps<L>,
-) -> Result<Plan, AllocError>
-    requires known { ArePages pages.now }
-    requires start { IsCharBoundary (text_of pages.now) start }
-    requires end { IsCharBoundary (text_of pages.now) end }
-    requires ordered { start ≤ end }
-    requires fits { Fits (replace_range (text_of pages.now) start end insert.now) }
-    ensures plan { IfOk result (λ plan. IsPlan pages.now start end insert.now plan) }
-    ensures ticks { steps.new ≤ steps.old + 3 * most_bytes + length insert.now }
-{
-    let between = part_between(alloc, pages, start, end, insert, steps)?;
-    let part = joined(alloc, pages, between, steps)?;
-    let first = part.first;
-    let at = pages[first].before;
-    let new = pages_of(alloc, part.text.as_str())?;
-    Ok(Plan {
-        first,
-        behind: part.last + 1,
-        at,
-        new,
-    })
 }
 
 /// Replaces a range of the text of pages. An `Err` changes nothing.
@@ -285,14 +223,13 @@ pub(crate) fn replace<L: Ledger>(
     ensures unchanged { OnErr result (pages.new.items ≡ pages.old.items) }
     ensures ticks { steps.new ≤ steps.old + 3 * most_bytes + length insert.now }
 {
-    let plan = planned(alloc, pages.as_slice(), start, end, insert, steps)?;
-    let Plan {
-        first,
-        behind,
-        at,
-        new,
-    } = plan;
-    put(pages, first, behind, new)?;
+    let old = pages.as_slice();
+    let between = part_between(alloc, old, start, end, insert, steps)?;
+    let part = joined(alloc, old, between, steps)?;
+    let first = part.first;
+    let at = old[first].before;
+    let new = pages_of(alloc, part.text.as_str())?;
+    put(pages, first, part.last + 1, new)?;
     Ok(recount_from(pages, first, at))
 }
 

@@ -4,7 +4,7 @@ ghost use Rattle.std.specs.List.{filter, range_with_len};
 ghost use Rattle.source_location.specs.Breaks.{breaks_of};
 ghost use Rattle.source_location.specs.Rows.{row_of};
 ghost use Rattle.text_places.specs.Bytes.{units_begun, begun, before};
-ghost use Rattle.text_places.specs.Pages.{bytes_in, counts_of, units_in, ends_row, ends_pair, IsLastUpTo};
+ghost use Rattle.text_places.specs.Pages.{bytes_in, units_in, ends_row, ends_pair, IsLastUpTo};
 ghost use Rattle.text_places.specs.Ends.{IsRowEnd};
 
 use crate::Encoding;
@@ -90,6 +90,7 @@ pub(crate) fn units_begun(encoding: Encoding, byte: u8) -> u32
 }
 
 /// How many units begin in bytes.
+#[tactic(auto, unfolding(crate::specs::Bytes::begun))]
 pub(crate) fn count_units(encoding: Encoding, bytes: &[u8]) -> u32
     requires { begun encoding bytes.now < 2 ^ 32 }
     ensures { result ≡ begun encoding bytes.now }
@@ -97,17 +98,8 @@ pub(crate) fn count_units(encoding: Encoding, bytes: &[u8]) -> u32
     if bytes.is_ascii() {
         bytes.len() as u32
     } else {
-        sum_units(encoding, bytes)
+        bytes.iter().map(|byte| units_begun(encoding, *byte)).sum()
     }
-}
-
-/// The same, byte by byte.
-#[tactic(auto, unfolding(crate::specs::Bytes::begun))]
-fn sum_units(encoding: Encoding, bytes: &[u8]) -> u32
-    requires { begun encoding bytes.now < 2 ^ 32 }
-    ensures { result ≡ begun encoding bytes.now }
-{
-    bytes.iter().map(|byte| units_begun(encoding, *byte)).sum()
 }
 
 /// Whether the byte at `at` ends a row.
@@ -125,6 +117,7 @@ pub(crate) fn ends_row(bytes: &[u8], at: usize) -> bool
 }
 
 /// How many rows end before a place.
+#[tactic(auto, using(crate::proofs::EndLemmas::rows_are))]
 pub(crate) fn count_rows(bytes: &[u8], to: usize) -> usize
     requires { to ≤ length bytes.now }
     ensures { result ≡ row_of (breaks_of bytes.now) to }
@@ -132,17 +125,8 @@ pub(crate) fn count_rows(bytes: &[u8], to: usize) -> usize
     let front = &bytes[..to];
     match memchr(b'\r', front) {
         None => count(front, b'\n'),
-        Some(_) => rows_by_byte(bytes, to),
+        Some(_) => count_ends(bytes, to),
     }
-}
-
-/// The same, byte by byte.
-#[tactic(auto, using(crate::proofs::EndLemmas::rows_are))]
-fn rows_by_byte(bytes: &[u8], to: usize) -> usize
-    requires { to ≤ length bytes.now }
-    ensures { result ≡ row_of (breaks_of bytes.now) to }
-{
-    count_ends(bytes, to)
 }
 
 /// How many of the first bytes end a row.

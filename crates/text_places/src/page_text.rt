@@ -1,9 +1,9 @@
 // The text of a page, with an index of its rows and units.
 ghost use Rattle.std.specs.Prelude.{◌≡◌, ◌+◌, ◌*◌, ◌^◌, ◌<◌, ◌≤◌, length, true, IfOk, IfSome};
-ghost use Rattle.std.specs.Prelude.{slice_range, string_bytes};
+ghost use Rattle.std.specs.Prelude.{string_bytes};
 ghost use Rattle.source_location.specs.Breaks.{breaks_of};
 ghost use Rattle.source_location.specs.Rows.{row_of};
-ghost use Rattle.text_places.specs.Bytes.{begun, before};
+ghost use Rattle.text_places.specs.Bytes.{before};
 ghost use Rattle.text_places.specs.Ends.{AreEnds, IsRowEnd};
 ghost use Rattle.text_places.specs.Pages.{IsLastUpTo};
 ghost use Rattle.text_places.specs.Plain.{IsPlain};
@@ -72,7 +72,7 @@ impl PageText {
         ensures { result ≡ row_of (breaks_of (string_bytes self.now)) to }
     {
         match &self.ends {
-            Some(ends) => ends_upto(self.text.as_bytes(), ends, to),
+            Some(ends) => ends.as_slice().partition_point(|end| *end as usize <= to),
             None => count_rows(self.text.as_bytes(), to),
         }
     }
@@ -154,15 +154,6 @@ fn listed_ends(alloc: Global, bytes: &[u8], rows: usize) -> Result<Option<Vec<u1
     if bytes.len() > PAGE || rows > bytes.len() / SHORT {
         return Ok(None);
     }
-    let ends = all_ends(alloc, bytes, rows)?;
-    Ok(Some(ends))
-}
-
-/// The offsets after all row ends.
-fn all_ends(alloc: Global, bytes: &[u8], rows: usize) -> Result<Vec<u16>, AllocError>
-    requires { length bytes.now ≤ 1024 }
-    ensures { IfOk result (λ ends. AreEnds bytes.now ends.items) }
-{
     let mut ends = Vec::with_capacity(alloc, rows)?;
     let mut at = 0;
     while let Some(skip) = memchr2(b'\n', b'\r', &bytes[at..]) {
@@ -172,14 +163,5 @@ fn all_ends(alloc: Global, bytes: &[u8], rows: usize) -> Result<Vec<u16>, AllocE
             ends.push(at as u16)?;
         }
     }
-    Ok(ends)
-}
-
-/// How many of the row ends are at or before an offset.
-fn ends_upto(bytes: &[u8], ends: &[u16], to: usize) -> usize
-    requires ends { AreEnds bytes.now ends.now }
-    requires within { to ≤ length bytes.now }
-    ensures { result ≡ row_of (breaks_of bytes.now) to }
-{
-    ends.partition_point(|end| *end as usize <= to)
+    Ok(Some(ends))
 }

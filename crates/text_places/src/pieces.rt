@@ -8,7 +8,7 @@ use std::marker::Model;
 /// the bytes of the remaining pieces.
 #[derive(Drop)]
 pub struct Pieces<'a> {
-    pages: &'a [Page],
+    pub(crate) pages: &'a [Page],
 }
 
 impl<'a> Model for Pieces<'a> {
@@ -18,18 +18,6 @@ impl<'a> Model for Pieces<'a> {
     ghost Value = { List (List ℕ) };
 
     ghost view = { λ s. map bytes_in s.pages.now };
-}
-
-impl<'a> Pieces<'a> {
-    ghost use Rattle.std.specs.Prelude.{◌≡◌, map};
-    ghost use Rattle.text_places.specs.Pages.{bytes_in};
-
-    /// The texts of pages.
-    pub(crate) fn of_pages(pages: &'a [Page]) -> Pieces<'a>
-        ensures { result ≡ map bytes_in pages.now }
-    {
-        Pieces { pages }
-    }
 }
 
 impl<'a> Iterator for Pieces<'a> {

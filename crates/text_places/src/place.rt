@@ -1,8 +1,7 @@
 // Positions as clients count them.
 
-/// A position in a text: the line, and the unit in it, both from 0. Positions are ordered by line,
-/// then by unit.
-#[derive(Clone, Copy, Default, PartialEq, Eq, PartialOrd, Ord, Hash)]
+/// A position in a text: the line, and the unit in it, both from 0.
+#[derive(Clone, Copy, PartialEq)]
 pub struct Place {
     /// The line, from 0.
     pub line: u32,

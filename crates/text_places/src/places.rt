@@ -12,12 +12,12 @@ ghost use Rattle.text_places.specs.Pages.{most_bytes, least_bytes};
 use crate::alone::{
     Replacement, client_place_alone, line_alone, nearest_alone, offset_alone, replace_alone,
 };
-use crate::answers::{nearest_at_once, nearest_in, nearest_near, place_in};
-use crate::build::{nothing, pages_of, recount_from};
+use crate::answers::{nearest_in, place_in};
+use crate::build::{NOTHING, pages_of, recount_from};
 use crate::mend::{replace, text_in};
 use crate::page::{Counts, Page};
 use crate::pieces::Pieces;
-use crate::plain::{offset_in_plain, plain_line, plain_line_near, share_of_rows};
+use crate::plain::{nearest_in_plain, offset_in_plain, plain_line, plain_line_near, share_of_rows};
 use crate::{Encoding, Place};
 use oxc_windows::Steps;
 use std::alloc::{AllocError, Global};
@@ -69,7 +69,7 @@ impl TextPlaces {
         ensures { IfOk result (λ places. places ≡ text.now) }
     {
         let mut pages = pages_of(alloc, text)?;
-        let end = recount_from(&mut pages, 0, nothing());
+        let end = recount_from(&mut pages, 0, NOTHING);
         let share = share_of_rows(pages.as_slice());
         Ok(TextPlaces { pages, end, share })
     }
@@ -114,8 +114,8 @@ impl TextPlaces {
         ensures nearest { IsNearest encoding self.now place result }
         ensures boundary { IsCharBoundary self.now result }
     {
-        match nearest_at_once(self.pages.as_slice(), self.share, encoding, place) {
-            Some(offset) => TextSize::new(offset),
+        match plain_line(self.pages.as_slice(), self.share, place.line) {
+            Some(line) => TextSize::new(nearest_in_plain(line, place)),
             None => self.nearest_looked_for(encoding, place),
         }
     }
@@ -127,8 +127,8 @@ impl TextPlaces {
         ensures boundary { IsCharBoundary self.now result }
     {
         let pages = self.pages.as_slice();
-        match nearest_near(pages, self.share, encoding, place) {
-            Some(offset) => TextSize::new(offset),
+        match plain_line_near(pages, self.share, place.line) {
+            Some(line) => TextSize::new(nearest_in_plain(line, place)),
             None => TextSize::new(nearest_alone::<Brand>(
                 pages,
                 self.end,
@@ -151,8 +151,8 @@ impl TextPlaces {
         ensures ticks { steps.new ≤ steps.old + 3 * most_bytes }
     {
         let pages = self.pages.as_slice();
-        match nearest_near(pages, self.share, encoding, place) {
-            Some(offset) => TextSize::new(offset),
+        match plain_line_near(pages, self.share, place.line) {
+            Some(line) => TextSize::new(nearest_in_plain(line, place)),
             None => TextSize::new(nearest_in(pages, self.end, encoding, place, steps)),
         }
     }
@@ -295,7 +295,9 @@ impl TextPlaces {
         ensures least { 1 < length result → All (λ piece. least_bytes ≤ length piece) result }
         ensures few { least_bytes * length result ≤ length self.now + least_bytes }
     {
-        Pieces::of_pages(self.pages.as_slice())
+        Pieces {
+            pages: self.pages.as_slice(),
+        }
     }
 
     /// A copy of the text.

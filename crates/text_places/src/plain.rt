@@ -1,5 +1,5 @@
 // Lines of ASCII, found without reading text.
-ghost use Rattle.std.specs.Prelude.{◌≡◌, ◌+◌, ◌-◌, ◌^◌, ◌<◌, ◌≤◌, ℕ, List, length, IfSome, Some};
+ghost use Rattle.std.specs.Prelude.{◌+◌, ◌-◌, ◌^◌, ◌<◌, ◌≤◌, ℕ, List, length, IfSome, Some};
 ghost use Rattle.std.specs.Str.{IsUtf8};
 ghost use Rattle.text_places.specs.declared.encoding.Encoding.{Encoding};
 ghost use Rattle.text_places.specs.Ends.{AreEnds, IsRowEnd};
@@ -31,12 +31,6 @@ pub(crate) fn share_of_rows(pages: &[Page]) -> u64 {
     }
 }
 
-/// Whether a row ends in a page, by its number from 1.
-#[inline(always)]
-fn has_row(page: &Page, row: u32) -> bool {
-    row.wrapping_sub(page.before.rows).wrapping_sub(1) < page.own.rows
-}
-
 /// The number of the page in which a row is looked for first: where it would be if all pages had as
 /// many rows; if it isn't there, that number corrected once by the rows it is off. There may be no
 /// such page.
@@ -48,7 +42,8 @@ fn guessed(pages: &[Page], share: u64, row: u32) -> usize {
         return number;
     }
     let page = &pages[number];
-    if has_row(page, row) {
+    // (the row ends in this page)
+    if row.wrapping_sub(page.before.rows).wrapping_sub(1) < page.own.rows {
         return number;
     }
     let rows = (row as u64).wrapping_sub(page.before.rows as u64);
@@ -56,41 +51,6 @@ fn guessed(pages: &[Page], share: u64, row: u32) -> usize {
         .wrapping_mul(1 << 32)
         .wrapping_add(rows.wrapping_mul(share));
     (parts >> 32) as usize
-}
-
-/// From a page back to one before which the row doesn't end, at most a few pages.
-fn back_to_row(pages: &[Page], from: usize, row: u32) -> usize
-    requires { from < length pages.now }
-    ensures { result < length pages.now }
-{
-    let least = from.saturating_sub(NEAR);
-    let mut at = from;
-    while at > least && pages[at].before.rows >= row {
-        at -= 1;
-    }
-    at
-}
-
-/// From a page on to one in which the row ends, at most a few pages.
-fn on_to_row(pages: &[Page], from: usize, row: u32) -> usize
-    requires { from < length pages.now }
-    ensures { result < length pages.now }
-{
-    let most = from.saturating_add(NEAR).min(pages.len() - 1);
-    let mut at = from;
-    while at < most && pages[at + 1].before.rows < row {
-        at += 1;
-    }
-    at
-}
-
-/// A page near the guessed one: the page in which the row ends, if that is near.
-fn near_row(pages: &[Page], share: u64, row: u32) -> usize
-    requires { 0 < length pages.now }
-    ensures { result < length pages.now }
-{
-    let number = guessed(pages, share, row).min(pages.len() - 1);
-    on_to_row(pages, back_to_row(pages, number, row), row)
 }
 
 /// The page with a number.
@@ -114,80 +74,8 @@ fn end_in(page: &Page, ends: &[u16], row: usize) -> u32
     page.before.bytes + ends[row - 1] as u32
 }
 
-/// The line after a row end of a page, if the line ends in that page too.
-#[inline(always)]
-fn line_within(page: &Page, ends: &[u16], row: usize) -> PlainLine
-    requires fits { page.now.before.bytes + length (bytes_in page.now) < 2 ^ 32 - 1 }
-    requires plain { IsPlain (bytes_in page.now) }
-    requires ends { AreEnds (bytes_in page.now) ends.now }
-    requires some { 1 ≤ row }
-    requires listed { row < length ends.now }
-    ensures { (text : List ℕ) → IsUtf8 text → TellsText text page.now
-        → IsPlainLine text (page.now.before.rows + row) result }
-{
-    let start = end_in(page, ends, row);
-    let end = end_in(page, ends, row + 1);
-    PlainLine {
-        start,
-        limit: end - 1,
-    }
-}
-
-/// The line after the last row end of a page, which ends in the next page.
-fn line_across(page: &Page, ends: &[u16], next: &Page, first: &[u16]) -> PlainLine
-    requires fits { page.now.before.bytes + length (bytes_in page.now) < 2 ^ 32 - 1 }
-    requires plain { IsPlain (bytes_in page.now) }
-    requires ends { AreEnds (bytes_in page.now) ends.now }
-    requires some { 1 ≤ length ends.now }
-    requires next_fits { next.now.before.bytes + length (bytes_in next.now) < 2 ^ 32 - 1 }
-    requires next_plain { IsPlain (bytes_in next.now) }
-    requires next_ends { AreEnds (bytes_in next.now) first.now }
-    requires next_some { 1 ≤ length first.now }
-    requires bytes { next.now.before.bytes ≡ page.now.before.bytes + length (bytes_in page.now) }
-    requires rows { next.now.before.rows ≡ page.now.before.rows + length ends.now }
-    ensures { (text : List ℕ) → IsUtf8 text → TellsText text page.now → TellsText text next.now
-        → IsPlainLine text next.now.before.rows result }
-{
-    let start = end_in(page, ends, ends.len());
-    let end = end_in(next, first, 1);
-    PlainLine {
-        start,
-        limit: end - 1,
-    }
-}
-
-/// The line after the last row end of a page, if it is the requested one and ends in the next page.
-fn line_joined(
-    page: &Page,
-    ends: &[u16],
-    next: &Page,
-    first: &[u16],
-    line: u32,
-) -> Option<PlainLine>
-    requires fits { page.now.before.bytes + length (bytes_in page.now) < 2 ^ 32 - 1 }
-    requires plain { IsPlain (bytes_in page.now) }
-    requires ends { AreEnds (bytes_in page.now) ends.now }
-    requires next_fits { next.now.before.bytes + length (bytes_in next.now) < 2 ^ 32 - 1 }
-    requires next_plain { IsPlain (bytes_in next.now) }
-    requires next_ends { AreEnds (bytes_in next.now) first.now }
-    ensures { (text : List ℕ) → IsUtf8 text → TellsText text page.now → TellsText text next.now
-        → IfSome result (IsPlainLine text line) }
-{
-    let bytes = page.before.bytes as usize + page.text.as_str().len();
-    let rows = page.before.rows as usize + ends.len();
-    if !ends.is_empty()
-        && !first.is_empty()
-        && next.before.bytes as usize == bytes
-        && next.before.rows as usize == rows
-        && next.before.rows == line
-    {
-        Some(line_across(page, ends, next, first))
-    } else {
-        None
-    }
-}
-
-/// The same, if the next page is ASCII too.
+/// The line after the last row end of a page, if it is the requested one, and the next page is ASCII
+/// too and the line ends there.
 fn line_up_to(page: &Page, ends: &[u16], next: &Page, line: u32) -> Option<PlainLine>
     requires fits { page.now.before.bytes + length (bytes_in page.now) < 2 ^ 32 - 1 }
     requires plain { IsPlain (bytes_in page.now) }
@@ -197,7 +85,25 @@ fn line_up_to(page: &Page, ends: &[u16], next: &Page, line: u32) -> Option<Plain
         → IfSome result (IsPlainLine text line) }
 {
     match next.text.plain_ends() {
-        Some(first) => line_joined(page, ends, next, first, line),
+        Some(first) => {
+            let bytes = page.before.bytes as usize + page.text.as_str().len();
+            let rows = page.before.rows as usize + ends.len();
+            if !ends.is_empty()
+                && !first.is_empty()
+                && next.before.bytes as usize == bytes
+                && next.before.rows as usize == rows
+                && next.before.rows == line
+            {
+                let start = end_in(page, ends, ends.len());
+                let end = end_in(next, first, 1);
+                Some(PlainLine {
+                    start,
+                    limit: end - 1,
+                })
+            } else {
+                None
+            }
+        }
         None => None,
     }
 }
@@ -219,26 +125,6 @@ fn line_to_next(pages: &[Page], number: usize, line: u32) -> Option<PlainLine>
     }
 }
 
-/// A line that starts and ends in a page of ASCII.
-#[inline(always)]
-fn line_listed(page: &Page, ends: &[u16], line: u32) -> Option<PlainLine>
-    requires fits { page.now.before.bytes + length (bytes_in page.now) < 2 ^ 32 - 1 }
-    requires plain { IsPlain (bytes_in page.now) }
-    requires ends { AreEnds (bytes_in page.now) ends.now }
-    ensures { (text : List ℕ) → IsUtf8 text → TellsText text page.now
-        → IfSome result (IsPlainLine text line) }
-{
-    if line <= page.before.rows {
-        return None;
-    }
-    let row = (line - page.before.rows) as usize;
-    if row < ends.len() {
-        Some(line_within(page, ends, row))
-    } else {
-        None
-    }
-}
-
 /// A line that starts and ends in a page, if the page is ASCII.
 #[inline(always)]
 fn line_from(pages: &[Page], number: usize, line: u32) -> Option<PlainLine>
@@ -248,7 +134,22 @@ fn line_from(pages: &[Page], number: usize, line: u32) -> Option<PlainLine>
 {
     let page = page_of(pages, number);
     match page.text.plain_ends() {
-        Some(ends) => line_listed(page, ends, line),
+        Some(ends) => {
+            if line <= page.before.rows {
+                return None;
+            }
+            let row = (line - page.before.rows) as usize;
+            if row < ends.len() {
+                let start = end_in(page, ends, row);
+                let end = end_in(page, ends, row + 1);
+                Some(PlainLine {
+                    start,
+                    limit: end - 1,
+                })
+            } else {
+                None
+            }
+        }
         None => None,
     }
 }
@@ -272,7 +173,17 @@ pub(crate) fn plain_line_near(pages: &[Page], share: u64, line: u32) -> Option<P
     requires { ArePages pages.now }
     ensures { IfSome result (IsPlainLine (text_of pages.now) line) }
 {
-    let number = near_row(pages, share, line);
+    let mut number = guessed(pages, share, line).min(pages.len() - 1);
+    // back to a page before which the line before it doesn't end, at most a few pages
+    let least = number.saturating_sub(NEAR);
+    while number > least && pages[number].before.rows >= line {
+        number -= 1;
+    }
+    // and on to one in which it ends
+    let most = number.saturating_add(NEAR).min(pages.len() - 1);
+    while number < most && pages[number + 1].before.rows < line {
+        number += 1;
+    }
     match line_from(pages, number, line) {
         Some(found) => Some(found),
         None => line_to_next(pages, number, line),

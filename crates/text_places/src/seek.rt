@@ -5,7 +5,7 @@ ghost use Rattle.source_location.specs.Breaks.{breaks_of};
 ghost use Rattle.source_location.specs.Rows.{row_of};
 ghost use Rattle.text_places.specs.Bytes.{begun, before};
 ghost use Rattle.text_places.specs.Places.{line_begin, line_end};
-ghost use Rattle.text_places.specs.Pages.{text_of, ArePages, IsInPage, IsRowPage, IsUnitPage};
+ghost use Rattle.text_places.specs.Pages.{text_of, ArePages, IsUnitPage};
 ghost use Rattle.text_places.specs.Pages.{most_bytes, HasOffset, HasRowEnd, HasUnits, IsLastWithin};
 ghost use Rattle.text_places.specs.Pages.{bytes_in, units_in, TellsText};
 ghost use Rattle.text_places.specs.Lines.{IsLineInPage};
@@ -56,25 +56,6 @@ fn pages_near(pages: &[Page], offset: u32) -> Range
     }
 }
 
-/// The number of the page of an offset.
-fn number_at(pages: &[Page], offset: u32) -> usize
-    requires known { ArePages pages.now }
-    requires within { offset ≤ length (text_of pages.now) }
-    ensures { IsInPage pages.now result offset }
-{
-    let Range { low, high } = pages_near(pages, offset);
-    low + pages[low..high].partition_point(|page| page.before.bytes <= offset) - 1
-}
-
-/// The page that would have the row if all pages had as many rows.
-fn share_of(pages: &[Page], row: u32) -> usize
-    requires { 0 < length pages.now }
-{
-    let last = &pages[pages.len() - 1];
-    let rows = last.before.rows as u64 + last.own.rows as u64 + 1;
-    ((row as u64).wrapping_mul(pages.len() as u64) / rows) as usize
-}
-
 /// Pages among which is the one in which a row ends: few if pages have about as many rows each,
 /// else all.
 fn pages_near_row(pages: &[Page], row: u32) -> Range
@@ -82,7 +63,11 @@ fn pages_near_row(pages: &[Page], row: u32) -> Range
     requires some { 1 ≤ row }
     ensures { IsAmong (λ page. nat_lt page.before.rows row) pages.now result }
 {
-    let near = around(pages, share_of(pages, row));
+    // the page that would have the row if all pages had as many rows
+    let last = &pages[pages.len() - 1];
+    let rows = last.before.rows as u64 + last.own.rows as u64 + 1;
+    let share = (row as u64).wrapping_mul(pages.len() as u64) / rows;
+    let near = around(pages, share as usize);
     let starts = pages[near.low].before.rows < row;
     if starts && (near.high == pages.len() || row <= pages[near.high].before.rows) {
         return near;
@@ -91,17 +76,6 @@ fn pages_near_row(pages: &[Page], row: u32) -> Range
         low: 0,
         high: pages.len(),
     }
-}
-
-/// The number of the page in which a row ends.
-fn number_of_row(pages: &[Page], row: u32) -> usize
-    requires known { ArePages pages.now }
-    requires some { 1 ≤ row }
-    requires within { row ≤ length (breaks_of (text_of pages.now)) }
-    ensures { IsRowPage pages.now result row }
-{
-    let Range { low, high } = pages_near_row(pages, row);
-    low + pages[low..high].partition_point(|page| page.before.rows < row) - 1
 }
 
 /// The number of the last page before which at most `most` units begin.
@@ -119,7 +93,9 @@ pub(crate) fn page_at(pages: &[Page], offset: u32) -> &Page
     ensures offset { HasOffset (text_of pages.now) offset result.now }
     ensures tells { TellsText (text_of pages.now) result.now }
 {
-    &pages[number_at(pages, offset)]
+    let Range { low, high } = pages_near(pages, offset);
+    let number = low + pages[low..high].partition_point(|page| page.before.bytes <= offset) - 1;
+    &pages[number]
 }
 
 /// The page in which a row ends.
@@ -130,7 +106,9 @@ fn page_of_row(pages: &[Page], row: u32) -> &Page
     ensures end { HasRowEnd (text_of pages.now) row result.now }
     ensures tells { TellsText (text_of pages.now) result.now }
 {
-    &pages[number_of_row(pages, row)]
+    let Range { low, high } = pages_near_row(pages, row);
+    let number = low + pages[low..high].partition_point(|page| page.before.rows < row) - 1;
+    &pages[number]
 }
 
 /// The first page.
@@ -162,19 +140,6 @@ pub(crate) fn rows_to(pages: &[Page], offset: u32) -> u32
     page.before.rows + page.text.rows_to(within) as u32
 }
 
-/// The offset after the end of a row, by its number from 1.
-fn row_end_at(pages: &[Page], row: u32) -> u32
-    requires known { ArePages pages.now }
-    requires some { 1 ≤ row }
-    requires within { row ≤ length (breaks_of (text_of pages.now)) }
-    ensures value { result ≡ line_begin (text_of pages.now) row }
-    ensures within { result ≤ length (text_of pages.now) }
-{
-    let page = page_of_row(pages, row);
-    let end = page.text.row_end((row - page.before.rows) as usize);
-    page.before.bytes + end as u32
-}
-
 /// Where a row starts.
 pub(crate) fn row_start(pages: &[Page], row: u32) -> u32
     requires known { ArePages pages.now }
@@ -182,7 +147,12 @@ pub(crate) fn row_start(pages: &[Page], row: u32) -> u32
     ensures value { result ≡ line_begin (text_of pages.now) row }
     ensures within { result ≤ length (text_of pages.now) }
 {
-    if row == 0 { 0 } else { row_end_at(pages, row) }
+    if row == 0 {
+        return 0;
+    }
+    let page = page_of_row(pages, row);
+    let end = page.text.row_end((row - page.before.rows) as usize);
+    page.before.bytes + end as u32
 }
 
 /// The units that begin before a place of a page.

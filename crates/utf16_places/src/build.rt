@@ -1,5 +1,5 @@
 // One pass over the lines of a text, which marks the characters past ASCII.
-ghost use Rattle.std.specs.Prelude.{◌≡◌, ◌<◌, ◌≤◌, ℕ, OnOk, length, slice_index, position, nat_le};
+ghost use Rattle.std.specs.Prelude.{◌≡◌, ◌<◌, ◌≤◌, ℕ, OnOk, position, nat_le};
 ghost use Rattle.std.specs.Str.{IsCharBoundary};
 ghost use Rattle.source_location.specs.Index.{Fits};
 ghost use Rattle.text_places.specs.Places.{line_start_of};
@@ -69,34 +69,17 @@ fn units_begun(first: u8) -> u32
     if first < 240 { 1 } else { 2 }
 }
 
-/// How many bytes the leading blocks of ASCII have.
-fn ascii_blocks(bytes: &[u8]) -> usize
-    ensures within { result ≤ length bytes.now }
-    ensures ascii { (k : ℕ) → k < result → slice_index bytes.now k < 128 }
-{
-    let mut passed = 0;
-    while passed + BLOCK <= bytes.len() && bytes[passed..passed + BLOCK].is_ascii() {
-        passed += BLOCK;
-    }
-    passed
-}
-
 /// The place of the first byte past ASCII, which often is the first one.
 fn first_past_ascii(bytes: &[u8]) -> Option<usize>
     ensures { IsFirstPastAscii bytes.now result }
 {
     if !bytes.is_empty() && bytes[0] >= 128 {
-        Some(0)
-    } else {
-        later_past_ascii(bytes)
+        return Some(0);
     }
-}
-
-/// The same, in blocks.
-fn later_past_ascii(bytes: &[u8]) -> Option<usize>
-    ensures { IsFirstPastAscii bytes.now result }
-{
-    let passed = ascii_blocks(bytes);
+    let mut passed = 0;
+    while passed + BLOCK <= bytes.len() && bytes[passed..passed + BLOCK].is_ascii() {
+        passed += BLOCK;
+    }
     match position_past_ascii(&bytes[passed..]) {
         Some(at) => Some(passed + at),
         None => None,

@@ -1,11 +1,10 @@
 // The index that turns offsets into positions and back.
-ghost use Rattle.std.specs.Prelude.{◌≡◌, ◌^◌, ◌<◌, ◌≤◌, ◌↔◌, ℕ, List, [], ◌∷◌, IsTrue, Some, IfOk};
-ghost use Rattle.std.specs.Prelude.{length, take, count_by, nat_le};
-ghost use Rattle.std.specs.List.Sorted.{IsNonDecreasing};
+ghost use Rattle.std.specs.Prelude.{◌≡◌, ◌<◌, ◌↔◌, ℕ, List, IsTrue, Some, IfOk};
+ghost use Rattle.std.specs.Prelude.{length};
 ghost use Rattle.std.specs.Option.{option_map};
 ghost use Rattle.std.specs.Str.{IsCharBoundary};
 ghost use Rattle.source_location.specs.Breaks.{breaks_of};
-ghost use Rattle.source_location.specs.Rows.{row_of, row_start};
+ghost use Rattle.source_location.specs.Rows.{row_start};
 ghost use Rattle.source_location.specs.Locations.{offset_at};
 ghost use Rattle.source_location.specs.Index.{Fits, index_of};
 ghost use Rattle.text_places.specs.Places.{line_end};
@@ -96,7 +95,12 @@ impl Utf16Index {
         ensures { (text : List ℕ) → IsIndexOf self.now text → IsCharBoundary text offset
             → result ≡ utf16_place text offset }
     {
-        let line = self.line_at(offset);
+        // (the first line starts at 0)
+        let line = self
+            .line_starts
+            .as_slice()
+            .partition_point(|start| *start <= offset)
+            - 1;
         let start = self.line_start(line);
         Place16 {
             line: line as u32,
@@ -186,16 +190,6 @@ impl Utf16Index {
         }
     }
 
-    /// The line of an offset; past the text's end the last one.
-    fn line_at(&self, offset: TextSize) -> usize
-        ensures line { (text : List ℕ) → IsIndexOf self.now text
-            → result ≡ row_of (breaks_of text) offset }
-        ensures within { result < length self.now.line_starts }
-        ensures few { length self.now.line_starts < 2 ^ 32 }
-    {
-        lines_started(self.line_starts.as_slice(), offset) - 1
-    }
-
     /// Where a line starts.
     fn line_start(&self, line: usize) -> TextSize
         requires { line < length self.now.line_starts }
@@ -228,15 +222,4 @@ impl Utf16Index {
             self.end
         }
     }
-}
-
-/// How many lines start at an offset or before it.
-fn lines_started(line_starts: &[TextSize], offset: TextSize) -> usize
-    requires first { take 1 line_starts.now ≡ 0 ∷ [] }
-    requires rise { IsNonDecreasing line_starts.now }
-    ensures counted { result ≡ count_by (λ start. nat_le start offset) line_starts.now }
-    ensures some { 1 ≤ result }
-    ensures bound { result ≤ length line_starts.now }
-{
-    line_starts.partition_point(|start| *start <= offset)
 }

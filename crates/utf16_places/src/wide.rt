@@ -20,7 +20,7 @@ pub(crate) struct WideCharacter {
 }
 
 /// A boundary of a line, and how many units of the line are before it.
-#[derive(Clone, Copy)]
+#[derive(Drop)]
 pub(crate) struct Counted {
     pub(crate) offset: TextSize,
     pub(crate) unit: u32,

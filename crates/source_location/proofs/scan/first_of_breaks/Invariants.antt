@@ -10,3 +10,12 @@ invariant-loop-start l = record {
 
 abbrev pub decreases-loop-start : goal.decreases-loop-start
 decreases-loop-start l = length l.bytes - l.start
+
+abbrev pub invariant-loop-place : goal.invariant-loop-place
+invariant-loop-place l = record {
+  within : l.place ≤ length l.bytes;
+  passed : Nowhere (Passes (is_byte2 10 13) l.bytes) 0 l.place;
+}
+
+abbrev pub decreases-loop-place : goal.decreases-loop-place
+decreases-loop-place l = length l.bytes - l.place

@@ -7,24 +7,24 @@ use Rattle.text_places.proofs.PagesLemmas.{concat-pages, few-pages}
 use Rattle.text_places.proofs.places.TextPlaces.pieces.Goals as goal
 
 pub returns-clause-text : goal.returns-clause-text
-returns-clause-text c = ap concat (c.of_pages.ensures ∙ ap (map bytes_in) c.as_slice.ensures.value) ∙ concat-pages c.self.inside.pages.items ∙ c.self.view_is
+returns-clause-text c = ap (λ pages. concat (map bytes_in pages)) c.as_slice.ensures.value ∙ concat-pages c.self.inside.pages.items ∙ c.self.view_is
 
 pub returns-clause-most : goal.returns-clause-most
 returns-clause-most c =
     let items = c.self.inside.pages.items in
-    All-same (λ (piece : List ℕ). length piece ≤ most_bytes) c.of_pages.result (map bytes_in items) (c.of_pages.ensures ∙ ap (map bytes_in) c.as_slice.ensures.value)
+    All-same (λ (piece : List ℕ). length piece ≤ most_bytes) (map bytes_in c.as_slice.result.now) (map bytes_in items) (ap (map bytes_in) c.as_slice.ensures.value)
     (All-map (λ (piece : List ℕ). length piece ≤ most_bytes) bytes_in items c.self.invariant.known.filled.most)
 
 pub returns-clause-least : goal.returns-clause-least
 returns-clause-least c more =
     let items = c.self.inside.pages.items in
-    let same = c.of_pages.ensures ∙ ap (map bytes_in) c.as_slice.ensures.value in
+    let same = ap (map bytes_in) c.as_slice.ensures.value in
     let some : 1 < length items = omega (arith, more, ap length same, length-map items bytes_in) in
-    All-same (λ (piece : List ℕ). least_bytes ≤ length piece) c.of_pages.result (map bytes_in items) same
+    All-same (λ (piece : List ℕ). least_bytes ≤ length piece) (map bytes_in c.as_slice.result.now) (map bytes_in items) same
     (All-map (λ (piece : List ℕ). least_bytes ≤ length piece) bytes_in items (c.self.invariant.known.filled.least some))
 
 pub returns-clause-few : goal.returns-clause-few
 returns-clause-few c =
     let items = c.self.inside.pages.items in
-    let same = c.of_pages.ensures ∙ ap (map bytes_in) c.as_slice.ensures.value in
+    let same = ap (map bytes_in) c.as_slice.ensures.value in
     omega (arith, few-pages items c.self.invariant.known.filled.least, ap length same, length-map items bytes_in, ap length c.self.view_is)
