@@ -37,7 +37,7 @@ pub struct Document {
 }
 
 /// The version of a document.
-#[derive(Clone, Copy, PartialEq, Eq)]
+#[derive(Clone, Copy)]
 pub(crate) enum Version {
     /// Labels have rows and columns.
     One,
@@ -251,27 +251,8 @@ fn label_by_either(members: Map<String, Value>) -> Option<PlaceLabel>
     }
 }
 
-// The labels of a report.
+// The labels of a report, which may be omitted.
 fn read_labels(
-    alloc: Global,
-    version: Version,
-    values: Vec<Value>,
-) -> Result<Option<Vec<PlaceLabel>>, AllocError>
-    ensures { IfOk result (λ it. option_map (λ labels. map given_label labels.items) it
-        ≡ all_of (label version) (items_view values.items)) }
-{
-    let mut labels = Vec::with_capacity(alloc, values.len())?;
-    for value in values {
-        let Some(label) = read_label(version, value) else {
-            return Ok(None);
-        };
-        labels.push(label)?;
-    }
-    Ok(Some(labels))
-}
-
-// The labels under a key that may be omitted.
-fn optional_labels(
     alloc: Global,
     version: Version,
     found: Option<Value>,
@@ -282,20 +263,20 @@ fn optional_labels(
         (λ it. IfSome it (λ list. map given_label list.items
         ≡ unwrap_or (option_and_then (labels version) (option_map view found)) [])) }
 {
-    match found {
-        Some(Value::Array(values)) => read_labels(alloc, version, values),
-        Some(_) => Ok(None),
-        None => Ok(Some(Vec::new(alloc))),
+    let Some(value) = found else {
+        return Ok(Some(Vec::new(alloc)));
+    };
+    let Value::Array(values) = value else {
+        return Ok(None);
+    };
+    let mut labels = Vec::with_capacity(alloc, values.len())?;
+    for value in values {
+        let Some(label) = read_label(version, value) else {
+            return Ok(None);
+        };
+        labels.push(label)?;
     }
-}
-
-// A diagnostic with these parts.
-fn diagnostic(alloc: Global, parts: OxcDiagnosticInner) -> Result<OxcDiagnostic, AllocError>
-    ensures { IfOk result (λ it. it ≡ inner_parts parts) }
-{
-    let mut diagnostic = OxcDiagnostic::error(alloc, "")?;
-    *diagnostic.inner_mut() = parts;
-    Ok(diagnostic)
+    Ok(Some(labels))
 }
 
 // The parts of a report's diagnostic.
@@ -349,15 +330,17 @@ fn read_report(
     let Some(file) = file_id(&fields.file.value) else {
         return Ok(None);
     };
-    let Some(labels) = optional_labels(alloc, version, fields.labels.value)? else {
+    let Some(labels) = read_labels(alloc, version, fields.labels.value)? else {
         return Ok(None);
     };
     let Some(parts) = diagnostic_parts(alloc, fields.said) else {
         return Ok(None);
     };
+    let mut diagnostic = OxcDiagnostic::error(alloc, "")?;
+    *diagnostic.inner_mut() = parts;
     Ok(Some(FileReport {
         file,
-        diagnostic: diagnostic(alloc, parts)?,
+        diagnostic,
         labels,
     }))
 }

@@ -21,6 +21,7 @@ use std::alloc::{AllocError, Global};
 /// # Errors
 ///
 /// Out of memory.
+#[tactic(auto, using(crate::proofs::GeneratedLemmas::plain_values), unfolding(crate::specs::Generated::generated))]
 pub fn generate(alloc: Global, count: u32) -> Result<Vec<u8>, AllocError>
     requires { count ≤ 5000 }
     ensures bytes { IfOk result (λ bytes. bytes.items ≡ generated count) }
@@ -28,19 +29,9 @@ pub fn generate(alloc: Global, count: u32) -> Result<Vec<u8>, AllocError>
     ensures accepted { IfOk result (λ bytes. IfSome (document_of bytes.items)
         (λ document. refusal_of document.files document.reports ≡ None)) }
 {
-    Ok(generated_text(alloc, count)?.into_bytes())
-}
-
-#[tactic(auto, using(crate::proofs::GeneratedLemmas::plain_values), unfolding(crate::specs::Generated::generated))]
-fn generated_text(alloc: Global, count: u32) -> Result<String, AllocError>
-    requires { count ≤ 5000 }
-    ensures bytes { IfOk result (λ text. string_bytes text ≡ generated count) }
-    ensures document { IfOk result (λ text. document_of (string_bytes text)
-        ≡ Some (document_made count)) }
-{
     let document = generated_document(alloc, count)?;
     let text = document.to_string(alloc)?;
-    Ok(text)
+    Ok(text.into_bytes())
 }
 
 #[tactic(auto, unfolding(crate::specs::Generated::generated_value, crate::specs::Generated::file_value))]

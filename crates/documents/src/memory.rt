@@ -62,13 +62,6 @@ impl MemorySource {
     {
         &self.bytes[self.at..]
     }
-
-    /// How many calls failed.
-    pub fn faults(&self) -> u64
-        ensures { result ≡ self.now.faults }
-    {
-        self.faults
-    }
 }
 
 impl Source for MemorySource {

@@ -3,10 +3,9 @@ ghost use Rattle.std.specs.Prelude.{◌≡◌, ◌^◌, ◌-◌, is_some, IfSome
 ghost use Rattle.std.specs.Prelude.{string_bytes};
 ghost use Rattle.oxc_span.specs.Views.{text_bytes};
 ghost use Rattle.codespan.specs.Texts.{Fits};
-ghost use Rattle.serde_json.specs.View.{view, items_view};
-ghost use Rattle.documents.specs.Kinds.{bytes_pair as two_numbers, is_allowed, pair_in};
+ghost use Rattle.serde_json.specs.View.{view};
+ghost use Rattle.documents.specs.Kinds.{bytes_pair as two_numbers, is_allowed};
 ghost use Rattle.documents.specs.Kinds.{place as row_and_column, severity as severity_in};
-ghost use Rattle.documents.specs.Kinds.{severity_named as severity_of_name};
 ghost use Rattle.documents.specs.Kinds.{some_text as filled_text, source as short_text};
 ghost use Rattle.documents.specs.Kinds.{text as text_in, truth as truth_in, whole as whole_in};
 
@@ -22,14 +21,6 @@ pub(crate) fn text(value: Value) -> Option<String>
         Value::String(text) => Some(text),
         _ => None,
     }
-}
-
-/// A text that isn't empty.
-pub(crate) fn some_text(value: Value) -> Option<String>
-    ensures { option_map string_bytes result ≡ filled_text (view value) }
-{
-    let text = text(value)?;
-    if text.is_empty() { None } else { Some(text) }
 }
 
 /// A text of fewer than `u32::MAX` bytes.
@@ -64,7 +55,14 @@ pub(crate) fn optional_some_text(found: Option<Value>) -> Option<Option<String>>
         (option_map view found)) }
 {
     match found {
-        Some(value) => Some(Some(some_text(value)?)),
+        Some(value) => {
+            let text = text(value)?;
+            if text.is_empty() {
+                None
+            } else {
+                Some(Some(text))
+            }
+        }
         None => Some(None),
     }
 }
@@ -88,19 +86,13 @@ pub(crate) fn optional_severity(found: &Option<Value>) -> Option<Option<Severity
         (option_map view found.now)) }
 {
     match found {
-        Some(value) => Some(Some(severity_named(value.as_str()?)?)),
+        Some(value) => match value.as_str()? {
+            "error" => Some(Some(Severity::Error)),
+            "warning" => Some(Some(Severity::Warning)),
+            "advice" => Some(Some(Severity::Advice)),
+            _ => None,
+        },
         None => Some(None),
-    }
-}
-
-fn severity_named(name: &str) -> Option<Severity>
-    ensures { result ≡ severity_of_name name.now }
-{
-    match name {
-        "error" => Some(Severity::Error),
-        "warning" => Some(Severity::Warning),
-        "advice" => Some(Severity::Advice),
-        _ => None,
     }
 }
 
@@ -117,18 +109,11 @@ pub(crate) fn whole(least: u32, most: u32, value: &Value) -> Option<u32>
 }
 
 /// A row and a column, both from 1.
+#[tactic(auto, using(crate::proofs::KindLemmas::no_pair))]
 pub(crate) fn place(value: &Value) -> Option<SourceLocation>
     ensures { result ≡ row_and_column (view value.now) }
 {
-    place_of(value.as_array()?)
-}
-
-#[tactic(auto, using(crate::proofs::KindLemmas::no_pair))]
-fn place_of(values: &[Value]) -> Option<SourceLocation>
-    ensures { result ≡ option_map (λ pair. record { row = pair.0; column = pair.1 })
-        (pair_in (whole_in 1 (2 ^ 32 - 1)) (items_view values.now)) }
-{
-    match values {
+    match value.as_array()?.as_slice() {
         [row, column] => Some(SourceLocation {
             row: counted(row)?,
             column: counted(column)?,
@@ -145,17 +130,11 @@ fn counted(value: &Value) -> Option<OneIndexed>
 }
 
 /// Two offsets in bytes.
+#[tactic(auto, using(crate::proofs::KindLemmas::no_pair))]
 pub(crate) fn bytes_pair(value: &Value) -> Option<(u32, u32)>
     ensures { result ≡ two_numbers (view value.now) }
 {
-    pair_of(value.as_array()?)
-}
-
-#[tactic(auto, using(crate::proofs::KindLemmas::no_pair))]
-fn pair_of(values: &[Value]) -> Option<(u32, u32)>
-    ensures { result ≡ pair_in (whole_in 0 (2 ^ 32 - 1)) (items_view values.now) }
-{
-    match values {
+    match value.as_array()?.as_slice() {
         [start, end] => Some((whole(0, u32::MAX, start)?, whole(0, u32::MAX, end)?)),
         _ => None,
     }

@@ -4,7 +4,6 @@ ghost use Rattle.std.specs.Prelude.{string_bytes};
 ghost use Rattle.std.specs.List.{list_all};
 ghost use Rattle.std.specs.Option.{option_copied};
 ghost use Rattle.codespan.specs.Texts.{Fits, name_of, text_of};
-ghost use Rattle.oxc_protocol.specs.Views.{inner_parts};
 ghost use Rattle.render_files.specs.Given.{given_label, given_report};
 ghost use Rattle.serde_json.specs.Data.{array};
 ghost use Rattle.serde_json.specs.View.{items_of, members_view, view};
@@ -17,11 +16,11 @@ ghost use Rattle.documents.specs.Written.{labels_value as labels_written};
 ghost use Rattle.documents.specs.Written.{file_value as file_written, label_value as label_written};
 ghost use Rattle.documents.specs.Written.{location_value as location_written};
 ghost use Rattle.documents.specs.Written.{place_members as place_written, put_some};
-ghost use Rattle.documents.specs.Written.{report_value as report_written, said_members};
+ghost use Rattle.documents.specs.Written.{report_value as report_written};
 ghost use Rattle.documents.specs.Written.{severity_value as severity_written, text_value};
 
 use codespan::{FileId, Files};
-use oxc_protocol::{OxcDiagnosticInner, Severity};
+use oxc_protocol::Severity;
 use render_files::{FileReport, LabelPlace, PlaceLabel};
 use serde_json::{Map, Value, json, put};
 use source_location::SourceLocation;
@@ -95,13 +94,9 @@ fn reports_by_rows(reports: &[FileReport]) -> bool
 fn labels_by_rows(labels: &[PlaceLabel]) -> bool
     ensures { result ≡ list_all (λ label. allows One label.place) labels.now }
 {
-    labels.iter().all(|label| is_by_rows(label.place))
-}
-
-fn is_by_rows(place: LabelPlace) -> bool
-    ensures { result ≡ allows One place }
-{
-    matches!(place, LabelPlace::Rows { .. })
+    labels
+        .iter()
+        .all(|label| matches!(label.place, LabelPlace::Rows { .. }))
 }
 
 fn files_value(alloc: Global, files: &Files<String>) -> Result<Value, AllocError>
@@ -142,7 +137,7 @@ fn reports_value(alloc: Global, reports: &[FileReport]) -> Result<Value, AllocEr
     Ok(Value::Array(values))
 }
 
-#[tactic(auto, unfolding(crate::specs::Written::report_value))]
+#[tactic(auto, unfolding(crate::specs::Written::report_value, crate::specs::Written::said_members))]
 fn report_value(alloc: Global, report: &FileReport) -> Result<Value, AllocError>
     ensures value { IfOk result (λ value. view value ≡ report_written (given_report report.now)) }
     ensures ranges { OnOk result (HavePlaces (given_report report.now)) }
@@ -155,7 +150,19 @@ fn report_value(alloc: Global, report: &FileReport) -> Result<Value, AllocError>
         Value::from(report.file.to_u32()),
     )?;
     put_labels(alloc, &mut members, &report.labels)?;
-    put_said(alloc, &mut members, report.diagnostic.inner())?;
+    let said = report.diagnostic.inner();
+    put_text(alloc, &mut members, "message", Some(said.message.as_str()))?;
+    put_text(
+        alloc,
+        &mut members,
+        "severity",
+        severity_name(said.severity),
+    )?;
+    put_text(alloc, &mut members, "scope", said.code.scope.as_deref())?;
+    put_text(alloc, &mut members, "number", said.code.number.as_deref())?;
+    put_text(alloc, &mut members, "help", said.help.as_deref())?;
+    put_text(alloc, &mut members, "note", said.note.as_deref())?;
+    put_text(alloc, &mut members, "url", said.url.as_deref())?;
     Ok(Value::Object(members))
 }
 
@@ -175,25 +182,6 @@ fn put_labels(
         return Ok(());
     }
     put(members, alloc, "labels", labels_value(alloc, labels)?)
-}
-
-// Puts the members that say what is reported.
-#[tactic(auto, unfolding(crate::specs::Written::said_members))]
-fn put_said(
-    alloc: Global,
-    members: &mut Map<String, Value>,
-    said: &OxcDiagnosticInner,
-) -> Result<(), AllocError>
-    ensures { OnOk result (members_view members.new.entries
-        ≡ said_members (inner_parts said.now) (members_view members.old.entries)) }
-{
-    put_text(alloc, members, "message", Some(said.message.as_str()))?;
-    put_text(alloc, members, "severity", severity_name(said.severity))?;
-    put_text(alloc, members, "scope", said.code.scope.as_deref())?;
-    put_text(alloc, members, "number", said.code.number.as_deref())?;
-    put_text(alloc, members, "help", said.help.as_deref())?;
-    put_text(alloc, members, "note", said.note.as_deref())?;
-    put_text(alloc, members, "url", said.url.as_deref())
 }
 
 // Puts a text under a key, if there is one.

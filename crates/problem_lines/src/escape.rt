@@ -1,13 +1,12 @@
 //! Which bytes of a text are escaped in a line.
 ghost use Rattle.std.specs.Prelude.{◌≡◌, ◌++◌, OnOk, string_bytes};
-ghost use Rattle.std.specs.Option.{option_copied};
-ghost use Rattle.problem_lines.specs.Escape.{escape, own_spelling as own_spelling_by};
+ghost use Rattle.problem_lines.specs.Escape.{escape};
 
 use escapes::Spelling;
 use std::alloc::AllocError;
 
 /// A kind of text in a line.
-#[derive(Clone, Copy, PartialEq, Eq)]
+#[derive(Drop)]
 pub enum Field {
     /// The name of a file, which ends at a colon.
     Name,
@@ -30,19 +29,12 @@ impl Spelling for Field {
             b'\\' => Some("\\\\"),
             b'\n' => Some("\\n"),
             b'\r' => Some("\\r"),
-            _ => own_spelling(*self, byte),
+            _ => match self {
+                Field::Name if byte == b':' => Some("\\c"),
+                Field::Rule if byte == b']' => Some("\\b"),
+                _ => None,
+            },
         }
-    }
-}
-
-/// The escape of a byte that is escaped in one kind of text only.
-fn own_spelling(field: Field, byte: u8) -> Option<&'static str>
-    ensures { option_copied result ≡ own_spelling_by field byte }
-{
-    match field {
-        Field::Name if byte == b':' => Some("\\c"),
-        Field::Rule if byte == b']' => Some("\\b"),
-        _ => None,
     }
 }
 

@@ -1,8 +1,7 @@
 //! The fields of a line.
 ghost use Rattle.std.specs.Prelude.{◌≡◌, IfSome, option_map};
 ghost use Rattle.problem_lines.specs.Line.{IsInRange, IsSmall};
-ghost use Rattle.problem_lines.specs.Parsed.{head_at, parsed, place_at, rule_at};
-ghost use Rattle.problem_lines.specs.Parsed.{severity_at, tail_at, texts_of};
+ghost use Rattle.problem_lines.specs.Parsed.{parsed, place_at, rule_at, severity_at, texts_of};
 
 use escapes::{behind, cut, number, without_last};
 use oxc_protocol::{InfoPosition, Severity};
@@ -19,13 +18,17 @@ pub struct LineParts<'a> {
 }
 
 /// Finds the fields of a line.
-#[tactic(auto, unfolding(crate::specs::Parsed::parsed))]
+#[tactic(auto, unfolding(crate::specs::Parsed::parsed, crate::specs::Parsed::head_at, crate::specs::Parsed::tail_at))]
 pub fn parse(line: &str) -> Option<LineParts<'_>>
     ensures parts { option_map texts_of result ≡ parsed line.now }
     ensures range { IfSome result (λ parts. IsInRange (texts_of parts)) }
 {
-    let (filename, start, end, rest) = head(line)?;
-    let (severity, rule_id, message) = tail(rest)?;
+    let (filename, rest) = cut(line, ':')?;
+    let (start, rest) = place(rest)?;
+    let (end, rest) = place(rest)?;
+    let (severity, rest) = severity(behind(rest, " ")?)?;
+    let (rule_id, rest) = rule(rest)?;
+    let message = without_last(behind(rest, ": ")?, '\n')?;
     Some(LineParts {
         start,
         end,
@@ -34,32 +37,6 @@ pub fn parse(line: &str) -> Option<LineParts<'_>>
         severity,
         rule_id,
     })
-}
-
-/// The name, both positions, and the text after them.
-#[tactic(auto, unfolding(crate::specs::Parsed::head_at))]
-fn head(line: &str) -> Option<(&str, InfoPosition, InfoPosition, &str)>
-    ensures parts { option_map (λ it. (it.0.now, it.1, it.2, it.3.now)) result ≡ head_at line.now }
-    ensures start { IfSome result (λ it. IsSmall it.1) }
-    ensures end { IfSome result (λ it. IsSmall it.2) }
-{
-    let (filename, rest) = cut(line, ':')?;
-    let (start, rest) = place(rest)?;
-    let (end, rest) = place(rest)?;
-    Some((filename, start, end, rest))
-}
-
-/// The severity, the rule and the message.
-#[tactic(auto, unfolding(crate::specs::Parsed::tail_at))]
-fn tail(text: &str) -> Option<(Severity, Option<&str>, &str)>
-    ensures { option_map (λ it. (it.0, option_map (λ rule. rule.now) it.1, it.2.now)) result
-        ≡ tail_at text.now }
-{
-    let rest = behind(text, " ")?;
-    let (severity, rest) = severity(rest)?;
-    let (rule, rest) = rule(rest)?;
-    let message = without_last(behind(rest, ": ")?, '\n')?;
-    Some((severity, rule, message))
 }
 
 /// A line and a column, each with a colon after it, and the text after them.

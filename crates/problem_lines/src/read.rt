@@ -2,12 +2,10 @@
 ghost use Rattle.std.specs.Prelude.{◌≡◌, List, ◌∷◌, ◌++◌, ◌<◌, ◌≤◌, true, [], IfOk, IfErr, OnOk};
 ghost use Rattle.std.specs.Prelude.{length, map, option_map, string_bytes};
 ghost use Rattle.std.specs.List.{All, flat_map};
-ghost use Rattle.std.specs.Option.{option_copied};
-ghost use Rattle.oxc_span.specs.Views.{text_bytes};
 ghost use Rattle.oxc_protocol.specs.Info.{InfoParts, info_parts};
 ghost use Rattle.problem_lines.specs.Line.{IsInRange, problem_line};
 ghost use Rattle.problem_lines.specs.Lines.{AreProblemsOf, GivesBack, IsCause, lines_of};
-ghost use Rattle.problem_lines.specs.Parsed.{meaning_of, meant as meant_by, texts_of};
+ghost use Rattle.problem_lines.specs.Parsed.{meaning_of, texts_of};
 ghost use Rattle.problem_lines.specs.Parsed.{unescape as unescaped_text, unescape_from, unescaped};
 ghost use Rattle.problem_lines.specs.Read.{IsRead};
 ghost use Rattle.problem_lines.specs.Reported.{ReadsReported};
@@ -20,7 +18,7 @@ use std::alloc::{AllocError, Global};
 use thiserror::Error;
 
 /// Why a text can't be read.
-#[derive(Clone, Copy, Debug, PartialEq, Eq, Error)]
+#[derive(Debug, PartialEq, Drop, Error)]
 pub enum ProblemError {
     /// This line is the first that is no problem's.
     #[error("line {line} is no problem")]
@@ -130,7 +128,10 @@ fn build(alloc: Global, parts: LineParts<'_>) -> Result<Info, AllocError>
 {
     let filename = unescape(alloc, parts.filename)?;
     let message = unescape(alloc, parts.message)?;
-    let rule_id = unescape_rule(alloc, parts.rule_id)?;
+    let rule_id = match parts.rule_id {
+        Some(rule) => Some(unescape(alloc, rule)?),
+        None => None,
+    };
     Ok(Info {
         start: parts.start,
         end: parts.end,
@@ -139,17 +140,6 @@ fn build(alloc: Global, parts: LineParts<'_>) -> Result<Info, AllocError>
         severity: parts.severity,
         rule_id,
     })
-}
-
-/// A rule with its escapes decoded.
-fn unescape_rule(alloc: Global, rule: Option<&str>) -> Result<Option<String>, AllocError>
-    ensures { IfOk result (λ out. text_bytes out ≡ option_map unescaped_text
-        (option_copied rule.entry)) }
-{
-    match rule {
-        Some(rule) => Ok(Some(unescape(alloc, rule)?)),
-        None => Ok(None),
-    }
 }
 
 /// A text with its escapes decoded. A backslash that begins no escape is dropped.
@@ -186,14 +176,7 @@ fn push_meant<'a>(out: &mut String, behind: &'a str) -> Result<&'a str, AllocErr
 fn meaning(behind: &str) -> Option<u8>
     ensures { result ≡ meaning_of behind.now }
 {
-    meant(*behind.as_bytes().first()?)
-}
-
-/// The byte that a letter means after a backslash.
-fn meant(letter: u8) -> Option<u8>
-    ensures { result ≡ meant_by letter }
-{
-    match letter {
+    match *behind.as_bytes().first()? {
         b'\\' => Some(b'\\'),
         b'n' => Some(b'\n'),
         b'r' => Some(b'\r'),

@@ -1,10 +1,9 @@
 //! A reporter that gives one line per diagnostic.
 ghost use Rattle.std.specs.Prelude.{◌≡◌, false, IfOk, map, string_bytes};
 ghost use Rattle.std.specs.List.{All, flat_map};
-ghost use Rattle.oxc_protocol.specs.Info.{info_of, info_parts};
+ghost use Rattle.oxc_protocol.specs.Info.{info_of};
 ghost use Rattle.problem_lines.specs.Line.{IsInRange, problem_line};
 ghost use Rattle.problem_lines.specs.Lines.{GivesBack};
-ghost use Rattle.problem_lines.specs.Report.{excess_text as text_of_excess};
 
 use crate::read::{ProblemError, read_problems};
 use crate::write::write_problem;
@@ -12,7 +11,7 @@ use oxc_protocol::{DiagnosticReporter, DiagnosticResult, Error, Info};
 use std::alloc::{AllocError, Global};
 
 /// Gives the line of each diagnostic, and the counts at the end.
-#[derive(Clone, Copy, Default)]
+#[derive(Drop)]
 pub struct ProblemReporter;
 
 impl ProblemReporter {
@@ -41,7 +40,11 @@ impl DiagnosticReporter for ProblemReporter {
         counts: &DiagnosticResult,
     ) -> Result<Option<String>, AllocError> {
         let (errors, warnings) = (counts.errors_count(), counts.warnings_count());
-        let excess = excess_text(counts.max_warnings_exceeded());
+        let excess = if counts.max_warnings_exceeded() {
+            ", too many warnings"
+        } else {
+            ""
+        };
         let line = format!(in alloc; "{errors} errors, {warnings} warnings{excess}\n")?;
         Ok(Some(line))
     }
@@ -55,24 +58,9 @@ impl DiagnosticReporter for ProblemReporter {
 
     /// The line of the diagnostic's [`Info`].
     fn render_error(&mut self, alloc: Global, error: Error) -> Result<Option<String>, AllocError> {
-        let info = told(alloc, &error)?;
+        let info = Info::new(alloc, &*error)?;
         Ok(Some(write_problem(alloc, &info)?))
     }
-}
-
-/// The end of the line of counts.
-fn excess_text(exceeded: bool) -> &'static str
-    ensures { result.now ≡ text_of_excess exceeded }
-{
-    if exceeded { ", too many warnings" } else { "" }
-}
-
-/// The diagnostic as an [`Info`]. Its numbers are in the range of `usize`.
-fn told(alloc: Global, error: &Error) -> Result<Info, AllocError>
-    ensures info { IfOk result (λ info. info_parts info ≡ info_of (parts error.now)) }
-    ensures range { IfOk result (λ info. IsInRange (info_parts info)) }
-{
-    Info::new(alloc, &**error)
 }
 
 /// The lines of diagnostics, joined as a log keeps them: each text that [`ProblemReporter`] gives.

@@ -1,9 +1,9 @@
 //! Lines of problems.
-ghost use Rattle.std.specs.Prelude.{◌≡◌, ◌++◌, IfOk, OnOk, decimal, string_bytes};
+ghost use Rattle.std.specs.Prelude.{◌≡◌, ◌++◌, IfOk, OnOk, string_bytes};
 ghost use Rattle.oxc_span.specs.Views.{text_bytes};
 ghost use Rattle.oxc_protocol.specs.Info.{info_parts};
-ghost use Rattle.problem_lines.specs.Line.{IsInRange, IsSmall, head_text, problem_line, place_text};
-ghost use Rattle.problem_lines.specs.Line.{rule_text, severity_name as name_of_severity, tail_text};
+ghost use Rattle.problem_lines.specs.Line.{IsInRange, IsSmall, problem_line, place_text, rule_text};
+ghost use Rattle.problem_lines.specs.Line.{severity_name as name_of_severity};
 
 use crate::escape::{Field, push_escaped};
 use itoa::Buffer;
@@ -21,42 +21,23 @@ use std::alloc::{AllocError, Global};
 /// # Errors
 ///
 /// Out of memory.
-#[tactic(auto, unfolding(crate::specs::Line::problem_line))]
+#[tactic(auto, unfolding(crate::specs::Line::problem_line, crate::specs::Line::head_text, crate::specs::Line::tail_text))]
 pub fn write_problem(alloc: Global, info: &Info) -> Result<String, AllocError>
     ensures line { IfOk result (λ line. string_bytes line ≡ problem_line (info_parts info.now)) }
     ensures range { IfOk result (λ _. IsInRange (info_parts info.now)) }
 {
     let mut line = String::new(alloc);
-    push_head(&mut line, info)?;
-    push_tail(&mut line, info)?;
+    push_escaped(&mut line, Field::Name, info.filename.as_str())?;
+    line.push_str(":")?;
+    push_place(&mut line, &info.start)?;
+    push_place(&mut line, &info.end)?;
+    line.push_str(" ")?;
+    line.push_str(severity_name(info.severity))?;
+    push_rule(&mut line, &info.rule_id)?;
+    line.push_str(": ")?;
+    push_escaped(&mut line, Field::Message, info.message.as_str())?;
+    line.push_str("\n")?;
     Ok(line)
-}
-
-/// Appends the name and both positions.
-#[tactic(auto, unfolding(crate::specs::Line::head_text))]
-fn push_head(out: &mut String, info: &Info) -> Result<(), AllocError>
-    ensures text { OnOk result (string_bytes out.new ≡ string_bytes out.old ++ head_text
-        (info_parts info.now)) }
-    ensures range { OnOk result (IsInRange (info_parts info.now)) }
-{
-    push_escaped(out, Field::Name, info.filename.as_str())?;
-    out.push_str(":")?;
-    push_place(out, &info.start)?;
-    push_place(out, &info.end)
-}
-
-/// Appends the severity, the rule and the message.
-#[tactic(auto, unfolding(crate::specs::Line::tail_text))]
-fn push_tail(out: &mut String, info: &Info) -> Result<(), AllocError>
-    ensures { OnOk result (string_bytes out.new ≡ string_bytes out.old ++ tail_text
-        (info_parts info.now)) }
-{
-    out.push_str(" ")?;
-    out.push_str(severity_name(info.severity))?;
-    push_rule(out, &info.rule_id)?;
-    out.push_str(": ")?;
-    push_escaped(out, Field::Message, info.message.as_str())?;
-    out.push_str("\n")
 }
 
 /// The word for a severity.
@@ -93,15 +74,9 @@ fn push_place(out: &mut String, place: &InfoPosition) -> Result<(), AllocError>
         ≡ string_bytes out.old ++ place_text place.now) }
     ensures range { OnOk result (IsSmall place.now) }
 {
-    push_number(out, place.line)?;
+    let mut buffer = Buffer::new();
+    out.push_str(buffer.format(place.line))?;
     out.push_str(":")?;
-    push_number(out, place.column)?;
+    out.push_str(buffer.format(place.column))?;
     out.push_str(":")
-}
-
-/// Appends a number in decimal.
-fn push_number(out: &mut String, number: usize) -> Result<(), AllocError>
-    ensures { OnOk result (string_bytes out.new ≡ string_bytes out.old ++ decimal number) }
-{
-    out.push_str(Buffer::new().format(number))
 }

@@ -53,46 +53,29 @@ impl<'a> Offsets<'a> {
         self.files.contains(file)
     }
 
-    /// The offset of a label's start; none if the source has no such row and column, or no boundary
-    /// there.
-    pub(crate) fn start_of(
+    /// The offsets of a label's start and end; none where the source has no such row and column, or
+    /// no boundary there.
+    pub(crate) fn offsets_of(
         &mut self,
         file: FileId,
         place: LabelPlace,
-    ) -> Result<Option<u32>, AllocError>
+    ) -> Result<(Option<u32>, Option<u32>), AllocError>
         requires { file < length self.old }
-        ensures offset { IfOk result (λ offset. offset ≡ start_in (text_of self.old file) place) }
+        ensures start { IfOk result (λ it. it.0 ≡ start_in (text_of self.old file) place) }
+        ensures end { IfOk result (λ it. it.1 ≡ end_in (text_of self.old file) place) }
         ensures unchanged { self.new ≡ self.old }
     {
         match place {
-            LabelPlace::Rows { start, .. } => self.offset_of(file, start),
-            LabelPlace::Bytes { start, .. } => Ok(boundary_at(self.source(file), start)),
+            LabelPlace::Rows { start, end } => {
+                let start = self.offset_of(file, start)?;
+                let end = self.offset_of(file, end)?;
+                Ok((start, end))
+            }
+            LabelPlace::Bytes { start, end } => {
+                let source = self.files.source(file).as_str();
+                Ok((boundary_at(source, start), boundary_at(source, end)))
+            }
         }
-    }
-
-    /// The offset of a label's end; none if the source has no such row and column, or no boundary
-    /// there.
-    pub(crate) fn end_of(
-        &mut self,
-        file: FileId,
-        place: LabelPlace,
-    ) -> Result<Option<u32>, AllocError>
-        requires { file < length self.old }
-        ensures offset { IfOk result (λ offset. offset ≡ end_in (text_of self.old file) place) }
-        ensures unchanged { self.new ≡ self.old }
-    {
-        match place {
-            LabelPlace::Rows { end, .. } => self.offset_of(file, end),
-            LabelPlace::Bytes { end, .. } => Ok(boundary_at(self.source(file), end)),
-        }
-    }
-
-    fn source(&self, file: FileId) -> &str
-        requires { file < length self.now }
-        ensures text { result.now ≡ text_of self.now file }
-        ensures fits { Fits result.now }
-    {
-        self.files.source(file).as_str()
     }
 
     /// The offset of a row and a column.
@@ -127,9 +110,9 @@ fn offset_in(index: &LineIndex, text: &str, location: SourceLocation) -> Option<
         .map(|offset| offset.to_u32())
 }
 
-/// The offset itself, if it is a character boundary.
+/// The offset itself, if it is a character boundary of the text.
 #[tactic(auto, using(crate::proofs::Offsets::boundary_there, crate::proofs::Offsets::no_boundary_there))]
-fn boundary_at(text: &str, offset: u32) -> Option<u32>
+pub fn boundary_at(text: &str, offset: u32) -> Option<u32>
     ensures { result ≡ boundary_of text.now offset }
 {
     if text.is_char_boundary(offset as usize) {

@@ -1,8 +1,6 @@
 // Checks reports, and finds the offsets of their labels.
-ghost use Rattle.std.specs.Prelude.{◌≡◌, ◌<◌, ◌≤◌, ◌-◌, nat_lt, None, Some, map, length, IfOk};
-ghost use Rattle.std.specs.Prelude.{MatchOption, if◌then◌else◌};
+ghost use Rattle.std.specs.Prelude.{◌≡◌, ◌<◌, ◌≤◌, ◌-◌, map, length, IfOk, MatchOption};
 ghost use Rattle.codespan.specs.Texts.{text_of};
-ghost use Rattle.render_files.specs.declared.places.ReportError.TheVariants.{LabelReversed};
 ghost use Rattle.render_files.specs.Given.{given_label, given_report};
 ghost use Rattle.render_files.specs.Refusal.{end_offset, first_at, outside, refusal_in, refusal_of};
 ghost use Rattle.render_files.specs.Refusal.{reversed, start_offset};
@@ -62,9 +60,15 @@ fn place_report(
     let mut reversed = None;
     for (at, label) in report.labels.iter().enumerate() {
         let range = judge_positions(offsets, place, at, report.file, label)?;
-        reversed = reversed.or(judge_order(place, at, &range));
         if range.start <= range.end {
             spans.push(label_at(alloc, label, &range)?)?;
+        } else {
+            reversed = reversed.or(Some(ReportError::LabelReversed {
+                report: place,
+                label: at,
+                start: range.start,
+                end: range.end,
+            }));
         }
     }
     match reversed {
@@ -90,14 +94,15 @@ fn judge_positions(
         (given_label given.now)) result }
     ensures unchanged { offsets.new ≡ offsets.old }
 {
-    let Some(start) = offsets.start_of(file, given.place)? else {
+    let (start, end) = offsets.offsets_of(file, given.place)?;
+    let Some(start) = start else {
         return Err(ReportError::PositionOutside {
             report,
             label,
             at_end: false,
         });
     };
-    let Some(end) = offsets.end_of(file, given.place)? else {
+    let Some(end) = end else {
         return Err(ReportError::PositionOutside {
             report,
             label,
@@ -105,23 +110,6 @@ fn judge_positions(
         });
     };
     Ok(start..end)
-}
-
-/// The error of a label that ends before it starts.
-fn judge_order(report: usize, label: usize, range: &Range<u32>) -> Option<ReportError>
-    ensures { result ≡ (if nat_lt range.now.end range.now.start then Some
-        (LabelReversed report label range.now.start range.now.end) else None) }
-{
-    if range.end < range.start {
-        Some(ReportError::LabelReversed {
-            report,
-            label,
-            start: range.start,
-            end: range.end,
-        })
-    } else {
-        None
-    }
 }
 
 /// A label at these offsets.

@@ -9,9 +9,10 @@ ghost use Rattle.oxc_handlers.specs.JsonView.{with_url};
 ghost use Rattle.oxc_handlers.specs.Report.{drawn, plan_of, view_parts};
 ghost use Rattle.render_files.specs.Readers.{Reads};
 
+use crate::places::FileReport;
 use codespan::{FileId, Files};
 use oxc_handlers::{DiagnosticView, GraphicalReportHandler, push_json_with_scanner};
-use oxc_span::Span;
+use oxc_span::{LabeledSpan, Span};
 use oxc_windows::SpanScanner;
 use std::alloc::{AllocError, Global};
 use std::collections::BTreeMap;
@@ -46,28 +47,33 @@ impl<'a> Model for Readers<'a> {
 
 impl<'a> Readers<'a> {
     /// Without scanners yet; they will read this many rows of context before a span and after one.
-    pub(crate) fn new(alloc: Global, files: &'a Files<String>, rows: usize) -> Self
-        ensures { result ≡ record { files = files.now; rows = rows } }
+    /// The starts of the reports' labels are recorded.
+    pub(crate) fn new(
+        alloc: Global,
+        files: &'a Files<String>,
+        reports: &[FileReport],
+        spans: &[Vec<LabeledSpan>],
+        rows: usize,
+    ) -> Result<Self, AllocError>
+        ensures { IfOk result (λ readers. readers ≡ record { files = files.now; rows = rows }) }
     {
-        Readers {
+        let mut starts: BTreeMap<FileId, u32> = BTreeMap::new(alloc);
+        for (report, labels) in reports.iter().zip(spans) {
+            if let Some(start) = labels.iter().map(|label| label.offset()).min() {
+                let least = match starts.get(&report.file) {
+                    Some(least) => start.min(*least),
+                    None => start,
+                };
+                starts.insert(report.file, least)?;
+            }
+        }
+        Ok(Readers {
             files,
             rows,
-            starts: BTreeMap::new(alloc),
+            starts,
             scanners: BTreeMap::new(alloc),
             alloc,
-        }
-    }
-
-    /// Records that a label of a file starts there.
-    pub(crate) fn tell(&mut self, file: FileId, start: u32) -> Result<(), AllocError>
-        ensures { self.new ≡ self.old }
-    {
-        let least = match self.starts.get(&file) {
-            Some(least) => start.min(*least),
-            None => start,
-        };
-        self.starts.insert(file, least)?;
-        Ok(())
+        })
     }
 
     /// Appends the drawing of a report on a file, by scanners that read one row of context on each

@@ -1,9 +1,8 @@
 // Reports on files, drawn or as JSON, and written to a sink.
-ghost use Rattle.std.specs.Prelude.{◌≡◌, ◌≢◌, ◌++◌, ◌∷◌, [], ◌<◌, ◌≤◌, All, None, Some, OnOk, IfOk};
+ghost use Rattle.std.specs.Prelude.{◌≡◌, ◌≢◌, [], ◌<◌, ◌≤◌, All, None, OnOk, IfOk};
 ghost use Rattle.std.specs.Prelude.{IfErr, IsErrOf, IsOk, IsOkAnd, length, map, string_bytes};
 ghost use Rattle.std.specs.Io.KnownBytes.{Appends};
 ghost use Rattle.std.specs.Option.{option_copied};
-ghost use Rattle.codespan.specs.Texts.{text_of};
 ghost use Rattle.oxc_span.specs.Views.{text_bytes};
 ghost use Rattle.oxc_protocol.specs.Faults.{Rose};
 ghost use Rattle.oxc_handlers.specs.Report.{view_parts};
@@ -11,7 +10,6 @@ ghost use Rattle.render_files.specs.declared.places.ReportError.{ReportError};
 ghost use Rattle.render_files.specs.Given.{given_report};
 ghost use Rattle.render_files.specs.Refusal.{refusal_of};
 ghost use Rattle.render_files.specs.Shown.{placed_labels, view_of as shown_of};
-ghost use Rattle.oxc_handlers.specs.JsonText.{json_of, source_bytes};
 ghost use Rattle.render_files.specs.Causes.{IsJudged, IsSendJudged, Leaves};
 ghost use Rattle.render_files.specs.Rendered.{StandsInFile, code_of, drawn_reports, json_lines};
 
@@ -174,7 +172,7 @@ fn draw_all<'a>(
     ensures { IfOk result (λ text. string_bytes text ≡ drawn_reports handler.now files.now
         (map given_report reports.now)) }
 {
-    let mut readers = readers_for(alloc, files, reports, spans, 1)?;
+    let mut readers = Readers::new(alloc, files, reports, spans, 1)?;
     let mut text = String::with_capacity(alloc, reports.len().saturating_mul(GUESS))?;
     for (at, report) in reports.iter().enumerate() {
         let code = report.diagnostic.code(alloc)?;
@@ -182,26 +180,6 @@ fn draw_all<'a>(
         readers.draw(handler, &mut text, report.file, &view)?;
     }
     Ok(text)
-}
-
-/// Readers of the database, with this many rows of context, in which the starts of the reports'
-/// labels are recorded.
-fn readers_for<'a>(
-    alloc: Global,
-    files: &'a Files<String>,
-    reports: &[FileReport],
-    spans: &[Vec<LabeledSpan>],
-    rows: usize,
-) -> Result<Readers<'a>, AllocError>
-    ensures { IfOk result (λ readers. readers ≡ record { files = files.now; rows = rows }) }
-{
-    let mut readers = Readers::new(alloc, files, rows);
-    for (report, labels) in reports.iter().zip(spans) {
-        if let Some(start) = labels.iter().map(|label| label.offset()).min() {
-            readers.tell(report.file, start)?;
-        }
-    }
-    Ok(readers)
 }
 
 /// The JSON lines of reports without errors, with their labels and codes.
@@ -219,33 +197,14 @@ fn write_all_json<'a>(
     ensures { IfOk result (λ text. string_bytes text
         ≡ json_lines files.now (map given_report reports.now)) }
 {
-    let mut readers = readers_for(alloc, files, reports, spans, 0)?;
+    let mut readers = Readers::new(alloc, files, reports, spans, 0)?;
     let mut text = String::new(alloc);
     for (at, report) in reports.iter().enumerate() {
         let view = view_of(files, report, codes[at].as_deref(), spans[at].as_slice());
-        push_line(&mut text, &mut readers, report, &view)?;
+        readers.push_json(&mut text, report.file, &view, report.diagnostic.url())?;
+        text.push('\n')?;
     }
     Ok(text)
-}
-
-/// Appends the line of a report that shows as this view.
-#[tactic(auto, unfolding(crate::specs::Rendered::json_line))]
-fn push_line<'a>(
-    text: &mut String,
-    readers: &mut Readers<'a>,
-    report: &FileReport,
-    view: &DiagnosticView<'a>,
-) -> Result<(), AllocError>
-    requires held { report.now.file < length readers.old.files }
-    requires alone { readers.old.rows ≡ 0 }
-    requires source { source_bytes (view_parts view.now).source
-        ≡ Some (text_of readers.old.files report.now.file) }
-    ensures line { OnOk result (string_bytes text.new ≡ string_bytes text.old ++
-        (json_of (record (view_parts view.now) { url = report.now.diagnostic.url }) ++ 10 ∷ [])) }
-    ensures unchanged { readers.new ≡ readers.old }
-{
-    readers.push_json(text, report.file, view, report.diagnostic.url())?;
-    text.push('\n')
 }
 
 /// What a report shows, with its code and its labels, of a database that has its file.

@@ -85,19 +85,13 @@ fn report_of(
     let Some(file) = FileId::from_index(report.file) else {
         return Err(AllocError);
     };
-    Ok(FileReport {
-        file,
-        diagnostic: diagnostic_of(alloc, texts, report)?,
-        labels: labels_of(alloc, texts, report_labels(labels, report))?,
-    })
-}
-
-fn diagnostic_of(alloc: Global, texts: &str, report: &Report) -> Result<OxcDiagnostic, AllocError>
-    ensures { IfOk result (λ it. it ≡ said texts.now report.now) }
-{
     let mut diagnostic = OxcDiagnostic::error(alloc, "")?;
     *diagnostic.inner_mut() = parts_of(alloc, texts, report)?;
-    Ok(diagnostic)
+    Ok(FileReport {
+        file,
+        diagnostic,
+        labels: labels_of(alloc, texts, report_labels(labels, report))?,
+    })
 }
 
 fn parts_of(alloc: Global, texts: &str, report: &Report) -> Result<OxcDiagnosticInner, AllocError>

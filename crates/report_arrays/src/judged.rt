@@ -14,7 +14,7 @@ use std::str::from_utf8_unchecked;
 
 /// The first wrong argument. The arrays are checked in this order, each in the order of its
 /// elements.
-#[derive(Clone, Copy)]
+#[derive(Drop)]
 pub enum Wrong {
     /// The texts aren't UTF-8.
     InTexts,

@@ -7,8 +7,7 @@ ghost use Rattle.render_files.specs.Refusal.{refusal_in as in_report, reversed a
 use crate::labels::report_labels;
 use crate::shapes::{Label, Report};
 use crate::sources::Sources;
-use crate::spans::boundary_at;
-use render_files::ReportError;
+use render_files::{ReportError, boundary_at};
 
 /// The error of the first report that has one.
 #[tactic(auto, unfolding(render_files::specs::Refusal::refusal_of))]

@@ -13,7 +13,7 @@ pub struct Text {
 
 /// A file that reports are on.
 #[repr(C)]
-#[derive(Clone, Copy)]
+#[derive(Drop)]
 pub struct File {
     /// Its name in the drawing.
     pub name: Text,
@@ -23,7 +23,7 @@ pub struct File {
 
 /// A label: a range of its file's source, and its text.
 #[repr(C)]
-#[derive(Clone, Copy)]
+#[derive(Drop)]
 pub struct Label {
     /// Its first byte, counted from 0 in its file's source.
     pub start: u32,
@@ -37,7 +37,7 @@ pub struct Label {
 
 /// A report on one file.
 #[repr(C)]
-#[derive(Clone, Copy)]
+#[derive(Drop)]
 pub struct Report {
     /// The file's index in the list of files, from 0.
     pub file: u32,

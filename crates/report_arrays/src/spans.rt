@@ -1,12 +1,12 @@
 // Labels at their offsets.
 ghost use Rattle.std.specs.Prelude.{◌≡◌, IfOk, map};
 ghost use Rattle.report_arrays.specs.Values.{label as label_of};
-ghost use Rattle.render_files.specs.Refusal.{boundary_at as boundary_of};
 ghost use Rattle.render_files.specs.Shown.{placed as placed_at};
 
 use crate::shapes::Label;
 use crate::texts::copied;
 use oxc_span::LabeledSpan;
+use render_files::boundary_at;
 use std::alloc::{AllocError, Global};
 
 /// The labels of a source. A label without a position there is put at its beginning.
@@ -32,16 +32,4 @@ pub(crate) fn placed(
         })?;
     }
     Ok(spans)
-}
-
-/// The number itself, if no character is cut there.
-#[tactic(auto, using(render_files::proofs::Offsets::boundary_there, render_files::proofs::Offsets::no_boundary_there))]
-pub(crate) fn boundary_at(text: &str, offset: u32) -> Option<u32>
-    ensures { result ≡ boundary_of text.now offset }
-{
-    if text.is_char_boundary(offset as usize) {
-        Some(offset)
-    } else {
-        None
-    }
 }

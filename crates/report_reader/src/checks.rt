@@ -3,9 +3,8 @@ ghost use Rattle.std.specs.Prelude.{◌≡◌, ◌==◌, None, map, option_map, 
 ghost use Rattle.std.specs.List.{list_all};
 ghost use Rattle.report_reader.specs.Seen.{head_model, mark_model, report_model, row_model};
 ghost use Rattle.report_reader.specs.Seen.{snippet_model};
-ghost use Rattle.report_reader.specs.WellFormed.{are_marks, are_rows, ends_in_space, is_behind};
-ghost use Rattle.report_reader.specs.WellFormed.{is_head, is_line, is_line_of, is_mark};
-ghost use Rattle.report_reader.specs.WellFormed.{is_next_mark, is_next_row, is_snippet};
+ghost use Rattle.report_reader.specs.WellFormed.{are_marks, are_rows, is_behind, is_head, is_line};
+ghost use Rattle.report_reader.specs.WellFormed.{is_line_of, is_mark, is_next_row, is_snippet};
 ghost use Rattle.report_reader.specs.WellFormed.{is_well_formed};
 
 use crate::seen::{Seen, SeenHead, SeenMark, SeenRow, SeenSnippet};
@@ -22,15 +21,6 @@ fn has_one_line(text: &Option<String>) -> bool
     match text {
         None => true,
         Some(text) => is_one_line(text),
-    }
-}
-
-fn ends_with_space(text: &str) -> bool
-    ensures { result ≡ ends_in_space text.now }
-{
-    match text.as_bytes().last() {
-        None => false,
-        Some(byte) => *byte == b' ',
     }
 }
 
@@ -53,20 +43,16 @@ fn is_after(before: Option<usize>, start: usize) -> bool
     }
 }
 
-#[tactic(auto, unfolding(crate::specs::WellFormed::is_next_mark))]
-fn is_mark_after(before: Option<usize>, mark: &SeenMark) -> bool
-    ensures { result ≡ is_next_mark before (mark_model mark.now) }
-{
-    is_after(before, mark.start) && is_mark_alone(mark)
-}
-
 #[tactic(auto, using(crate::proofs::ChecksLemmas::marks_more, crate::proofs::ChecksLemmas::marks_none))]
 fn are_marks_of(marks: &[SeenMark]) -> bool
     ensures { result ≡ are_marks None (map mark_model marks.now) }
 {
     let mut before = None;
     for mark in marks {
-        if !is_mark_after(before, mark) {
+        if !is_after(before, mark.start) {
+            return false;
+        }
+        if !is_mark_alone(mark) {
             return false;
         }
         before = Some(mark.end);
@@ -107,17 +93,14 @@ fn is_head_of(head: &SeenHead, rows: usize) -> bool
 }
 
 #[tactic(auto, unfolding(crate::specs::WellFormed::is_snippet))]
-fn is_snippet_of(snippet: &SeenSnippet) -> bool
-    ensures { result ≡ is_snippet (snippet_model snippet.now) }
-{
-    is_head_of(&snippet.head, snippet.rows.len()) && are_rows_of(&snippet.rows)
-}
-
 fn are_snippets(snippets: &[SeenSnippet]) -> bool
     ensures { result ≡ list_all is_snippet (map snippet_model snippets.now) }
 {
     for snippet in snippets {
-        if !is_snippet_of(snippet) {
+        if !is_head_of(&snippet.head, snippet.rows.len()) {
+            return false;
+        }
+        if !are_rows_of(&snippet.rows) {
             return false;
         }
     }
@@ -134,5 +117,6 @@ fn are_snippets(snippets: &[SeenSnippet]) -> bool
 pub fn well_formed(seen: &Seen) -> bool
     ensures { result ≡ is_well_formed (report_model seen.now) }
 {
-    is_one_line(&seen.title) && !ends_with_space(&seen.title) && are_snippets(&seen.snippets)
+    let ends_in_space = matches!(seen.title.as_bytes(), [.., b' ']);
+    is_one_line(&seen.title) && !ends_in_space && are_snippets(&seen.snippets)
 }

@@ -11,7 +11,7 @@ use oxc_protocol::Severity;
 use std::alloc::{AllocError, Global};
 
 /// A line without its indent.
-#[derive(Clone, Copy)]
+#[derive(Drop)]
 pub(crate) enum Line<'a> {
     Heading(&'a str),
     Numbered(usize, &'a str),

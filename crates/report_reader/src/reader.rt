@@ -1,9 +1,8 @@
 //! A report read back: a value is guessed from the text, shown again, and compared with the text.
 ghost use Rattle.std.specs.Prelude.{◌≡◌, ◌==◌, IfOk, IfSome, map, option_map, option_copied};
-ghost use Rattle.std.specs.Prelude.{reverse};
 ghost use Rattle.std.specs.List.{slice_split};
-ghost use Rattle.report_reader.specs.Seen.{mark_model, report_model, row_model, snippet_model};
-ghost use Rattle.report_reader.specs.Reading.{IsRead, ReadsEach, add_line, guess, head_in};
+ghost use Rattle.report_reader.specs.Seen.{mark_model, report_model, snippet_model};
+ghost use Rattle.report_reader.specs.Reading.{IsRead, ReadsEach, add_line, guess};
 ghost use Rattle.report_reader.specs.Reading.{head_kind, line_model, marks_by, parts_model};
 ghost use Rattle.report_reader.specs.Reading.{row_kind, snippets_in, under_kind};
 
@@ -90,30 +89,20 @@ fn with_row<'a>(
     })
 }
 
-/// A snippet of a head and of rows in reverse order.
-#[tactic(auto, using(crate::proofs::ReaderLemmas::map_reverse))]
-fn snippet_of(alloc: Global, head: &str, mut rows: Vec<SeenRow>) -> Result<SeenSnippet, AllocError>
-    ensures { IfOk result (λ snippet. snippet_model snippet
-        ≡ record { head = head_in head.now; rows = reverse (map row_model rows.items) }) }
-{
-    rows.reverse();
-    Ok(SeenSnippet {
-        head: head_of(alloc, head)?,
-        rows,
-    })
-}
-
 /// Adds a head, with the rows that were read last below it.
+#[tactic(auto, using(crate::proofs::ReaderLemmas::map_reverse))]
 fn with_head<'a>(alloc: Global, parts: Parts<'a>, head: &str) -> Result<Parts<'a>, AllocError>
     ensures { IfOk result (λ more. parts_model more ≡ add_line (head_kind head.now)
         (parts_model parts.entry)) }
 {
     let Parts {
-        rows,
+        mut rows,
         mut snippets,
         ..
     } = parts;
-    snippets.push(snippet_of(alloc, head, rows)?)?;
+    rows.reverse();
+    let head = head_of(alloc, head)?;
+    snippets.push(SeenSnippet { head, rows })?;
     Ok(Parts {
         line: None,
         hangs: Vec::new(alloc),

@@ -2,7 +2,7 @@
 use oxc_protocol::Severity;
 
 /// The marked cells under a row, with the text that hangs from them.
-#[derive(PartialEq, Eq, Drop)]
+#[derive(PartialEq, Drop)]
 pub struct SeenMark {
     /// The first cell, from 0.
     pub start: usize,
@@ -15,7 +15,7 @@ pub struct SeenMark {
 }
 
 /// A row of a source, as it is drawn.
-#[derive(PartialEq, Eq, Drop)]
+#[derive(PartialEq, Drop)]
 pub struct SeenRow {
     /// The row's number in its source.
     pub number: usize,
@@ -26,7 +26,7 @@ pub struct SeenRow {
 }
 
 /// The head of a snippet.
-#[derive(PartialEq, Eq, Drop)]
+#[derive(PartialEq, Drop)]
 pub enum SeenHead {
     /// The name of a source, and the row and the column to which the head points, both from 1.
     Named {
@@ -44,7 +44,7 @@ pub enum SeenHead {
 }
 
 /// Rows of a source under a head.
-#[derive(PartialEq, Eq, Drop)]
+#[derive(PartialEq, Drop)]
 pub struct SeenSnippet {
     pub head: SeenHead,
     /// The rows, from the first to the last.
@@ -52,7 +52,7 @@ pub struct SeenSnippet {
 }
 
 /// What a drawn report says.
-#[derive(PartialEq, Eq, Drop)]
+#[derive(PartialEq, Drop)]
 pub struct Seen {
     pub severity: Severity,
     /// The title, with the code before it if the report has one.

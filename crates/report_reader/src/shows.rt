@@ -1,14 +1,13 @@
 //! Shows a value as the text of a drawn report.
-ghost use Rattle.std.specs.Prelude.{◌≡◌, ◌++◌, ◌∷◌, [], ◌<◌, ◌≤◌, ◌^◌, IfOk, OnOk, decimal, length};
+ghost use Rattle.std.specs.Prelude.{◌≡◌, [], ◌<◌, ◌≤◌, ◌^◌, IfOk, OnOk, decimal, length};
 ghost use Rattle.std.specs.Prelude.{map, replicate, reverse, string_bytes, None};
 ghost use Rattle.std.specs.List.{flat_map};
 ghost use Rattle.report_reader.specs.Seen.{head_model, mark_model, report_model, row_model};
 ghost use Rattle.report_reader.specs.Seen.{snippet_model};
-ghost use Rattle.report_reader.specs.Shown.{bar_of, bars_to, close_line, ended, gap, hang_line};
-ghost use Rattle.report_reader.specs.Shown.{hang_of, hangs_from, head_line, head_text, icon};
-ghost use Rattle.report_reader.specs.Shown.{mark_body, mark_cells, marker, marks_lines};
-ghost use Rattle.report_reader.specs.Shown.{number_width, other_front, row_front, row_lines, shown};
-ghost use Rattle.report_reader.specs.Shown.{snippet_lines, title_line, unders};
+ghost use Rattle.report_reader.specs.Shown.{bar_of, bars_to, ended, gap, hang_line, hang_of};
+ghost use Rattle.report_reader.specs.Shown.{hangs_from, head_text, mark_body, mark_cells, marker};
+ghost use Rattle.report_reader.specs.Shown.{marks_lines, number_width, other_front, row_lines, shown};
+ghost use Rattle.report_reader.specs.Shown.{snippet_lines, unders};
 ghost use Rattle.textwrap.specs.Appends.{Appends};
 
 use crate::seen::{Seen, SeenHead, SeenMark, SeenRow, SeenSnippet};
@@ -93,18 +92,6 @@ fn push_other_front(out: &mut String, digits: usize) -> Result<(), AllocError>
     Ok(())
 }
 
-/// Appends what is drawn before a row.
-#[tactic(auto, unfolding(crate::specs::Shown::row_front))]
-fn push_row_front(out: &mut String, digits: usize, number: usize) -> Result<(), AllocError>
-    ensures { OnOk result (Appends out.old out.new (row_front digits number)) }
-{
-    out.push_str(" ")?;
-    push_times(out, ' ', digits.saturating_sub(digits_of(number)))?;
-    push_number(out, number)?;
-    out.push_str(" | ")?;
-    Ok(())
-}
-
 /// The text of a head.
 #[tactic(auto, unfolding(crate::specs::Shown::head_text))]
 fn push_head_text(out: &mut String, head: &SeenHead) -> Result<(), AllocError>
@@ -129,29 +116,6 @@ fn push_head_text(out: &mut String, head: &SeenHead) -> Result<(), AllocError>
         }
         SeenHead::Dashes => out.push_str("---")?,
     }
-    Ok(())
-}
-
-fn icon_of(severity: Severity) -> &'static str
-    ensures { result.now ≡ icon severity ∷ [] }
-{
-    match severity {
-        Severity::Error => "x",
-        Severity::Warning => "!",
-        Severity::Advice => ">",
-    }
-}
-
-/// The title's line.
-#[tactic(auto, unfolding(crate::specs::Shown::title_line))]
-fn push_title(out: &mut String, severity: Severity, title: &str) -> Result<(), AllocError>
-    ensures { OnOk result (Appends out.old out.new (title_line severity title.now ++ 0x0A ∷ [])) }
-{
-    out.push_str("  ")?;
-    out.push_str(icon_of(severity))?;
-    out.push_str(" ")?;
-    out.push_str(title)?;
-    out.push_str("\n")?;
     Ok(())
 }
 
@@ -235,12 +199,15 @@ fn push_under(out: &mut String, digits: usize, marks: &[SeenMark]) -> Result<(),
 }
 
 /// A row and the lines under it.
-#[tactic(auto, unfolding(crate::specs::Shown::row_lines))]
+#[tactic(auto, unfolding(crate::specs::Shown::row_lines, crate::specs::Shown::row_front))]
 fn push_row(out: &mut String, digits: usize, row: &SeenRow) -> Result<(), AllocError>
     requires { digits < 2 ^ 62 }
     ensures { OnOk result (Appends out.old out.new (ended (row_lines digits (row_model row.now)))) }
 {
-    push_row_front(out, digits, row.number)?;
+    out.push_str(" ")?;
+    push_times(out, ' ', digits.saturating_sub(digits_of(row.number)))?;
+    push_number(out, row.number)?;
+    out.push_str(" | ")?;
     out.push_str(&row.text)?;
     out.push_str("\n")?;
     push_under(out, digits, &row.marks)?;
@@ -271,30 +238,6 @@ fn width_of(rows: &[SeenRow]) -> usize
     }
 }
 
-#[tactic(auto, unfolding(crate::specs::Shown::head_line))]
-fn push_head(out: &mut String, digits: usize, head: &SeenHead) -> Result<(), AllocError>
-    requires { digits < 2 ^ 62 }
-    ensures { OnOk result (Appends out.old out.new
-        (head_line digits (head_model head.now) ++ 0x0A ∷ [])) }
-{
-    push_times(out, ' ', digits + 2)?;
-    out.push_str(",-")?;
-    push_head_text(out, head)?;
-    out.push_str("\n")?;
-    Ok(())
-}
-
-#[tactic(auto, unfolding(crate::specs::Shown::close_line))]
-fn push_close(out: &mut String, digits: usize) -> Result<(), AllocError>
-    requires { digits < 2 ^ 62 }
-    ensures { OnOk result (Appends out.old out.new (close_line digits ++ 0x0A ∷ [])) }
-{
-    push_times(out, ' ', digits + 2)?;
-    out.push_str("`----")?;
-    out.push_str("\n")?;
-    Ok(())
-}
-
 /// The lines of a snippet.
 #[tactic(auto, using(crate::proofs::ShownLemmas::snippet_whole))]
 fn push_snippet(out: &mut String, snippet: &SeenSnippet) -> Result<(), AllocError>
@@ -302,9 +245,13 @@ fn push_snippet(out: &mut String, snippet: &SeenSnippet) -> Result<(), AllocErro
         (ended (snippet_lines (snippet_model snippet.now)))) }
 {
     let digits = width_of(&snippet.rows);
-    push_head(out, digits, &snippet.head)?;
+    push_times(out, ' ', digits + 2)?;
+    out.push_str(",-")?;
+    push_head_text(out, &snippet.head)?;
+    out.push_str("\n")?;
     push_rows(out, digits, &snippet.rows)?;
-    push_close(out, digits)?;
+    push_times(out, ' ', digits + 2)?;
+    out.push_str("`----\n")?;
     Ok(())
 }
 
@@ -316,24 +263,22 @@ fn push_snippet(out: &mut String, snippet: &SeenSnippet) -> Result<(), AllocErro
 /// # Errors
 ///
 /// Out of memory.
-#[tactic(auto, unfolding(crate::specs::Shown::shown, crate::specs::Shown::report_lines))]
+#[tactic(auto, using(crate::proofs::ShownLemmas::lines_more, crate::proofs::ShownLemmas::lines_none), unfolding(crate::specs::Shown::shown, crate::specs::Shown::report_lines, crate::specs::Shown::title_line))]
 pub fn show_report(alloc: Global, seen: &Seen) -> Result<String, AllocError>
     ensures { IfOk result (λ text. string_bytes text ≡ shown (report_model seen.now)) }
 {
     let mut out = String::new(alloc);
+    out.push_str("\n  ")?;
+    out.push_str(match seen.severity {
+        Severity::Error => "x",
+        Severity::Warning => "!",
+        Severity::Advice => ">",
+    })?;
+    out.push_str(" ")?;
+    out.push_str(&seen.title)?;
     out.push_str("\n")?;
-    push_title(&mut out, seen.severity, &seen.title)?;
-    push_snippets(&mut out, &seen.snippets)?;
-    Ok(out)
-}
-
-#[tactic(auto, using(crate::proofs::ShownLemmas::lines_more, crate::proofs::ShownLemmas::lines_none))]
-fn push_snippets(out: &mut String, snippets: &[SeenSnippet]) -> Result<(), AllocError>
-    ensures { OnOk result (Appends out.old out.new
-        (ended (flat_map snippet_lines (map snippet_model snippets.now)))) }
-{
-    for snippet in snippets {
-        push_snippet(out, snippet)?;
+    for snippet in &seen.snippets {
+        push_snippet(&mut out, snippet)?;
     }
-    Ok(())
+    Ok(out)
 }

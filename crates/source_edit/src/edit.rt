@@ -1,10 +1,9 @@
 // Edits, and why one can't be made.
-ghost use Rattle.std.specs.Prelude.{◌≡◌, ◌⊎◌, MatchOption, MatchResult};
-ghost use Rattle.std.specs.Str.{IsCharBoundary};
+ghost use Rattle.std.specs.Prelude.{MatchResult};
 ghost use Rattle.source_edit.specs.Edits.{change_of};
 ghost use Rattle.source_edit.specs.Causes.{IsAcceptable, IsCause};
 
-use text_size::{TextRange, TextSize};
+use text_size::TextRange;
 
 /// A range of bytes of a text, and what replaces them. An empty range inserts.
 #[derive(Drop)]
@@ -19,7 +18,7 @@ pub struct Edit {
 /// edit.
 ///
 /// The causes are tested in this order. After an error nothing has changed.
-#[derive(Clone, Copy, Debug, thiserror::Error, PartialEq, Eq)]
+#[derive(Clone, Copy, Debug, thiserror::Error, PartialEq)]
 pub enum EditError {
     /// The range ends past the text.
     #[error("edit {edit}: the range ends at {end}, and the text has {length} bytes")]
@@ -68,10 +67,16 @@ pub(crate) fn check(place: usize, text: &str, edit: &Edit) -> Result<(), EditErr
             length: text.len(),
         });
     }
-    if let Some(at) = parted_end(text, start, end) {
+    if !text.is_char_boundary(start.to_usize()) {
         return Err(EditError::NotBoundary {
             edit: place,
-            at: at.to_u32(),
+            at: start.to_u32(),
+        });
+    }
+    if !text.is_char_boundary(end.to_usize()) {
+        return Err(EditError::NotBoundary {
+            edit: place,
+            at: end.to_u32(),
         });
     }
     let kept = text.len() - (end.to_usize() - start.to_usize());
@@ -83,19 +88,4 @@ pub(crate) fn check(place: usize, text: &str, edit: &Edit) -> Result<(), EditErr
         });
     }
     Ok(())
-}
-
-/// The first of two offsets that is no boundary.
-fn parted_end(text: &str, start: TextSize, end: TextSize) -> Option<TextSize>
-    ensures { MatchOption result (IsCharBoundary text.now start × IsCharBoundary text.now end)
-        (λ at. (¬ IsCharBoundary text.now start × (at ≡ start))
-        ⊎ (IsCharBoundary text.now start × ¬ IsCharBoundary text.now end × (at ≡ end))) }
-{
-    if !text.is_char_boundary(start.to_usize()) {
-        return Some(start);
-    }
-    if !text.is_char_boundary(end.to_usize()) {
-        return Some(end);
-    }
-    None
 }

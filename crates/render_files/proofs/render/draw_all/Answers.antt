@@ -1,9 +1,8 @@
 -- What is asked of a report holds of each in the list, and its drawing comes next.
 use Rattle.std.proofs.Common.{◌≡◌, ◌+◌, ◌<◌, ◌++◌, length, map, drop, string_bytes, ap, subst, sym, ◌∙◌, append_assoc}
-use Rattle.oxc_span.specs.Views.{text_bytes}
 use Rattle.render_files.specs.Given.{given_report}
 use Rattle.render_files.specs.Shown.{placed_labels}
-use Rattle.render_files.specs.Rendered.{StandsInFile, code_of, drawn_report, drawn_reports}
+use Rattle.render_files.specs.Rendered.{StandsInFile, drawn_report, drawn_reports}
 use Rattle.render_files.proofs.ListedLemmas.{same_at, holds_at, joined_from, view_within}
 use Rattle.render_files.proofs.ShownLemmas.{drawn_without_url}
 use Rattle.render_files.proofs.render.draw_all.Goals as goal

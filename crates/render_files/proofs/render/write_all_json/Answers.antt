@@ -1,5 +1,6 @@
 -- What is asked of a report holds of each in the list, and its line comes next.
-use Rattle.std.proofs.Common.{◌≡◌, ◌+◌, ◌<◌, ◌++◌, length, map, drop, string_bytes, ap, subst, sym, ◌∙◌, append_assoc}
+use Rattle.std.proofs.Common.{◌≡◌, ◌+◌, ◌<◌, [], ◌∷◌, ◌++◌, length, map, drop, string_bytes, ap, subst, sym, ◌∙◌, append_assoc, lit<}
+use Rattle.std.proofs.lemmas.Str.{encode_ascii}
 use Rattle.oxc_span.specs.Views.{text_bytes}
 use Rattle.render_files.specs.Given.{given_report}
 use Rattle.render_files.specs.Shown.{placed_labels}
@@ -25,8 +26,8 @@ view_of-view-requires-clause-code c =
     c.requires.codes c.loop-at-test.true c.index-codes-at.is c.index-reports-at.is in
     c.as_deref.ensures.value ∙ same
 
-pub push_line-requires-clause-held : goal.push_line-requires-clause-held
-push_line-requires-clause-held c =
+pub push_json-requires-clause-held : goal.push_json-requires-clause-held
+push_json-requires-clause-held c =
     subst (λ read. c.index-reports-at.result.file < length read.files) (sym c.loop-at.invariant.known)
     (holds_at (StandsInFile c.args.files.now) given_report c.args.reports.now c.loop-at.at c.index-reports-at.result c.requires.stand c.loop-at-test.true c.index-reports-at.is).held
 
@@ -34,10 +35,11 @@ pub loop-at-preserved : goal.loop-at-preserved
 loop-at-preserved c =
     let report = given_report c.index-reports-at.result in
     let rest = json_lines c.args.files.now (map given_report (drop (c.loop-at.at + 1) c.args.reports.now)) in
-    let text : string_bytes c.push_line.new.text ≡ string_bytes c.loop-at.text ++ json_line c.args.files.now report =
-    c.in_ok-push_line.ensures.line ∙ ap (λ l. string_bytes c.loop-at.text ++ l) (line_with_url c.args.files.now report _ c.view_of-view.ensures) in
+    let text : string_bytes c.push.new.self ≡ string_bytes c.loop-at.text ++ json_line c.args.files.now report =
+    rw (c.in_ok-push.ensures.bytes, c.in_ok-push_json.ensures.text, encode_ascii 10 (lit< tt))
+    (append_assoc (string_bytes c.loop-at.text) _ (10 ∷ []) ∙ ap (λ l. string_bytes c.loop-at.text ++ l) (line_with_url c.args.files.now report _ _ c.view_of-view.ensures c.url.ensures)) in
     record {
-      known = c.in_ok-push_line.ensures.unchanged ∙ c.loop-at.invariant.known;
+      known = c.in_ok-push_json.ensures.unchanged ∙ c.loop-at.invariant.known;
       written = ap (λ l. l ++ rest) text ∙ append_assoc (string_bytes c.loop-at.text) (json_line c.args.files.now report) rest
           ∙ ap (λ l. string_bytes c.loop-at.text ++ l) (sym (joined_from (json_line c.args.files.now) given_report c.args.reports.now c.loop-at.at c.index-reports-at.result c.loop-at-test.true c.index-reports-at.is))
           ∙ c.loop-at.invariant.written;
