@@ -4,7 +4,7 @@ use Rattle.found_reports.specs.Files.{with_file}
 use Rattle.found_reports.specs.Found.{file_at}
 use Rattle.found_reports.specs.Kept.{file_view}
 use Rattle.found_reports.proofs.OnceLemmas.{files_grow}
-use Rattle.found_reports.proofs.once.Once.push.Goals as goal
+use Rattle.found_reports.proofs.once.Once.push_if.Goals as goal
 
 pub returns-clause-files : goal.returns-clause-files
 returns-clause-files c =
