@@ -1,6 +1,6 @@
 // Exact edits that tools suggest.
 ghost use Rattle.std.specs.Prelude.{◌≡◌, IfOk, map};
-ghost use Rattle.found_reports.specs.Fixes.{change_view, fix_view};
+ghost use Rattle.found_reports.specs.Fixes.{fix_view};
 
 use std::alloc::{AllocError, Global};
 
@@ -32,23 +32,15 @@ pub fn copied_fixes(alloc: Global, fixes: &[FoundFix]) -> Result<Vec<FoundFix>, 
 {
     let mut copy = Vec::new(alloc);
     for fix in fixes {
-        let changes = copied_changes(alloc, &fix.changes)?;
+        let mut changes = Vec::new(alloc);
+        for change in &fix.changes {
+            changes.push(RowChange {
+                first: change.first,
+                count: change.count,
+                text: String::from_str(alloc, change.text.as_str())?,
+            })?;
+        }
         copy.push(FoundFix { changes })?;
-    }
-    Ok(copy)
-}
-
-/// Equal changes with texts of their own.
-fn copied_changes(alloc: Global, changes: &[RowChange]) -> Result<Vec<RowChange>, AllocError>
-    ensures { IfOk result (λ copy. map change_view copy.items ≡ map change_view changes.now) }
-{
-    let mut copy = Vec::new(alloc);
-    for change in changes {
-        copy.push(RowChange {
-            first: change.first,
-            count: change.count,
-            text: String::from_str(alloc, change.text.as_str())?,
-        })?;
     }
     Ok(copy)
 }

@@ -1,14 +1,12 @@
 // Reports that are kept, with the files that they are on, each once.
-ghost use Rattle.std.specs.Prelude.{◌≡◌, ◌++◌, ◌∷◌, [], ◌<◌, All, IfOk, OnOk, length, map, false};
-ghost use Rattle.std.specs.List.{list_any};
-ghost use Rattle.found_reports.specs.Files.{files_of, same_file, why_number, with_file};
+ghost use Rattle.std.specs.Prelude.{◌≡◌, ◌++◌, [], ◌<◌, All, IfOk, OnOk, length, map};
+ghost use Rattle.found_reports.specs.Files.{files_of, with_file};
 ghost use Rattle.found_reports.specs.Found.{file_at};
 ghost use Rattle.found_reports.specs.Kept.{IsShort, Stands, file_view, report_view};
 ghost use Rattle.found_reports.specs.Flagged.{kept_of, later_flags, next_flag, one_if};
 ghost use Rattle.found_reports.specs.Once.{AreNumbers, IsFileAt, IsKey, KeepsFiles};
 
 use crate::reports::{FoundFile, FoundReport, FoundReports};
-use crate::sources::Lack;
 use std::alloc::{AllocError, Global};
 use std::collections::BTreeMap;
 
@@ -32,8 +30,9 @@ pub fn kept<'s>(
     let mut rest = flags;
     reports.reverse();
     while let Some(report) = reports.pop() {
-        once.push_if(alloc, &files, report, next(rest))?;
-        rest = later(rest);
+        let (is, others) = next(rest);
+        once.push_if(alloc, &files, report, is)?;
+        rest = others;
     }
     Ok(once.found)
 }
@@ -55,23 +54,14 @@ pub fn each_file_once<'s>(
     kept(alloc, found, &[])
 }
 
-/// Whether the next report is kept.
-fn next(flags: &[bool]) -> bool
-    ensures { result ≡ next_flag flags.now }
+/// Whether the next report is kept, and the flags of the others.
+fn next(flags: &[bool]) -> (bool, &[bool])
+    ensures flag { result.0 ≡ next_flag flags.now }
+    ensures others { result.1.now ≡ later_flags flags.now }
 {
     match flags {
-        [flag, ..] => *flag,
-        [] => true,
-    }
-}
-
-/// The flags of the others.
-fn later(flags: &[bool]) -> &[bool]
-    ensures { result.now ≡ later_flags flags.now }
-{
-    match flags {
-        [_, rest @ ..] => rest,
-        [] => flags,
+        [flag, others @ ..] => (*flag, others),
+        [] => (true, flags),
     }
 }
 
@@ -99,21 +89,7 @@ fn key_of<'s>(alloc: Global, file: &FoundFile<'s>) -> Result<FileKey<'s>, AllocE
     let name = String::from_str(alloc, file.name.as_str())?;
     match file.source {
         Ok(text) => Ok((name, Ok(text))),
-        Err(why) => Ok((name, Err(number_of(why)))),
-    }
-}
-
-/// The number of a reason.
-fn number_of(why: Lack) -> u8
-    ensures { result ≡ why_number why }
-{
-    match why {
-        Lack::Missing => 0,
-        Lack::Outside => 1,
-        Lack::NoFile => 2,
-        Lack::TooLong => 3,
-        Lack::NoText => 4,
-        Lack::Unreadable => 5,
+        Err(why) => Ok((name, Err(why as u8))),
     }
 }
 
@@ -162,29 +138,9 @@ impl<'s> Once<'s> {
         ensures found { OnOk result (self.new.found.found
             ≡ self.old.found.found ++ one_if is (report_view (map file_view given.now) report)) }
     {
-        if is {
-            self.push(alloc, given, report)
-        } else {
-            Ok(())
+        if !is {
+            return Ok(());
         }
-    }
-
-    /// Pushes a report that is on one of the given files.
-    fn push(
-        &mut self,
-        alloc: Global,
-        given: &[FoundFile<'s>],
-        report: FoundReport,
-    ) -> Result<(), AllocError>
-        requires keeps { KeepsFiles (map file_view given.now) self.old }
-        requires files { self.old.found.files ≡ files_of self.old.found.found }
-        requires short { All IsShort (map file_view given.now) }
-        requires stands { Stands (map file_view given.now) report }
-        ensures keeps { OnOk result (KeepsFiles (map file_view given.now) self.new) }
-        ensures files { OnOk result (self.new.found.files ≡ files_of self.new.found.found) }
-        ensures found { OnOk result (self.new.found.found
-            ≡ self.old.found.found ++ report_view (map file_view given.now) report ∷ []) }
-    {
         let number = self.number(alloc, given, report.file)?;
         self.found
             .push_fixed(number, report.diagnostic, report.place, report.fixes)
@@ -229,31 +185,12 @@ impl<'s> Once<'s> {
         let key = key_of(alloc, file)?;
         match self.numbers.get(&key) {
             Some(number) => Ok(*number),
-            None => self.add(alloc, file, key),
+            None => {
+                let name = String::from_str(alloc, file.name.as_str())?;
+                let number = self.found.add_file(name, file.source)?;
+                self.numbers.insert(key, number)?;
+                Ok(number)
+            }
         }
-    }
-
-    /// Adds a file that isn't there.
-    fn add(
-        &mut self,
-        alloc: Global,
-        file: &FoundFile<'s>,
-        key: FileKey<'s>,
-    ) -> Result<usize, AllocError>
-        requires numbers { AreNumbers self.old.numbers self.old.found.files }
-        requires short { IsShort (file_view file.now) }
-        requires key { IsKey key (file_view file.now) }
-        requires new { list_any (same_file (file_view file.now)) self.old.found.files ≡ false }
-        ensures numbers { OnOk result (AreNumbers self.new.numbers self.new.found.files) }
-        ensures files { OnOk result (self.new.found.files
-            ≡ with_file self.old.found.files (file_view file.now)) }
-        ensures at { IfOk result (IsFileAt self.new.found.files (file_view file.now)) }
-        ensures found { self.new.found.found ≡ self.old.found.found }
-        ensures seats { self.new.seats ≡ self.old.seats }
-    {
-        let name = String::from_str(alloc, file.name.as_str())?;
-        let number = self.found.add_file(name, file.source)?;
-        self.numbers.insert(key, number)?;
-        Ok(number)
     }
 }

@@ -2,7 +2,7 @@
 ghost use Rattle.std.specs.Prelude.{◌≡◌, ◌++◌, IfOk, OnOk, string_bytes};
 ghost use Rattle.std.specs.Option.{option_copied};
 ghost use Rattle.oxc_span.specs.Views.{text_bytes};
-ghost use Rattle.found_reports.specs.Place.{at_text, noted, number_text, place_line};
+ghost use Rattle.found_reports.specs.Place.{at_text, noted, number_text};
 ghost use Rattle.found_reports.specs.Place.{reason as reason_of, why_text};
 
 use crate::sources::Lack;
@@ -11,7 +11,7 @@ use std::alloc::{AllocError, Global};
 
 /// A reported location, in the tool's own numbers; none where it gave none. The name is that of
 /// the report's file.
-#[derive(Clone, Copy, PartialEq, Eq)]
+#[derive(Clone, Copy)]
 pub struct GivenPlace {
     /// The row of the start.
     pub line: Option<u32>,
@@ -30,7 +30,7 @@ pub struct GivenPlace {
 /// # Errors
 ///
 /// Out of memory.
-#[tactic(auto, unfolding(crate::specs::Place::noted))]
+#[tactic(auto, unfolding(crate::specs::Place::noted, crate::specs::Place::place_line))]
 pub fn note_of(
     alloc: Global,
     note: Option<&str>,
@@ -46,23 +46,9 @@ pub fn note_of(
         text.push_str(note)?;
         text.push_str("\n")?;
     }
-    push_line(&mut text, name, place, why)?;
+    push_place(&mut text, name, place)?;
+    push_why(&mut text, why)?;
     Ok(text)
-}
-
-/// Appends the line of a location.
-#[tactic(auto, unfolding(crate::specs::Place::place_line))]
-fn push_line(
-    out: &mut String,
-    name: &str,
-    place: GivenPlace,
-    why: Option<Lack>,
-) -> Result<(), AllocError>
-    ensures { OnOk result (string_bytes out.new
-        ≡ string_bytes out.old ++ place_line name.now place why) }
-{
-    push_place(out, name, place)?;
-    push_why(out, why)
 }
 
 /// Appends a name, and the row and the column of the start, as far as they are known.

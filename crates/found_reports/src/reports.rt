@@ -178,16 +178,9 @@ pub fn stand_in(source: &Result<&str, Lack>, labels: &[LabeledSpan]) -> bool
     ensures { IsTrue result ↔ LabelsStand (held_of source.now) labels.now }
 {
     match source {
-        Ok(text) => all_stand(text, labels),
+        Ok(text) => labels.iter().all(|label| stands(text, label)),
         Err(_) => labels.is_empty(),
     }
-}
-
-/// Whether labels are in a text.
-fn all_stand(text: &str, labels: &[LabeledSpan]) -> bool
-    ensures { IsTrue result ↔ All (StandsIn text.now) labels.now }
-{
-    labels.iter().all(|label| stands(text, label))
 }
 
 /// Whether a label is in a text.

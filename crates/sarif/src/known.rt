@@ -1,6 +1,6 @@
 //! The files of a run, each split into rows once.
 ghost use Rattle.std.specs.Prelude.{◌≡◌, ◌++◌, ◌∷◌, [], ◌<◌, All, Some, map, length, drop};
-ghost use Rattle.std.specs.Prelude.{option_map, slice_get, IfOk, IfSome, OnOk, IsTrue};
+ghost use Rattle.std.specs.Prelude.{option_map, slice_get, IfOk, IfSome, OnOk};
 ghost use Rattle.std.specs.List.{Contains};
 ghost use Rattle.found_reports.specs.Held.{held_of, held_text};
 ghost use Rattle.found_reports.specs.Kept.{IsShortHeld};
@@ -47,14 +47,6 @@ pub(crate) struct Placed<'f> {
     pub(crate) message: Option<&'f str>,
 }
 
-/// Whether two references are the same.
-#[tactic(auto, unfolding(sarif_log::specs::Log::artifact_location_view))]
-fn is_same(a: &ArtifactLocation, b: &ArtifactLocation) -> bool
-    ensures { IsTrue result → artifact_location_view a.now ≡ artifact_location_view b.now }
-{
-    a.index == b.index && a.uri == b.uri && a.base == b.base
-}
-
 /// The parts of a reference.
 type Reference<'s> = (Option<&'s str>, Option<&'s str>, Option<usize>);
 
@@ -84,12 +76,14 @@ impl<'s> KnownFiles<'s> {
     }
 
     /// The index of the file that was looked up by this reference.
+    #[tactic(auto, unfolding(sarif_log::specs::Log::artifact_location_view))]
     fn seat(&self, it: &'s ArtifactLocation) -> Option<usize>
         ensures { IfSome result (λ k. option_map (λ it. artifact_location_view it.location.now)
             (slice_get self.now.files.items k) ≡ Some (artifact_location_view it.now)) }
     {
         let seat = *self.seats.get(&reference_of(it))?;
-        if is_same(self.files.get(seat)?.location, it) {
+        let known = self.files.get(seat)?.location;
+        if known.index == it.index && known.uri == it.uri && known.base == it.base {
             Some(seat)
         } else {
             None

@@ -1,5 +1,5 @@
 //! The reports that a log means.
-ghost use Rattle.std.specs.Prelude.{◌≡◌, ◌++◌, ◌∷◌, ◌≤◌, [], All, None, drop, flat_map};
+ghost use Rattle.std.specs.Prelude.{◌≡◌, ◌++◌, ◌∷◌, ◌≤◌, [], All, None, drop};
 ghost use Rattle.std.specs.Prelude.{length, map, take, IfOk, OnOk};
 ghost use Rattle.found_reports.specs.Files.{files_of};
 ghost use Rattle.found_reports.specs.Found.{StandsIn, found_on};
@@ -7,10 +7,10 @@ ghost use Rattle.found_reports.specs.Held.{held_text};
 ghost use Rattle.sarif_log.specs.Log.{log_view, run_view};
 ghost use Rattle.sarif.specs.Findings.{finding_view};
 ghost use Rattle.sarif.specs.Seen.{borrowed};
-ghost use Rattle.sarif.specs.Meaning.{aside, aside_diagnostic as aside_meant, asides_beside};
+ghost use Rattle.sarif.specs.Meaning.{aside, aside_diagnostic as aside_meant};
 ghost use Rattle.sarif.specs.Meaning.{finding_reports, main_diagnostic as main_meant, nowhere};
 ghost use Rattle.sarif.specs.Meaning.{reports_among, reports_at, reports_in, run_reports};
-ghost use Rattle.sarif.specs.Views.{HoldsText, IsFiled, IsReadable, IsTold, known_view};
+ghost use Rattle.sarif.specs.Views.{HoldsText, IsFiled, IsTold, known_view};
 ghost use Rattle.sarif.specs.Views.{placed_view, reading_view};
 
 use crate::diagnostics::{diagnostic_of, given_place, severity_of};
@@ -63,24 +63,9 @@ fn push_run<'s, S: Sources>(
 {
     let reading = reading_of(alloc, columns, run)?;
     let findings = findings_of(alloc, run)?;
-    push_findings(alloc, sources, &reading, &findings, found)
-}
-
-/// Appends the reports of the findings of a run.
-fn push_findings<'s, S: Sources>(
-    alloc: Global,
-    sources: &'s S,
-    reading: &Reading<'s>,
-    findings: &[Finding<'s>],
-    found: &mut FoundReports<'s>,
-) -> Result<(), AllocError>
-    ensures { OnOk result (found.new.found ≡ found.old.found
-        ++ flat_map (finding_reports (S.told sources.now) (reading_view reading.now))
-        (map finding_view findings.now)) }
-{
     let mut known = KnownFiles::new(alloc);
-    for finding in findings {
-        push_finding(alloc, sources, reading, &mut known, finding, found)?;
+    for finding in &findings {
+        push_finding(alloc, sources, &reading, &mut known, finding, found)?;
     }
     Ok(())
 }
@@ -187,12 +172,20 @@ fn push_at<'s>(
             let labels = labels_of(alloc, reading, known, file, label, others)?;
             let diagnostic = main_diagnostic(alloc, reading, finding, labels)?;
             found.push(file.file, diagnostic, None)?;
-            push_other_asides(alloc, reading, finding, known, file, others, found)
+            for other in others {
+                if span_beside(reading, known, file, other).is_none() {
+                    push_aside(alloc, reading, finding, known, other, found)?;
+                }
+            }
+            Ok(())
         }
         None => {
             let diagnostic = main_diagnostic(alloc, reading, finding, Vec::new(alloc))?;
             found.push(file.file, diagnostic, Some(given_place(first.region)))?;
-            push_asides(alloc, reading, finding, known, others, found)
+            for it in others {
+                push_aside(alloc, reading, finding, known, it, found)?;
+            }
+            Ok(())
         }
     }
 }
@@ -217,52 +210,6 @@ fn main_diagnostic(
         finding.message.as_str(),
         labels,
     )
-}
-
-/// Appends these locations as advice.
-fn push_asides<'s>(
-    alloc: Global,
-    reading: &Reading<'s>,
-    finding: &Finding<'s>,
-    known: &[Known<'s>],
-    others: &[Placed<'_>],
-    found: &mut FoundReports<'s>,
-) -> Result<(), AllocError>
-    requires { All (IsFiled (reading_view reading.now) found.old.files) known.now }
-    ensures added { OnOk result (found.new.found ≡ found.old.found
-        ++ flat_map (aside (reading_view reading.now) (finding_view finding.now))
-        (map (placed_view known.now) others.now)) }
-    ensures files { OnOk result (found.new.files ≡ found.old.files) }
-{
-    for it in others {
-        push_aside(alloc, reading, finding, known, it, found)?;
-    }
-    Ok(())
-}
-
-/// Appends as advice those of these locations that aren't in a file.
-fn push_other_asides<'s>(
-    alloc: Global,
-    reading: &Reading<'s>,
-    finding: &Finding<'s>,
-    known: &[Known<'s>],
-    file: &Known<'s>,
-    others: &[Placed<'_>],
-    found: &mut FoundReports<'s>,
-) -> Result<(), AllocError>
-    requires filed { All (IsFiled (reading_view reading.now) found.old.files) known.now }
-    requires readable { IsReadable (reading_view reading.now) file.now }
-    ensures added { OnOk result (found.new.found ≡ found.old.found
-        ++ asides_beside (reading_view reading.now) (finding_view finding.now)
-        (known_view file.now) (map (placed_view known.now) others.now)) }
-    ensures files { OnOk result (found.new.files ≡ found.old.files) }
-{
-    for it in others {
-        if span_beside(reading, known, file, it).is_none() {
-            push_aside(alloc, reading, finding, known, it, found)?;
-        }
-    }
-    Ok(())
 }
 
 /// Appends a location as advice, if it names a file.

@@ -1,8 +1,6 @@
 //! The names of files: URIs after the URIs of their bases.
-ghost use Rattle.std.specs.Prelude.{◌≡◌, ◌++◌, map, option_map, string_bytes, take_while, not};
+ghost use Rattle.std.specs.Prelude.{◌≡◌, ◌++◌, map, option_map, string_bytes};
 ghost use Rattle.std.specs.Prelude.{IfOk};
-ghost use Rattle.std.specs.List.{list_any};
-ghost use Rattle.std.specs.Str.{bytes_eq};
 ghost use Rattle.sarif_log.specs.Log.{artifact_location_view, artifact_view, names_view};
 ghost use Rattle.sarif_log.specs.Log.{text_view, uri_base_view};
 ghost use Rattle.sarif.specs.Seen.{borrowed};
@@ -10,7 +8,7 @@ ghost use Rattle.sarif.specs.Naming.{artifact_at as artifact_numbered, base_name
 ghost use Rattle.sarif.specs.Naming.{ends_a_part as part_ends, front_of as front_meant};
 ghost use Rattle.sarif.specs.Naming.{location_in as location_meant};
 ghost use Rattle.sarif.specs.Naming.{name_of as name_meant, next_base as base_meant};
-ghost use Rattle.sarif.specs.Naming.{is_colon, is_slash, resolved as resolved_by};
+ghost use Rattle.sarif.specs.Naming.{resolved as resolved_by};
 ghost use Rattle.sarif.specs.Naming.{stands_alone as alone};
 ghost use Rattle.sarif.specs.Views.{base_seen, lent_texts};
 
@@ -63,29 +61,11 @@ fn stands_alone(uri: &str) -> bool
     ensures { result ≡ alone uri.now }
 {
     let bytes = uri.as_bytes();
-    byte_at(bytes, 0) == b'/' || has_scheme(bytes)
-}
-
-/// Whether there is a colon before the first slash.
-fn has_scheme(bytes: &[u8]) -> bool
-    ensures { result ≡ list_any is_colon (take_while (λ byte. not (is_slash byte)) bytes.now) }
-{
-    bytes
+    let has_scheme = bytes
         .iter()
         .take_while(|byte| **byte != b'/')
-        .any(|byte| *byte == b':')
-}
-
-/// Whether a name is one of these.
-fn is_among(names: &[&str], name: &str) -> bool
-    ensures { result ≡ list_any (λ it. bytes_eq it name.now) (lent_texts names.now) }
-{
-    for it in names {
-        if *it == name {
-            return true;
-        }
-    }
-    false
+        .any(|byte| *byte == b':');
+    byte_at(bytes, 0) == b'/' || has_scheme
 }
 
 /// The next base before a URI: none if the URI is complete, or if the base is missing or was used.
@@ -98,11 +78,16 @@ fn next_base<'l>(
     ensures { base_seen result ≡ base_meant (map uri_base_view bases.now) (lent_texts used.now)
         (borrowed base.entry) uri.now }
 {
-    let base = base?;
-    if stands_alone(uri) || is_among(used, base) {
+    let name = base?;
+    if stands_alone(uri) {
         return None;
     }
-    base_named(bases, base)
+    for it in used {
+        if *it == name {
+            return None;
+        }
+    }
+    base_named(bases, name)
 }
 
 /// Whether a URI ends in a slash, or is empty.

@@ -1,10 +1,8 @@
 //! The texts of files: those of the log, else those of the sources.
 ghost use Rattle.std.specs.Prelude.{◌≡◌, option_map, option_and_then, string_bytes};
 ghost use Rattle.std.specs.Prelude.{IfOk, IfSome};
-ghost use Rattle.oxc_protocol.specs.Source.{Fits};
 ghost use Rattle.found_reports.specs.Held.{held_of};
 ghost use Rattle.found_reports.specs.Kept.{IsShortHeld};
-ghost use Rattle.found_reports.specs.Listed.{fitting as fitting_text};
 ghost use Rattle.sarif_log.specs.Log.{artifact_location_view, names_view};
 ghost use Rattle.sarif.specs.Seen.{borrowed};
 ghost use Rattle.sarif.specs.Naming.{artifact_at as artifact_numbered};
@@ -45,18 +43,6 @@ fn contents_in<'s>(contents: &Contents<'s>, it: &ArtifactLocation, name: &str) -
     }
 }
 
-/// A text, unless it is too long for 32-bit offsets.
-fn fitting(text: &str) -> Result<&str, Lack>
-    ensures held { held_of result ≡ fitting_text text.now }
-    ensures short { IfOk result (λ text. Fits text.now) }
-{
-    if text.len() < u32::MAX as usize {
-        Ok(text)
-    } else {
-        Err(Lack::TooLong)
-    }
-}
-
 /// A name's text: that of the log, else what the sources have of the name, else of the URI as
 /// written; else the reason why the name has none.
 #[tactic(auto, unfolding(crate::specs::Texts::told_of))]
@@ -73,7 +59,11 @@ fn had_under<'s, S: Sources>(
     ensures short { IfOk result (λ had. IsShortHeld (held_of had.text)) }
 {
     if let Some(text) = contents_in(contents, it, name.as_str()) {
-        let text = fitting(text);
+        if text.len() >= u32::MAX as usize {
+            let text = Err(Lack::TooLong);
+            return Ok(Had { name, text });
+        }
+        let text = Ok(text);
         return Ok(Had { name, text });
     }
     match sources.source(name.as_str()) {

@@ -1,6 +1,6 @@
 //! Finds a log among other lines.
 ghost use Rattle.std.specs.Prelude.{◌≡◌, ◌≢◌, ◌<◌, ◌≤◌, ℕ, length, true, slice_index, MatchOption};
-ghost use Rattle.sarif_log.specs.Cut.{HasNoLog, IsFirstOpening, IsLastClosing, IsLogIn, begins};
+ghost use Rattle.sarif_log.specs.Cut.{HasNoLog, IsFirstOpening, IsLastClosing, IsLogIn};
 ghost use Rattle.sarif_log.specs.Cut.{opens as opens_line};
 
 use std::ops::Range;
@@ -42,17 +42,8 @@ fn opens(bytes: &[u8], at: usize) -> bool
     requires { at < length bytes.now }
     ensures { result ≡ opens_line bytes.now at }
 {
-    bytes[at] == b'{' && begins_line(bytes, at)
-}
-
-fn begins_line(bytes: &[u8], at: usize) -> bool
-    requires { at < length bytes.now }
-    ensures { result ≡ begins bytes.now at }
-{
-    if at == 0 {
-        return true;
-    }
-    bytes[at - 1] == b'\n' || (at == 3 && bytes.starts_with(&[0xEF, 0xBB, 0xBF]))
+    bytes[at] == b'{'
+        && (at == 0 || bytes[at - 1] == b'\n' || at == 3 && bytes.starts_with(&[0xEF, 0xBB, 0xBF]))
 }
 
 fn last_closing(bytes: &[u8]) -> Option<usize>

@@ -7,25 +7,24 @@ ghost use Rattle.json.specs.Find.{get};
 ghost use Rattle.json.specs.Json.{object};
 ghost use Rattle.json.specs.Value.{value_view, items_view, members_view};
 ghost use Rattle.sarif_log.specs.declared.form.Kind.TheVariants.{Object};
-ghost use Rattle.sarif_log.specs.Form.{key_view};
 ghost use Rattle.sarif_log.specs.Faults.{fault_in, fault_view, here as fault_here};
-ghost use Rattle.sarif_log.specs.Faults.{is_any as takes_all, is_word as is_word_of};
+ghost use Rattle.sarif_log.specs.Faults.{is_any as takes_all};
 ghost use Rattle.sarif_log.specs.Faults.{items_fault as fault_in_items, item_kind as kind_of_items};
 ghost use Rattle.sarif_log.specs.Faults.{member_kind as kind_of_member};
 ghost use Rattle.sarif_log.specs.Faults.{members_fault as fault_in_members};
-ghost use Rattle.sarif_log.specs.Faults.{missing as fault_missing, missing_key as key_missing};
+ghost use Rattle.sarif_log.specs.Faults.{missing as fault_missing};
 ghost use Rattle.sarif_log.specs.Faults.{step_view, takes_null as null_fits};
 ghost use Rattle.sarif_log.specs.Faults.{takes_number as number_fits, takes_text as text_fits};
 ghost use Rattle.sarif_log.specs.Faults.{unless as fault_unless, words_of as all_words};
 ghost use Rattle.sarif_log.specs.Faults.{within as fault_within};
 
-use crate::form::{Key, Kind, Shape, Words, keys_of, kind_under};
+use crate::form::{Kind, Shape, Words, keys_of, kind_under};
 use json::Value;
 use numerals::number_of;
 use std::alloc::{AllocError, Global};
 
 /// A step into a value.
-#[derive(Clone, Copy, PartialEq, Eq)]
+#[derive(Clone, Copy)]
 pub enum Step<'v> {
     Key(&'v str),
     Index(usize),
@@ -77,18 +76,12 @@ fn is_one_of(words: &[&str], text: &str) -> bool
     words.iter().any(|word| *word == text)
 }
 
-fn is_word(words: Words, text: &str) -> bool
-    ensures { result ≡ is_word_of words text.now }
-{
-    is_one_of(words_of(words), text)
-}
-
 fn takes_text(kind: Kind, text: &str) -> bool
     ensures { result ≡ text_fits kind text.now }
 {
     match kind {
         Kind::Any | Kind::Text => true,
-        Kind::Word(words) => is_word(words, text),
+        Kind::Word(words) => is_one_of(words_of(words), text),
         _ => false,
     }
 }
@@ -164,18 +157,6 @@ fn within<'v>(step: Step<'v>, mut fault: Fault<'v>) -> Result<Fault<'v>, AllocEr
     Ok(fault)
 }
 
-fn missing_key(keys: &'static [Key], value: &Value<'_>) -> Option<Key>
-    ensures { option_map key_view result ≡ key_missing (map key_view keys.now)
-        (value_view value.now) }
-{
-    for key in keys {
-        if key.must && value.get(key.name).is_none() {
-            return Some(*key);
-        }
-    }
-    None
-}
-
 fn missing<'v>(
     alloc: Global,
     shape: Shape,
@@ -184,10 +165,13 @@ fn missing<'v>(
     ensures { IfOk result (λ it. option_map fault_view it
         ≡ fault_missing shape (value_view value.now)) }
 {
-    match missing_key(keys_of(shape), value) {
-        Some(key) => Ok(Some(within(Step::Key(key.name), here(alloc, key.kind))?)),
-        None => Ok(None),
+    let keys = keys_of(shape);
+    for key in keys {
+        if key.must && value.get(key.name).is_none() {
+            return Ok(Some(within(Step::Key(key.name), here(alloc, key.kind))?));
+        }
     }
+    Ok(None)
 }
 
 /// The first error of a value, in reading order, if it isn't of this kind.

@@ -5,7 +5,7 @@ ghost use Rattle.sarif_log.specs.declared.form.Kind.TheVariants.{Any};
 ghost use Rattle.sarif_log.specs.Form.{key_view, keys_of as table_of, kind_under as kind_there};
 
 /// The objects of a log.
-#[derive(Clone, Copy, PartialEq, Eq)]
+#[derive(Clone, Copy)]
 pub enum Shape {
     Log,
     Run,
@@ -32,7 +32,7 @@ pub enum Shape {
 }
 
 /// A set of words; a text must be one of them.
-#[derive(Clone, Copy, PartialEq, Eq)]
+#[derive(Clone, Copy)]
 pub enum Words {
     Version,
     Level,
@@ -43,7 +43,7 @@ pub enum Words {
 }
 
 /// What a key may hold.
-#[derive(Clone, Copy, PartialEq, Eq)]
+#[derive(Clone, Copy)]
 pub enum Kind {
     /// Any value: the key isn't known.
     Any,
@@ -64,7 +64,7 @@ pub enum Kind {
 }
 
 /// A key of an object.
-#[derive(Clone, Copy, PartialEq, Eq)]
+#[derive(Drop)]
 pub struct Key {
     pub name: &'static str,
     pub kind: Kind,

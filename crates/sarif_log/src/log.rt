@@ -97,7 +97,7 @@ pub struct Replacement {
 }
 
 /// Why a result isn't shown.
-#[derive(Clone, Copy, PartialEq, Eq)]
+#[derive(Clone, Copy)]
 pub struct Suppression {
     pub status: Option<Status>,
 }
@@ -150,7 +150,7 @@ pub struct Location {
 }
 
 /// A part of a text, by rows and columns, by characters, or by bytes.
-#[derive(Clone, Copy, PartialEq, Eq)]
+#[derive(Clone, Copy)]
 pub struct Region {
     pub start_line: Option<usize>,
     pub start_column: Option<usize>,
@@ -179,7 +179,7 @@ pub struct Message {
 }
 
 /// The severity of a finding.
-#[derive(Clone, Copy, PartialEq, Eq)]
+#[derive(Clone, Copy)]
 pub enum Level {
     None,
     Note,
@@ -188,14 +188,14 @@ pub enum Level {
 }
 
 /// What a column counts.
-#[derive(Clone, Copy, PartialEq, Eq)]
+#[derive(Clone, Copy)]
 pub enum ColumnKind {
     Utf16,
     Characters,
 }
 
 /// Whether a result is a finding.
-#[derive(Clone, Copy, PartialEq, Eq)]
+#[derive(Clone, Copy)]
 pub enum ResultKind {
     NotApplicable,
     Pass,
@@ -206,7 +206,7 @@ pub enum ResultKind {
 }
 
 /// How a result compares with an earlier run.
-#[derive(Clone, Copy, PartialEq, Eq)]
+#[derive(Clone, Copy)]
 pub enum BaselineState {
     New,
     Unchanged,
@@ -215,7 +215,7 @@ pub enum BaselineState {
 }
 
 /// Whether a suppression was accepted.
-#[derive(Clone, Copy, PartialEq, Eq)]
+#[derive(Clone, Copy)]
 pub enum Status {
     Accepted,
     UnderReview,

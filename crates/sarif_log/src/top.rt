@@ -3,13 +3,13 @@ ghost use Rattle.std.specs.Prelude.{◌≡◌, ◌≢◌, string_bytes, None, ma
 ghost use Rattle.std.specs.Prelude.{IfSome, OnOk, MatchResult};
 ghost use Rattle.json.specs.Value.{value_view};
 ghost use Rattle.sarif_log.specs.Log.{log_view};
-ghost use Rattle.sarif_log.specs.Faults.{fault_view, key as key_step, step_view};
+ghost use Rattle.sarif_log.specs.Faults.{step_view};
 ghost use Rattle.sarif_log.specs.Answer.{answer_to, error_view, joined, log as log_is};
-ghost use Rattle.sarif_log.specs.Answer.{no_json as no_json_said, path_of, refused as refused_with};
+ghost use Rattle.sarif_log.specs.Answer.{no_json as no_json_said, path_of};
 ghost use Rattle.sarif_log.specs.Answer.{json_in, said_by, said_in, wanted_of};
 ghost use Rattle.sarif_log.specs.Answer.{without_mark as behind_mark};
 
-use crate::faults::{Fault, Step, find_fault};
+use crate::faults::{Step, find_fault};
 use crate::form::{Kind, Shape, Words};
 use crate::log::Log;
 use crate::read::log;
@@ -60,7 +60,10 @@ pub fn read_log(alloc: Global, bytes: &[u8]) -> Result<Log, LogError>
 
 // Where reading stops: the row and the byte in it, both from 1. No clause says where.
 fn stop(alloc: Global, bytes: &[u8]) -> (usize, usize) {
-    let at = stop_byte(alloc, bytes);
+    let at = match std::str::from_utf8(bytes) {
+        Ok(text) => stop_in(alloc, text),
+        Err(e) => e.valid_up_to(),
+    };
     let before = match bytes.get(..at) {
         Some(before) => before,
         None => bytes,
@@ -74,26 +77,15 @@ fn stop(alloc: Global, bytes: &[u8]) -> (usize, usize) {
     (rows.saturating_add(1), column.saturating_add(1))
 }
 
-fn stop_byte(alloc: Global, bytes: &[u8]) -> usize {
-    match std::str::from_utf8(bytes) {
-        Ok(text) => stop_in(alloc, text),
-        Err(e) => e.valid_up_to(),
-    }
-}
-
 fn stop_in(alloc: Global, text: &str) -> usize {
     let mut scratch = Scratch::new(alloc);
     let Ok(mut reader) = Reader::new(text, &mut scratch) else {
         return 0;
     };
-    read_one(alloc, &mut reader);
-    reader.offset()
-}
-
-fn read_one(alloc: Global, reader: &mut Reader<'_>) {
-    if Value::read(alloc, reader, MAX_DEPTH).is_ok() {
+    if Value::read(alloc, &mut reader, MAX_DEPTH).is_ok() {
         let _ = reader.next();
     }
+    reader.offset()
 }
 
 fn unread(e: Error, stop: (usize, usize)) -> LogError
@@ -116,23 +108,11 @@ fn read_value(alloc: Global, value: &Value<'_>) -> Result<Log, LogError>
         (λ e. IfSome (error_view e) (λ said. said_by (value_view value.now) ≡ said)) }
 {
     if let Some(fault) = find_fault(alloc, Kind::Object(Shape::Log), value)? {
-        return Err(refusal(alloc, &fault));
+        let path = path_text(alloc, &fault.steps)?;
+        let wanted = wanted_text(fault.wanted);
+        return Err(LogError::Fault { path, wanted });
     }
     Ok(log(alloc, value)?)
-}
-
-// The error of a fault, if memory suffices.
-fn refusal(alloc: Global, fault: &Fault<'_>) -> LogError
-    ensures { IfSome (error_view result) (λ said. said
-        ≡ refused_with (path_of (fault_view fault.now).steps) (wanted_of fault.now.wanted)) }
-{
-    match path_text(alloc, &fault.steps) {
-        Ok(path) => LogError::Fault {
-            path,
-            wanted: wanted_text(fault.wanted),
-        },
-        Err(_) => LogError::OutOfMemory,
-    }
 }
 
 fn without_mark(bytes: &[u8]) -> &[u8]
@@ -162,20 +142,15 @@ fn push_step(path: &mut String, step: Step<'_>) -> Result<(), AllocError>
         (step_view step.entry)) }
 {
     match step {
-        Step::Key(name) => push_key(path, name),
+        Step::Key(name) => {
+            if path.is_empty() {
+                path.push_str(name)
+            } else {
+                path.push_str(".")?;
+                path.push_str(name)
+            }
+        }
         Step::Index(at) => write!(path, "[{at}]"),
-    }
-}
-
-fn push_key(path: &mut String, name: &str) -> Result<(), AllocError>
-    ensures { OnOk result (string_bytes path.new ≡ joined (string_bytes path.old)
-        (key_step name.now)) }
-{
-    if path.is_empty() {
-        path.push_str(name)
-    } else {
-        path.push_str(".")?;
-        path.push_str(name)
     }
 }
 

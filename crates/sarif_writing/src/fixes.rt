@@ -5,7 +5,7 @@ ghost use Rattle.serde_json.specs.View.{items_of, members_view, view};
 ghost use Rattle.documents.specs.Written.{put_some};
 ghost use Rattle.found_reports.specs.Fixes.{change_view, fix_view};
 ghost use Rattle.sarif_writing.specs.Written.{change_value as change_meant};
-ghost use Rattle.sarif_writing.specs.Written.{fix_value as fix_meant, rows_region as rows_meant};
+ghost use Rattle.sarif_writing.specs.Written.{fix_value as fix_meant};
 ghost use Rattle.sarif_writing.specs.Written.{some_array};
 
 use crate::places::{message_value, put_array, reference_value};
@@ -28,25 +28,11 @@ pub(crate) fn put_fixes(
         (some_array (map (fix_meant files.now file) (map fix_view fixes.now)))
         (members_view members.old.entries)) }
 {
-    let values = fix_values(alloc, files, file, fixes)?;
-    put_array(alloc, members, "fixes", values)
-}
-
-fn fix_values(
-    alloc: Global,
-    files: &Files<String>,
-    file: FileId,
-    fixes: &[FoundFix],
-) -> Result<Vec<Value>, AllocError>
-    requires { file < length files.now }
-    ensures { IfOk result (λ values. map view values.items
-        ≡ map (fix_meant files.now file) (map fix_view fixes.now)) }
-{
     let mut values = Vec::with_capacity(alloc, fixes.len())?;
     for fix in fixes {
         values.push(fix_value(alloc, files, file, fix)?)?;
     }
-    Ok(values)
+    put_array(alloc, members, "fixes", values)
 }
 
 #[tactic(auto, unfolding(crate::specs::Written::fix_value))]
@@ -71,35 +57,23 @@ fn changes_value(alloc: Global, changes: &[RowChange]) -> Result<Value, AllocErr
     ensures { IfOk result (λ value. view value
         ≡ array (items_of (map change_meant (map change_view changes.now)))) }
 {
-    Ok(Value::Array(change_values(alloc, changes)?))
-}
-
-fn change_values(alloc: Global, changes: &[RowChange]) -> Result<Vec<Value>, AllocError>
-    ensures { IfOk result (λ values. map view values.items
-        ≡ map change_meant (map change_view changes.now)) }
-{
     let mut values = Vec::with_capacity(alloc, changes.len())?;
     for change in changes {
         values.push(change_value(alloc, change)?)?;
     }
-    Ok(values)
+    Ok(Value::Array(values))
 }
 
-/// Rows, and the text that replaces them.
-#[tactic(auto, unfolding(crate::specs::Written::change_value))]
+/// Whole rows, up to the start of the next one, and the text that replaces them.
+#[tactic(auto, unfolding(crate::specs::Written::change_value, crate::specs::Written::rows_region))]
 fn change_value(alloc: Global, change: &RowChange) -> Result<Value, AllocError>
     ensures { IfOk result (λ value. view value ≡ change_meant (change_view change.now)) }
 {
-    let region = rows_region(alloc, change.first, change.count)?;
-    let content = message_value(alloc, change.text.as_str())?;
-    json!(in alloc; {"deletedRegion": region, "insertedContent": content})
-}
-
-/// A number of whole rows from a first one on: up to the start of the next row.
-#[tactic(auto, unfolding(crate::specs::Written::rows_region))]
-fn rows_region(alloc: Global, first: u32, count: u32) -> Result<Value, AllocError>
-    ensures { IfOk result (λ value. view value ≡ rows_meant first count) }
-{
+    let (first, count) = (change.first, change.count);
     let next = first as usize + count as usize;
-    json!(in alloc; {"endColumn": 1, "endLine": next, "startColumn": 1, "startLine": first})
+    let content = message_value(alloc, change.text.as_str())?;
+    json!(in alloc; {
+        "deletedRegion": {"endColumn": 1, "endLine": next, "startColumn": 1, "startLine": first},
+        "insertedContent": content
+    })
 }

@@ -3,7 +3,6 @@ ghost use Rattle.std.specs.Prelude.{◌≡◌, ◌<◌, IfOk, OnOk, All, codes, 
 ghost use Rattle.std.specs.Prelude.{slice_get};
 ghost use Rattle.std.specs.List.{remove};
 ghost use Rattle.std.specs.Option.{option_copied};
-ghost use Rattle.serde_json.specs.Data.{array, item, no_items};
 ghost use Rattle.serde_json.specs.View.{members_view, view};
 ghost use Rattle.documents.specs.Written.{put_some};
 ghost use Rattle.codespan.specs.Texts.{text_of};
@@ -14,7 +13,6 @@ ghost use Rattle.sarif_writing.specs.Written.{label_location as label_meant};
 ghost use Rattle.sarif_writing.specs.Written.{message_value as message_meant, place_members};
 ghost use Rattle.sarif_writing.specs.Written.{some_array};
 ghost use Rattle.sarif_writing.specs.Written.{reference_value as reference_meant};
-ghost use Rattle.sarif_writing.specs.Written.{region_value as region_meant};
 ghost use Rattle.sarif_writing.specs.Written.{region_place as region_place_meant};
 
 use crate::given::bare_location;
@@ -22,7 +20,7 @@ use codespan::{FileId, Files};
 use found_reports::GivenPlace;
 use oxc_protocol::LabeledSpan;
 use serde_json::{Map, Value, json, put};
-use source_location::{LineIndex, SourceLocation};
+use source_location::LineIndex;
 use std::alloc::{AllocError, Global};
 use text_size::TextSize;
 
@@ -45,22 +43,17 @@ pub(crate) fn put_places(
         ≡ place_members files.now file (bare_meant files.now file place) labels.now
         (members_view members.old.entries)) }
 {
-    let mut places = label_locations(alloc, files, file, index, labels)?;
+    let mut places = Vec::with_capacity(alloc, labels.len())?;
+    for label in labels {
+        places.push(label_location(alloc, files, file, index, label)?)?;
+    }
     let head = match take_at(&mut places, head_place(labels)) {
         Some(head) => head,
         None => bare_location(alloc, files, file, place)?,
     };
-    put(members, alloc, "locations", one(alloc, head)?)?;
+    let locations = json!(in alloc; [head])?;
+    put(members, alloc, "locations", locations)?;
     put_array(alloc, members, "relatedLocations", places)
-}
-
-/// An array of one value.
-fn one(alloc: Global, value: Value) -> Result<Value, AllocError>
-    ensures { IfOk result (λ list. view list ≡ array (item (view value) no_items)) }
-{
-    let mut values = Vec::with_capacity(alloc, 1)?;
-    values.push(value)?;
-    Ok(Value::Array(values))
 }
 
 /// An array under a key, if it isn't empty.
@@ -107,26 +100,6 @@ fn head_place(labels: &[LabeledSpan]) -> usize
     0
 }
 
-fn label_locations(
-    alloc: Global,
-    files: &Files<String>,
-    file: FileId,
-    index: &LineIndex,
-    labels: &[LabeledSpan],
-) -> Result<Vec<Value>, AllocError>
-    requires held { file < length files.now }
-    requires indexed { index.now ≡ index_of (text_of files.now file) }
-    requires stand { All (Stands (text_of files.now file)) labels.now }
-    ensures { IfOk result (λ values. map view values.items
-        ≡ map (label_meant files.now file) labels.now) }
-{
-    let mut values = Vec::with_capacity(alloc, labels.len())?;
-    for label in labels {
-        values.push(label_location(alloc, files, file, index, label)?)?;
-    }
-    Ok(values)
-}
-
 #[tactic(auto, unfolding(crate::specs::Written::label_location))]
 fn label_location(
     alloc: Global,
@@ -163,7 +136,8 @@ fn put_message(
     put(members, alloc, "message", message_value(alloc, text)?)
 }
 
-#[tactic(auto, unfolding(crate::specs::Written::region_place))]
+/// The rows and columns of a label in a file.
+#[tactic(auto, unfolding(crate::specs::Written::region_place, crate::specs::Written::region_value))]
 fn region_place(
     alloc: Global,
     files: &Files<String>,
@@ -179,24 +153,15 @@ fn region_place(
     let text = files.source(file).as_str();
     let start = index.source_location(TextSize::new(label.offset()), text);
     let end = index.source_location(TextSize::new(label.offset() + label.len()), text);
-    let region = region_value(alloc, start, end)?;
     let reference = reference_value(alloc, files, file)?;
-    json!(in alloc; {"artifactLocation": reference, "region": region})
-}
-
-#[tactic(auto, unfolding(crate::specs::Written::region_value))]
-fn region_value(
-    alloc: Global,
-    start: SourceLocation,
-    end: SourceLocation,
-) -> Result<Value, AllocError>
-    ensures { IfOk result (λ value. view value ≡ region_meant start end) }
-{
     json!(in alloc; {
-        "endColumn": end.column.get(),
-        "endLine": end.row.get(),
-        "startColumn": start.column.get(),
-        "startLine": start.row.get()
+        "artifactLocation": reference,
+        "region": {
+            "endColumn": end.column.get(),
+            "endLine": end.row.get(),
+            "startColumn": start.column.get(),
+            "startLine": start.row.get()
+        }
     })
 }
 

@@ -1,8 +1,7 @@
 //! The results of reports.
-ghost use Rattle.std.specs.Prelude.{◌≡◌, ◌<◌, [], All, IfOk, None, OnOk, codes, length, map};
-ghost use Rattle.std.specs.Prelude.{option_map, slice_index_or};
+ghost use Rattle.std.specs.Prelude.{◌≡◌, ◌<◌, [], All, IfOk, None, length, map};
+ghost use Rattle.std.specs.Prelude.{slice_index_or};
 ghost use Rattle.serde_json.specs.View.{members_view, view};
-ghost use Rattle.documents.specs.Written.{put_some, whole_number};
 ghost use Rattle.codespan.specs.Texts.{text_of};
 ghost use Rattle.source_location.specs.Index.{index_of};
 ghost use Rattle.found_reports.specs.Fixes.{fix_view};
@@ -137,24 +136,11 @@ fn said_members(
         message_value(alloc, said.message.as_str())?,
     )?;
     put_text(alloc, &mut members, "ruleId", said.code.number.as_deref())?;
-    put_place(alloc, &mut members, rules.place_for(alloc, said)?)?;
+    let Some(place) = rules.place_for(alloc, said)? else {
+        return Ok(members);
+    };
+    put(&mut members, alloc, "ruleIndex", Value::from(place))?;
     Ok(members)
-}
-
-/// The index of a rule, if there is one.
-fn put_place(
-    alloc: Global,
-    members: &mut Map<String, Value>,
-    place: Option<usize>,
-) -> Result<(), AllocError>
-    ensures { OnOk result (members_view members.new.entries
-        ≡ put_some (codes "ruleIndex") (option_map whole_number place)
-        (members_view members.old.entries)) }
-{
-    match place {
-        Some(place) => put(members, alloc, "ruleIndex", Value::from(place)),
-        None => Ok(()),
-    }
 }
 
 fn level_text(severity: Severity) -> &'static str

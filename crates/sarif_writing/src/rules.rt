@@ -1,15 +1,14 @@
 //! The rules of reports, each once.
-ghost use Rattle.std.specs.Prelude.{◌≡◌, ◌++◌, ◌∷◌, [], None, IfOk, IfSome, OnOk, false, map};
+ghost use Rattle.std.specs.Prelude.{◌≡◌, IfOk, IfSome, OnOk, false, map};
 ghost use Rattle.std.specs.Prelude.{option_map};
-ghost use Rattle.std.specs.Prelude.{option_and_then, string_bytes};
 ghost use Rattle.std.specs.Option.{option_copied};
 ghost use Rattle.serde_json.specs.View.{members_view, view};
-ghost use Rattle.serde_json.specs.Written.{compact_text, has_float};
+ghost use Rattle.serde_json.specs.Written.{has_float};
 ghost use Rattle.documents.specs.Written.{put_some, text_value};
 ghost use Rattle.oxc_protocol.specs.Views.{inner_parts};
 ghost use Rattle.render_files.specs.Given.{given_report};
-ghost use Rattle.sarif_writing.specs.Rules.{ArePlaces, and_rule, and_rules, place_from};
-ghost use Rattle.sarif_writing.specs.Rules.{rule_of as rule_meant, rule_value as rule_written};
+ghost use Rattle.sarif_writing.specs.Rules.{ArePlaces, and_rule, place_from};
+ghost use Rattle.sarif_writing.specs.Rules.{rule_of as rule_meant};
 ghost use Rattle.sarif_writing.specs.Rules.{rules_of as rules_meant};
 ghost use Rattle.sarif_writing.specs.Written.{rule_place};
 
@@ -27,37 +26,26 @@ pub(crate) struct Rules {
 }
 
 /// The rules of reports, each once, in the order of first use.
-#[tactic(auto, using(crate::proofs::RuleLemmas::no_places))]
-pub(crate) fn rules_of(alloc: Global, reports: &[FileReport]) -> Result<Rules, AllocError>
+#[tactic(auto, using(crate::proofs::RuleLemmas::no_places), unfolding(crate::specs::Rules::and_rules))]
+pub(crate) fn rules_of(alloc: Global, mut reports: &[FileReport]) -> Result<Rules, AllocError>
     ensures rules { IfOk result (λ rules. map view rules.values.items
-        ≡ rules_meant (map given_report reports.now)) }
+        ≡ rules_meant (map given_report reports.entry.now)) }
     ensures places { IfOk result (λ rules. ArePlaces (map view rules.values.items) rules.places) }
 {
     let mut rules = Rules {
         values: Vec::new(alloc),
         places: BTreeMap::new(alloc),
     };
-    rules.push_all(alloc, reports)?;
+    while let [report, rest @ ..] = reports {
+        rules.push_rule(alloc, report.diagnostic.inner())?;
+        reports = rest;
+    }
     Ok(rules)
 }
 
 impl Rules {
-    /// Adds the rules of reports that are new.
-    #[tactic(auto, unfolding(crate::specs::Rules::and_rules))]
-    fn push_all(&mut self, alloc: Global, mut reports: &[FileReport]) -> Result<(), AllocError>
-        requires { ArePlaces (map view self.old.values.items) self.old.places }
-        ensures rules { OnOk result (map view self.new.values.items
-            ≡ and_rules (map view self.old.values.items) (map given_report reports.entry.now)) }
-        ensures places { OnOk result (ArePlaces (map view self.new.values.items) self.new.places) }
-    {
-        while let [report, rest @ ..] = reports {
-            self.push_rule(alloc, report.diagnostic.inner())?;
-            reports = rest;
-        }
-        Ok(())
-    }
-
     /// Adds the rule of a report, if it has a new one.
+    #[tactic(auto, using(crate::proofs::RuleLemmas::pushed_places))]
     fn push_rule(&mut self, alloc: Global, said: &OxcDiagnosticInner) -> Result<(), AllocError>
         requires { ArePlaces (map view self.old.values.items) self.old.places }
         ensures rules { OnOk result (map view self.new.values.items
@@ -67,23 +55,10 @@ impl Rules {
         let Some(rule) = rule_of(alloc, said)? else {
             return Ok(());
         };
-        let text = text_of(alloc, &rule)?;
+        let text = rule.to_string(alloc)?;
         if self.place_of(text.as_str()).is_some() {
             return Ok(());
         }
-        self.push(text, rule)
-    }
-
-    /// Adds a rule that is new, by its text.
-    #[tactic(auto, using(crate::proofs::RuleLemmas::pushed_places))]
-    fn push(&mut self, text: String, rule: Value) -> Result<(), AllocError>
-        requires places { ArePlaces (map view self.old.values.items) self.old.places }
-        requires text { string_bytes text ≡ compact_text (view rule) }
-        requires new { place_from 0 (map view self.old.values.items) (string_bytes text) ≡ None }
-        ensures rules { OnOk result (map view self.new.values.items
-            ≡ map view self.old.values.items ++ view rule ∷ []) }
-        ensures places { OnOk result (ArePlaces (map view self.new.values.items) self.new.places) }
-    {
         let place = self.values.len();
         self.values.push(rule)?;
         self.places.insert(text, place)?;
@@ -111,21 +86,13 @@ impl Rules {
         let Some(rule) = rule_of(alloc, said)? else {
             return Ok(None);
         };
-        let text = text_of(alloc, &rule)?;
+        let text = rule.to_string(alloc)?;
         Ok(self.place_of(text.as_str()))
     }
 }
 
-/// The text of a rule.
-fn text_of(alloc: Global, rule: &Value) -> Result<String, AllocError>
-    requires { has_float (view rule.now) ≡ false }
-    ensures { IfOk result (λ text. string_bytes text ≡ compact_text (view rule.now)) }
-{
-    rule.to_string(alloc)
-}
-
 /// The rule of a report that has a number or a URL.
-#[tactic(auto, unfolding(crate::specs::Rules::rule_of))]
+#[tactic(auto, using(crate::proofs::PlainLemmas::plain_rule), unfolding(crate::specs::Rules::rule_of, crate::specs::Rules::rule_value))]
 fn rule_of(alloc: Global, said: &OxcDiagnosticInner) -> Result<Option<Value>, AllocError>
     ensures rule { IfOk result (λ rule. option_map view rule ≡ rule_meant (inner_parts said.now)) }
     ensures whole { IfOk result (λ rule. IfSome rule (λ it. has_float (view it) ≡ false)) }
@@ -135,20 +102,11 @@ fn rule_of(alloc: Global, said: &OxcDiagnosticInner) -> Result<Option<Value>, Al
     if number.is_none() && url.is_none() {
         return Ok(None);
     }
-    Ok(Some(rule_value(alloc, number, url)?))
-}
-
-#[tactic(auto, using(crate::proofs::PlainLemmas::plain_rule), unfolding(crate::specs::Rules::rule_value))]
-fn rule_value(alloc: Global, number: Option<&str>, url: Option<&str>) -> Result<Value, AllocError>
-    ensures value { IfOk result (λ value. view value
-        ≡ rule_written (option_copied number.entry) (option_copied url.entry)) }
-    ensures whole { IfOk result (λ value. has_float (view value) ≡ false) }
-{
     let mut members = Map::new(alloc);
     let id = String::from_str(alloc, number.unwrap_or(""))?;
     put(&mut members, alloc, "id", Value::String(id))?;
     put_text(alloc, &mut members, "helpUri", url)?;
-    Ok(Value::Object(members))
+    Ok(Some(Value::Object(members)))
 }
 
 /// A text under a key, if there is one.

@@ -9,13 +9,10 @@ ghost use Rattle.found_reports.specs.Fixes.{fix_view};
 ghost use Rattle.render_files.specs.Causes.{IsJudged};
 ghost use Rattle.render_files.specs.Given.{given_report};
 ghost use Rattle.render_files.specs.Refusal.{refusal_of};
-ghost use Rattle.sarif_writing.specs.Written.{artifact_value as artifact_meant};
-ghost use Rattle.sarif_writing.specs.Written.{breaks_value as breaks_meant};
 ghost use Rattle.sarif_writing.specs.Written.{file_value as file_meant, index_in, log_of};
 ghost use Rattle.sarif_writing.specs.Written.{log_value as log_meant, log_with, map_beside};
 ghost use Rattle.sarif_writing.specs.Written.{run_of as run_from, run_with};
 ghost use Rattle.sarif_writing.specs.Written.{tool_value as tool_meant};
-ghost use Rattle.sarif_writing.specs.Written.{unread_value as unread_meant};
 
 use crate::results::results_of;
 use crate::rules::rules_of;
@@ -130,26 +127,18 @@ fn run_value(
     Ok(body)
 }
 
-#[tactic(auto, unfolding(crate::specs::Written::run_of))]
+#[tactic(auto, unfolding(crate::specs::Written::run_of, crate::specs::Written::breaks_value))]
 fn run_of(alloc: Global, artifacts: Value, results: Value, tool: Value) -> Result<Value, AllocError>
     ensures { IfOk result (λ value. view value
         ≡ run_from (view artifacts) (view results) (view tool)) }
 {
-    let breaks = breaks_value(alloc)?;
     json!(in alloc; {
         "artifacts": artifacts,
         "columnKind": "unicodeCodePoints",
-        "newlineSequences": breaks,
+        "newlineSequences": ["\r\n", "\n", "\r"],
         "results": results,
         "tool": tool
     })
-}
-
-#[tactic(auto, unfolding(crate::specs::Written::breaks_value))]
-fn breaks_value(alloc: Global) -> Result<Value, AllocError>
-    ensures { IfOk result (λ value. view value ≡ breaks_meant) }
-{
-    json!(in alloc; ["\r\n", "\n", "\r"])
 }
 
 #[tactic(auto, unfolding(crate::specs::Written::tool_value))]
@@ -205,6 +194,7 @@ fn is_unread(unread: &[bool], index: usize) -> bool
     }
 }
 
+#[tactic(auto, unfolding(crate::specs::Written::unread_value, crate::specs::Written::artifact_value))]
 fn file_value(
     alloc: Global,
     files: &Files<String>,
@@ -216,29 +206,8 @@ fn file_value(
         (record { name = name_of files.now file; text = text_of files.now file })) }
 {
     if is_unread {
-        unread_value(alloc, files, file)
-    } else {
-        artifact_value(alloc, files, file)
+        return json!(in alloc; {"location": {"uri": files.name(file)}});
     }
-}
-
-#[tactic(auto, unfolding(crate::specs::Written::unread_value))]
-fn unread_value(alloc: Global, files: &Files<String>, file: FileId) -> Result<Value, AllocError>
-    requires { file < length files.now }
-    ensures { IfOk result (λ value. view value
-        ≡ unread_meant
-        (record { name = name_of files.now file; text = text_of files.now file })) }
-{
-    json!(in alloc; {"location": {"uri": files.name(file)}})
-}
-
-#[tactic(auto, unfolding(crate::specs::Written::artifact_value))]
-fn artifact_value(alloc: Global, files: &Files<String>, file: FileId) -> Result<Value, AllocError>
-    requires { file < length files.now }
-    ensures { IfOk result (λ value. view value
-        ≡ artifact_meant
-        (record { name = name_of files.now file; text = text_of files.now file })) }
-{
     json!(in alloc; {
         "contents": {"text": files.source(file).as_str()},
         "location": {"uri": files.name(file)}

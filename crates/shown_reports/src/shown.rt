@@ -2,14 +2,14 @@
 ghost use Rattle.std.specs.Prelude.{◌≡◌, ◌++◌, ◌∷◌, [], ◌<◌, ◌≤◌, All, IfOk, IsErrOf, OnOk};
 ghost use Rattle.std.specs.Prelude.{length, map};
 ghost use Rattle.oxc_span.specs.Views.{text_bytes};
-ghost use Rattle.oxc_protocol.specs.Views.{code_parts, inner_parts};
+ghost use Rattle.oxc_protocol.specs.Views.{inner_parts};
 ghost use Rattle.render_files.specs.Given.{given_label, given_report};
 ghost use Rattle.documents.specs.Views.{document_view};
 ghost use Rattle.found_reports.specs.Held.{held_of};
 ghost use Rattle.found_reports.specs.Kept.{IsShort, Stands, file_view, report_on};
 ghost use Rattle.shown_reports.specs.Shown.{IsShown, breaks_held, breaks_shown};
 ghost use Rattle.shown_reports.specs.Shown.{label_by_bytes as by_bytes, shown_file};
-ghost use Rattle.shown_reports.specs.Shown.{shown_code, shown_diagnostic as diagnostic_shown};
+ghost use Rattle.shown_reports.specs.Shown.{shown_diagnostic as diagnostic_shown};
 ghost use Rattle.shown_reports.specs.Shown.{shown_label as label_shown, shown_note, shown_parts};
 ghost use Rattle.shown_reports.specs.Standing.{KeepsFile, KeepsHeld, shown_as};
 
@@ -24,7 +24,7 @@ use std::alloc::{AllocError, Global};
 use thiserror::Error;
 
 /// Why reports can't be shown.
-#[derive(Clone, Copy, Debug, PartialEq, Eq, Error)]
+#[derive(Debug, Drop, Error)]
 pub enum ShowError {
     /// There are `u32::MAX` files or more, past the last number of a file.
     #[error("too many files")]
@@ -170,23 +170,12 @@ pub fn shown_diagnostic(
         (report_on (file_view file.now) report.now)) }
 {
     let parts = parts_of(alloc, file, report, raw)?;
-    let labels = shown_labels(alloc, report.diagnostic.labels(), raw)?;
-    with_parts(OxcDiagnostic::error(alloc, "")?, parts).with_labels(alloc, labels)
-}
-
-/// Labels with their texts as they are shown.
-fn shown_labels(
-    alloc: Global,
-    labels: &[LabeledSpan],
-    raw: bool,
-) -> Result<Vec<LabeledSpan>, AllocError>
-    ensures { IfOk result (λ it. it.items ≡ map (label_shown raw) labels.now) }
-{
+    let labels = report.diagnostic.labels();
     let mut shown = Vec::with_capacity(alloc, labels.len())?;
     for label in labels {
         shown.push(shown_label(alloc, label, raw)?)?;
     }
-    Ok(shown)
+    with_parts(OxcDiagnostic::error(alloc, "")?, parts).with_labels(alloc, shown)
 }
 
 /// A label with its text as it is shown.
@@ -224,24 +213,18 @@ fn parts_of(
         ≡ shown_parts raw (report_on (file_view file.now) report.now)) }
 {
     let said = &report.diagnostic;
+    let code = &said.inner().code;
     Ok(OxcDiagnosticInner {
         message: shown_text(alloc, raw, Kind::Prose, said.message())?,
         labels: Labels::new(alloc),
         help: shown_if(alloc, raw, Kind::Prose, said.help())?,
         note: note(alloc, file, report, raw)?,
         severity: said.inner().severity,
-        code: code(alloc, &said.inner().code, raw)?,
+        code: OxcCode {
+            scope: shown_if(alloc, raw, Kind::Name, code.scope.as_deref())?,
+            number: shown_if(alloc, raw, Kind::Name, code.number.as_deref())?,
+        },
         url: shown_if(alloc, raw, Kind::Name, said.url())?,
-    })
-}
-
-/// A code.
-fn code(alloc: Global, code: &OxcCode, raw: bool) -> Result<OxcCode, AllocError>
-    ensures { IfOk result (λ it. code_parts it ≡ shown_code raw (code_parts code.now)) }
-{
-    Ok(OxcCode {
-        scope: shown_if(alloc, raw, Kind::Name, code.scope.as_deref())?,
-        number: shown_if(alloc, raw, Kind::Name, code.number.as_deref())?,
     })
 }
 
@@ -268,6 +251,7 @@ fn note(
 }
 
 /// Labels, by bytes.
+#[tactic(auto, unfolding(crate::specs::Shown::label_by_bytes))]
 fn place_labels(
     alloc: Global,
     labels: &[LabeledSpan],
@@ -277,23 +261,15 @@ fn place_labels(
 {
     let mut placed = Vec::with_capacity(alloc, labels.len())?;
     for label in labels {
-        placed.push(place_label(alloc, label, raw)?)?;
+        let span = label.span();
+        placed.push(PlaceLabel {
+            place: LabelPlace::Bytes {
+                start: span.start,
+                end: span.end,
+            },
+            text: shown_if(alloc, raw, Kind::Prose, label.label())?,
+            primary: label.primary(),
+        })?;
     }
     Ok(placed)
-}
-
-/// A label, by bytes.
-#[tactic(auto, unfolding(crate::specs::Shown::label_by_bytes))]
-fn place_label(alloc: Global, label: &LabeledSpan, raw: bool) -> Result<PlaceLabel, AllocError>
-    ensures { IfOk result (λ it. given_label it ≡ by_bytes raw label.now) }
-{
-    let span = label.span();
-    Ok(PlaceLabel {
-        place: LabelPlace::Bytes {
-            start: span.start,
-            end: span.end,
-        },
-        text: shown_if(alloc, raw, Kind::Prose, label.label())?,
-        primary: label.primary(),
-    })
 }

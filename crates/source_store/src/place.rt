@@ -1,8 +1,7 @@
 // Where a path leads.
 ghost use Rattle.std.specs.Prelude.{◌≡◌, map, IfOk, IfSome, OnOk, false, string_bytes};
-ghost use Rattle.std.specs.List.{list_any};
 ghost use Rattle.source_store.specs.Place.{IsBelow, begins_with as begins_with_parts, entered};
-ghost use Rattle.source_store.specs.Place.{is_end, is_line as is_one_line, located as located_at};
+ghost use Rattle.source_store.specs.Place.{is_line as is_one_line, located as located_at};
 ghost use Rattle.source_store.specs.Place.{parts_of, path_of, resolved, text_bytes, walked};
 
 use std::alloc::{AllocError, Global};
@@ -52,14 +51,9 @@ fn located(
 pub(crate) fn is_line(path: &str) -> bool
     ensures { result ≡ is_one_line path.now }
 {
-    !has_end(path.as_bytes())
-}
-
-/// Whether there is a NUL or an LF.
-fn has_end(bytes: &[u8]) -> bool
-    ensures { result ≡ list_any is_end bytes.now }
-{
-    bytes.iter().any(|byte| *byte == 0 || *byte == b'\n')
+    let bytes = path.as_bytes();
+    let has_end = bytes.iter().any(|byte| *byte == 0 || *byte == b'\n');
+    !has_end
 }
 
 /// The parts of the absolute path of a path from a folder, or from the top.

@@ -16,7 +16,7 @@ pub struct Text<'a> {
 }
 
 /// Why files aren't written.
-#[derive(Clone, Copy)]
+#[derive(Drop)]
 pub enum WriteError<'a> {
     /// The file with this path can't be written.
     File(&'a str),

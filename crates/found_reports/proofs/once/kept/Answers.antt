@@ -38,6 +38,6 @@ loop-report-preserved c =
       keeps = pushed.keeps;
       files = pushed.files;
       stand = left.0;
-      found = rw (pushed.found, c.next.ensures, c.later-rest.ensures)
+      found = rw (pushed.found, c.next-is.ensures.flag, c.next-is.ensures.others)
           (popped given c.loop-report.rest.now c.loop-report.once.found.found (kept_of c.args.flags.now c.args.found.found) c.loop-report.reports.items c.pop.new.self.items c.in-Some.report c.in-Some.ensures.items c.loop-report.invariant.found);
     }

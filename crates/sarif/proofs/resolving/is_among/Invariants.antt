@@ -1,9 +1,0 @@
--- None of those before is the name.
-use Rattle.std.proofs.Common.{◌≡◌, drop}
-use Rattle.std.specs.List.{list_any}
-use Rattle.std.specs.Str.{bytes_eq}
-use Rattle.sarif.specs.Views.{lent_texts}
-use Rattle.sarif.proofs.resolving.is_among.Given as goal
-
-abbrev pub invariant-loop-it : goal.invariant-loop-it
-invariant-loop-it l = list_any (λ it. bytes_eq it l.name) (lent_texts (drop l.it-index l.names)) ≡ list_any (λ it. bytes_eq it l.name) (lent_texts l.names)

@@ -1,8 +1,0 @@
--- Those so far.
-use Rattle.std.proofs.Common.{◌≡◌, map, take}
-use Rattle.json.specs.Value.{value_view}
-use Rattle.sarif_log.specs.Log.{replacement_view, replacements_of}
-use Rattle.sarif_log.proofs.read.replacements.Given as goal
-
-abbrev pub invariant-loop-value : goal.invariant-loop-value
-invariant-loop-value l = map replacement_view l.found.items ≡ replacements_of (map value_view (take l.value-index l.values))

@@ -1,8 +1,0 @@
--- Those so far.
-use Rattle.std.proofs.Common.{◌≡◌, map, take}
-use Rattle.json.specs.Value.{value_view}
-use Rattle.sarif_log.specs.Log.{rule_view, rules_of}
-use Rattle.sarif_log.proofs.read.rules.Given as goal
-
-abbrev pub invariant-loop-value : goal.invariant-loop-value
-invariant-loop-value l = map rule_view l.found.items ≡ rules_of (map value_view (take l.value-index l.values))

@@ -1,8 +1,0 @@
--- Those so far.
-use Rattle.std.proofs.Common.{◌≡◌, map, take}
-use Rattle.serde_json.specs.View.{view}
-use Rattle.sarif_writing.specs.Written.{label_location}
-use Rattle.sarif_writing.proofs.places.label_locations.Given as goal
-
-abbrev pub invariant-loop-label : goal.invariant-loop-label
-invariant-loop-label l = map view l.values.items ≡ map (label_location l.files l.file) (take l.label-index l.labels)
