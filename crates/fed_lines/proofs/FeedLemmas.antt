@@ -236,9 +236,6 @@ comes_step shapes whole given name later held left extra p known within leaves c
           (subst (λ ls. ArePieces shapes later ls ps) (append_assoc left extra more ∙ (ap (λ ls. ls ++ (extra ++ more)) leaves.1 ∙ sym (drop-append-le p.lines held (extra ++ more) within))) are),
     )))
 
-pub mapped_push : {A B : Type 0} (f : A → B) (xs : List A) (y : A) (pushed : List A) → pushed ≡ xs ++ y ∷ [] → map f xs ++ f y ∷ [] ≡ map f pushed
-mapped_push f xs y pushed e = sym (ap (map f) e ∙ map-append f xs (y ∷ []))
-
 -- the last pieces
 pub ends_step : (shapes : List ShapeParts) (whole : List (List ℕ)) (given : List PieceParts) (name later : Option (List ℕ)) (held left : List (List ℕ)) (p : PieceParts)
     → Some p ≡ last_piece shapes name held → (later ≡ name_behind p.begun.sort name held) × (left ≡ drop p.lines held) → Ends shapes whole given name held → Ends shapes whole (given ++ p ∷ []) later left
@@ -247,18 +244,6 @@ ends_step shapes whole given name later (line ∷ lines) left p is leaves ends =
     λ ps are.
     subst (λ qs. ArePieces shapes None whole qs) (sym (append_assoc given (p ∷ []) ps))
     (ends (p ∷ ps) (record { some = omega arith; same = same_Some p (piece shapes name (line ∷ lines)) is }, subst (λ n. ArePieces shapes n (drop p.lines (line ∷ lines)) ps) leaves.0 (subst (λ ls. ArePieces shapes later ls ps) leaves.1 are)))
-
-pub no_last : (shapes : List ShapeParts) (name : Option (List ℕ)) (held : List (List ℕ)) → None ≡ last_piece shapes name held → length held ≡ 0
-no_last shapes name [] is = refl
-no_last shapes name (line ∷ lines) is = elim (none-some (piece shapes name (line ∷ lines)) is) [ ]
-
--- a line is fed
-pub comes_line : (shapes : List ShapeParts) (whole : List (List ℕ)) (given : List PieceParts) (name : Option (List ℕ)) (held : List (List ℕ)) (line : List ℕ)
-    → Comes shapes whole given name held → Comes shapes (whole ++ line ∷ []) given name (held ++ line ∷ [])
-comes_line shapes whole given name held line comes =
-    λ more ps are.
-    subst (λ ls. ArePieces shapes None ls (given ++ ps)) (sym (append_assoc whole (line ∷ []) more))
-    (comes (line ∷ more) ps (subst (λ ls. ArePieces shapes name ls ps) (append_assoc held (line ∷ []) more) are))
 
 -- no line is to come
 pub comes_ends : (shapes : List ShapeParts) (whole : List (List ℕ)) (given : List PieceParts) (name : Option (List ℕ)) (held : List (List ℕ)) → Comes shapes whole given name held → Ends shapes whole given name held
@@ -329,10 +314,6 @@ run_more shapes Inline second front last line open_yet goes =
     trail_more shapes false 0 (second ∷ front) last line open_yet (and_parts (in_trail shapes false last (Some line)) (not (ends_trails shapes false line)) goes).0 (not-true (ends_trails shapes false line) (and_parts (in_trail shapes false last (Some line)) (not (ends_trails shapes false line)) goes).1)
 run_more shapes Spaced second front last line open_yet goes =
     trail_more shapes true 0 (second ∷ front) last line open_yet (and_parts (in_trail shapes true last (Some line)) (not (ends_trails shapes true line)) goes).0 (not-true (ends_trails shapes true line) (and_parts (in_trail shapes true last (Some line)) (not (ends_trails shapes true line)) goes).1)
-
-or_none_first : (found : Option FindingParts) (o : Option PieceParts) → piece_or found o ≡ None → found ≡ None
-or_none_first None o e = refl
-or_none_first (Some finding) o e = elim (none-some (let q : PieceParts = record { lines = 1; begun = record { sort = Below; finding = Some finding } } in q) (sym e)) [ ]
 
 or_none : (found : Option FindingParts) (o other : Option PieceParts) → piece_or found o ≡ None → (o ≡ None → other ≡ None) → piece_or found other ≡ None
 or_none None o other e next = next e
@@ -435,10 +416,6 @@ nothing_last shapes name (line ∷ lines) is = elim (none-some (cut_of (piece sh
 pub all_cut : (shapes : List ShapeParts) (whole : List (List ℕ)) (cuts : List Cut) (name : Option (List ℕ)) (held : List (List ℕ)) → None ≡ option_map cut_of (last_piece shapes name held) → IsEnding shapes whole cuts name held → AreCut shapes whole cuts
 all_cut shapes whole cuts name held none it =
     record { pieces = it.pieces; cut = it.cut; are = subst (λ ps. ArePieces shapes None whole ps) (append-nil it.pieces) (it.end [] (nothing_last shapes name held none)) }
-
--- no line, no piece
-pub fed_none : (shapes : List ShapeParts) (lines : List (List ℕ)) (cuts : List Cut) → cuts ≡ [] → IsFed shapes lines cuts None lines
-fed_none shapes lines cuts none = record { pieces = []; cut = sym none; come = λ more ps are. are }
 
 pub fed_shorter : (name later : Option (List ℕ)) (held left : List (List ℕ)) (o : Option PieceParts) (cut : Cut) → Some cut ≡ option_map cut_of o → 1 ≤ cut.lines → cut.lines ≤ length held → Leaves name held o later left → length left < length held
 fed_shorter name later held left None cut is some within leaves = elim (none-some cut (sym is)) [ ]

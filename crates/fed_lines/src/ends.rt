@@ -1,5 +1,5 @@
 //! Where the lines of a block end.
-ghost use Rattle.std.specs.Prelude.{◌≡◌, ◌≤◌, ◌+◌, if◌then◌else◌, IfSome, None, Some, map, length};
+ghost use Rattle.std.specs.Prelude.{◌≡◌, ◌≤◌, ◌+◌, IfSome, None, Some, map, length};
 ghost use Rattle.std.specs.Prelude.{option_map};
 ghost use Rattle.line_shapes.specs.Shape.{shape_parts};
 ghost use Rattle.tool_lines.specs.Lines.{announced_len as announced_length};
@@ -65,7 +65,8 @@ fn trail_end(shapes: &[Shape<'_>], apart: bool, mut lines: &[Vec<u8>]) -> Option
     let mut count = 0;
     while let [first, rest @ ..] = lines {
         let Some(next) = first_of(rest) else {
-            return unless_open(ends_trails(shapes, apart, first), count);
+            let ends = ends_trails(shapes, apart, first);
+            return if ends { Some(count) } else { None };
         };
         if !in_trail(shapes, apart, first, Some(next)) {
             return Some(count);
@@ -74,12 +75,6 @@ fn trail_end(shapes: &[Shape<'_>], apart: bool, mut lines: &[Vec<u8>]) -> Option
         lines = rest;
     }
     None
-}
-
-fn unless_open(ends: bool, count: usize) -> Option<usize>
-    ensures { result ≡ (if ends then Some count else None) }
-{
-    if ends { Some(count) } else { None }
 }
 
 /// Whether a line ends each trail, whatever follows. With `apart`, an empty line doesn't.

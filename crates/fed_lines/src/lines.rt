@@ -8,7 +8,6 @@ ghost use Rattle.tool_lines.specs.Lines.{in_trail as trails, piece_parts};
 ghost use Rattle.fed_lines.specs.Feed.{ends_trails as ends_all_trails};
 ghost use Rattle.fed_lines.specs.Feed.{IsFirst, StaysOpen, below_piece};
 ghost use Rattle.fed_lines.specs.Feed.{goes_on as goes_further, known_piece, last_piece};
-ghost use Rattle.fed_lines.specs.Feed.{piece_behind};
 
 use crate::ends::{behind, ends_trails, first_of, run_end};
 use line_shapes::shape::Shape;
@@ -49,7 +48,13 @@ fn known_among<'h>(
             if let Some(finding) = below_at(name, first) {
                 return Some(below(finding));
             }
-            known_behind(shapes, first, rest)
+            let next = first_of(rest)?;
+            let begun = what_begins(shapes, first, Some(next));
+            let count = run_end(shapes, begun.sort, rest)?;
+            Some(Piece {
+                lines: 1 + count,
+                begun,
+            })
         }
         [] => None,
     }
@@ -65,23 +70,6 @@ fn below<'h>(finding: Finding<'h>) -> Piece<'h>
             finding: Some(finding),
         },
     }
-}
-
-/// The same for a line that isn't below a heading.
-fn known_behind<'h>(shapes: &[Shape<'_>], line: &'h [u8], lines: &'h [Vec<u8>]) -> Option<Piece<'h>>
-    ensures piece { option_map piece_parts result
-        ≡ piece_behind (map shape_parts shapes.now) line.entry.now
-        (map (λ line. line.items) lines.entry.now) }
-    ensures some { IfSome result (λ p. 1 ≤ p.lines) }
-    ensures within { IfSome result (λ p. p.lines ≤ 1 + length lines.entry.now) }
-{
-    let next = first_of(lines)?;
-    let begun = what_begins(shapes, line, Some(next));
-    let count = run_end(shapes, begun.sort, lines)?;
-    Some(Piece {
-        lines: 1 + count,
-        begun,
-    })
 }
 
 impl<'s> Lines<'s> {

@@ -11,7 +11,7 @@ use std::alloc::{AllocError, Global};
 use tool_lines::lines::Sort;
 
 /// A block: what begins it, and how many lines it has.
-#[derive(Clone, Copy, PartialEq, Eq)]
+#[derive(Drop)]
 pub struct Cut {
     /// What begins at its first line.
     pub sort: Sort,

@@ -3,15 +3,13 @@
 
 ghost use Rattle.std.specs.Prelude.{◌≡◌, IfOk, option_map, string_bytes};
 ghost use Rattle.std.specs.List.{list_all};
-ghost use Rattle.std.specs.Str.{bytes_eq, chars};
+ghost use Rattle.std.specs.Str.{chars};
 ghost use Rattle.harmless.specs.Harmless.{HasNoHarm, IsTameSource, KeepsPlaces};
 ghost use Rattle.harmless.specs.Harmless.{changed_source as changed_text};
 ghost use Rattle.harmless.specs.Harmless.{harmless as harmless_text};
 ghost use Rattle.harmless.specs.Harmless.{harmless_char as harmless_of};
-ghost use Rattle.harmless.specs.Harmless.{harmless_source as source_text, is_between};
-ghost use Rattle.harmless.specs.Harmless.{is_high_control, is_layout as layout_of, is_low_control};
-ghost use Rattle.harmless.specs.Harmless.{source_char as source_of, stays, turns_direction};
-ghost use Rattle.harmless.specs.Harmless.{with_next};
+ghost use Rattle.harmless.specs.Harmless.{harmless_source as source_text};
+ghost use Rattle.harmless.specs.Harmless.{source_char as source_of, stays, with_next};
 
 use std::alloc::{AllocError, Global};
 use std::iter::once;
@@ -23,7 +21,7 @@ pub use paint::harmless_line;
 use plain::is_plain;
 
 /// What a text is for.
-#[derive(Clone, Copy, PartialEq, Eq)]
+#[derive(Clone, Copy)]
 pub enum Kind {
     /// A message, a label, help or a note: it may have lines and tabs.
     Prose,
@@ -37,54 +35,15 @@ pub enum Kind {
 pub fn harmless_char(kind: Kind, c: char) -> char
     ensures { result ≡ harmless_of kind c }
 {
-    if is_layout(kind, c) {
-        c
-    } else if is_low_control(c) {
-        '?'
-    } else if is_high_control(c) {
-        '\u{BF}'
-    } else if turns_direction(c) {
-        '\u{FFFD}'
-    } else {
-        c
+    match c {
+        '\t' | '\n' if matches!(kind, Kind::Prose) => c,
+        '\0'..='\x1F' | '\x7F' => '?',
+        // the control characters past ASCII
+        '\u{80}'..='\u{9F}' => '\u{BF}',
+        // those that change the direction of text
+        '\u{202A}'..='\u{202E}' | '\u{2066}'..='\u{2069}' => '\u{FFFD}',
+        _ => c,
     }
-}
-
-/// Whether a text of a kind may have a control character.
-fn is_layout(kind: Kind, c: char) -> bool
-    ensures { result ≡ layout_of kind c }
-{
-    match kind {
-        Kind::Prose => c == '\t' || c == '\n',
-        Kind::Name => false,
-    }
-}
-
-/// Whether a character is a control character of ASCII.
-fn is_low_control(c: char) -> bool
-    ensures { result ≡ is_low_control c }
-{
-    c < ' ' || c == '\u{7F}'
-}
-
-/// Whether a character is a control character past ASCII.
-fn is_high_control(c: char) -> bool
-    ensures { result ≡ is_high_control c }
-{
-    is_between('\u{80}', '\u{9F}', c)
-}
-
-/// Whether a character changes the direction of text.
-fn turns_direction(c: char) -> bool
-    ensures { result ≡ turns_direction c }
-{
-    is_between('\u{202A}', '\u{202E}', c) || is_between('\u{2066}', '\u{2069}', c)
-}
-
-fn is_between(first: char, last: char, c: char) -> bool
-    ensures { result ≡ is_between first last c }
-{
-    first <= c && c <= last
 }
 
 /// A text with each character sanitized. It has as many bytes, and each character starts where it
@@ -99,13 +58,7 @@ pub fn harmless(alloc: Global, kind: Kind, text: &str) -> Result<String, AllocEr
     ensures places { IfOk result (λ out. KeepsPlaces text.now (string_bytes out)) }
     ensures tame { IfOk result (λ out. HasNoHarm kind (string_bytes out)) }
 {
-    replaced(alloc, kind, text)
-}
-
-/// The same, of the text alone; plain ASCII is copied.
-fn replaced(alloc: Global, kind: Kind, text: &str) -> Result<String, AllocError>
-    ensures { IfOk result (λ out. string_bytes out ≡ harmless_text kind text.now) }
-{
+    // plain ASCII is copied
     if is_plain(kind, text) {
         String::from_str(alloc, text)
     } else {
@@ -133,7 +86,11 @@ pub fn harmless_source(alloc: Global, text: &str) -> Result<String, AllocError>
     ensures places { IfOk result (λ out. KeepsPlaces text.now (string_bytes out)) }
     ensures tame { IfOk result (λ out. IsTameSource (string_bytes out)) }
 {
-    settled(alloc, text)
+    if is_plain(Kind::Prose, text) {
+        String::from_str(alloc, text)
+    } else {
+        settled_chars(alloc, text)
+    }
 }
 
 /// The sanitized source, if it isn't the source itself: so that one text may serve as both.
@@ -144,17 +101,14 @@ pub fn harmless_source(alloc: Global, text: &str) -> Result<String, AllocError>
 pub fn changed_source(alloc: Global, text: &str) -> Result<Option<String>, AllocError>
     ensures { IfOk result (λ out. option_map string_bytes out ≡ changed_text text.now) }
 {
-    if is_settled(text) {
+    // (the quick look first)
+    if is_plain(Kind::Prose, text) {
+        return Ok(None);
+    }
+    if all_stay(text) {
         return Ok(None);
     }
     Ok(Some(settled_chars(alloc, text)?))
-}
-
-/// Whether a source is the sanitized one already. It allocates no memory.
-fn is_settled(text: &str) -> bool
-    ensures { result ≡ bytes_eq (source_text text.now) text.now }
-{
-    is_plain(Kind::Prose, text) || all_stay(text)
 }
 
 /// Whether each character of a source stays.
@@ -162,28 +116,12 @@ fn all_stay(text: &str) -> bool
     ensures { result ≡ list_all (λ p. stays p.0 p.1) (with_next (chars text.now)) }
 {
     let next = text.chars().skip(1).chain(once('\0'));
-    text.chars().zip(next).all(|pair| stays(pair.0, pair.1))
+    text.chars()
+        .zip(next)
+        .all(|pair| source_char(pair.0, pair.1) == pair.0)
 }
 
-/// Whether a character before another stays in a source.
-fn stays(c: char, next: char) -> bool
-    ensures { result ≡ stays c next }
-{
-    source_char(c, next) == c
-}
-
-/// The same, of the text alone; plain ASCII is copied.
-fn settled(alloc: Global, text: &str) -> Result<String, AllocError>
-    ensures { IfOk result (λ out. string_bytes out ≡ source_text text.now) }
-{
-    if is_plain(Kind::Prose, text) {
-        String::from_str(alloc, text)
-    } else {
-        settled_chars(alloc, text)
-    }
-}
-
-/// The same, character by character.
+/// The sanitized source, character by character.
 #[tactic(auto, unfolding(crate::specs::Harmless::harmless_source))]
 fn settled_chars(alloc: Global, text: &str) -> Result<String, AllocError>
     ensures { IfOk result (λ out. string_bytes out ≡ source_text text.now) }

@@ -1,11 +1,9 @@
 //! Lines that are sanitized except for their colors.
-ghost use Rattle.std.specs.Prelude.{◌≡◌, ◌≤◌, ◌<◌, ◌+◌, ◌^◌, IfOk, OnOk, length, string_bytes};
+ghost use Rattle.std.specs.Prelude.{◌≡◌, IfOk, OnOk, string_bytes};
 ghost use Rattle.std.specs.List.{list_any, prefix_len};
 ghost use Rattle.std.specs.Str.{chars, encode_utf8_all};
-ghost use Rattle.harmless.specs.Paint.{behind_bracket, ends_paint as ends_a_paint};
-ghost use Rattle.harmless.specs.Paint.{harmless_line as line_text, is_color_part as in_color};
-ghost use Rattle.harmless.specs.Paint.{is_escape, kept_at, paint_ahead as paint_next};
-ghost use Rattle.harmless.specs.Paint.{paint_end as ends_at};
+ghost use Rattle.harmless.specs.Paint.{ends_paint as ends_a_paint, harmless_line as line_text};
+ghost use Rattle.harmless.specs.Paint.{is_color_part as in_color, is_escape};
 ghost use Rattle.harmless.specs.Paint.{paint_len as paint_length, painted_from, with_end};
 
 use crate::plain::is_plain;
@@ -19,27 +17,25 @@ use std::alloc::{AllocError, Global};
 /// # Errors
 ///
 /// Out of memory.
-#[tactic(auto, using(crate::proofs::PlainLemmas::plain_line_stays))]
+#[tactic(auto, using(crate::proofs::PlainLemmas::plain_line_stays, crate::proofs::PaintLemmas::plain_line))]
 pub fn harmless_line(alloc: Global, line: &str) -> Result<String, AllocError>
     ensures { IfOk result (λ out. string_bytes out ≡ line_text line.now) }
 {
     if is_plain(Kind::Prose, line) {
-        String::from_str(alloc, line)
-    } else {
-        marked_line(alloc, line)
+        return String::from_str(alloc, line);
     }
-}
-
-/// The same for a line that isn't plain ASCII.
-#[tactic(auto, using(crate::proofs::PaintLemmas::plain_line))]
-fn marked_line(alloc: Global, line: &str) -> Result<String, AllocError>
-    ensures { IfOk result (λ out. string_bytes out ≡ line_text line.now) }
-{
     if has_escape(line) {
         painted_line(alloc, line)
     } else {
         harmless(alloc, Kind::Prose, line)
     }
+}
+
+/// Whether a line has an ESC.
+fn has_escape(line: &str) -> bool
+    ensures { result ≡ list_any is_escape (chars line.now) }
+{
+    line.chars().any(|c| c == '\x1B')
 }
 
 /// The same for a line that may have ANSI escapes.
@@ -68,49 +64,6 @@ fn text_of(alloc: Global, chars: &[char]) -> Result<String, AllocError>
     chars.iter().copied().collect(alloc)
 }
 
-/// Whether a line has an ESC.
-fn has_escape(line: &str) -> bool
-    ensures { result ≡ list_any is_escape (chars line.now) }
-{
-    line.chars().any(|c| c == '\x1B')
-}
-
-/// Characters with their ANSI escapes as they are, and the others sanitized.
-#[tactic(auto, unfolding(crate::specs::Paint::painted_from))]
-fn painted(alloc: Global, text: &[char]) -> Result<Vec<char>, AllocError>
-    ensures { IfOk result (λ kept. kept.items ≡ painted_from 0 text.now) }
-{
-    let mut kept = Vec::new(alloc);
-    let mut left = 0;
-    let mut rest = text;
-    while let [c, after @ ..] = rest {
-        left = paint_ahead(left, rest);
-        kept.push(kept_char(left, *c))?;
-        left = left.saturating_sub(1);
-        rest = after;
-    }
-    Ok(kept)
-}
-
-/// A character: as it is if `left` says that it is in an ANSI escape, else sanitized.
-fn kept_char(left: usize, c: char) -> char
-    ensures { result ≡ kept_at left c }
-{
-    if left == 0 {
-        harmless_char(Kind::Prose, c)
-    } else {
-        c
-    }
-}
-
-/// How many characters of an ANSI escape come next: those that are left, else those of the one
-/// that begins here.
-fn paint_ahead(left: usize, text: &[char]) -> usize
-    ensures { result ≡ paint_next left text.now }
-{
-    if left == 0 { paint_len(text) } else { left }
-}
-
 /// Appends ESC `[0m` to a text that has ANSI escapes.
 fn end_paint(kept: &mut Vec<char>) -> Result<(), AllocError>
     ensures { OnOk result (kept.new.items ≡ with_end kept.old.items) }
@@ -128,45 +81,49 @@ fn has_paint(kept: &[char]) -> bool
     kept.iter().any(|c| *c == '\x1B')
 }
 
+/// Characters with their ANSI escapes as they are, and the others sanitized.
+#[tactic(auto, unfolding(crate::specs::Paint::painted_from))]
+fn painted(alloc: Global, text: &[char]) -> Result<Vec<char>, AllocError>
+    ensures { IfOk result (λ kept. kept.items ≡ painted_from 0 text.now) }
+{
+    let mut kept = Vec::new(alloc);
+    // how many characters of an escape are left
+    let mut left = 0;
+    let mut rest = text;
+    while let [c, after @ ..] = rest {
+        if left == 0 {
+            left = paint_len(rest);
+        }
+        if left == 0 {
+            kept.push(harmless_char(Kind::Prose, *c))?;
+        } else {
+            kept.push(*c)?;
+            left -= 1;
+        }
+        rest = after;
+    }
+    Ok(kept)
+}
+
 /// The length of the ANSI escape at the beginning of a text, in characters, or 0.
 fn paint_len(text: &[char]) -> usize
-    ensures value { result ≡ paint_length text.now }
-    ensures within { result ≤ length text.now }
+    ensures { result ≡ paint_length text.now }
 {
-    match text {
-        ['\x1B', '[', rest @ ..] => color_len(rest),
-        _ => 0,
-    }
-}
-
-/// The same, after its first two characters.
-fn color_len(rest: &[char]) -> usize
-    requires { length rest.now < 2 ^ 61 }
-    ensures value { result ≡ behind_bracket rest.now }
-    ensures within { result ≤ length rest.now + 2 }
-{
-    color_end(color_run(rest), rest)
-}
-
-fn color_run(rest: &[char]) -> usize
-    ensures value { result ≡ prefix_len in_color rest.now }
-    ensures within { result ≤ length rest.now }
-{
-    rest.iter().take_while(|c| is_color_part(**c)).count()
-}
-
-/// The length of the ANSI escape, if its last character is here.
-fn color_end(count: usize, rest: &[char]) -> usize
-    requires small { length rest.now < 2 ^ 61 }
-    requires here { count ≤ length rest.now }
-    ensures value { result ≡ ends_at count rest.now }
-    ensures within { result ≤ length rest.now + 2 }
-{
+    let ['\x1B', '[', rest @ ..] = text else {
+        return 0;
+    };
+    let count = color_run(rest);
     if count < rest.len() && ends_paint(count, rest[count]) {
         count + 3
     } else {
         0
     }
+}
+
+fn color_run(rest: &[char]) -> usize
+    ensures { result ≡ prefix_len in_color rest.now }
+{
+    rest.iter().take_while(|c| is_color_part(**c)).count()
 }
 
 fn ends_paint(count: usize, c: char) -> bool
@@ -178,5 +135,5 @@ fn ends_paint(count: usize, c: char) -> bool
 fn is_color_part(c: char) -> bool
     ensures { result ≡ in_color c }
 {
-    ('0' <= c && c <= '9') || c == ';'
+    matches!(c, '0'..='9' | ';')
 }

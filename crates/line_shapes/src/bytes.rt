@@ -3,7 +3,6 @@ ghost use Rattle.std.specs.Prelude.{◌≡◌, ◌≤◌, ◌==◌, IfSome, fals
 ghost use Rattle.std.specs.List.{prefix_len, suffix_len, list_any};
 ghost use Rattle.std.specs.Option.{option_copied};
 ghost use Rattle.line_shapes.specs.Bytes.{begins_with as begins_any_case};
-ghost use Rattle.line_shapes.specs.Bytes.{are_joined as are_joined_words};
 ghost use Rattle.line_shapes.specs.Bytes.{are_words as are_words_joined};
 ghost use Rattle.line_shapes.specs.Bytes.{before_last as before_last_byte};
 ghost use Rattle.line_shapes.specs.Bytes.{trimmed as without_blanks};
@@ -11,11 +10,10 @@ ghost use Rattle.line_shapes.specs.Bytes.{capitals_and_digits as number_length};
 ghost use Rattle.line_shapes.specs.Bytes.{cop_len as cop_length, is_in as belongs};
 ghost use Rattle.line_shapes.specs.Bytes.{is_letter as is_ascii_letter};
 ghost use Rattle.line_shapes.specs.Bytes.{leads_well as leads_as_number, number_at as number_there};
-ghost use Rattle.line_shapes.specs.Bytes.{some_run, small, value_from as value_written};
-ghost use Rattle.line_shapes.specs.Bytes.{value_of as value_in};
+ghost use Rattle.line_shapes.specs.Bytes.{some_run, value_of as value_in};
 
 /// A kind of byte.
-#[derive(Clone, Copy, PartialEq, Eq)]
+#[derive(Clone, Copy)]
 pub enum Kind {
     /// A space or a tab.
     Blank,
@@ -127,21 +125,13 @@ pub fn number_at(text: &[u8]) -> Option<(usize, u32)>
 }
 
 /// The number of these digits, without a leading zero.
-fn value_of(digits: &[u8]) -> Option<u32>
-    ensures { result ≡ value_in digits.now }
-{
-    if leads_well(digits) {
-        value_from(digits)
-    } else {
-        None
-    }
-}
-
-/// The number of these digits.
 #[tactic(auto, using(crate::proofs::BytesLemmas::value_grows))]
-fn value_from(mut digits: &[u8]) -> Option<u32>
-    ensures { result ≡ small (value_written 0 digits.entry.now) }
+fn value_of(mut digits: &[u8]) -> Option<u32>
+    ensures { result ≡ value_in digits.entry.now }
 {
+    if !leads_well(digits) {
+        return None;
+    }
     let mut value: u64 = 0;
     while let [digit, rest @ ..] = digits {
         value = value * 10 + u64::from(digit.saturating_sub(b'0'));
@@ -190,18 +180,12 @@ pub fn cop_len(text: &[u8]) -> Option<usize>
     ensures within { IfSome result (λ n. n ≤ length text.now) }
 {
     let count = run(Kind::InCop, text);
-    if are_joined(&text[..count], b'/') {
+    let words = &text[..count];
+    if has(words, b'/') && are_words(words, b'/') {
         Some(count)
     } else {
         None
     }
-}
-
-/// Whether a text is two or more words, joined by a byte.
-pub fn are_joined(text: &[u8], separator: u8) -> bool
-    ensures { result ≡ are_joined_words separator text.now }
-{
-    has(text, separator) && are_words(text, separator)
 }
 
 fn has(text: &[u8], separator: u8) -> bool

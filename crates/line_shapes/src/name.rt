@@ -1,19 +1,17 @@
 //! Names of files in a line.
 ghost use Rattle.std.specs.Prelude.{◌≡◌, ◌≤◌, ◌<◌, length, reverse};
 ghost use Rattle.std.specs.List.{position, range_with_len};
-ghost use Rattle.line_shapes.specs.Name.{angle_len as angle_length, are_scheme};
-ghost use Rattle.line_shapes.specs.Name.{begins_name as may_begin_name, ends_name as may_end_name};
-ghost use Rattle.line_shapes.specs.Name.{first_fault as fault_first, is_angle as begins_angle};
-ghost use Rattle.line_shapes.specs.Name.{is_fault as is_fault_there, is_file as names_file};
-ghost use Rattle.line_shapes.specs.Name.{is_hour as ends_hour, is_lettered as ends_lettered};
-ghost use Rattle.line_shapes.specs.Name.{is_name as is_name_there, is_plain as is_plain_there};
-ghost use Rattle.line_shapes.specs.Name.{begins_hour, is_word as is_one_word};
-ghost use Rattle.line_shapes.specs.Name.{stops as stops_name};
+ghost use Rattle.line_shapes.specs.Name.{angle_len as angle_length, begins_hour};
+ghost use Rattle.line_shapes.specs.Name.{begins_name as may_begin_name, stops as stops_name};
+ghost use Rattle.line_shapes.specs.Name.{ends_name as may_end_name, first_fault as fault_first};
+ghost use Rattle.line_shapes.specs.Name.{is_angle as begins_angle, is_fault as is_fault_there};
+ghost use Rattle.line_shapes.specs.Name.{is_lettered as ends_lettered, is_name as is_name_there};
+ghost use Rattle.line_shapes.specs.Name.{is_file as names_file, is_word as is_one_word};
 
 use crate::bytes::{Kind, end_run, is_in, is_letter, run};
 
 /// What a name may be.
-#[derive(Clone, Copy, PartialEq, Eq)]
+#[derive(Clone, Copy, PartialEq)]
 pub enum NameKind {
     Any,
     /// No `[` at the beginning.
@@ -27,15 +25,8 @@ pub fn is_name(text: &[u8], end: usize, kind: NameKind) -> bool
     requires { end ≤ length text.now }
     ensures { result ≡ is_name_there kind text.now end }
 {
-    1 <= end && angle_len(text) == end || is_plain(text, end, kind)
-}
-
-/// The same of a name without angles.
-fn is_plain(text: &[u8], end: usize, kind: NameKind) -> bool
-    requires { end ≤ length text.now }
-    ensures { result ≡ is_plain_there kind text.now end }
-{
-    begins_name(text, kind) && ends_name(&text[..end]) && end <= first_fault(text, kind)
+    1 <= end && angle_len(text) == end
+        || begins_name(text, kind) && ends_name(&text[..end]) && end <= first_fault(text, kind)
 }
 
 /// Whether a text begins as names in angles do.
@@ -79,12 +70,17 @@ pub fn begins_name(text: &[u8], kind: NameKind) -> bool
     }
 }
 
-/// Whether a name may end as a text does.
+/// Whether a name may end as a text does: there is a letter after its last blank, and it doesn't
+/// end like a date up to its hour, with a digit, `T` and digits.
 #[tactic(auto, unfolding(crate::specs::Name::ends_name))]
 pub fn ends_name(text: &[u8]) -> bool
     ensures { result ≡ may_end_name text.now }
 {
-    is_lettered(text) && !is_hour(text)
+    if !is_lettered(text) {
+        return false;
+    }
+    let digits = end_run(Kind::Digit, text);
+    !(1 <= digits && ends_date(&text[..text.len() - digits]))
 }
 
 /// Whether there is a letter after the last blank.
@@ -101,15 +97,6 @@ fn is_lettered(mut text: &[u8]) -> bool
         text = rest;
     }
     false
-}
-
-/// Whether a text ends like a date up to its hour: a digit, `T` and digits.
-fn is_hour(text: &[u8]) -> bool
-    ensures { result ≡ ends_hour text.now }
-{
-    let digits = end_run(Kind::Digit, text);
-    let front = &text[..text.len() - digits];
-    1 <= digits && ends_date(front)
 }
 
 /// Whether a text ends in a digit and `T`.
@@ -149,18 +136,16 @@ fn fault(text: &[u8], word: bool, file: bool) -> Option<usize>
     (0..text.len()).position(|at| is_fault(text, at, word, file))
 }
 
-/// Whether a name can't go on with the byte at this offset.
+/// Whether a name can't go on with the byte at this offset, because of the byte itself or of those
+/// before it: no name but a URL of a file has `://`.
 fn is_fault(text: &[u8], at: usize, word: bool, file: bool) -> bool
     requires { at < length text.now }
     ensures { result ≡ is_fault_there word file text.now at }
 {
-    stops(text[at], text[at.saturating_sub(1)], word)
-        || !file
-            && is_scheme(
-                text[at.saturating_sub(2)],
-                text[at.saturating_sub(1)],
-                text[at],
-            )
+    let byte = text[at];
+    let last = text[at.saturating_sub(1)];
+    stops(byte, last, word)
+        || !file && text[at.saturating_sub(2)] == b':' && last == b'/' && byte == b'/'
 }
 
 /// Whether a name can't go on with a byte after another.
@@ -170,11 +155,4 @@ fn stops(byte: u8, last: u8, word: bool) -> bool
     matches!(byte, b'*' | b'?' | b'"' | b'<' | b'>' | b'|')
         || is_in(Kind::Digit, byte) && last == b':'
         || is_in(Kind::Blank, byte) && (word || last == b':')
-}
-
-/// Whether these are `://`.
-fn is_scheme(colon: u8, slash: u8, other: u8) -> bool
-    ensures { result ≡ are_scheme colon slash other }
-{
-    colon == b':' && slash == b'/' && other == b'/'
 }

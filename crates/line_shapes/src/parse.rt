@@ -1,8 +1,8 @@
 //! Reads patterns from their texts.
-ghost use Rattle.std.specs.Prelude.{◌≡◌, Ok, map};
-ghost use Rattle.line_shapes.specs.Parse.{Gives, GivesShape, finished, inside, item_among};
+ghost use Rattle.std.specs.Prelude.{◌≡◌, Ok};
+ghost use Rattle.line_shapes.specs.Parse.{Gives, GivesShape, finished, inside};
 ghost use Rattle.line_shapes.specs.Parse.{item_named as item_named_so, out_of_braces};
-ghost use Rattle.line_shapes.specs.Parse.{put as put_item, put_found, reading, reads as reads_text};
+ghost use Rattle.line_shapes.specs.Parse.{put as put_item, reading, reads as reads_text};
 ghost use Rattle.line_shapes.specs.Parse.{same as same_bytes, shape_of, start, step as step_of};
 ghost use Rattle.line_shapes.specs.Parse.{with_part};
 
@@ -12,7 +12,7 @@ use crate::shape::Shape;
 use std::alloc::Global;
 
 /// Why a text is no pattern.
-#[derive(Clone, Copy, PartialEq, Eq)]
+#[derive(Clone, Copy)]
 pub enum ShapeError {
     /// A brace is not closed.
     Unclosed,
@@ -51,7 +51,7 @@ impl OwnShape {
 }
 
 /// An item of a pattern.
-#[derive(Clone, Copy, PartialEq, Eq)]
+#[derive(Clone, Copy)]
 pub enum Item {
     One(Part),
     Name(NameKind),
@@ -136,7 +136,10 @@ fn in_braces(mut reader: Reader, mut name: Vec<u8>, byte: u8) -> Result<Reader, 
     ensures { Gives result (inside byte name.items (reading reader)) }
 {
     if byte == b'}' {
-        return put_named(reader, name.as_slice());
+        return match item_named(name.as_slice()) {
+            Some(item) => put(reader, item),
+            None => Err(ShapeError::Unknown),
+        };
     }
     if name.push(byte).is_err() {
         return Err(ShapeError::OutOfMemory);
@@ -167,28 +170,11 @@ fn outside(alloc: Global, mut reader: Reader, byte: u8) -> Result<Reader, ShapeE
     )
 }
 
-/// Appends the item with this name.
-fn put_named(reader: Reader, name: &[u8]) -> Result<Reader, ShapeError>
-    ensures { Gives result (put_found (item_named_so name.now) (reading reader)) }
-{
-    match item_named(name) {
-        Some(item) => put(reader, item),
-        None => Err(ShapeError::Unknown),
-    }
-}
-
 /// The item with this name.
-#[tactic(auto, unfolding(crate::specs::Parse::items))]
 fn item_named(name: &[u8]) -> Option<Item>
     ensures { result ≡ item_named_so name.now }
 {
-    item_in(&ITEMS, name)
-}
-
-/// The item with this name in a table.
-fn item_in(mut items: &[(&[u8], Item)], name: &[u8]) -> Option<Item>
-    ensures { result ≡ item_among (map (λ item. (item.0.now, item.1)) items.entry.now) name.now }
-{
+    let mut items: &[(&[u8], Item)] = &ITEMS;
     while let [item, rest @ ..] = items {
         if same(item.0, name) {
             return Some(item.1);

@@ -1,19 +1,18 @@
 //! The tokens of a pattern, and what they find in a text.
 ghost use Rattle.std.specs.Prelude.{◌≡◌, ◌≤◌, length, slice_index, option_map};
 ghost use Rattle.std.specs.Option.{option_copied};
-ghost use Rattle.line_shapes.specs.declared.part.Part.TheVariants.{Decimal, Level, Program};
-ghost use Rattle.line_shapes.specs.Part.{before as seen_before, behind as seen_behind, byte_taken};
+ghost use Rattle.line_shapes.specs.declared.part.Part.TheVariants.{Decimal};
+ghost use Rattle.line_shapes.specs.Part.{before as seen_before, behind as seen_behind};
 ghost use Rattle.line_shapes.specs.Part.{fit as fits_there, is_program_start};
-ghost use Rattle.line_shapes.specs.Part.{is_quick as ends_quickly, may_begin, message_taken, seen};
-ghost use Rattle.line_shapes.specs.Part.{past as past_part, past_byte as past_this_byte};
-ghost use Rattle.line_shapes.specs.Part.{past_run as past_kind, taken as taken_by};
-ghost use Rattle.line_shapes.specs.Part.{with_code, with_letter};
+ghost use Rattle.line_shapes.specs.Part.{is_quick as ends_quickly, may_begin};
+ghost use Rattle.line_shapes.specs.Part.{past as past_part, seen, past_run as past_kind};
+ghost use Rattle.line_shapes.specs.Part.{taken as taken_by, with_code, with_letter};
 
 use crate::bytes::{Kind, capitals_and_digits, cop_len, is_in, is_letter, number_at, run, run_of};
 use crate::level::{Severity, letter_severity, level_at, small_severity};
 
 /// A token of a pattern. Each can end at one place only.
-#[derive(Clone, Copy, PartialEq, Eq)]
+#[derive(Clone, Copy, PartialEq)]
 pub enum Part {
     /// This byte.
     Byte(u8),
@@ -44,7 +43,7 @@ pub enum Part {
 }
 
 /// What a number means.
-#[derive(Clone, Copy, PartialEq, Eq)]
+#[derive(Clone, Copy, PartialEq)]
 pub enum Figure {
     Line,
     Column,
@@ -53,7 +52,7 @@ pub enum Figure {
 }
 
 /// What the tokens of a pattern found in a text.
-#[derive(Clone, Copy, Drop)]
+#[derive(Clone, Copy)]
 pub struct Found<'a> {
     /// The text after the tokens so far.
     pub rest: &'a [u8],
@@ -149,21 +148,15 @@ fn past<'a>(part: Part, text: &'a [u8]) -> Option<&'a [u8]>
     ensures { option_copied result ≡ past_part part text.entry.now }
 {
     match part {
-        Part::Byte(byte) => past_byte(byte, text),
+        Part::Byte(byte) => match text {
+            [first, rest @ ..] if *first == byte => Some(rest),
+            _ => None,
+        },
         Part::Blanks => past_run(Kind::Blank, is_in(Kind::Blank, first_of(text)), text),
         Part::AnyBlanks => past_run(Kind::Blank, true, text),
         Part::Decimal(_) => past_run(Kind::Digit, is_in(Kind::Digit, first_of(text)), text),
         Part::Program => past_run(Kind::InProgram, begins_program(first_of(text)), text),
         Part::SetApart => Some(text),
-        _ => None,
-    }
-}
-
-fn past_byte<'a>(byte: u8, text: &'a [u8]) -> Option<&'a [u8]>
-    ensures { option_copied result ≡ past_this_byte byte text.entry.now }
-{
-    match text {
-        [first, rest @ ..] if *first == byte => Some(rest),
         _ => None,
     }
 }
@@ -196,18 +189,42 @@ fn taken<'a>(part: Part, found: Found<'a>) -> Option<Found<'a>>
 {
     let text = found.rest;
     match part {
-        Part::Byte(byte) => this_byte(found, byte),
+        Part::Byte(byte) => match text {
+            [first, rest @ ..] if *first == byte => Some(Found { rest, ..found }),
+            _ => None,
+        },
         Part::Blanks => Some(behind(found, run_of(Kind::Blank, text)?)),
         Part::AnyBlanks => Some(behind(found, run(Kind::Blank, text))),
         Part::Decimal(figure) => counted(found, figure),
-        Part::Level => level(found),
+        Part::Level => {
+            let level = level_at(text)?;
+            Some(Found {
+                rest: &text[level.length..],
+                severity: Some(level.severity),
+                aside: level.aside,
+                ..found
+            })
+        }
         Part::Letter => Some(graded(found, letter_severity(first_of(text))?)),
         Part::Small => Some(graded(found, small_severity(first_of(text))?)),
         Part::Number => Some(coded(found, capitals_and_digits(text)?, true)),
         Part::Rule => Some(coded(found, run_of(Kind::InRule, text)?, false)),
         Part::Cop => Some(coded(found, cop_len(text)?, false)),
-        Part::Program => program(found),
-        Part::Message => message(found),
+        Part::Program => {
+            if begins_program(first_of(text)) {
+                Some(behind(found, run(Kind::InProgram, text)))
+            } else {
+                None
+            }
+        }
+        Part::Message => match text {
+            [first, ..] if !is_in(Kind::Blank, *first) => Some(Found {
+                rest: &[],
+                message: Some(text),
+                ..found
+            }),
+            _ => None,
+        },
         Part::SetApart => Some(Found {
             apart: true,
             ..found
@@ -237,15 +254,6 @@ fn behind<'a>(found: Found<'a>, count: usize) -> Found<'a>
     }
 }
 
-fn this_byte<'a>(found: Found<'a>, byte: u8) -> Option<Found<'a>>
-    ensures { option_map seen result ≡ byte_taken byte found.entry.rest.now (seen found.entry) }
-{
-    match found.rest {
-        [first, rest @ ..] if *first == byte => Some(Found { rest, ..found }),
-        _ => None,
-    }
-}
-
 fn counted<'a>(found: Found<'a>, figure: Figure) -> Option<Found<'a>>
     ensures { option_map seen result ≡ taken_by (Decimal figure) (seen found.entry) }
 {
@@ -268,18 +276,6 @@ fn counted<'a>(found: Found<'a>, figure: Figure) -> Option<Found<'a>>
             end_column: Some(value),
             ..found
         },
-    })
-}
-
-fn level<'a>(found: Found<'a>) -> Option<Found<'a>>
-    ensures { option_map seen result ≡ taken_by Level (seen found.entry) }
-{
-    let level = level_at(found.rest)?;
-    Some(Found {
-        rest: &found.rest[level.length..],
-        severity: Some(level.severity),
-        aside: level.aside,
-        ..found
     })
 }
 
@@ -307,32 +303,9 @@ fn coded<'a>(found: Found<'a>, count: usize, numbered: bool) -> Found<'a>
     }
 }
 
-fn program<'a>(found: Found<'a>) -> Option<Found<'a>>
-    ensures { option_map seen result ≡ taken_by Program (seen found.entry) }
-{
-    if begins_program(first_of(found.rest)) {
-        Some(behind(found, run(Kind::InProgram, found.rest)))
-    } else {
-        None
-    }
-}
-
 /// Whether a program's name may begin with a byte.
 fn begins_program(byte: u8) -> bool
     ensures { result ≡ is_program_start byte }
 {
     is_letter(byte) || byte == b'/'
-}
-
-fn message<'a>(found: Found<'a>) -> Option<Found<'a>>
-    ensures { option_map seen result ≡ message_taken found.entry.rest.now (seen found.entry) }
-{
-    match found.rest {
-        [first, ..] if !is_in(Kind::Blank, *first) => Some(Found {
-            rest: &[],
-            message: Some(found.rest),
-            ..found
-        }),
-        _ => None,
-    }
 }

@@ -1,18 +1,16 @@
 //! The location of a finding: a prefix, a name, and a suffix.
-ghost use Rattle.std.specs.Prelude.{◌≡◌, ◌≤◌, ◌<◌, nat_le, if◌then◌else◌, false};
-ghost use Rattle.std.specs.Prelude.{Some, None, option_map, option_and_then, length, take};
-ghost use Rattle.std.specs.Prelude.{drop, slice_index, map};
+ghost use Rattle.std.specs.Prelude.{◌≡◌, ◌≤◌, ◌<◌, nat_le, if◌then◌else◌, false, Some, None};
+ghost use Rattle.std.specs.Prelude.{option_map, option_and_then, length, take, drop, map};
 ghost use Rattle.line_shapes.specs.Part.{before as seen_before, fit as fits_there, seen};
 ghost use Rattle.line_shapes.specs.Name.{first_fault as fault_first, is_angle as begins_angle};
 ghost use Rattle.line_shapes.specs.Least.{IsLeastPlace};
-ghost use Rattle.line_shapes.specs.Place.{IsNextMark, may_follow, may_name as may_be_name};
 ghost use Rattle.line_shapes.specs.Place.{blanks_end, numbers_end, is_bracket as opens_bracket};
-ghost use Rattle.line_shapes.specs.Place.{ends_number as number_ends, opens_place as place_opens};
-ghost use Rattle.line_shapes.specs.Place.{ends_row as row_ends};
-ghost use Rattle.line_shapes.specs.Place.{ends_figure as figure_ends, found_at as found_behind};
-ghost use Rattle.line_shapes.specs.Place.{first_fit as fits_first, in_lead as place_in_lead};
-ghost use Rattle.line_shapes.specs.Place.{in_leads as place_in_leads, place as place_there};
-ghost use Rattle.line_shapes.specs.Place.{has_figure as figure_in};
+ghost use Rattle.line_shapes.specs.Place.{ends_figure as figure_ends, ends_row as row_ends};
+ghost use Rattle.line_shapes.specs.Place.{opens_place as place_opens, IsNextMark, may_follow};
+ghost use Rattle.line_shapes.specs.Place.{may_name as may_be_name, ends_number as number_ends};
+ghost use Rattle.line_shapes.specs.Place.{found_at as found_behind, first_fit as fits_first};
+ghost use Rattle.line_shapes.specs.Place.{in_lead as place_in_lead, in_leads as place_in_leads};
+ghost use Rattle.line_shapes.specs.Place.{place as place_there, has_figure as figure_in};
 ghost use Rattle.line_shapes.specs.Place.{in_angles as angled_place, placed};
 
 use crate::bytes::{Kind, byte_at, is_in, run};
@@ -22,24 +20,17 @@ use crate::part::{Found, Part, begins, fit};
 use memchr::memchr3;
 
 /// A name, and what was found before and after it.
-#[derive(Clone, Copy, Drop)]
+#[derive(Clone, Copy)]
 pub struct Placed<'a> {
     pub name: &'a [u8],
     pub found: Found<'a>,
 }
 
 /// The location in a line.
+#[tactic(auto, unfolding(crate::specs::Place::leads), using(crate::proofs::FigureLemmas::no_place_there))]
 pub fn place(line: &[u8]) -> Option<Placed<'_>>
     ensures place { option_map placed result ≡ place_there line.now }
     ensures least { IsLeastPlace line.now (option_map placed result) }
-{
-    placed_in(line)
-}
-
-/// The same, after a look for a location number.
-#[tactic(auto, unfolding(crate::specs::Place::leads), using(crate::proofs::FigureLemmas::no_place_there))]
-fn placed_in(line: &[u8]) -> Option<Placed<'_>>
-    ensures { option_map placed result ≡ place_there line.now }
 {
     if has_figure(line) {
         in_leads(&LEADS, line)
@@ -206,19 +197,13 @@ fn may_name(text: &[u8], end: usize, kind: NameKind) -> bool
 fn is_followed(text: &[u8]) -> bool
     ensures { result ≡ may_follow (drop 1 text.now) }
 {
-    match text {
-        [_, rest @ ..] => follows(rest),
-        [] => false,
-    }
-}
-
-fn follows(rest: &[u8]) -> bool
-    ensures { result ≡ may_follow rest.now }
-{
-    match rest {
-        [first, ..] => is_bracket(*first) || begins_number(rest) || begins_blanks(rest),
-        [] => false,
-    }
+    let [_, rest @ ..] = text else {
+        return false;
+    };
+    let [first, ..] = rest else {
+        return false;
+    };
+    is_bracket(*first) || begins_number(rest) || begins_blanks(rest)
 }
 
 fn is_bracket(byte: u8) -> bool

@@ -1,30 +1,25 @@
 //! What a finding says: its severity, its code and its message.
-ghost use Rattle.std.specs.Prelude.{◌≡◌, ◌≤◌, option_map, unwrap_or};
-ghost use Rattle.std.specs.Prelude.{map, length, Some, None, [], IsTrue, not, ◌==◌};
+ghost use Rattle.std.specs.Prelude.{◌≡◌, ◌≤◌, option_map, unwrap_or, length, Some, None, []};
+ghost use Rattle.std.specs.Prelude.{IsTrue, not, ◌==◌};
 ghost use Rattle.std.specs.List.{list_all, list_any, prefix_len};
-ghost use Rattle.std.specs.Option.{option_or, option_copied};
 ghost use Rattle.line_shapes.specs.Bytes.{begins_with as begins_any_case, is_in as belongs};
 ghost use Rattle.line_shapes.specs.declared.bytes.Kind.TheVariants.{Joint};
 ghost use Rattle.line_shapes.specs.Part.{seen};
 ghost use Rattle.line_shapes.specs.Said.{bare_code as code_alone, closed as closed_there};
 ghost use Rattle.line_shapes.specs.Said.{code_behind as code_there};
-ghost use Rattle.line_shapes.specs.Said.{code_severity as severity_of_code};
-ghost use Rattle.line_shapes.specs.Said.{coded as coded_words, error_alone as error_by, finally};
+ghost use Rattle.line_shapes.specs.Said.{code_severity as severity_of_code, finally};
 ghost use Rattle.line_shapes.specs.Said.{first_severity as severity_first};
-ghost use Rattle.line_shapes.specs.Said.{first_whole as whole_first};
-ghost use Rattle.line_shapes.specs.Said.{in_parentheses as code_in_parentheses, is_alone, is_boxed};
 ghost use Rattle.line_shapes.specs.Said.{is_code as looks_as_code, is_code_byte};
-ghost use Rattle.line_shapes.specs.Said.{is_joined as looks_joined};
-ghost use Rattle.line_shapes.specs.Said.{is_number as looks_as_number, leveled as leveled_by};
-ghost use Rattle.line_shapes.specs.Said.{letter_severity as severity_of_letter, level_behind};
-ghost use Rattle.line_shapes.specs.Said.{leveled_parts, meant as meant_by};
-ghost use Rattle.line_shapes.specs.Said.{error_beginnings, names_error as tells_error};
+ghost use Rattle.line_shapes.specs.Said.{is_joined as looks_joined, leveled as leveled_by};
+ghost use Rattle.line_shapes.specs.Said.{letter_severity as severity_of_letter, leveled_parts};
+ghost use Rattle.line_shapes.specs.Said.{meant as meant_by, error_beginnings};
+ghost use Rattle.line_shapes.specs.Said.{names_error as tells_error};
 ghost use Rattle.line_shapes.specs.Said.{is_named_error as error_named};
 ghost use Rattle.line_shapes.specs.Said.{number_severity as severity_of_number};
 ghost use Rattle.line_shapes.specs.Said.{opened as opened_there, said as said_there};
-ghost use Rattle.line_shapes.specs.Said.{set_apart as apart, tells as tells_severity};
-ghost use Rattle.line_shapes.specs.Said.{uncoded as uncoded_words, unmarked as without_at};
-ghost use Rattle.line_shapes.specs.Said.{whole as fits_whole, with_code as with_code_there};
+ghost use Rattle.line_shapes.specs.Said.{tells as tells_severity, uncoded as uncoded_words};
+ghost use Rattle.line_shapes.specs.Said.{unmarked as without_at, whole as fits_whole};
+ghost use Rattle.line_shapes.specs.Said.{with_code as with_code_there};
 ghost use Rattle.line_shapes.specs.Said.{word_severity as severity_of_word, words, text_parts};
 
 use crate::bytes::{
@@ -36,7 +31,7 @@ use crate::part::{Found, Part, fit};
 use crate::tables::{ERROR_BEGINNINGS, Manner, RESTS};
 
 /// What a finding says.
-#[derive(Clone, Copy, Drop)]
+#[derive(Clone, Copy)]
 pub struct Statement<'a> {
     pub severity: Severity,
     /// Whether it belongs to the finding before it.
@@ -46,7 +41,7 @@ pub struct Statement<'a> {
 }
 
 /// A severity, if it is known, and whether any code in parentheses counts.
-#[derive(Clone, Copy, Drop)]
+#[derive(Clone, Copy)]
 struct Leveled<'a> {
     severity: Option<Severity>,
     boxed: bool,
@@ -54,21 +49,10 @@ struct Leveled<'a> {
 }
 
 /// What is found after a location, by the first row of `RESTS` that matches the whole text.
-#[tactic(auto, unfolding(crate::specs::Said::rests))]
 pub fn said<'a>(found: Found<'a>) -> Option<(Found<'a>, Manner)>
     ensures { option_map (λ it. (seen it.0, it.1)) result ≡ said_there (seen found.entry) }
 {
-    first_whole(&RESTS, found)
-}
-
-/// What the first of these rows that matches the whole text finds.
-fn first_whole<'a>(
-    mut rests: &[(&str, &[Part], Manner)],
-    found: Found<'a>,
-) -> Option<(Found<'a>, Manner)>
-    ensures { option_map (λ it. (seen it.0, it.1)) result
-        ≡ whole_first (map (λ rest. (rest.1.now, rest.2)) rests.entry.now) (seen found.entry) }
-{
+    let mut rests: &[(&str, &[Part], Manner)] = &RESTS;
     while let [rest, others @ ..] = rests {
         if let Some(found) = whole(rest.1, found) {
             return Some((found, rest.2));
@@ -95,9 +79,16 @@ pub fn meant<'a>(found: Found<'a>, manner: Manner) -> Statement<'a>
     ensures { words result ≡ meant_by manner (seen found.entry) }
 {
     let message = trimmed(message_of(found));
-    match found.code {
-        Some(code) => coded(found, code, message, manner),
-        None => uncoded(found, message, manner),
+    let Some(code) = found.code else {
+        return uncoded(found, message, manner);
+    };
+    Statement {
+        severity: first_severity(found, manner)
+            .or(number_severity(code, found.numbered, manner))
+            .unwrap_or(Severity::Warning),
+        aside: found.aside,
+        code: Some(code),
+        message,
     }
 }
 
@@ -121,27 +112,6 @@ fn first_severity(found: Found<'_>, manner: Manner) -> Option<Severity>
         (None, None, Manner::Stars) => Some(Severity::Error),
         _ => None,
     }
-}
-
-/// What it says, with a code before the message.
-fn coded<'a>(found: Found<'a>, code: &'a [u8], message: &'a [u8], manner: Manner) -> Statement<'a>
-    ensures { words result ≡ coded_words manner
-        (seen found.entry) code.entry.now message.entry.now }
-{
-    let first = first_severity(found, manner);
-    Statement {
-        severity: graded(first, number_severity(code, found.numbered, manner)),
-        aside: found.aside,
-        code: Some(code),
-        message,
-    }
-}
-
-/// The first severity that there is, else warning.
-fn graded(first: Option<Severity>, second: Option<Severity>) -> Severity
-    ensures { result ≡ unwrap_or (option_or first second) Severity.Warning }
-{
-    first.or(second).unwrap_or(Severity::Warning)
 }
 
 /// What it says without a code before the message: a level and a code may follow the message.
@@ -207,12 +177,15 @@ fn with_code<'a>(
         (option_map text_parts behind.entry) }
 {
     match behind {
-        Some((front, code)) => Statement {
-            severity: last_severity(leveled.severity.or(code_severity(code)), alone, front),
-            aside,
-            code: Some(bare_code(code)),
-            message: front,
-        },
+        Some((front, code)) => {
+            let (named, bare) = named_severity(code);
+            Statement {
+                severity: last_severity(leveled.severity.or(named), alone, front),
+                aside,
+                code: Some(bare),
+                message: front,
+            }
+        }
         None => Statement {
             severity: last_severity(leveled.severity, alone, leveled.message),
             aside,
@@ -246,28 +219,11 @@ fn is_named_error(message: &[u8]) -> bool
     ensures { result ≡ error_named message.now }
 {
     let count = before_colon(message);
-    count < message.len() && ends_in_error(trimmed(&message[..count]))
-}
-
-/// Whether a message begins with a text of `ERROR_BEGINNINGS`.
-#[tactic(auto, unfolding(crate::specs::Said::error_beginnings))]
-fn begins_as_error(message: &[u8]) -> bool
-    ensures { result ≡ list_any (begins_any_case message.now) error_beginnings }
-{
-    begins_among(&ERROR_BEGINNINGS, message)
-}
-
-/// Whether a text begins with one of these words.
-fn begins_among(mut words: &[&[u8]], text: &[u8]) -> bool
-    ensures { result ≡ list_any (begins_any_case text.now) (map (λ word. word.now) words.entry.now) }
-{
-    while let [word, rest @ ..] = words {
-        if begins_with(text, word) {
-            return true;
-        }
-        words = rest;
+    if count >= message.len() {
+        return false;
     }
-    false
+    let front = trimmed(&message[..count]);
+    front.ends_with(b"error") || front.ends_with(b"Error")
 }
 
 /// The number of bytes before the first colon.
@@ -278,10 +234,18 @@ fn before_colon(message: &[u8]) -> usize
     message.iter().take_while(|byte| **byte != b':').count()
 }
 
-fn ends_in_error(text: &[u8]) -> bool
-    ensures { result ≡ error_by text.now }
+/// Whether a message begins with a text of `ERROR_BEGINNINGS`.
+fn begins_as_error(message: &[u8]) -> bool
+    ensures { result ≡ list_any (begins_any_case message.now) error_beginnings }
 {
-    text.ends_with(b"error") || text.ends_with(b"Error")
+    let mut words: &[&[u8]] = &ERROR_BEGINNINGS;
+    while let [word, rest @ ..] = words {
+        if begins_with(message, word) {
+            return true;
+        }
+        words = rest;
+    }
+    false
 }
 
 /// The severity of a number with one letter.
@@ -314,29 +278,17 @@ fn tells(front: &[u8], code: &[u8]) -> bool
     begins_with(code, front) && front.len() < code.len()
 }
 
-/// The severity that a code names.
-fn code_severity(code: &[u8]) -> Option<Severity>
-    ensures { result ≡ severity_of_code code.now }
+/// The severity that a code names at its beginning, and the code without it.
+fn named_severity(code: &[u8]) -> (Option<Severity>, &[u8])
+    ensures severity { result.0 ≡ severity_of_code code.now }
+    ensures bare { result.1.now ≡ code_alone code.now }
 {
     if tells(b"error/", code) {
-        Some(Severity::Error)
+        (Some(Severity::Error), &code[6..])
     } else if tells(b"warning/", code) {
-        Some(Severity::Warning)
+        (Some(Severity::Warning), &code[8..])
     } else {
-        None
-    }
-}
-
-/// A code without the severity that it begins with.
-fn bare_code(code: &[u8]) -> &[u8]
-    ensures { result.now ≡ code_alone code.now }
-{
-    if tells(b"error/", code) {
-        &code[6..]
-    } else if tells(b"warning/", code) {
-        &code[8..]
-    } else {
-        code
+        (None, code)
     }
 }
 
@@ -345,16 +297,9 @@ fn bare_code(code: &[u8]) -> &[u8]
 pub fn code_behind(text: &[u8], boxed: bool) -> Option<(&[u8], &[u8])>
     ensures { option_map text_parts result ≡ code_there boxed text.now }
 {
-    match closed(text, Kind::InBrackets, b'[', b']') {
-        Some(parts) => Some(parts),
-        None => in_parentheses(text, boxed),
+    if let Some(parts) = closed(text, Kind::InBrackets, b'[', b']') {
+        return Some(parts);
     }
-}
-
-/// The same for a code in parentheses.
-fn in_parentheses(text: &[u8], boxed: bool) -> Option<(&[u8], &[u8])>
-    ensures { option_map text_parts result ≡ code_in_parentheses boxed text.now }
-{
     let (front, code) = closed(text, Kind::InParentheses, b'(', b')')?;
     if boxed || is_code(code) {
         Some((front, code))
@@ -367,7 +312,8 @@ fn in_parentheses(text: &[u8], boxed: bool) -> Option<(&[u8], &[u8])>
 fn is_code(code: &[u8]) -> bool
     ensures { result ≡ looks_as_code code.now }
 {
-    is_joined(unmarked(code)) || is_number(code)
+    is_joined(unmarked(code))
+        || matches!(capitals_and_digits(code), Some(count) if count == code.len())
 }
 
 /// A code without an `@` at its beginning.
@@ -408,15 +354,6 @@ fn has_joint(code: &[u8]) -> bool
     code.iter().any(|byte| is_in(Kind::Joint, *byte))
 }
 
-fn is_number(code: &[u8]) -> bool
-    ensures { result ≡ looks_as_number code.now }
-{
-    match capitals_and_digits(code) {
-        Some(count) => count == code.len(),
-        None => false,
-    }
-}
-
 /// The text in brackets at the end, and the text before it without trailing blanks.
 fn closed(text: &[u8], kind: Kind, opening: u8, closing: u8) -> Option<(&[u8], &[u8])>
     requires opening { 1 ≤ opening }
@@ -432,13 +369,7 @@ fn opened(inner: &[u8], kind: Kind, opening: u8) -> Option<(&[u8], &[u8])>
     ensures { option_map text_parts result ≡ opened_there kind opening inner.now }
 {
     let (front, code) = inner.split_at(inner.len() - end_run(kind, inner));
-    set_apart(before_last(front, opening)?, code)
-}
-
-/// A code, and the text before it without trailing blanks.
-fn set_apart<'a>(front: &'a [u8], code: &'a [u8]) -> Option<(&'a [u8], &'a [u8])>
-    ensures { option_map text_parts result ≡ apart code.entry.now front.entry.now }
-{
+    let front = before_last(front, opening)?;
     let kept = trimmed(front);
     if !code.is_empty() && kept.len() < front.len() && !kept.is_empty() {
         Some((kept, code))

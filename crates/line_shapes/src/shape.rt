@@ -1,6 +1,5 @@
 //! Patterns of a tool's or the user's own.
-ghost use Rattle.std.specs.Prelude.{◌≡◌, ◌≤◌, ◌<◌, IfOk, option_map, length, map};
-ghost use Rattle.std.specs.List.{filter_map};
+ghost use Rattle.std.specs.Prelude.{◌≡◌, ◌≤◌, ◌<◌, option_map, length, map};
 ghost use Rattle.line_shapes.specs.Part.{seen};
 ghost use Rattle.line_shapes.specs.Place.{placed};
 ghost use Rattle.line_shapes.specs.Shape.{own as own_place, own_at as own_place_at};
@@ -14,7 +13,7 @@ use crate::said::whole;
 
 /// A pattern of whole lines: the tokens before the name, the kind of name, and the tokens after
 /// it.
-#[derive(Clone, Copy, Drop)]
+#[derive(Clone, Copy)]
 pub struct Shape<'s> {
     pub lead: &'s [Part],
     pub kind: NameKind,

@@ -6,7 +6,7 @@ use crate::name::NameKind;
 use crate::part::{Figure, Part};
 
 /// What columns count.
-#[derive(Clone, Copy, PartialEq, Eq)]
+#[derive(Clone, Copy)]
 pub enum Unit {
     Bytes,
     Characters,
@@ -17,7 +17,7 @@ pub enum Unit {
 }
 
 /// What a row of `RESTS` means besides its tokens.
-#[derive(Clone, Copy, PartialEq, Eq)]
+#[derive(Clone, Copy)]
 pub enum Manner {
     Plain,
     /// With a rule after the level.

@@ -1,8 +1,8 @@
 //! What is known of named tools.
-ghost use Rattle.std.specs.Prelude.{◌≡◌, ◌++◌, IfOk, map};
+ghost use Rattle.std.specs.Prelude.{◌≡◌, IfOk, map};
 ghost use Rattle.line_shapes.specs.Shape.{shape_parts};
-ghost use Rattle.line_shapes.specs.Tools.{columns_among, columns_of, shapes_among};
-ghost use Rattle.line_shapes.specs.Tools.{shapes_of as shapes_meant, tool_row};
+ghost use Rattle.line_shapes.specs.Tools.{columns_of, shapes_among, shapes_of as shapes_meant};
+ghost use Rattle.line_shapes.specs.Tools.{tool_row};
 
 use crate::name::NameKind;
 use crate::parse::same;
@@ -13,7 +13,7 @@ use crate::tool_tables::{TOOL_COLUMNS, TOOL_SHAPES};
 use std::alloc::{AllocError, Global};
 
 /// How a tool counts columns.
-#[derive(Clone, Copy, PartialEq, Eq)]
+#[derive(Clone, Copy)]
 pub struct Columns {
     pub unit: Unit,
     /// The number of the first.
@@ -67,18 +67,11 @@ fn shapes_named(
 }
 
 /// What the columns of a tool count; none if the tool is unknown.
-#[tactic(auto, unfolding(crate::specs::Tools::tool_columns))]
 pub fn columns_of_tool(tool: &str) -> Option<Columns>
     ensures { result ≡ columns_of tool.now }
 {
-    columns_named(&TOOL_COLUMNS, tool.as_bytes())
-}
-
-/// The columns of the first row with this name.
-fn columns_named(mut rows: &[(&str, Unit, u32, bool)], name: &[u8]) -> Option<Columns>
-    ensures { result ≡ columns_among (map (λ row. (row.0.now, row.1, row.2, row.3)) rows.entry.now)
-        name.now }
-{
+    let name = tool.as_bytes();
+    let mut rows: &[(&str, Unit, u32, bool)] = &TOOL_COLUMNS;
     while let [row, rest @ ..] = rows {
         if same(row.0.as_bytes(), name) {
             return Some(Columns {

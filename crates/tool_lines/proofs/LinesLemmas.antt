@@ -1,5 +1,5 @@
 -- The pieces of a text.
-use Rattle.std.proofs.Common.{◌≡◌, ℕ, ◌+◌, ◌-◌, ◌<◌, ◌≤◌, ◌==◌, ◌||◌, if◌then◌else◌, List, [], ◌∷◌, ◌++◌, length, drop, take, get_or, map, Option, Some, None, Bool, true, false, refl, sym, ◌∙◌, ap, subst, arith, append_assoc}
+use Rattle.std.proofs.Common.{◌≡◌, ℕ, ◌+◌, ◌-◌, ◌<◌, ◌≤◌, List, [], ◌∷◌, ◌++◌, length, drop, take, get_or, map, Option, Some, None, false, refl, sym, ◌∙◌, ap, subst, arith, append_assoc}
 use Rattle.std.specs.List.{slice_split, position_or_len}
 use Rattle.std.proofs.lemmas.Bool.{false_from_ne_true}
 use Rattle.std.proofs.lemmas.Grind.{common_steps}
@@ -7,36 +7,10 @@ use Rattle.std.proofs.lemmas.List.{take-append-drop, map-append, drop-map}
 use Rattle.std.proofs.lemmas.List.Splits.{slice_split_first, slice_split_none}
 use Rattle.std.proofs.lemmas.List.Sums.{position_or_len_is}
 use Rattle.std.proofs.lemmas.List.Elements.{All-from_get_or}
-use Rattle.std.specs.Option.{is_some}
 use Rattle.memchr.specs.Find.{IsFirstByte, is_byte}
 use Rattle.line_shapes.proofs.PlaceLemmas.{rest_is}
-use Rattle.tool_lines.specs.declared.lines.Sort.{Sort}
-use Rattle.tool_lines.specs.declared.lines.Sort.TheVariants.{Kept, Heading, Below, Announced, Inline, Spaced}
 use Rattle.line_shapes.specs.Shape.{ShapeParts}
-use Rattle.tool_lines.specs.Lines.{ArePieces, PieceParts, FindingParts, BegunParts, announced, announced_len, behind, head, in_trail, lines_of, name_behind, piece, piece_of, runs, trail_len, without_cr}
-
-trail_within : (shapes : List ShapeParts) (apart : Bool) (lines : List (List ℕ)) → trail_len shapes apart lines ≤ length lines
-trail_within shapes apart [] = omega arith
-trail_within shapes apart (line ∷ lines) =
-    elim (in_trail shapes apart line (head lines)) as (λ v. (if v then 1 + trail_len shapes apart lines else 0) ≤ length (line ∷ lines)) [ true ↦ omega (arith, trail_within shapes apart lines) | false ↦ omega arith ]
-
-announced_within : (lines : List (List ℕ)) → announced_len lines ≤ length lines
-announced_within [] = omega arith
-announced_within (line ∷ lines) =
-    elim ((length line == 0) || is_some (announced line (head lines))) as (λ v. (if v then 0 else 1 + announced_len lines) ≤ length (line ∷ lines)) [ true ↦ omega arith | false ↦ omega (arith, announced_within lines) ]
-
-behind_within : (shapes : List ShapeParts) (sort : Sort) (lines : List (List ℕ)) → behind shapes sort lines ≤ length lines
-behind_within shapes Kept lines = omega arith
-behind_within shapes Heading lines = omega arith
-behind_within shapes Below lines = omega arith
-behind_within shapes Announced [] = omega arith
-behind_within shapes Announced (arrow ∷ lines) = omega (arith, announced_within lines)
-behind_within shapes Inline lines = trail_within shapes false lines
-behind_within shapes Spaced lines = trail_within shapes true lines
-
-piece_of_within : (found : Option FindingParts) (b : BegunParts) (count whole : ℕ) → count ≤ whole → (piece_of found b count).lines ≤ 1 + whole
-piece_of_within None b count whole le = omega arith
-piece_of_within (Some finding) b count whole le = omega arith
+use Rattle.tool_lines.specs.Lines.{ArePieces, PieceParts, lines_of, name_behind, piece, runs, without_cr}
 
 nothing_left : (lines : List (List ℕ)) → length lines ≡ 0 → [] ≡ lines
 nothing_left [] none_left = refl

@@ -1,6 +1,5 @@
 //! Lines below a heading are set in columns; the last column is the code.
 ghost use Rattle.std.specs.Prelude.{◌≡◌, ◌≤◌, ◌<◌, ◌+◌, IfSome, length};
-ghost use Rattle.std.specs.List.{position};
 ghost use Rattle.line_shapes.specs.Said.{words};
 ghost use Rattle.line_shapes.specs.declared.bytes.Kind.TheVariants.{Blank, Space};
 ghost use Rattle.tool_lines.specs.Columns.{gap as first_gap};

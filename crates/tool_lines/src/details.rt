@@ -1,16 +1,13 @@
 //! What the other lines of a block add to its finding.
-ghost use Rattle.std.specs.Prelude.{◌≡◌, ◌-◌, ◌++◌, [], Some, None, IfOk, IfSome};
-ghost use Rattle.std.specs.Prelude.{◌<◌, ◌≤◌, ◌==◌, not, length, map, take, option_to_list};
+ghost use Rattle.std.specs.Prelude.{◌≡◌, ◌-◌, ◌++◌, [], Some, None, IfOk, IfSome, ◌<◌, ◌≤◌, ◌==◌};
+ghost use Rattle.std.specs.Prelude.{not, length, map, take, option_to_list};
 ghost use Rattle.std.specs.List.{filter_map, prefix_len};
 ghost use Rattle.std.specs.Option.{option_copied};
-ghost use Rattle.tool_lines.specs.Details.{behind_from, caret_at as caret_there};
-ghost use Rattle.tool_lines.specs.Details.{caret_from, caret_in, first_marks as first_marks_of};
-ghost use Rattle.tool_lines.specs.Details.{detail as detail_there, details_of};
-ghost use Rattle.tool_lines.specs.Details.{inline_by, inline_details as inline_details_of};
-ghost use Rattle.tool_lines.specs.Details.{is_bare as is_bare_line, marks_from, note_of as note_in};
-ghost use Rattle.tool_lines.specs.Details.{plain_text as text_of_plain};
-ghost use Rattle.tool_lines.specs.Details.{is_drawn as drawn, symbol_text as text_of_symbol};
-ghost use Rattle.tool_lines.specs.Details.{unrowed_text as text_of_unrowed};
+ghost use Rattle.tool_lines.specs.Details.{behind_from, caret_at as caret_there, caret_from};
+ghost use Rattle.tool_lines.specs.Details.{first_marks as first_marks_of};
+ghost use Rattle.tool_lines.specs.Details.{caret_in, detail as detail_there, details_of};
+ghost use Rattle.tool_lines.specs.Details.{inline_details as inline_details_of, marks_from};
+ghost use Rattle.tool_lines.specs.Details.{note_of as note_in, plain_text as text_of_plain};
 ghost use Rattle.tool_lines.specs.Details.{unequalled as without_equals};
 
 use crate::lines::Sort;
@@ -19,7 +16,7 @@ use line_shapes::bytes::{Kind, byte_at, is_in, trimmed};
 use std::alloc::{AllocError, Global};
 
 /// Which lines add something, and what.
-#[derive(Clone, Copy, PartialEq, Eq)]
+#[derive(Clone, Copy)]
 pub enum Way {
     /// Each line that is more than a gutter: its text.
     Plain,
@@ -58,25 +55,15 @@ pub fn details<'a>(
 
 /// The same for a trail: the lines before the row that has markers, and the symbols after the last
 /// markers; or all lines.
+#[tactic(auto, using(crate::proofs::DetailsLemmas::both_parts))]
 fn inline_details<'a>(alloc: Global, lines: &[&'a [u8]]) -> Result<Vec<&'a [u8]>, AllocError>
     ensures { IfOk result (λ texts.
         map (λ text. text.now) texts.items
         ≡ inline_details_of (map (λ line. line.now) lines.now)) }
 {
-    match marks_at(lines) {
-        Some(at) => around(alloc, lines, at),
-        None => collect(Vec::new(alloc), Way::Plain, lines),
-    }
-}
-
-/// The same, with markers at this index.
-#[tactic(auto, using(crate::proofs::DetailsLemmas::both_parts))]
-fn around<'a>(alloc: Global, lines: &[&'a [u8]], at: usize) -> Result<Vec<&'a [u8]>, AllocError>
-    requires { at ≤ length lines.now }
-    ensures { IfOk result (λ texts.
-        map (λ text. text.now) texts.items
-        ≡ inline_by (map (λ line. line.now) lines.now) (Some at)) }
-{
+    let Some(at) = marks_at(lines) else {
+        return collect(Vec::new(alloc), Way::Plain, lines);
+    };
     let texts = collect(Vec::new(alloc), Way::Plain, before(lines, at))?;
     let all = collect(texts, Way::Symbol, behind_marks(lines))?;
     Ok(all)
@@ -164,50 +151,36 @@ fn detail(way: Way, line: &[u8]) -> Option<&[u8]>
 {
     match way {
         Way::Plain => plain_text(line),
-        Way::Symbol => symbol_text(line),
+        Way::Symbol => match line {
+            [b' ', b' ', b'a'..=b'z', ..] => Some(trimmed(unled(line))),
+            _ => None,
+        },
         Way::Noted => note_of(unequalled(line)),
-        Way::Unrowed => unrowed_text(line),
+        Way::Unrowed => {
+            if are_marks(line)
+                || gutter(line).is_some()
+                || is_in(Kind::Digit, byte_at(unled(line), 0))
+            {
+                None
+            } else {
+                plain_text(line)
+            }
+        }
     }
 }
 
-/// The text of a line that has no gutter, begins with no number, and is no markers.
-fn unrowed_text(line: &[u8]) -> Option<&[u8]>
-    ensures { option_copied result ≡ text_of_unrowed line.now }
-{
-    if are_marks(line) || gutter(line).is_some() || is_in(Kind::Digit, byte_at(unled(line), 0)) {
-        None
-    } else {
-        plain_text(line)
-    }
-}
-
+/// The text of a line that is more than a gutter, and no edit.
 fn plain_text(line: &[u8]) -> Option<&[u8]>
     ensures { option_copied result ≡ text_of_plain line.now }
 {
     let text = trimmed(unled(line));
-    if text.is_empty() || is_bare(line) || is_fix(line) {
+    if text.is_empty()
+        || matches!(gutter(line), Some(end) if unled(line.split_at(end).1).is_empty())
+        || is_fix(line)
+    {
         None
     } else {
         Some(text)
-    }
-}
-
-/// Whether a line is a gutter and no more.
-fn is_bare(line: &[u8]) -> bool
-    ensures { result ≡ is_bare_line line.now }
-{
-    match gutter(line) {
-        Some(end) => unled(line.split_at(end).1).is_empty(),
-        None => false,
-    }
-}
-
-fn symbol_text(line: &[u8]) -> Option<&[u8]>
-    ensures { option_copied result ≡ text_of_symbol line.now }
-{
-    match line {
-        [b' ', b' ', b'a'..=b'z', ..] => Some(trimmed(unled(line))),
-        _ => None,
     }
 }
 

@@ -1,29 +1,22 @@
 //! What begins at a line, and the blocks of a text: runs of its lines.
 ghost use Rattle.std.specs.Prelude.{◌≡◌, ◌≤◌, ◌+◌, ◌∷◌, ◌||◌, ◌&&◌, [], drop, Some, None, IfOk};
 ghost use Rattle.std.specs.Prelude.{option_map, option_and_then, map, length};
-ghost use Rattle.std.specs.Option.{option_copied, is_some};
+ghost use Rattle.std.specs.Option.{option_copied};
 ghost use Rattle.line_shapes.specs.Part.{seen};
 ghost use Rattle.line_shapes.specs.Place.{place as place_there, placed as placed_parts};
 ghost use Rattle.line_shapes.specs.Shape.{shape_parts};
 ghost use Rattle.tool_lines.specs.Lines.{ArePieces, lines_behind, lines_left, lines_of as lines_in};
 ghost use Rattle.tool_lines.specs.Lines.{announced as announced_there};
-ghost use Rattle.tool_lines.specs.Lines.{announced_by as announced_pair};
-ghost use Rattle.tool_lines.specs.Lines.{announced_len as announced_length, bare as bare_there};
-ghost use Rattle.tool_lines.specs.Lines.{arrow as arrow_in, first_arrow as arrow_among};
-ghost use Rattle.tool_lines.specs.Lines.{begins_note as note_begins};
-ghost use Rattle.tool_lines.specs.Lines.{other_arrow as other_arrow_in};
-ghost use Rattle.tool_lines.specs.Lines.{first_place as place_among, parted as parted_there};
-ghost use Rattle.tool_lines.specs.Lines.{behind as behind_there, below as below_there};
+ghost use Rattle.tool_lines.specs.Lines.{announced_len as announced_length, arrow as arrow_in};
+ghost use Rattle.tool_lines.specs.Lines.{begins_note as note_begins, other_arrow as other_arrow_in};
+ghost use Rattle.tool_lines.specs.Lines.{parted as parted_there, behind as behind_there};
 ghost use Rattle.tool_lines.specs.Lines.{below_at as below_name, begun as begun_there, begun_parts};
-ghost use Rattle.tool_lines.specs.Lines.{finding_from, finding_parts};
-ghost use Rattle.tool_lines.specs.Lines.{head};
-ghost use Rattle.tool_lines.specs.Lines.{in_trail as trails, inline as inline_there};
-ghost use Rattle.tool_lines.specs.Lines.{is_heading as heads, name_behind};
-ghost use Rattle.tool_lines.specs.Lines.{may_trail as may_trail_there};
+ghost use Rattle.tool_lines.specs.Lines.{finding_from, finding_parts, head, in_trail as trails};
+ghost use Rattle.tool_lines.specs.Lines.{inline as inline_there, is_heading as heads, name_behind};
+ghost use Rattle.tool_lines.specs.Lines.{below as below_there, may_trail as may_trail_there};
 ghost use Rattle.tool_lines.specs.Lines.{piece as piece_there, piece_parts, runs};
 ghost use Rattle.tool_lines.specs.Lines.{is_placing as places, is_plain as plain};
-ghost use Rattle.tool_lines.specs.Lines.{spoken_or_below as spoken_there, tagged};
-ghost use Rattle.tool_lines.specs.Lines.{told as told_by};
+ghost use Rattle.tool_lines.specs.Lines.{spoken_or_below as spoken_there, tagged, told as told_by};
 ghost use Rattle.tool_lines.specs.Lines.{trail_len as trail_length, uncoloned as without_colon};
 ghost use Rattle.tool_lines.specs.Lines.{whole_among as whole_in, without_cr as without_last_cr};
 
@@ -44,7 +37,7 @@ use memchr::memchr;
 use std::alloc::{AllocError, Global};
 
 /// A finding: its location, and what it says in its first line and the next one.
-#[derive(Clone, Copy, Drop)]
+#[derive(Clone, Copy)]
 pub struct Finding<'a> {
     /// The name of its file, and the rows and columns.
     pub place: Placed<'a>,
@@ -53,7 +46,7 @@ pub struct Finding<'a> {
 }
 
 /// What begins at a line.
-#[derive(Clone, Copy, PartialEq, Eq)]
+#[derive(Clone, Copy, PartialEq)]
 pub enum Sort {
     /// Nothing: the line is kept as it is.
     Kept,
@@ -70,7 +63,7 @@ pub enum Sort {
 }
 
 /// What begins at a line, with its finding.
-#[derive(Clone, Copy, Drop)]
+#[derive(Clone, Copy)]
 pub struct Begun<'a> {
     /// Its kind.
     pub sort: Sort,
@@ -79,7 +72,7 @@ pub struct Begun<'a> {
 }
 
 /// A block: a run of lines.
-#[derive(Clone, Copy, Drop)]
+#[derive(Clone, Copy)]
 pub struct Piece<'a> {
     /// The number of its lines, with the first one.
     pub lines: usize,
@@ -401,21 +394,12 @@ fn begun_at<'a>(shapes: &[Shape<'_>], line: &'a [u8], next: Option<&'a [u8]>) ->
 }
 
 /// The finding of a line whose location is on the next one.
+#[tactic(auto, unfolding(crate::specs::Lines::announced_by))]
 pub fn announced<'a>(line: &'a [u8], next: Option<&'a [u8]>) -> Option<Finding<'a>>
     ensures { option_map finding_parts result ≡ announced_there line.entry.now
         (option_copied next.entry) }
 {
-    match next {
-        Some(next) => announced_by(line, next),
-        None => None,
-    }
-}
-
-/// The same for two lines.
-#[tactic(auto, unfolding(crate::specs::Lines::announced_by))]
-fn announced_by<'a>(line: &'a [u8], next: &'a [u8]) -> Option<Finding<'a>>
-    ensures { option_map finding_parts result ≡ announced_pair line.entry.now next.entry.now }
-{
+    let next = next?;
     let place = arrow(next)?;
     let found = whole_among(&ANNOUNCED, Found::before(line))?;
     Some(Finding {
@@ -440,29 +424,21 @@ fn arrow(line: &[u8]) -> Option<Placed<'_>>
 
 /// The location in a line that is an arrow other than `-->`. A line that has a location before its
 /// message is none.
-#[tactic(auto, unfolding(crate::specs::Lines::arrows), using(crate::proofs::PlainLemmas::no_other_arrow))]
+#[tactic(auto, using(crate::proofs::PlainLemmas::no_other_arrow))]
 fn other_arrow(line: &[u8]) -> Option<Placed<'_>>
     ensures { option_map placed_parts result ≡ other_arrow_in line.now }
 {
     if !may_lead(first_ink(line)) {
         return None;
     }
-    let there = first_arrow(&ARROWS, line)?;
-    if place(line).is_some() {
-        None
-    } else {
-        Some(there)
-    }
-}
-
-/// The location of the first of these arrows that a line is.
-fn first_arrow<'a>(mut rows: &[(&str, &[Part], &[Part])], line: &'a [u8]) -> Option<Placed<'a>>
-    ensures { option_map placed_parts result
-        ≡ arrow_among (map (λ row. (row.1.now, row.2.now)) rows.entry.now) line.now }
-{
+    let mut rows: &[(&str, &[Part], &[Part])] = &ARROWS;
     while let [row, rest @ ..] = rows {
-        if let Some(place) = named(row.1, NameKind::Any, row.2, line) {
-            return Some(place);
+        if let Some(there) = named(row.1, NameKind::Any, row.2, line) {
+            return if place(line).is_some() {
+                None
+            } else {
+                Some(there)
+            };
         }
         rows = rest;
     }
@@ -534,72 +510,48 @@ fn inline<'a>(shapes: &[Shape<'_>], line: &'a [u8], next: Option<&[u8]>) -> Opti
             place,
             says: meant(place.found, Manner::Plain),
         }),
-        None => match told_in(line, matches!(next, Some(next) if is_text(next))) {
+        None => match told(line, matches!(next, Some(next) if is_text(next))) {
             Some(finding) => Some(finding),
             None => parted(line),
         },
     }
 }
 
-/// The finding of a line with a location and more.
-fn told_in<'a>(line: &'a [u8], below: bool) -> Option<Finding<'a>>
-    ensures { option_map finding_parts result
-        ≡ option_and_then (told_by below line.entry.now) (place_there line.entry.now) }
-{
-    told(place(line)?, line, below)
-}
-
 /// The finding of a line with nothing but a location.
-#[tactic(auto, unfolding(crate::specs::Lines::places), using(crate::proofs::ClosingLemmas::none_parted))]
+#[tactic(auto, using(crate::proofs::ClosingLemmas::none_parted))]
 fn parted<'a>(line: &'a [u8]) -> Option<Finding<'a>>
     ensures { option_map finding_parts result ≡ parted_there line.entry.now }
 {
     if !closes(line) {
         return None;
     }
-    let place = first_place(&PLACES, line)?;
-    Some(Finding {
-        place,
-        says: meant(place.found, Manner::Plain),
-    })
-}
-
-/// The location of the first of these rows that a line is.
-fn first_place<'a>(
-    mut rows: &[(&str, &[Part], NameKind, &[Part])],
-    line: &'a [u8],
-) -> Option<Placed<'a>>
-    ensures { option_map placed_parts result
-        ≡ place_among (map (λ row. (row.1.now, row.2, row.3.now)) rows.entry.now) line.now }
-{
+    let mut rows: &[(&str, &[Part], NameKind, &[Part])] = &PLACES;
     while let [row, rest @ ..] = rows {
         if let Some(place) = named(row.1, row.2, row.3, line) {
-            return Some(place);
+            return Some(Finding {
+                place,
+                says: meant(place.found, Manner::Plain),
+            });
         }
         rows = rest;
     }
     None
 }
 
-/// The finding of a line with a location; `below` says whether there is more below.
-fn told<'a>(place: Placed<'a>, line: &[u8], below: bool) -> Option<Finding<'a>>
-    ensures { option_map finding_parts result ≡ told_by below line.now (placed_parts place.entry) }
+/// The finding of a line with a location and more; `below` says whether there is more below.
+#[tactic(auto, unfolding(crate::specs::Lines::bare))]
+fn told<'a>(line: &'a [u8], below: bool) -> Option<Finding<'a>>
+    ensures { option_map finding_parts result
+        ≡ option_and_then (told_by below line.entry.now) (place_there line.entry.now) }
 {
+    let place = place(line)?;
     if below {
-        if let Some(finding) = bare(place) {
-            return Some(finding);
+        // its message is below, and a level, a code or both are in this line
+        if let Some(found) = whole_among(&BARE, place.found) {
+            return Some(finding_of(place.name, found, Manner::Plain));
         }
     }
     spoken(place, line, below)
-}
-
-/// The same if its message is below, and a level, a code or both are in this line.
-#[tactic(auto, unfolding(crate::specs::Lines::bare))]
-fn bare<'a>(place: Placed<'a>) -> Option<Finding<'a>>
-    ensures { option_map finding_parts result ≡ bare_there (placed_parts place.entry) }
-{
-    let found = whole_among(&BARE, place.found)?;
-    Some(finding_of(place.name, found, Manner::Plain))
 }
 
 fn finding_of<'a>(name: &'a [u8], found: Found<'a>, manner: Manner) -> Finding<'a>
@@ -624,7 +576,7 @@ fn is_tagged(found: Found<'_>) -> bool
         && end_run(Kind::InBrackets, inner) == inner.len()
 }
 
-/// The same if its message is after the location; or below a level, a code, and another code in
+/// The same if its message comes after the location; or below a level, a code, and another code in
 /// brackets.
 #[tactic(auto, unfolding(crate::specs::Lines::coded_below, crate::specs::Lines::spoken))]
 fn spoken<'a>(place: Placed<'a>, line: &[u8], below: bool) -> Option<Finding<'a>>

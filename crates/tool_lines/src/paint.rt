@@ -1,13 +1,11 @@
 //! Texts without the colors and links that tools write for terminals.
-ghost use Rattle.std.specs.Prelude.{◌≡◌, ◌≤◌, ◌<◌, ◌+◌, ◌^◌, ◌++◌, ◌==◌};
-ghost use Rattle.std.specs.Prelude.{Some, not, IfOk, length, count_by};
+ghost use Rattle.std.specs.Prelude.{◌≡◌, ◌≤◌, ◌<◌, ◌+◌, ◌^◌, ◌++◌, ◌==◌, Some, not, IfOk, length};
+ghost use Rattle.std.specs.Prelude.{count_by};
 ghost use Rattle.std.specs.List.{prefix_len};
 ghost use Rattle.memchr.specs.Find.{IsFirstByte, is_byte};
-ghost use Rattle.tool_lines.specs.Paint.{color_end as color_ends, color_len as color_length};
-ghost use Rattle.tool_lines.specs.Paint.{ends_link as ends_a_link};
-ghost use Rattle.tool_lines.specs.Paint.{is_color_byte as stands_in_color, link_end as link_ends};
-ghost use Rattle.tool_lines.specs.Paint.{link_len as link_length, paint_len as paint_length};
-ghost use Rattle.tool_lines.specs.Paint.{unpainted};
+ghost use Rattle.tool_lines.specs.Paint.{color_len as color_length, ends_link as ends_a_link};
+ghost use Rattle.tool_lines.specs.Paint.{is_color_byte as stands_in_color, link_len as link_length};
+ghost use Rattle.tool_lines.specs.Paint.{paint_len as paint_length, unpainted};
 
 use line_shapes::bytes::{Kind, is_in};
 use memchr::memchr;
@@ -88,7 +86,12 @@ fn color_len(rest: &[u8]) -> usize
     ensures value { result ≡ color_length rest.now }
     ensures within { result ≤ length rest.now + 2 }
 {
-    color_end(color_run(rest), rest)
+    let count = color_run(rest);
+    if count < rest.len() && matches!(rest[count], b'm' | b'K') {
+        count + 3
+    } else {
+        0
+    }
 }
 
 fn color_run(rest: &[u8]) -> usize
@@ -100,20 +103,6 @@ fn color_run(rest: &[u8]) -> usize
         .count()
 }
 
-/// The length of the color, if its last byte is here.
-fn color_end(count: usize, rest: &[u8]) -> usize
-    requires small { length rest.now < 2 ^ 63 }
-    requires here { count ≤ length rest.now }
-    ensures value { result ≡ color_ends count rest.now }
-    ensures within { result ≤ length rest.now + 2 }
-{
-    if count < rest.len() && matches!(rest[count], b'm' | b'K') {
-        count + 3
-    } else {
-        0
-    }
-}
-
 /// The same for a link, after its first four bytes.
 fn link_len(rest: &[u8]) -> usize
     requires { length rest.now < 2 ^ 63 }
@@ -121,7 +110,11 @@ fn link_len(rest: &[u8]) -> usize
     ensures within { result ≤ length rest.now + 4 }
 {
     let count = link_run(rest);
-    link_end(count, rest.split_at(count).1)
+    match rest.split_at(count).1 {
+        [0x07, ..] => count + 5,
+        [0x1B, b'\\', ..] => count + 6,
+        _ => 0,
+    }
 }
 
 fn link_run(rest: &[u8]) -> usize
@@ -131,17 +124,4 @@ fn link_run(rest: &[u8]) -> usize
     rest.iter()
         .take_while(|byte| !matches!(**byte, 0x07 | 0x1B | b'\n'))
         .count()
-}
-
-/// The length of the link, if this ends it.
-fn link_end(count: usize, rest: &[u8]) -> usize
-    requires { count + length rest.now < 2 ^ 63 }
-    ensures value { result ≡ link_ends count rest.now }
-    ensures within { result ≤ count + length rest.now + 4 }
-{
-    match rest {
-        [0x07, ..] => count + 5,
-        [0x1B, b'\\', ..] => count + 6,
-        _ => 0,
-    }
 }

@@ -1,8 +1,7 @@
 //! When a message without a level or a code makes a line with a location a finding.
-ghost use Rattle.std.specs.Prelude.{◌≡◌, ◌≤◌, ◌-◌};
+ghost use Rattle.std.specs.Prelude.{◌≡◌};
 ghost use Rattle.std.specs.List.{list_any};
-ghost use Rattle.std.specs.Option.{is_some};
-ghost use Rattle.line_shapes.specs.Bytes.{before_last as before_last_byte, is_in as belongs};
+ghost use Rattle.line_shapes.specs.Bytes.{is_in as belongs};
 ghost use Rattle.line_shapes.specs.declared.bytes.Kind.TheVariants.{Blank};
 ghost use Rattle.line_shapes.specs.Part.{seen};
 ghost use Rattle.line_shapes.specs.Place.{placed as placed_parts};
@@ -58,18 +57,7 @@ fn has_extension(name: &[u8]) -> bool
     ensures { result ≡ extended name.now }
 {
     let (front, extension) = name.split_at(name.len() - end_run(Kind::LetterOrDigit, name));
-    ends_in(front, b'.') && matches!(extension, [first, ..] if is_letter(*first))
-}
-
-/// Whether a text ends in this byte.
-fn ends_in(text: &[u8], byte: u8) -> bool
-    requires { 1 ≤ byte }
-    ensures { result ≡ is_some (before_last_byte byte text.now) }
-{
-    match before_last(text, byte) {
-        Some(_) => true,
-        None => false,
-    }
+    before_last(front, b'.').is_some() && matches!(extension, [first, ..] if is_letter(*first))
 }
 
 /// Whether a message ends in brackets that hold `error` or `warning`, with `/` and a code or
@@ -84,7 +72,7 @@ fn names_level(found: Found<'_>) -> bool
         return false;
     };
     let (front, text) = inner.split_at(inner.len() - end_run(Kind::InBrackets, inner));
-    ends_in(front, b'[') && (tells(text, b"error") || tells(text, b"warning"))
+    before_last(front, b'[').is_some() && (tells(text, b"error") || tells(text, b"warning"))
 }
 
 /// Whether a text is a word, or the word, `/` and more.

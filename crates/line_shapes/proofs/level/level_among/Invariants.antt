@@ -1,9 +1,0 @@
-use Rattle.std.proofs.Common.{◌≡◌, length, map}
-use Rattle.line_shapes.specs.Level.{level_among as level_in}
-use Rattle.line_shapes.proofs.level.level_among.Given as goal
-
-abbrev pub invariant-loop-words : goal.invariant-loop-words
-invariant-loop-words l = level_in (map (λ word. (word.0.now, word.1, word.2)) l.words) l.text ≡ level_in (map (λ word. (word.0.now, word.1, word.2)) l.initial.words) l.text
-
-abbrev pub decreases-loop-words : goal.decreases-loop-words
-decreases-loop-words l = length l.words

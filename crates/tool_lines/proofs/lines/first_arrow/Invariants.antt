@@ -1,9 +1,0 @@
-use Rattle.std.proofs.Common.{◌≡◌, length, map}
-use Rattle.tool_lines.specs.Lines.{first_arrow as arrow_among}
-use Rattle.tool_lines.proofs.lines.first_arrow.Given as goal
-
-abbrev pub invariant-loop-rows : goal.invariant-loop-rows
-invariant-loop-rows l = arrow_among (map (λ row. (row.1.now, row.2.now)) l.rows) l.line ≡ arrow_among (map (λ row. (row.1.now, row.2.now)) l.initial.rows) l.line
-
-abbrev pub decreases-loop-rows : goal.decreases-loop-rows
-decreases-loop-rows l = length l.rows
