@@ -1,7 +1,5 @@
 // Findings that are printed again.
-ghost use Rattle.std.specs.Prelude.{◌≡◌, ◌++◌, ◌∷◌, ◌&&◌, ℕ, List, IfOk, OnOk, length, map, replicate};
-ghost use Rattle.std.specs.Prelude.{string_bytes};
-ghost use Rattle.std.specs.Option.{option_copied};
+ghost use Rattle.std.specs.Prelude.{◌≡◌, ◌++◌, ◌∷◌, ◌&&◌, ℕ, List, IfOk, OnOk, map, replicate};
 ghost use Rattle.build_dirs.specs.Again.{seen_in};
 ghost use Rattle.tool_lines.specs.Lines.{finding_parts, piece_parts};
 ghost use Rattle.drawn_lines.specs.Again.{Sign, begun_by, flags_from, flags_in, fresh as fresh_of};
@@ -9,8 +7,7 @@ ghost use Rattle.drawn_lines.specs.Again.{muted_at as muted_there, muted_if as m
 ghost use Rattle.drawn_lines.specs.Again.{repeated as repeated_of, run_parts, seen_behind};
 ghost use Rattle.drawn_lines.specs.Again.{seen_from, seen_with, sign_of, signs, was_printed};
 ghost use Rattle.drawn_lines.specs.Again.{with_sign};
-ghost use Rattle.drawn_lines.specs.Seam.{says_aside as says_it_aside};
-ghost use Rattle.std.specs.Prelude.{option_map, if◌then◌else◌, not};
+ghost use Rattle.std.specs.Prelude.{option_map};
 
 use crate::kept::{behind, front};
 use crate::parting::unparted;
@@ -244,18 +241,12 @@ fn muted_at<'p>(
         let [piece, more @ ..] = rest else {
             return Ok(all);
         };
-        all.push(muted_if(is_flag(which, *flag), piece))?;
+        let is = if which { *flag } else { !*flag };
+        all.push(muted_if(is, piece))?;
         flags = later;
         rest = more;
     }
     Ok(all)
-}
-
-/// Whether a flag is this one.
-fn is_flag(which: bool, flag: bool) -> bool
-    ensures { result ≡ (if which then flag else not flag) }
-{
-    if which { flag } else { !flag }
 }
 
 /// A block, without its finding if `is`.

@@ -1,5 +1,5 @@
 // Lines that are drawn as they come.
-ghost use Rattle.std.specs.Prelude.{◌≡◌, ◌≤◌, ◌++◌, [], ℕ, List, IfOk, drop, length, map};
+ghost use Rattle.std.specs.Prelude.{◌≡◌, ◌++◌, [], ℕ, List, IfOk, drop, map};
 ghost use Rattle.std.specs.Prelude.{string_bytes};
 ghost use Rattle.line_shapes.specs.Shape.{shape_parts};
 ghost use Rattle.drawn_lines.specs.Lines.{shapes_of as shapes_meant};

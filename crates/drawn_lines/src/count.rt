@@ -1,11 +1,10 @@
 // How many reports there were.
-ghost use Rattle.std.specs.Prelude.{◌≡◌, ◌+◌, ◌++◌, IfOk, OnOk, codes, decimal};
-ghost use Rattle.std.specs.Prelude.{string_bytes, unwrap_or};
+ghost use Rattle.std.specs.Prelude.{◌≡◌, ◌+◌, IfOk};
+ghost use Rattle.std.specs.Prelude.{string_bytes};
 ghost use Rattle.finding_summaries.specs.Counted.{summary_line};
 ghost use Rattle.drawn_lines.specs.Counts.{count_of as count_meant};
 ghost use Rattle.drawn_lines.specs.Counts.{again_text, count_with, counts_with, ending_by};
 ghost use Rattle.drawn_lines.specs.Counts.{no_count};
-ghost use Rattle.escapes.specs.Cuts.{without_last as lf_less};
 
 use crate::form::annotates;
 use escapes::without_last;
@@ -108,24 +107,12 @@ fn numbers_line(alloc: Global, count: Count, again: Count) -> Result<String, All
     if again.total == 0 {
         return Ok(line);
     }
-    let mut text = String::from_str(alloc, without_lf(line.as_str()))?;
-    push_again(&mut text, again.total)?;
+    let bare = match without_last(line.as_str(), '\n') {
+        Some(bare) => bare,
+        None => line.as_str(),
+    };
+    let mut text = String::from_str(alloc, bare)?;
+    let repeats = again.total;
+    write!(text, " ({repeats} printed again)\n")?;
     Ok(text)
-}
-
-/// A line without its LF.
-fn without_lf(line: &str) -> &str
-    ensures { result.now ≡ unwrap_or (lf_less 0x0A line.now) line.now }
-{
-    match without_last(line, '\n') {
-        Some(line) => line,
-        None => line,
-    }
-}
-
-fn push_again(text: &mut String, again: usize) -> Result<(), AllocError>
-    ensures { OnOk result (string_bytes text.new ≡ string_bytes text.old
-        ++ (codes " (" ++ decimal again ++ codes " printed again)\n")) }
-{
-    write!(text, " ({again} printed again)\n")
 }

@@ -1,13 +1,12 @@
 // Lines that are kept.
 ghost use Rattle.std.specs.Prelude.{◌≡◌, ◌++◌, ◌∷◌, IfOk, List, OnOk, drop, map, string_bytes};
 ghost use Rattle.std.specs.Prelude.{take};
-ghost use Rattle.std.specs.List.{flat_map};
 ghost use Rattle.std.specs.Str.Lossy.{utf8_lossy};
 ghost use Rattle.harmless.specs.declared.Kind.TheVariants.{Prose};
 ghost use Rattle.shown_reports.specs.Shown.{shown_text as shown_text_of};
 ghost use Rattle.tool_lines.specs.Lines.{PieceParts, piece_parts, is_kept as is_kept_sort};
 ghost use Rattle.drawn_lines.specs.Lines.{aside_text as aside_of};
-ghost use Rattle.drawn_lines.specs.Lines.{holds_link as holds_a_link, kept_if, kept_line};
+ghost use Rattle.drawn_lines.specs.Lines.{holds_link as holds_a_link, kept_if};
 ghost use Rattle.drawn_lines.specs.Lines.{kept_text as kept_of, line_text as line_text_of};
 
 use crate::form::annotates;
@@ -130,7 +129,11 @@ pub(crate) fn push_kept(
     if asked.only_findings || !is_kept(piece.begun.sort) {
         return Ok(());
     }
-    push_lines(alloc, text, painted, asked.raw, run)
+    for line in run {
+        text.push_str(line_text(alloc, painted, asked.raw, line)?.as_str())?;
+        text.push('\n')?;
+    }
+    Ok(())
 }
 
 /// Whether a block is kept.
@@ -141,24 +144,6 @@ pub(crate) fn is_kept(sort: Sort) -> bool
         Sort::Kept => true,
         Sort::Heading | Sort::Below | Sort::Announced | Sort::Inline | Sort::Spaced => false,
     }
-}
-
-/// Appends lines.
-fn push_lines(
-    alloc: Global,
-    text: &mut String,
-    painted: bool,
-    raw: bool,
-    run: &[&[u8]],
-) -> Result<(), AllocError>
-    ensures { OnOk result (string_bytes text.new ≡ string_bytes text.old
-        ++ flat_map (kept_line painted raw) (map (λ line. line.now) run.now)) }
-{
-    for line in run {
-        text.push_str(line_text(alloc, painted, raw, line)?.as_str())?;
-        text.push('\n')?;
-    }
-    Ok(())
 }
 
 /// A line as it is shown: as it came with its colors, without them if it has a link; or as it was

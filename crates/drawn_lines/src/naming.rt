@@ -1,6 +1,6 @@
 // The names of findings between lines that say that a build enters or leaves a directory.
-ghost use Rattle.std.specs.Prelude.{◌≡◌, ◌++◌, ◌∷◌, [], ℕ, List, IfOk, OnOk, drop, map, option_map};
-ghost use Rattle.std.specs.Prelude.{slice_get, string_bytes, Some, false, true, ◌+◌};
+ghost use Rattle.std.specs.Prelude.{◌≡◌, ◌∷◌, [], ℕ, List, IfOk, OnOk, map, option_map};
+ghost use Rattle.std.specs.Prelude.{slice_get, string_bytes, false, ◌+◌};
 ghost use Rattle.std.specs.List.{list_all};
 ghost use Rattle.std.specs.Option.{is_none};
 ghost use Rattle.std.specs.Str.Lossy.{utf8_lossy};
@@ -12,11 +12,11 @@ ghost use Rattle.source_store.specs.declared.named.Spelling.TheVariants.{Path};
 ghost use Rattle.build_dirs.specs.Dirs.{dirs_parts, is_absolute as is_absolute_path, taken};
 ghost use Rattle.tool_lines.specs.Lines.{finding_parts, piece_parts};
 ghost use Rattle.drawn_lines.specs.Named.{Agrees, KeepsNames, below as below_folder, dirs_behind};
-ghost use Rattle.drawn_lines.specs.Named.{called as called_so, found_name, from_root as path_from};
+ghost use Rattle.drawn_lines.specs.Named.{found_name, from_root as path_from};
 ghost use Rattle.drawn_lines.specs.Named.{has_text as is_text, is_sought as is_sought_name};
 ghost use Rattle.drawn_lines.specs.Named.{name_by, name_texts, names_for, renamed as renamed_piece};
 ghost use Rattle.drawn_lines.specs.Named.{first_text, places, renamed_by, tried, tried_by, tried_in};
-ghost use Rattle.drawn_lines.specs.Named.{tried_names, turned, turned_by};
+ghost use Rattle.drawn_lines.specs.Named.{tried_names, turned_by};
 
 use crate::kept::{behind, front};
 use build_dirs::dirs::{BuildDirs, is_absolute};
@@ -262,16 +262,9 @@ fn try_place<S: Store>(
 {
     let names = [String::from_str(alloc, place)?];
     gather_more(alloc, store, Spelling::Path, sources, &names)?;
-    Ok(has_text(sources, place))
-}
-
-/// Whether a name has a text.
-fn has_text(sources: &ShownSources, name: &str) -> bool
-    ensures { result ≡ is_text (held_in sources.now.entries.items name.now) }
-{
-    match sources.indexed().rows(name) {
-        Ok(_) => true,
-        Err(_) => false,
+    match sources.indexed().rows(place) {
+        Ok(_) => Ok(true),
+        Err(_) => Ok(false),
     }
 }
 
@@ -320,38 +313,24 @@ pub fn renamed<'p>(
 fn with_name<'p>(name: &'p Option<String>, piece: &Piece<'p>) -> Piece<'p>
     ensures { piece_parts result ≡ renamed_piece (text_bytes name.entry.now) (piece_parts piece.now) }
 {
-    match name {
-        Some(name) => named(name.as_bytes(), piece),
-        None => *piece,
-    }
-}
-
-/// A block with this name for its finding.
-fn named<'p>(name: &'p [u8], piece: &Piece<'p>) -> Piece<'p>
-    ensures { piece_parts result ≡ renamed_piece (Some name.entry.now) (piece_parts piece.now) }
-{
-    match piece.begun.finding {
-        Some(finding) => Piece {
-            lines: piece.lines,
-            begun: Begun {
-                sort: piece.begun.sort,
-                finding: Some(called(name, finding)),
-            },
+    let Some(name) = name else {
+        return *piece;
+    };
+    let Some(finding) = piece.begun.finding else {
+        return *piece;
+    };
+    Piece {
+        lines: piece.lines,
+        begun: Begun {
+            sort: piece.begun.sort,
+            finding: Some(Finding {
+                place: Placed {
+                    name: name.as_bytes(),
+                    found: finding.place.found,
+                },
+                says: finding.says,
+            }),
         },
-        None => *piece,
-    }
-}
-
-/// A finding with this name.
-fn called<'p>(name: &'p [u8], finding: Finding<'p>) -> Finding<'p>
-    ensures { finding_parts result ≡ called_so name.entry.now (finding_parts finding.entry) }
-{
-    Finding {
-        place: Placed {
-            name,
-            found: finding.place.found,
-        },
-        says: finding.says,
     }
 }
 

@@ -1,8 +1,6 @@
 // Empty lines that part a finding from what is before it.
 ghost use Rattle.std.specs.Prelude.{◌≡◌, ◌++◌, ◌∷◌, [], IfOk, OnOk, false, map};
 ghost use Rattle.tool_lines.specs.Lines.{piece_parts};
-ghost use Rattle.drawn_lines.specs.Parting.{begins_empty as begins_empty_line};
-ghost use Rattle.drawn_lines.specs.Parting.{begins_passed as begins_passed_there};
 ghost use Rattle.drawn_lines.specs.Parting.{is_blank as is_blank_piece};
 ghost use Rattle.drawn_lines.specs.Parting.{is_parting as is_parting_piece};
 ghost use Rattle.drawn_lines.specs.Parting.{passed_if as passed_or, unparted as unparted_of};
@@ -44,7 +42,8 @@ fn push_next<'p>(
         ++ passed_or (is_parting_piece (map (λ line. line.now) run.now) (piece_parts piece.now)
         (map piece_parts more.now)) (piece_parts piece.now) ∷ []) }
 {
-    let is_parting = is_blank(run, piece) && begins_passed(more);
+    let is_parting = is_blank(run, piece)
+        && matches!(more, [next, ..] if !is_kept(next.begun.sort));
     all.push(passed_if(is_parting, piece))?;
     Ok(())
 }
@@ -69,27 +68,7 @@ pub(crate) fn waits(lines: &[&[u8]], pieces: &[Piece<'_>]) -> bool
 pub(crate) fn is_blank(run: &[&[u8]], piece: &Piece<'_>) -> bool
     ensures { result ≡ is_blank_piece (map (λ line. line.now) run.now) (piece_parts piece.now) }
 {
-    is_kept(piece.begun.sort) && begins_empty(run)
-}
-
-/// Whether the first line is empty.
-fn begins_empty(run: &[&[u8]]) -> bool
-    ensures { result ≡ begins_empty_line (map (λ line. line.now) run.now) }
-{
-    match run {
-        [line, ..] => line.is_empty(),
-        [] => false,
-    }
-}
-
-/// Whether the first of these blocks isn't kept.
-fn begins_passed(pieces: &[Piece<'_>]) -> bool
-    ensures { result ≡ begins_passed_there (map piece_parts pieces.now) }
-{
-    match pieces {
-        [piece, ..] => !is_kept(piece.begun.sort),
-        [] => false,
-    }
+    is_kept(piece.begun.sort) && matches!(run, [line, ..] if line.is_empty())
 }
 
 /// A block, whose lines aren't written if `is`.

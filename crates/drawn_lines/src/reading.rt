@@ -2,7 +2,7 @@
 ghost use Rattle.std.specs.Prelude.{◌≡◌, IfOk, map};
 ghost use Rattle.line_shapes.specs.Shape.{shape_parts};
 ghost use Rattle.drawn_lines.specs.Lines.{columns_of as columns_meant};
-ghost use Rattle.drawn_lines.specs.Lines.{shapes_of as shapes_meant, tool_columns as columns_known};
+ghost use Rattle.drawn_lines.specs.Lines.{shapes_of as shapes_meant};
 ghost use Rattle.drawn_lines.specs.Lines.{tool_parts};
 
 use girzohal_options::Asked;
@@ -33,26 +33,19 @@ pub fn shapes_of(alloc: Global, asked: &Asked) -> Result<Vec<Shape<'_>>, AllocEr
 pub fn columns_of(asked: &Asked) -> Columns
     ensures { result ≡ columns_meant asked.now }
 {
-    let known = tool_columns(&asked.tool);
-    Columns {
-        unit: asked.columns.unwrap_or(known.unit),
-        first: asked.first_column.unwrap_or(known.first),
-        with_end: known.with_end,
-    }
-}
-
-/// What the columns of a tool count.
-fn tool_columns(tool: &Option<String>) -> Columns
-    ensures { result ≡ columns_known tool.now }
-{
     let usual = Columns {
         unit: Unit::Characters,
         first: 1,
         with_end: true,
     };
-    match tool {
+    let known = match &asked.tool {
         Some(tool) => columns_of_tool(tool.as_str()).unwrap_or(usual),
         None => usual,
+    };
+    Columns {
+        unit: asked.columns.unwrap_or(known.unit),
+        first: asked.first_column.unwrap_or(known.first),
+        with_end: known.with_end,
     }
 }
 

@@ -1,8 +1,7 @@
 // What was drawn so far, and how more blocks are drawn.
-ghost use Rattle.std.specs.Prelude.{◌≡◌, ◌||◌, ◌++◌, IfOk, length, map, string_bytes};
+ghost use Rattle.std.specs.Prelude.{◌≡◌, ◌||◌, IfOk, length, map, string_bytes};
 ghost use Rattle.found_reports.specs.Listed.{held_in};
 ghost use Rattle.tool_lines.specs.Lines.{piece_parts};
-ghost use Rattle.line_reports.specs.Names.{names_in};
 ghost use Rattle.line_reports.specs.Pieces.{read_parts};
 ghost use Rattle.line_reports.specs.Reports.{reports_in};
 ghost use Rattle.drawn_lines.specs.Lines.{columns_of as columns_meant, written as written_of};
@@ -154,10 +153,15 @@ fn draw<S: Store>(
     let most = still(asked.most, count.total);
     let reads = read_pieces(alloc, lines, &parts.fresh)?;
     let repeats = read_pieces(alloc, lines, &parts.again)?;
-    let names = all_names(alloc, lines, &reads, &repeats)?;
+    let mut names = names_of(alloc, lines, &reads)?;
+    let mut more = names_of(alloc, lines, &repeats)?;
+    names.append(&mut more)?;
     gather_more(alloc, store, Spelling::Path, &mut sources, &names)?;
     let share = written(alloc, asked, most, lines, came, &reads, &sources)?;
-    let others = count_in(alloc, asked, lines, &repeats, &sources)?;
+    let others = counted(
+        asked,
+        &reports_of(alloc, lines, &repeats, sources.indexed(), columns_of(asked))?,
+    );
     let aside = aside_text(alloc, asked, lines, pieces)?;
     let tally = Tally {
         count: added(count, share.count)?,
@@ -173,44 +177,11 @@ fn draw<S: Store>(
     })
 }
 
-/// The names that the reports of these blocks ask for, and then those of others.
-fn all_names(
-    alloc: Global,
-    lines: &[&[u8]],
-    reads: &[ReadPiece<'_>],
-    others: &[ReadPiece<'_>],
-) -> Result<Vec<String>, AllocError>
-    ensures { IfOk result (λ it. map string_bytes it.items
-        ≡ names_in (map (λ line. line.now) lines.now) (map read_parts reads.now)
-        ++ names_in (map (λ line. line.now) lines.now) (map read_parts others.now)) }
-{
-    let mut names = names_of(alloc, lines, reads)?;
-    let mut more = names_of(alloc, lines, others)?;
-    names.append(&mut more)?;
-    Ok(names)
-}
-
 /// Whether a report is at or above the level.
 pub(crate) fn reaches(tally: &Tally) -> bool
     ensures { result ≡ (tally.now.count.reached || tally.now.again.reached) }
 {
     tally.count.reached || tally.again.reached
-}
-
-/// How many reports these blocks have.
-fn count_in(
-    alloc: Global,
-    asked: &Asked,
-    lines: &[&[u8]],
-    pieces: &[ReadPiece<'_>],
-    sources: &ShownSources,
-) -> Result<Count, AllocError>
-    ensures { IfOk result (λ count. count ≡ count_meant asked.now
-        (reports_in (columns_meant asked.now) (held_in sources.now.entries.items)
-        (map (λ line. line.now) lines.now) (map read_parts pieces.now))) }
-{
-    let found = reports_of(alloc, lines, pieces, sources.indexed(), columns_of(asked))?;
-    Ok(counted(asked, &found))
 }
 
 /// What is written of these blocks; `most` limits the number of reports that are drawn.

@@ -1,8 +1,15 @@
 -- Pieces are read one after another.
-use Rattle.std.proofs.Common.{◌≡◌, ℕ, zero, suc, ◌+◌, ◌≤◌, List, [], ◌∷◌, ◌++◌, length, take, drop, refl, sym, ap, ◌∙◌, subst, arith, append_assoc, append-nil, length-drop}
+use Rattle.std.proofs.Common.{◌≡◌, ℕ, zero, suc, ◌+◌, ◌≤◌, List, [], ◌∷◌, ◌++◌, Bor, Option, Some, None, option_map, length, take, drop, refl, sym, ap, ◌∙◌, subst, arith, append_assoc, append-nil, length-drop}
 use Rattle.std.proofs.Math.Nat.{suc-add, zero-add}
 use Rattle.std.proofs.Math.Seq.{drop-nil}
-use Rattle.line_reports.specs.Pieces.{AreRead, IsPieceRead, ReadParts}
+use Rattle.std.specs.Option.{option_copied}
+use Rattle.excerpts.specs.declared.body.Excerpt.{Excerpt}
+use Rattle.line_reports.specs.Pieces.{AreRead, IsPieceRead, ReadParts, excerpt_parts}
+
+-- an excerpt that is lent
+pub lent_excerpt : (lent : Option (Bor Excerpt)) → option_map (λ it. excerpt_parts it.now) lent ≡ option_map excerpt_parts (option_copied lent)
+lent_excerpt None = refl
+lent_excerpt (Some it) = refl
 
 -- what is read of the lines left completes what is read so far
 pub record ReadSoFar (lines left : List (List ℕ)) (read : List ReadParts) : Type 0 where

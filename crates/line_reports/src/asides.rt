@@ -1,5 +1,5 @@
 //! Drawings of other files than the finding's.
-ghost use Rattle.std.specs.Prelude.{◌≡◌, ◌++◌, IfOk, IfSome, OnOk, None, Some, map};
+ghost use Rattle.std.specs.Prelude.{◌≡◌, ◌++◌, IfOk, IfSome, OnOk, map};
 ghost use Rattle.std.specs.Prelude.{option_map};
 ghost use Rattle.std.specs.List.{list_any};
 ghost use Rattle.std.specs.Option.{is_some};
@@ -265,18 +265,9 @@ pub(crate) fn either(
         asides = tail(asides, 1);
         shown = rest;
     }
-    push_left(&mut all, asides)?;
-    Ok(all)
-}
-
-/// Adds which of these blocks are shown by labels in another file.
-fn push_left(all: &mut Vec<bool>, mut asides: &[Option<Aside>]) -> Result<(), AllocError>
-    ensures { OnOk result (all.new.items
-        ≡ all.old.items ++ map is_some (map (option_map aside_parts) asides.entry.now)) }
-{
     while let [aside, rest @ ..] = asides {
         all.push(aside.is_some())?;
         asides = rest;
     }
-    Ok(())
+    Ok(all)
 }

@@ -1,5 +1,5 @@
 //! The drawings of an excerpt, laid over the source.
-ghost use Rattle.std.specs.Prelude.{◌≡◌, ◌++◌, ◌∷◌, [], ◌<◌, ◌^◌, IfOk, IfSome, None, OnOk, length};
+ghost use Rattle.std.specs.Prelude.{◌≡◌, [], IfOk, IfSome, OnOk};
 ghost use Rattle.std.specs.Prelude.{map, option_map};
 ghost use Rattle.std.specs.Str.{IsCharBoundary};
 ghost use Rattle.excerpt_texts.specs.Labels.{drawn_parts};
@@ -7,7 +7,7 @@ ghost use Rattle.excerpts.specs.Body.{block_of};
 ghost use Rattle.sarif_spans.specs.Rows.{IsRowOf};
 ghost use Rattle.found_reports.specs.Found.{StandsIn};
 ghost use Rattle.oxc_protocol.specs.Source.{Fits};
-ghost use Rattle.line_reports.specs.Drawings.{counted_in, counted_on as counted_there};
+ghost use Rattle.line_reports.specs.Drawings.{counted_on as counted_there};
 ghost use Rattle.line_reports.specs.Drawings.{is_at as is_at_so, meant as meant_so, other_label};
 ghost use Rattle.line_reports.specs.Drawings.{all_laid as are_all_laid, begun_with, block_placed};
 ghost use Rattle.line_reports.specs.Drawings.{is_near as is_near_row, laid_at as laid_there};
@@ -40,8 +40,8 @@ use std::alloc::{AllocError, Global};
 pub struct Laid {
     alignment: Alignment,
     row: Row,
-    /// The character over the cell that has the number of the finding's column, if the finding is in
-    /// the row.
+    /// Where a mark below it is that was set by the number of the finding's column, as if each column
+    /// were a cell: the character over the cell of this number, if the finding is in the row.
     counted: Option<usize>,
 }
 
@@ -157,31 +157,15 @@ pub(crate) fn labels_placed(
         ≡ block_placed source.now.text.now aim (map (λ line. line.now) lines.now)
         (block_of block.now)) }
 {
-    let laid = laid_rows(alloc, source, aim, lines, block.below.rows.as_slice())?;
-    let labels = labels_in(alloc, lines, block)?;
-    placed_all(alloc, source.text, aim, laid.as_slice(), labels.as_slice())
-}
-
-/// Printed rows, each laid over the row of its number.
-fn laid_rows(
-    alloc: Global,
-    source: &RowText<'_>,
-    aim: Option<Aim>,
-    lines: &[&[char]],
-    mut rows: &[PrintedRow],
-) -> Result<Vec<Option<Laid>>, AllocError>
-    ensures stand { IfOk result (λ all.
-        LaidStand source.now.text.now (map (option_map laid_parts) all.items)) }
-    ensures laid { IfOk result (λ all. map (option_map laid_parts) all.items
-        ≡ map (row_laid source.now.text.now aim (map (λ line. line.now) lines.now)) rows.entry.now) }
-{
-    let mut all = Vec::new(alloc);
+    let mut laid = Vec::new(alloc);
+    let mut rows = block.below.rows.as_slice();
     while let [row, rest @ ..] = rows {
-        let laid = laid_row(alloc, source, aim, lines, *row)?;
-        all.push(laid)?;
+        let here = laid_row(alloc, source, aim, lines, *row)?;
+        laid.push(here)?;
         rows = rest;
     }
-    Ok(all)
+    let labels = labels_in(alloc, lines, block)?;
+    placed_all(alloc, source.text, aim, laid.as_slice(), labels.as_slice())
 }
 
 /// A printed row, laid over the row of its number, if it is that.
@@ -210,7 +194,12 @@ fn laid_row(
         Some(alignment) => Ok(Some(Laid {
             alignment,
             row,
-            counted: counted(aim, text, row),
+            counted: match aim {
+                Some(aim) if row.start <= aim.start && aim.start <= row.end => {
+                    Some(over(text, aim.count as usize))
+                }
+                _ => None,
+            },
         })),
         None => Ok(None),
     }
@@ -221,20 +210,6 @@ pub(crate) fn printed_text<'l>(lines: &[&'l [char]], row: PrintedRow) -> &'l [ch
     ensures { result.now ≡ text_printed (map (λ line. line.now) lines.now) row }
 {
     tail(line_at(lines, row.line), row.text)
-}
-
-/// Where a mark below a row is that was set by the number of the finding's column, as if each column
-/// were a cell, if the finding is in the row.
-fn counted(aim: Option<Aim>, printed: &[char], row: Row) -> Option<usize>
-    requires { length printed.now < 2 ^ 32 }
-    ensures { result ≡ counted_in aim printed.now row }
-{
-    match aim {
-        Some(aim) if row.start <= aim.start && aim.start <= row.end => {
-            Some(over(printed, aim.count as usize))
-        }
-        _ => None,
-    }
 }
 
 /// Whether a row isn't much longer than a printed one.
@@ -270,18 +245,10 @@ fn placed_all(
         let Some(placed) = placed_label(alloc, text, aim, laid, label)? else {
             return Ok(None);
         };
-        push_placed(&mut all, placed)?;
+        all.push(placed)?;
         labels = rest;
     }
     Ok(Some(all))
-}
-
-fn push_placed(all: &mut Vec<Placed>, placed: Placed) -> Result<(), AllocError>
-    ensures { OnOk result (map placed_parts all.new.items
-        ≡ map placed_parts all.old.items ++ placed_parts placed ∷ []) }
-{
-    all.push(placed)?;
-    Ok(())
 }
 
 fn all_laid(mut laid: &[Option<Laid>]) -> bool

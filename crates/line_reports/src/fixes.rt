@@ -1,15 +1,12 @@
 //! The exact edits that the suggestions of an excerpt are.
-ghost use Rattle.std.specs.Prelude.{◌≡◌, ◌++◌, ◌∷◌, [], ◌≤◌, ◌||◌, IfOk, IfSome, OnOk, Some, map};
+ghost use Rattle.std.specs.Prelude.{◌≡◌, ◌++◌, ◌∷◌, [], ◌≤◌, IfOk, IfSome, OnOk, map};
 ghost use Rattle.std.specs.Prelude.{◌+◌, option_map, length, string_bytes, true};
 ghost use Rattle.std.specs.List.{list_all, list_any, prefix_len};
-ghost use Rattle.std.specs.Option.{option_copied};
 ghost use Rattle.excerpt_rows.specs.Edits.{edit_parts, row_view};
-ghost use Rattle.excerpt_texts.specs.Lines.{flag_list};
-ghost use Rattle.excerpts.specs.Body.{block_of, is_block};
+ghost use Rattle.excerpts.specs.Body.{block_of};
 ghost use Rattle.found_reports.specs.Fixes.{change_view, fix_view};
 ghost use Rattle.sarif_spans.specs.Rows.{IsRowOf};
 ghost use Rattle.line_reports.specs.Fixes.{are_at_one as are_at_one_row};
-ghost use Rattle.line_reports.specs.Fixes.{begins_plain as begins_plain_at};
 ghost use Rattle.line_reports.specs.Fixes.{change_of as change_there, changes_of, ends_plain};
 ghost use Rattle.line_reports.specs.Fixes.{fixes_from, fixes_if, fixes_of as fixes_there};
 ghost use Rattle.line_reports.specs.Fixes.{has_tab as has_tab_in, hunks};
@@ -18,7 +15,7 @@ ghost use Rattle.line_reports.specs.Fixes.{is_suggestion as is_suggestion_kind, 
 ghost use Rattle.line_reports.specs.Fixes.{marks_at as marks_there};
 ghost use Rattle.line_reports.specs.Fixes.{rows_text as text_of_rows, sign_of as sign_meant};
 ghost use Rattle.line_reports.specs.Fixes.{source_row as row_of_source, suggested_at as row_suggested};
-ghost use Rattle.line_reports.specs.Fixes.{suggested_from, suggested_parts, suggested_rows, suggests};
+ghost use Rattle.line_reports.specs.Fixes.{suggested_from, suggested_parts, suggested_rows};
 ghost use Rattle.line_reports.specs.Pieces.{line_chars};
 ghost use Rattle.line_reports.specs.Told.{told_parts};
 
@@ -72,11 +69,13 @@ impl<'a> Told<'a> {
         let Some(excerpt) = self.excerpt else {
             return Ok(Vec::new(alloc));
         };
-        if !any_suggestion(excerpt.parts.as_slice()) {
+        let parts = excerpt.parts.as_slice();
+        let suggests = parts.iter().any(|part| is_suggestion(part.kind));
+        if !suggests {
             return Ok(Vec::new(alloc));
         }
         let own = String::from_utf8_lossy(alloc, self.finding.place.name)?;
-        let flags = flags_of(alloc, own.as_str(), self.body, excerpt.parts.as_slice())?;
+        let flags = flags_of(alloc, own.as_str(), self.body, parts)?;
         let lines = characters(alloc, self.body)?;
         let lines = lent(alloc, lines.as_slice())?;
         fixes_at(
@@ -90,13 +89,6 @@ impl<'a> Told<'a> {
 }
 
 // ---- The suggestions of the finding's file
-
-/// Whether one of these parts is a suggestion.
-fn any_suggestion(parts: &[Part]) -> bool
-    ensures { result ≡ list_any suggests parts.now }
-{
-    parts.iter().any(|part| is_suggestion(part.kind))
-}
 
 fn is_suggestion(kind: PartKind) -> bool
     ensures { result ≡ is_suggestion_kind kind }
@@ -128,31 +120,18 @@ fn flags_of(
     let mut here = true;
     let mut rest = parts;
     while let [part, more @ ..] = rest {
-        push_flag(&mut flags, part.kind, here && is_suggestion(part.kind))?;
+        if matches!(
+            part.kind,
+            PartKind::Source | PartKind::Loose | PartKind::Suggestion
+        ) {
+            flags.push(here && is_suggestion(part.kind))?;
+        }
         if let Some(name) = part_name(alloc, body, *part)? {
             here = name.as_str() == own;
         }
         rest = more;
     }
     Ok(flags)
-}
-
-/// Adds the flag of a block.
-fn push_flag(flags: &mut Vec<bool>, kind: PartKind, flag: bool) -> Result<(), AllocError>
-    ensures { OnOk result (flags.new.items ≡ flags.old.items ++ flag_list (is_block kind) flag) }
-{
-    match kind {
-        PartKind::Source | PartKind::Loose | PartKind::Suggestion => {
-            flags.push(flag)?;
-            Ok(())
-        }
-        PartKind::Empty
-        | PartKind::Place(_)
-        | PartKind::Note(_)
-        | PartKind::GoesOn(_)
-        | PartKind::Frames
-        | PartKind::Kept => Ok(()),
-    }
 }
 
 // ---- Fixes
@@ -328,17 +307,14 @@ fn change_of(
 fn is_change(source: &RowText<'_>, edit: &Edit<'_>) -> bool
     ensures { result ≡ is_change_in source.now.text.now (edit_parts edit.now) }
 {
-    edit.first <= 0xFFFF_FFFF
-        && edit.count <= 0xFFFF_FFFF
-        && (edit.count > 0 || begins_plain(source, edit.first))
-}
-
-fn begins_plain(source: &RowText<'_>, first: usize) -> bool
-    requires { first ≤ 0xFFFF_FFFF }
-    ensures { result ≡ begins_plain_at source.now.text.now first }
-{
-    let before = Some(first.saturating_sub(1) as u32);
-    first == 1 || is_ended(source.text, row(source.text, source.index, before))
+    if edit.first > 0xFFFF_FFFF || edit.count > 0xFFFF_FFFF {
+        return false;
+    }
+    if edit.count > 0 || edit.first == 1 {
+        return true;
+    }
+    let before = Some(edit.first.saturating_sub(1) as u32);
+    is_ended(source.text, row(source.text, source.index, before))
 }
 
 /// Whether a row ends with LF alone.
@@ -415,20 +391,14 @@ fn hunk_rows<'r>(
             number: it.number,
             text: it.text,
             marks: it.marks.as_slice(),
-            source: lent_row(&it.source),
+            source: match &it.source {
+                Some(row) => Some(row.as_slice()),
+                None => None,
+            },
         })?;
         hunk = rest;
     }
     Ok(all)
-}
-
-fn lent_row(row: &Option<Vec<char>>) -> Option<&[char]>
-    ensures { option_copied result ≡ option_map (λ row. row.items) row.now }
-{
-    match row {
-        Some(row) => Some(row.as_slice()),
-        None => None,
-    }
 }
 
 /// The rows of a suggestion, with its marks and the source's rows.

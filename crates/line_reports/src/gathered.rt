@@ -1,5 +1,5 @@
 //! The reports of blocks, with their files.
-ghost use Rattle.std.specs.Prelude.{◌≡◌, ◌++◌, ◌∷◌, [], ◌<◌, IfOk, IfSome, OnOk, None, Some, map};
+ghost use Rattle.std.specs.Prelude.{◌≡◌, ◌++◌, ◌∷◌, [], ◌<◌, IfOk, IfSome, OnOk, None, map};
 ghost use Rattle.std.specs.Prelude.{length, option_map, string_bytes, true};
 ghost use Rattle.std.specs.Str.Lossy.{utf8_lossy};
 ghost use Rattle.found_reports.specs.Files.{files_of};
@@ -10,7 +10,7 @@ ghost use Rattle.found_reports.specs.Listed.{held_in};
 ghost use Rattle.oxc_protocol.specs.Source.{Fits};
 ghost use Rattle.line_reports.specs.Gathered.{AreNumbers, AreTexts, FitsLabel, IsNumber};
 ghost use Rattle.line_reports.specs.Gathered.{IsListed, IsListedWith, MarksStand, StandsHeld};
-ghost use Rattle.line_reports.specs.Gathered.{is_named, mark_parts, row_text as text_of, text_in};
+ghost use Rattle.line_reports.specs.Gathered.{is_named, mark_parts, text_in};
 ghost use Rattle.line_reports.specs.Joined.{group_parts};
 ghost use Rattle.line_reports.specs.Reports.{group_reports, held_span};
 ghost use Rattle.line_reports.specs.Drawings.{drawings_parts, placed_parts};
@@ -492,7 +492,7 @@ impl<'s> Gathered<'s> {
             ≡ text_in (file_at self.now.found.files file).held }
     {
         match self.texts.get(file) {
-            Some(text) => lent(text),
+            Some(text) => text.as_ref(),
             None => None,
         }
     }
@@ -569,6 +569,7 @@ impl<'s> Gathered<'s> {
     }
 
     /// Adds the file of a name that isn't there.
+    #[tactic(auto, using(crate::proofs::FileLemmas::text_kept))]
     fn add(
         &mut self,
         alloc: Global,
@@ -590,19 +591,9 @@ impl<'s> Gathered<'s> {
         let source = sources.rows(name.as_str());
         let key = String::from_str(alloc, name.as_str())?;
         let file = self.found.add_file(name, held(&source))?;
-        self.texts.push(row_text(source))?;
+        self.texts.push(source.ok())?;
         self.numbers.insert(key, file)?;
         Ok(file)
-    }
-}
-
-/// The text, if there is one.
-fn lent<'t, 's>(text: &'t Option<RowText<'s>>) -> Option<&'t RowText<'s>>
-    ensures { option_map (λ it. it.now.text.now) result ≡ text_of text.now }
-{
-    match text {
-        Some(text) => Some(text),
-        None => None,
     }
 }
 
@@ -614,16 +605,6 @@ fn held<'s>(source: &Result<RowText<'s>, Lack>) -> Result<&'s str, Lack>
     match source {
         Ok(text) => Ok(text.text),
         Err(why) => Err(*why),
-    }
-}
-
-/// The text of a source with its rows, if there is one.
-fn row_text<'s>(source: Result<RowText<'s>, Lack>) -> Option<RowText<'s>>
-    ensures { text_of result ≡ text_in (text_held source.entry) }
-{
-    match source {
-        Ok(text) => Some(text),
-        Err(_) => None,
     }
 }
 

@@ -1,16 +1,14 @@
 //! Blocks with what was read of their lines.
 ghost use Rattle.std.specs.Prelude.{◌≡◌, ◌++◌, ◌∷◌, [], IfNone, IfOk, IfSome, OnOk, map};
 ghost use Rattle.std.specs.Str.{IsAscii, chars};
-ghost use Rattle.line_shapes.specs.Part.{seen};
 ghost use Rattle.tool_lines.specs.Lines.{piece_parts};
 ghost use Rattle.line_reports.specs.Pieces.{AreRead, IsPieceRead};
-ghost use Rattle.line_reports.specs.Pieces.{line_chars, read_parts, spot_in};
+ghost use Rattle.line_reports.specs.Pieces.{line_chars, read_parts};
 
 use crate::groups::{back, front};
 use crate::told::after_first;
 use excerpt_blocks::labels::Spot;
 use excerpts::body::{Excerpt, read};
-use line_shapes::part::Found;
 use std::alloc::{AllocError, Global};
 use tool_lines::lines::Piece;
 
@@ -75,7 +73,19 @@ fn piece_read<'a>(
     };
     let lines = characters(alloc, after_first(run))?;
     let lent = lent(alloc, lines.as_slice())?;
-    let excerpt = read(alloc, spot(finding.place.found), lent.as_slice())?;
+    let found = finding.place.found;
+    // A row 0 is none.
+    let spot = match found.line {
+        Some(0) | None => Spot {
+            line: None,
+            column: None,
+        },
+        Some(line) => Spot {
+            line: Some(line),
+            column: found.column,
+        },
+    };
+    let excerpt = read(alloc, spot, lent.as_slice())?;
     Ok(ReadPiece { piece, excerpt })
 }
 
@@ -146,20 +156,4 @@ pub(crate) fn lent(alloc: Global, mut lines: &[Vec<char>]) -> Result<Vec<&[char]
         lines = rest;
     }
     Ok(all)
-}
-
-/// Where a finding is, as its first line says; a row 0 is none.
-fn spot(found: Found<'_>) -> Spot
-    ensures { result ≡ spot_in (seen found.entry) }
-{
-    match found.line {
-        Some(0) | None => Spot {
-            line: None,
-            column: None,
-        },
-        Some(line) => Spot {
-            line: Some(line),
-            column: found.column,
-        },
-    }
 }

@@ -9,9 +9,11 @@ ghost use Rattle.std.specs.Str.{IsCharBoundary};
 ghost use Rattle.line_reports.specs.Rows.{break_start as start_of_break, row_end as end_of_row};
 ghost use Rattle.line_reports.specs.Span.{breaks, end_of, row_numbered, span_of};
 
-use crate::spans::{Spot, aimed, end_in, from, place_in, whole_row};
+use crate::runs::first_len;
+use crate::spans::{Spot, from, place_in, whole_row};
 use found_reports::GivenPlace;
 use indexed_sources::RowText;
+use line_shapes::tables::Unit;
 use line_shapes::tools::Columns;
 use sarif_spans::Row;
 use source_location::LineIndex;
@@ -27,25 +29,32 @@ pub fn span_at(source: &RowText<'_>, columns: Columns, spot: Spot) -> Option<Ran
 {
     let (text, index) = (source.text, source.index);
     let row = row(text, index, spot.place.line)?;
-    Some(match aimed(columns, spot) {
-        Some((unit, column)) => {
-            let start = place_in(unit, column, text, row);
-            from(text, row, start, end(text, index, columns, spot.place))
-        }
-        None => whole_row(text, row),
-    })
+    let (unit, count) = match (spot.place.column, spot.caret) {
+        // If columns count from 1, column 0 is the first too.
+        (Some(column), _) => (columns.unit, column.saturating_sub(columns.first) as usize),
+        (None, Some(count)) => (Unit::Characters, count),
+        (None, None) => return Some(whole_row(text, row)),
+    };
+    let start = place_in(unit, count, text, row);
+    let end = end(text, index, columns, spot.place);
+    Some(from(text, row, start, end))
 }
 
-/// The end that the tool reported.
+/// The end that the tool reported: after the character of its column, or before it.
 #[tactic(auto, unfolding(crate::specs::Span::end_of))]
 fn end(text: &str, index: &LineIndex, columns: Columns, place: GivenPlace) -> Option<usize>
     requires { index.now ≡ index_of text.now }
     ensures value { result ≡ end_of columns text.now (rows_in breaks text.now) place }
     ensures boundary { IfSome result (IsCharBoundary text.now) }
 {
-    let column = place.end_column?;
+    let count = place.end_column?.saturating_sub(columns.first) as usize;
     let row = row(text, index, place.end_line.or(place.line))?;
-    Some(end_in(columns, text, column, row))
+    let at = place_in(columns.unit, count, text, row);
+    Some(if columns.with_end {
+        at + first_len(&text[at..row.end])
+    } else {
+        at
+    })
 }
 
 /// The row with a number, from 1.

@@ -2,10 +2,10 @@
 ghost use Rattle.std.specs.Prelude.{◌≡◌, ◌<◌, IfOk, IfSome, length, map};
 ghost use Rattle.excerpt_texts.specs.Lines.{line_parts, own_parts};
 ghost use Rattle.line_reports.specs.Drawings.{AimStands, PlacedStand, drawings_parts};
-ghost use Rattle.line_reports.specs.Told.{bare_text as bare_text_of, body_lines};
+ghost use Rattle.line_reports.specs.Told.{body_lines};
 ghost use Rattle.line_reports.specs.Told.{drawings_of as drawings_there};
 ghost use Rattle.line_reports.specs.Told.{lines_of as lines_there};
-ghost use Rattle.line_reports.specs.Told.{lines_by, told_from, told_parts};
+ghost use Rattle.line_reports.specs.Told.{told_from, told_parts};
 
 use crate::aim::Aim;
 use crate::drawings::{Drawings, drawings_of, no_drawings};
@@ -35,7 +35,14 @@ impl<'a> Told<'a> {
         ensures { IfOk result (λ it. map line_parts it.items
             ≡ lines_there (told_parts self.now) shown.now) }
     {
-        let mut lines = self.all_lines(alloc, body, shown)?;
+        let mut lines = match self.excerpt {
+            Some(excerpt) => {
+                let name = String::from_utf8_lossy(alloc, self.finding.place.name)?;
+                let own = own(name.as_str(), self.place());
+                lines_of(alloc, own, body, excerpt.parts.as_slice(), shown)?
+            }
+            None => kept_lines(alloc, body)?,
+        };
         let Some(below) = self.below else {
             return Ok(lines);
         };
@@ -44,25 +51,6 @@ impl<'a> Told<'a> {
             let _told = lines.remove(at);
         }
         Ok(lines)
-    }
-
-    /// The same, with the line that has its message.
-    fn all_lines(
-        &self,
-        alloc: Global,
-        body: &[&[char]],
-        shown: &[bool],
-    ) -> Result<Vec<TextLine>, AllocError>
-        requires { map (λ line. line.now) body.now ≡ body_lines (told_parts self.now) }
-        ensures { IfOk result (λ it. map line_parts it.items
-            ≡ lines_by (told_parts self.now) shown.now (told_parts self.now).excerpt) }
-    {
-        let Some(excerpt) = self.excerpt else {
-            return kept_lines(alloc, body);
-        };
-        let name = String::from_utf8_lossy(alloc, self.finding.place.name)?;
-        let own = own(name.as_str(), self.place());
-        lines_of(alloc, own, body, excerpt.parts.as_slice(), shown)
     }
 
     /// The drawings of its excerpt in a text of its file. `body` has the characters of its other
@@ -122,17 +110,14 @@ fn told_at(text: &str, mut lines: &[TextLine]) -> Option<usize>
 {
     let mut count = 0;
     while let [line, rest @ ..] = lines {
-        if is_use(Use::AsIs, line.to) && bare_text(line.text.as_bytes()) == text.as_bytes() {
+        let said = line.text.as_bytes();
+        if is_use(Use::AsIs, line.to)
+            && trimmed(said.split_at(run(Kind::Blank, said)).1) == text.as_bytes()
+        {
             return Some(count);
         }
         count += 1;
         lines = rest;
     }
     None
-}
-
-fn bare_text(text: &[u8]) -> &[u8]
-    ensures { result.now ≡ bare_text_of text.now }
-{
-    trimmed(text.split_at(run(Kind::Blank, text)).1)
 }

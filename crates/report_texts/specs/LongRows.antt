@@ -67,13 +67,9 @@ label_line name source label =
     codes "at " ++ name ++ number_text (row + 1) ++ number_text (label.offset - start_of source row + 1)
     ++ option_map_or (λ text. codes ": " ++ text) label.text [] ++ codes "\n"
 
--- the most columns that a row may have
-unfoldable pub limit_line : ℕ → List ℕ
-limit_line most = codes ", which is more than " ++ decimal most ++ codes " (--max-row)"
-
--- how many columns a row has that is too long
+-- how many columns a row has that is too long, and the most that it may have
 unfoldable pub row_line : List ℕ → ℕ → ℕ → List ℕ
-row_line source most row = codes "row " ++ decimal (row + 1) ++ codes " has " ++ decimal (columns_in source row) ++ codes " columns" ++ limit_line most
+row_line source most row = codes "row " ++ decimal (row + 1) ++ codes " has " ++ decimal (columns_in source row) ++ codes " columns, which is more than " ++ decimal most ++ codes " (--max-row)"
 
 -- the note, where each label starts, and how long the row is
 unfoldable pub long_note : List ℕ → List ℕ → Option (List ℕ) → List Label → ℕ → ℕ → List ℕ

@@ -1,5 +1,5 @@
 // The exact edits of reports that a log has.
-ghost use Rattle.std.specs.Prelude.{◌≡◌, IfOk, map, string_bytes};
+ghost use Rattle.std.specs.Prelude.{◌≡◌, IfOk, map};
 ghost use Rattle.found_reports.specs.Fixes.{change_view, fix_view};
 ghost use Rattle.report_texts.specs.Fixes.{is_written as is_so, stays as stays_so};
 ghost use Rattle.report_texts.specs.Fixes.{written_fixes};

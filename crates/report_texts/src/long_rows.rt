@@ -11,7 +11,7 @@ ghost use Rattle.found_reports.specs.Place.{number_text};
 ghost use Rattle.oxc_plan.specs.Rows.{ends_at as ends_so};
 ghost use Rattle.report_texts.specs.LongRows.{IsAmong, break_len as break_before, columns_in};
 ghost use Rattle.report_texts.specs.LongRows.{long_among as long_of_groups};
-ghost use Rattle.report_texts.specs.LongRows.{label_line, limit_line, long_from};
+ghost use Rattle.report_texts.specs.LongRows.{label_line, long_from};
 ghost use Rattle.report_texts.specs.LongRows.{long_in as long_window};
 ghost use Rattle.report_texts.specs.LongRows.{long_note as note_said, long_row as long_of, row_line};
 
@@ -276,16 +276,7 @@ fn push_row(
     out.push_str(Buffer::new().format(row + 1))?;
     out.push_str(" has ")?;
     out.push_str(Buffer::new().format(columns(source, row)))?;
-    out.push_str(" columns")?;
-    push_limit(out, most)
-}
-
-/// Appends the most columns that a row may have.
-#[tactic(auto, unfolding(crate::specs::LongRows::limit_line))]
-fn push_limit(out: &mut String, most: usize) -> Result<(), AllocError>
-    ensures { OnOk result (string_bytes out.new ≡ string_bytes out.old ++ limit_line most) }
-{
-    out.push_str(", which is more than ")?;
+    out.push_str(" columns, which is more than ")?;
     out.push_str(Buffer::new().format(most))?;
     out.push_str(" (--max-row)")
 }

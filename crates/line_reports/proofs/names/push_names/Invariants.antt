@@ -3,7 +3,7 @@ use Rattle.std.specs.List.{filter_map}
 use Rattle.line_reports.specs.Asides.{part_name}
 use Rattle.line_reports.specs.Names.{names_from}
 use Rattle.line_reports.specs.Pieces.{line_chars}
-use Rattle.line_reports.proofs.names.push_places.Given as goal
+use Rattle.line_reports.proofs.names.push_names.Given as goal
 
 abbrev pub invariant-loop-parts : goal.invariant-loop-parts
 invariant-loop-parts l =
