@@ -5,8 +5,7 @@ ghost use Rattle.serde_json.specs.Read.{read};
 ghost use Rattle.serde_json.specs.View.{view};
 ghost use Rattle.ci_formats.specs.Finding.{finding_parts};
 ghost use Rattle.ci_formats.specs.Gitlab.{code_of as code_for, gitlab_of, gitlab_value};
-ghost use Rattle.ci_formats.specs.Gitlab.{grade as grade_of, issue_parts};
-ghost use Rattle.ci_formats.specs.Gitlab.{issue_value as issue_of, key_parts, path_of as path_for};
+ghost use Rattle.ci_formats.specs.Gitlab.{grade as grade_of, issue_value as issue_of, path_of as path_for};
 
 use crate::counted::count_once;
 use crate::finding::Finding;
@@ -55,21 +54,15 @@ fn report(alloc: Global, tool: Option<&str>, findings: &[Finding]) -> Result<Val
     let mut issues = Vec::with_capacity(alloc, findings.len())?;
     let mut counts = BTreeMap::new(alloc);
     for finding in findings {
-        let before = count_once(&mut counts, issue_key(finding))?;
+        let key = IssueKey {
+            message: finding.message.as_str(),
+            code: code_of(finding),
+            path: path_of(finding),
+        };
+        let before = count_once(&mut counts, key)?;
         issues.push(issue(alloc, usual, before, finding)?)?;
     }
     Ok(Value::Array(issues))
-}
-
-/// What the fingerprint of a finding is made of.
-fn issue_key(finding: &Finding) -> IssueKey<'_>
-    ensures { key_parts result ≡ issue_parts (finding_parts finding.now) }
-{
-    IssueKey {
-        message: finding.message.as_str(),
-        code: code_of(finding),
-        path: path_of(finding),
-    }
 }
 
 /// A finding as JSON, after `before` findings with the same fingerprint texts.

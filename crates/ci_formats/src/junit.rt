@@ -3,10 +3,10 @@ ghost use Rattle.std.specs.Prelude.{◌≡◌, ◌++◌, ◌≤◌, ◌<◌, IfO
 ghost use Rattle.std.specs.Prelude.{string_bytes, take, true};
 ghost use Rattle.std.specs.List.{list_any};
 ghost use Rattle.ci_formats.specs.Finding.{finding_parts};
-ghost use Rattle.ci_formats.specs.Junit.{AreCasesByFile, case_name, case_parts, case_text};
+ghost use Rattle.ci_formats.specs.Junit.{AreCasesByFile, case_name, case_text};
 ghost use Rattle.ci_formats.specs.Junit.{code_or_finding as code_or_word};
 ghost use Rattle.ci_formats.specs.Junit.{ends_stem as ends_stem_by, failure_element};
-ghost use Rattle.ci_formats.specs.Junit.{is_part_end, junit_of, key_parts, number_text, numbered};
+ghost use Rattle.ci_formats.specs.Junit.{is_part_end, junit_of, number_text, numbered};
 ghost use Rattle.ci_formats.specs.Junit.{stem as stem_of_path, suite_of, suites_of};
 
 use crate::checkstyle::severity_word;
@@ -85,23 +85,18 @@ fn cases_by_file<'a>(
     let mut files: ByFile<'a, Case<'a>> = BTreeMap::new(alloc);
     let mut counts = BTreeMap::new(alloc);
     for finding in findings {
-        let before = count_once(&mut counts, case_key(finding))?;
+        let name = finding.name.as_str();
+        let key = CaseKey {
+            row: finding.start.row.unwrap_or(0),
+            column: finding.start.column.unwrap_or(0),
+            code: code_or_finding(finding),
+            stem: stem(name),
+        };
+        let before = count_once(&mut counts, key)?;
         let number = before + 1;
-        put_on(&mut files, finding.name.as_str(), Case { finding, number })?;
+        put_on(&mut files, name, Case { finding, number })?;
     }
     Ok(files)
-}
-
-/// What the name and the class of a finding's case are made of.
-fn case_key(finding: &Finding) -> CaseKey<'_>
-    ensures { key_parts result ≡ case_parts (finding_parts finding.now) }
-{
-    CaseKey {
-        row: finding.start.row.unwrap_or(0),
-        column: finding.start.column.unwrap_or(0),
-        code: code_or_finding(finding),
-        stem: stem(finding.name.as_str()),
-    }
 }
 
 /// Appends a suite of these cases.

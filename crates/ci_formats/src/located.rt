@@ -41,7 +41,9 @@ pub fn findings_of(alloc: Global, found: &FoundReports<'_>) -> Result<Vec<Findin
     let reports = found.reports();
     let mut findings = Vec::with_capacity(alloc, reports.len())?;
     for report in reports {
-        findings.push(finding_in(alloc, files, &indexes, report)?)?;
+        let file = &files[report.file];
+        let source = indexed(&file.source, &indexes[report.file]);
+        findings.push(finding_at(alloc, file.name.as_str(), &source, report)?)?;
     }
     Ok(findings)
 }
@@ -83,24 +85,6 @@ fn indexes_of(alloc: Global, files: &[FoundFile<'_>]) -> Result<Vec<Option<LineI
         })?;
     }
     Ok(indexes)
-}
-
-/// The finding of a report on one of the files, which are indexed.
-fn finding_in(
-    alloc: Global,
-    files: &[FoundFile<'_>],
-    indexes: &[Option<LineIndex>],
-    report: &FoundReport,
-) -> Result<Finding, AllocError>
-    requires short { All IsShort (map file_view files.now) }
-    requires indexed { indexes.now ≡ map index_in (map file_view files.now) }
-    requires stands { Stands (map file_view files.now) report.now }
-    ensures { IfOk result (λ finding. finding_parts finding
-        ≡ finding_of (report_view (map file_view files.now) report.now)) }
-{
-    let file = &files[report.file];
-    let source = indexed(&file.source, &indexes[report.file]);
-    finding_at(alloc, file.name.as_str(), &source, report)
 }
 
 /// The finding of a report on one of the files, whose texts these sources have.

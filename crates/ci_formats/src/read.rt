@@ -6,8 +6,8 @@ ghost use Rattle.ci_formats.specs.Annotation.{annotation_parts};
 ghost use Rattle.ci_formats.specs.Unescape.{unescape as unescaped_text};
 ghost use Rattle.ci_formats.specs.Read.{IsInRange, IsRead, IsSmall, before_comma, from_comma};
 ghost use Rattle.ci_formats.specs.Read.{key_at, level_at as level_in};
-ghost use Rattle.ci_formats.specs.Read.{number_at as number_in, pair_at as pair_in, parsed};
-ghost use Rattle.ci_formats.specs.Read.{parts_in, text_at as text_in, texts_of, unescaped};
+ghost use Rattle.ci_formats.specs.Read.{number_at as number_in, parsed};
+ghost use Rattle.ci_formats.specs.Read.{text_at as text_in, texts_of, unescaped};
 
 use crate::annotation::{Annotation, Level, separator, write_annotation};
 use crate::percent::{Field, github_unescape};
@@ -82,7 +82,7 @@ fn unescape_some(alloc: Global, text: Option<&str>) -> Result<Option<String>, Al
 }
 
 /// Finds the parts of a line.
-#[tactic(auto, unfolding(crate::specs::Read::parsed))]
+#[tactic(auto, unfolding(crate::specs::Read::parsed, crate::specs::Read::parts_in, crate::specs::Read::pair_at))]
 fn parse(line: &str) -> Option<LineParts<'_>>
     ensures parts { option_map texts_of result ≡ parsed line.now }
     ensures range { IfSome result (λ parts. IsInRange (texts_of parts)) }
@@ -91,22 +91,15 @@ fn parse(line: &str) -> Option<LineParts<'_>>
     let (level, rest) = level_at(rest)?;
     let (properties, rest) = cut(rest, ':')?;
     let message = without_last(behind(rest, ":")?, '\n')?;
-    Some(parts_of(level, properties, message))
-}
-
-/// The parts of a text of properties.
-#[tactic(auto, unfolding(crate::specs::Read::parts_in))]
-fn parts_of<'a>(level: Level, properties: &'a str, message: &'a str) -> LineParts<'a>
-    ensures parts { texts_of result ≡ parts_in level properties.entry.now message.entry.now }
-    ensures range { IsInRange (texts_of result) }
-{
     let (file, rest) = text_at(false, "file=", properties);
-    let (line, end_line, rest) = pair_at(file.is_some(), "line=", "endLine=", rest);
+    let (line, rest) = number_at(file.is_some(), "line=", rest);
+    let (end_line, rest) = number_at(file.is_some() || line.is_some(), "endLine=", rest);
     let placed = file.is_some() || line.is_some() || end_line.is_some();
-    let (column, end_column, rest) = pair_at(placed, "col=", "endColumn=", rest);
+    let (column, rest) = number_at(placed, "col=", rest);
+    let (end_column, rest) = number_at(placed || column.is_some(), "endColumn=", rest);
     let started = placed || column.is_some() || end_column.is_some();
     let (title, _rest) = text_at(started, "title=", rest);
-    LineParts {
+    Some(LineParts {
         level,
         file,
         line,
@@ -115,7 +108,7 @@ fn parts_of<'a>(level: Level, properties: &'a str, message: &'a str) -> LinePart
         end_column,
         title,
         message,
-    }
+    })
 }
 
 /// A level, and the text after it.
@@ -145,25 +138,6 @@ fn text_at<'a>(started: bool, key: &str, text: &'a str) -> (Option<&'a str>, &'a
         }
         None => (None, text),
     }
-}
-
-/// Two properties with a number each, as far as they are next, and what follows.
-#[tactic(auto, unfolding(crate::specs::Read::pair_at))]
-fn pair_at<'a>(
-    started: bool,
-    first: &str,
-    second: &str,
-    text: &'a str,
-) -> (Option<usize>, Option<usize>, &'a str)
-    ensures low { result.0 ≡ (pair_in started first.now second.now text.entry.now).0 }
-    ensures high { result.1 ≡ (pair_in started first.now second.now text.entry.now).1 }
-    ensures rest { result.2.now ≡ (pair_in started first.now second.now text.entry.now).2 }
-    ensures low_range { IsSmall result.0 }
-    ensures high_range { IsSmall result.1 }
-{
-    let (low, rest) = number_at(started, first, text);
-    let (high, rest) = number_at(started || low.is_some(), second, rest);
-    (low, high, rest)
 }
 
 /// A property with a number, if it is next, and what follows.

@@ -5,6 +5,7 @@ use Rattle.std.specs.List.{cons_option, filter_map, flat_map, list_any}
 use Rattle.std.specs.Option.{option_to_list}
 use Rattle.std.specs.declared.alloc.Global.{Global}
 use Rattle.std.specs.declared.ops.Range.{Range}
+use Rattle.std.proofs.lemmas.Bool.{not-true}
 use Rattle.std.proofs.lemmas.List.{drop-map, drop_all, drop_more, length-map, map-append, nil_from_length, take-append-drop}
 use Rattle.std.proofs.lemmas.List.Elements.{All-nil, All-cons, filter_map-append}
 use Rattle.found_reports.specs.Found.{Found}
@@ -44,16 +45,12 @@ NoNote [] = Unit {0}
 NoNote (None ∷ ts) = Unit {0}
 NoNote (Some t ∷ ts) = belongs t ≡ false
 
-false_if : (b : Bool) → not b ≡ true → b ≡ false
-false_if true e = sym e
-false_if false e = refl
-
 no_note_by : (run : List (List ℕ)) (sort : Sort) (excerpt : Option ExcerptParts) (found : Option FindingParts) (rest : List (Option ToldParts)) → stands_by found ≡ true
     → NoNote (option_map (λ finding. retold (fresh finding sort (drop 1 run) excerpt)) found ∷ rest)
 no_note_by run sort excerpt None rest is = tt
 no_note_by run sort excerpt (Some finding) rest is =
     let t : ToldParts = fresh finding sort (drop 1 run) excerpt in
-    never_aside t (false_if (belongs t) is)
+    never_aside t (not-true (belongs t) is)
 
 no_note : (lines : List (List ℕ)) (reads : List ReadParts) → BeginsAlone reads → NoNote (tellings lines reads)
 unfolding told_of

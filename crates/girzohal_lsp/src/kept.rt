@@ -1,6 +1,4 @@
 // What is read of a log, once for all documents.
-ghost use Rattle.std.specs.Prelude.{◌≡◌};
-ghost use Rattle.std.specs.Option.{option_copied};
 
 use crate::block::Block;
 use crate::log::LogFile;
@@ -22,24 +20,4 @@ pub struct KeptLog<'l> {
     pub paths: &'l [String],
     /// The blocks of a tool's lines.
     pub blocks: &'l [Block<'l>],
-}
-
-/// A log, before its reports' names and blocks are looked for.
-pub(crate) fn bare_log<'l>(
-    asked: Asked<'l>,
-    bytes: Option<&'l [u8]>,
-    log: &'l LogFile<'l>,
-) -> KeptLog<'l>
-    ensures asked { result.asked ≡ asked.entry }
-    ensures bytes { option_copied result.bytes ≡ option_copied bytes.entry }
-    ensures log { result.log.now ≡ log.now }
-{
-    KeptLog {
-        asked,
-        bytes,
-        log,
-        names: &[],
-        paths: &[],
-        blocks: &[],
-    }
 }

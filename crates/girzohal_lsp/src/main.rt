@@ -26,7 +26,6 @@ use girzohal_options::{InputForm, Program, Refusal, Request, message, read_words
 pub use kept::KeptLog;
 pub use log::{LogBytes, LogFile, log_of, read_bytes};
 pub use serve::{refresh, serve};
-use std::alloc::Global;
 use std::env;
 use std::io::{self, ErrorKind};
 use std::process::ExitCode;
@@ -49,7 +48,14 @@ fn main(rt: HostRuntime) -> ExitCode {
         Ok(Request::Help) => tell(&rt, USAGE),
         Ok(Request::Version) => tell(&rt, VERSION),
         Ok(Request::Run(asked)) => match served(&asked) {
-            Some(asked) => run(&rt, alloc, asked),
+            Some(asked) => {
+                let mut input = rt.stdin();
+                let mut out = rt.stdout();
+                match serve(&rt, alloc, asked, &mut input, &mut out) {
+                    Ok(true) => ExitCode::from(0),
+                    Ok(false) | Err(_) => ExitCode::from(1),
+                }
+            }
             None if asked.from == InputForm::Document => {
                 refuse(&rt, "--from: expected auto, sarif or lines, not 'document'")
             }
@@ -63,16 +69,6 @@ fn main(rt: HostRuntime) -> ExitCode {
             Err(_) => ExitCode::from(1),
         },
         Err(Refusal::OutOfMemory) => ExitCode::from(1),
-    }
-}
-
-/// Serves over the standard streams.
-fn run(rt: &HostRuntime, alloc: Global, asked: Asked<'_>) -> ExitCode {
-    let mut input = rt.stdin();
-    let mut out = rt.stdout();
-    match serve(rt, alloc, asked, &mut input, &mut out) {
-        Ok(true) => ExitCode::from(0),
-        Ok(false) | Err(_) => ExitCode::from(1),
     }
 }
 

@@ -11,7 +11,7 @@ ghost use Rattle.girzohal_lsp.specs.Served.{IsRefreshed, LooksUp, TellsFault, ur
 ghost use Rattle.girzohal_lsp.specs.Served.{wanted_uris};
 
 use crate::found::{found_in, tool_name};
-use crate::kept::{KeptLog, bare_log};
+use crate::kept::KeptLog;
 use crate::lines::{blocks_of, paths_of, reads_of};
 use crate::log::{LogBytes, LogFile, log_of};
 use crate::words::Asked;
@@ -89,7 +89,14 @@ fn serve_log<F: Files + Alloc, R: Read, W: Write>(
 ) -> io::Result<Stop> {
     let alloc = session.alloc;
     let log = log_of(alloc, asked, bytes)?;
-    let bare = bare_log(asked, bytes, &log);
+    let bare = KeptLog {
+        asked,
+        bytes,
+        log: &log,
+        names: &[],
+        paths: &[],
+        blocks: &[],
+    };
     match &log {
         LogFile::Sarif(it) => {
             let names = sarif::names_of(alloc, it)?;
@@ -170,7 +177,21 @@ fn take_all<F: Files + Alloc, W: Write>(
         match taken.end {
             End::More => return Ok(None),
             End::Message(body) => {
-                let stop = take(rt, session, kept, body.as_slice(), out)?;
+                let body = body.as_slice();
+                let stop = match handle(rt, session.alloc, kept, &mut session.server, body)? {
+                    Handled::Waits(message, changed) => {
+                        session.waiting = Some(message);
+                        Some(Stop::Changed(changed))
+                    }
+                    Handled::Answers(answers) => {
+                        send_all(session.alloc, answers, out)?;
+                        if session.server.is_ended() {
+                            Some(Stop::Over)
+                        } else {
+                            None
+                        }
+                    }
+                };
                 if stop.is_some() {
                     session.left = Vec::from_slice(session.alloc, &bytes[used..])?;
                     return Ok(stop);
@@ -179,29 +200,6 @@ fn take_all<F: Files + Alloc, W: Write>(
             End::Refused(_) => return Err(io::Error::from(ErrorKind::InvalidData)),
             End::OutOfMemory => return Err(io::Error::from(ErrorKind::OutOfMemory)),
         }
-    }
-    Ok(None)
-}
-
-/// Takes the message in a body, and returns why no further one is taken.
-fn take<F: Files + Alloc, W: Write>(
-    rt: &F,
-    session: &mut Session,
-    kept: &KeptLog<'_>,
-    body: &[u8],
-    out: &mut W,
-) -> io::Result<Option<Stop>>
-    requires { IsKept kept.now }
-{
-    match handle(rt, session.alloc, kept, &mut session.server, body)? {
-        Handled::Answers(answers) => send_all(session.alloc, answers, out)?,
-        Handled::Waits(message, changed) => {
-            session.waiting = Some(message);
-            return Ok(Some(Stop::Changed(changed)));
-        }
-    }
-    if session.server.is_ended() {
-        return Ok(Some(Stop::Over));
     }
     Ok(None)
 }

@@ -5,8 +5,6 @@ use Rattle.escapes.specs.Cuts.{cut_at}
 use Rattle.girzohal_options.specs.Names.{is_flag, setting_meant, setting_name}
 use Rattle.girzohal_options.specs.declared.items.Item.{Item}
 use Rattle.girzohal_options.specs.declared.items.Item.TheVariants.{Flag, Given, File, Unknown, Bare, Valued}
-use Rattle.girzohal_options.specs.declared.items.Kind.{Kind as KindOfWord}
-use Rattle.girzohal_options.specs.declared.items.Kind.TheVariants.{Takes, Says}
 use Rattle.girzohal_options.specs.declared.table.Program.{Program}
 use Rattle.girzohal_options.specs.declared.table.Setting.{Setting}
 
@@ -43,10 +41,6 @@ is_file (first ∷ (next ∷ rest)) = not (first == 0x2D)
 pub data Kind : Type 0 where
   takes : Setting → Kind
   says : Said → Kind
-
-abbrev pub kind : KindOfWord → Kind
-kind (Takes it) = takes it
-kind (Says item) = says (said item)
 
 abbrev pub given_or : Option Setting → Bool → List ℕ → List ℕ → Said
 given_or (Some it) takes_none name value = setting it value

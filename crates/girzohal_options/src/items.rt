@@ -2,7 +2,7 @@
 ghost use Rattle.std.specs.Prelude.{◌≡◌, ◌∷◌, ◌≤◌, ◌++◌, IfOk, OnOk, length, map, string_bytes};
 ghost use Rattle.escapes.specs.Cuts.{cut_at};
 ghost use Rattle.girzohal_options.specs.Said.{file as file_said, is_file as is_no_option};
-ghost use Rattle.girzohal_options.specs.Said.{kind as kind_said, kind_of as kind_meant};
+ghost use Rattle.girzohal_options.specs.Said.{kind_of as kind_meant};
 ghost use Rattle.girzohal_options.specs.Said.{parted as said_parted};
 ghost use Rattle.girzohal_options.specs.Said.{said, said_behind, said_by};
 
@@ -27,22 +27,6 @@ pub(crate) enum Item<'w> {
     Valued(&'w str, &'w str),
 }
 
-/// What an argument is.
-#[derive(Drop)]
-pub(crate) enum Kind<'w> {
-    /// An option that takes the next argument as its value.
-    Takes(Setting),
-    /// An item of its own.
-    Says(Item<'w>),
-}
-
-/// An item, and the arguments after it.
-#[derive(Drop)]
-struct Read<'w> {
-    item: Item<'w>,
-    rest: &'w [String],
-}
-
 /// The items that arguments say; after `--` all are names of files.
 pub(crate) fn items_of<'w>(
     alloc: Global,
@@ -59,9 +43,9 @@ pub(crate) fn items_of<'w>(
             push_files(&mut items, more)?;
             return Ok(items);
         }
-        let read = read_item(program, kind_of(program, word.as_str()), more);
-        items.push(read.item)?;
-        rest = read.rest;
+        let (item, behind) = read_item(program, word.as_str(), more);
+        items.push(item)?;
+        rest = behind;
     }
     Ok(items)
 }
@@ -77,41 +61,26 @@ fn push_files<'w>(items: &mut Vec<Item<'w>>, names: &'w [String]) -> Result<(), 
     Ok(())
 }
 
-/// The item that begins with an argument of this kind, and the arguments after it.
-fn read_item<'w>(_program: Program, kind: Kind<'w>, rest: &'w [String]) -> Read<'w>
-    ensures said { said_behind _program (kind_said kind.entry) (map string_bytes rest.now)
-        ≡ said result.item ∷ said_by _program (map string_bytes result.rest.now) }
-    ensures fewer { length result.rest.now ≤ length rest.now }
-{
-    match kind {
-        Kind::Says(item) => Read { item, rest },
-        Kind::Takes(setting) => match rest {
-            [value, more @ ..] => Read {
-                item: Item::Given(setting, value.as_str()),
-                rest: more,
-            },
-            [] => Read {
-                item: Item::Bare(setting),
-                rest,
-            },
-        },
-    }
-}
-
-/// What an argument is.
+/// The item that begins with an argument, and the arguments after it.
 #[tactic(auto, unfolding(crate::specs::Said::kind_of))]
-fn kind_of(program: Program, word: &str) -> Kind<'_>
-    ensures { kind_said result ≡ kind_meant program word.now }
+fn read_item<'w>(program: Program, word: &'w str, rest: &'w [String]) -> (Item<'w>, &'w [String])
+    ensures said { said_behind program (kind_meant program word.entry.now)
+        (map string_bytes rest.entry.now)
+        ≡ said result.0 ∷ said_by program (map string_bytes result.1.now) }
+    ensures fewer { length result.1.now ≤ length rest.entry.now }
 {
     if is_file(word) {
-        Kind::Says(Item::File(word))
-    } else if is_flag(program, word) {
-        Kind::Says(Item::Flag(word))
-    } else {
-        match setting_named(program, word) {
-            Some(setting) => Kind::Takes(setting),
-            None => Kind::Says(parted(program, word)),
-        }
+        return (Item::File(word), rest);
+    }
+    if is_flag(program, word) {
+        return (Item::Flag(word), rest);
+    }
+    match setting_named(program, word) {
+        Some(setting) => match rest {
+            [value, more @ ..] => (Item::Given(setting, value.as_str()), more),
+            [] => (Item::Bare(setting), rest),
+        },
+        None => (parted(program, word), rest),
     }
 }
 

@@ -26,7 +26,10 @@ pub fn message(alloc: Global, program: Program, fault: Fault<'_>) -> Result<Stri
 
 fn why(alloc: Global, program: Program, fault: Fault<'_>) -> Result<String, AllocError> {
     match fault {
-        Fault::Unknown(name) => unknown(alloc, program, name),
+        Fault::Unknown(name) => match nearest(alloc, program, name)? {
+            Some(known) => format!(in alloc; "unknown option {name}; did you mean {known}?"),
+            None => format!(in alloc; "unknown option {name}"),
+        },
         Fault::Bare(setting) => {
             let (name, expected) = (setting.name(), expected(program, setting));
             format!(in alloc; "{name} needs a value: {expected}")
@@ -89,14 +92,6 @@ fn output(alloc: Global, value: &str) -> Result<String, AllocError> {
             let forms = Setting::To.expected();
             format!(in alloc; "--output: expected {forms}, not '{form}' in '{value}'")
         }
-    }
-}
-
-/// That there is no option with this name, and the one that may be meant.
-fn unknown(alloc: Global, program: Program, name: &str) -> Result<String, AllocError> {
-    match nearest(alloc, program, name)? {
-        Some(known) => format!(in alloc; "unknown option {name}; did you mean {known}?"),
-        None => format!(in alloc; "unknown option {name}"),
     }
 }
 

@@ -56,16 +56,6 @@ pub record AreRules (asked : Asked) (root : Root) (diff : Option Changes) (basel
 
 -- ---- what is said of a diff that isn't read
 
-abbrev pub words_of : Wanted → List ℕ
-words_of PlainText = codes "a diff in UTF-8 without a byte order mark"
-words_of TwoFiles = codes "a diff of two files, not a combined one"
-words_of HunkHead = codes "@@ -ROW,COUNT +ROW,COUNT @@"
-words_of Names = codes "--- and +++ before a hunk"
-words_of Rows = codes "a hunk with rows"
-words_of (MoreRows old new) = codes "a hunk with rows"
-words_of Escape = codes "a name as git quotes it"
-words_of Quote = codes "the end of a quoted name"
-
 abbrev pub wanted_words : ℕ → List ℕ → List ℕ
 wanted_words row words = codes "line " ++ (decimal row ++ (codes ": wanted " ++ words))
 
@@ -74,14 +64,14 @@ more_words row old new =
     codes "line " ++ (decimal row ++ (codes ": wanted " ++ (decimal old ++ (codes " more rows of the old file and " ++ (decimal new ++ codes " of the new one")))))
 
 abbrev pub refusal_at : ℕ → Wanted → List ℕ
-refusal_at row PlainText = wanted_words row (words_of PlainText)
-refusal_at row TwoFiles = wanted_words row (words_of TwoFiles)
-refusal_at row HunkHead = wanted_words row (words_of HunkHead)
-refusal_at row Names = wanted_words row (words_of Names)
-refusal_at row Rows = wanted_words row (words_of Rows)
+refusal_at row PlainText = wanted_words row (codes "a diff in UTF-8 without a byte order mark")
+refusal_at row TwoFiles = wanted_words row (codes "a diff of two files, not a combined one")
+refusal_at row HunkHead = wanted_words row (codes "@@ -ROW,COUNT +ROW,COUNT @@")
+refusal_at row Names = wanted_words row (codes "--- and +++ before a hunk")
+refusal_at row Rows = wanted_words row (codes "a hunk with rows")
 refusal_at row (MoreRows old new) = more_words row old new
-refusal_at row Escape = wanted_words row (words_of Escape)
-refusal_at row Quote = wanted_words row (words_of Quote)
+refusal_at row Escape = wanted_words row (codes "a name as git quotes it")
+refusal_at row Quote = wanted_words row (codes "the end of a quoted name")
 
 -- where a diff is refused, and what was wanted there
 abbrev pub refusal_text : Refusal → List ℕ

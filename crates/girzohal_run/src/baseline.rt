@@ -6,6 +6,7 @@ ghost use Rattle.girzohal_run.specs.Baseline.{is_lines as is_lines_input};
 
 use crate::fault::Fault;
 use crate::finds::{Finds, find, find_old};
+use crate::several::reads_lines;
 use changed_rows::Root;
 use found_reports::{FoundReports, ListedSources};
 use girzohal_options::{Asked, InputForm};
@@ -48,7 +49,8 @@ pub fn read_baseline<S: Store>(
     asked.from = InputForm::Auto;
     let finds = finds_of(alloc, asked, bytes, store);
     asked.from = from;
-    let findings = entries_in(alloc, root, is_lines(bytes), &finds?)?;
+    let notes = reads_lines(InputForm::Auto, bytes);
+    let findings = entries_in(alloc, root, notes, &finds?)?;
     let says_scopes = says_scopes(alloc, bytes)?;
     Ok(Baseline {
         findings,
@@ -64,7 +66,7 @@ fn finds_of<S: Store>(alloc: Global, asked: &Asked, bytes: &[u8], store: &S) -> 
     let none = MapStore {
         listed: ListedSources::empty(alloc),
     };
-    if is_lines(bytes) {
+    if reads_lines(InputForm::Auto, bytes) {
         let finds = find_old(alloc, asked, bytes, store, &none)?;
         return Ok(finds);
     }
@@ -97,15 +99,5 @@ fn says_scopes(alloc: Global, bytes: &[u8]) -> Result<bool, AllocError>
             has_files(alloc, &bytes[range.start..range.end])
         }
         Begun::OtherJson | Begun::Xml | Begun::Lines => Ok(false),
-    }
-}
-
-/// Whether an input is lines of a tool.
-fn is_lines(bytes: &[u8]) -> bool
-    ensures { result ≡ is_lines_input bytes.now }
-{
-    match begins_as(bytes) {
-        Begun::Lines => true,
-        Begun::Object | Begun::OtherJson | Begun::Xml => false,
     }
 }

@@ -1,6 +1,6 @@
 // What is written of the reports that filters leave.
 ghost use Rattle.std.specs.Prelude.{◌≡◌, IfErr, IfOk, OnOk, string_bytes};
-ghost use Rattle.girzohal_run.specs.Filtering.{IsLeftBy, IsWritten, broken, with_line};
+ghost use Rattle.girzohal_run.specs.Filtering.{IsLeftBy, IsWritten, with_line};
 ghost use Rattle.girzohal_run.specs.Made.{IsFree};
 
 use crate::fault::Fault;
@@ -53,24 +53,16 @@ fn left_of<'s>(
     }
 }
 
-/// Appends a line of its own, if there is one.
-pub(crate) fn push_line(text: &mut Vec<u8>, line: &str) -> Result<(), AllocError>
-    ensures { OnOk result (text.new.items ≡ with_line text.old.items line.now) }
+/// Appends lines of their own, if there are any: an LF comes before them, unless the text is empty
+/// or ends in one.
+pub(crate) fn push_lines(text: &mut Vec<u8>, lines: &[u8]) -> Result<(), AllocError>
+    ensures { OnOk result (text.new.items ≡ with_line text.old.items lines.now) }
 {
-    if line.is_empty() {
+    if lines.is_empty() {
         return Ok(());
     }
-    push_break(text)?;
-    text.extend_from_slice(line.as_bytes())
-}
-
-/// Appends an LF to a text, unless it is empty or ends in one.
-pub(crate) fn push_break(text: &mut Vec<u8>) -> Result<(), AllocError>
-    ensures { OnOk result (text.new.items ≡ broken text.old.items) }
-{
-    if text.is_empty() || text.ends_with(b"\n") {
-        return Ok(());
+    if !text.is_empty() && !text.ends_with(b"\n") {
+        text.push(b'\n')?;
     }
-    text.push(b'\n')?;
-    Ok(())
+    text.extend_from_slice(lines)
 }

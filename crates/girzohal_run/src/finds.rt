@@ -7,9 +7,7 @@ ghost use Rattle.girzohal_run.specs.Finds.{FindsBraced, FindsLines, FindsNamed, 
 ghost use Rattle.girzohal_run.specs.Finds.{FindsOld, FindsPieces, IsFound};
 ghost use Rattle.girzohal_run.specs.Logs.{IsNoLog, ReadsLog, log_columns as columns_meant};
 ghost use Rattle.girzohal_run.specs.Made.{HasCause, IsFree, IsNoObject, IsNoneBraced, IsOfNoForm};
-ghost use Rattle.girzohal_run.specs.Reads.{IsNoDocument, IsNoneKeyed, IsNonePart};
-ghost use Rattle.girzohal_run.specs.Reads.{ReadsDocument, ReadsKeyed, ReadsPart};
-ghost use Rattle.input_forms.specs.Object.{has_files as key_files};
+ghost use Rattle.girzohal_run.specs.Reads.{IsNoDocument, IsNonePart, ReadsDocument, ReadsPart};
 
 use crate::fault::{Fault, no_form};
 use crate::lines::{first_names, text_lines};
@@ -222,29 +220,15 @@ fn part_reports<S: Store>(
     ensures cause { IfErr result (HasCause (IsNonePart form asked.now.columns) part.now) }
 {
     match form {
-        ObjectForm::Keyed => keyed_reports(alloc, asked, before, part, store),
+        ObjectForm::Keyed => {
+            if has_files(alloc, part)? {
+                reports_in_document(alloc, asked, part)
+            } else {
+                reports_in_log(alloc, asked, before, part, store)
+            }
+        }
         ObjectForm::AsDocument => reports_in_document(alloc, asked, part),
         ObjectForm::AsLog => reports_in_log(alloc, asked, before, part, store),
-    }
-}
-
-/// The findings of a JSON object: a document if it has the key `files`, else a log.
-fn keyed_reports<S: Store>(
-    alloc: Global,
-    asked: &Asked,
-    before: &[u8],
-    part: &[u8],
-    store: &S,
-) -> Result<OwnedReports, Fault>
-    ensures read { IfOk result (λ it. ReadsKeyed (key_files part.now) (S.told store.now)
-        (columns_meant asked.now.columns) part.now it) }
-    ensures cause { IfErr result (HasCause
-        (λ text. IsNoneKeyed (key_files text) asked.now.columns text) part.now) }
-{
-    if has_files(alloc, part)? {
-        reports_in_document(alloc, asked, part)
-    } else {
-        reports_in_log(alloc, asked, before, part, store)
     }
 }
 

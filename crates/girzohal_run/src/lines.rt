@@ -13,7 +13,7 @@ ghost use Rattle.girzohal_run.specs.Lines.{may_come as may_come_so};
 ghost use Rattle.girzohal_run.specs.Made.{IsFree};
 
 use crate::fault::Fault;
-use crate::filtering::{push_line, write_left};
+use crate::filtering::{push_lines, write_left};
 use crate::making::{Made, Written};
 use build_dirs::dirs::BuildDirs;
 use drawn_lines::{
@@ -210,6 +210,6 @@ fn write_pieces(
     let found = reports_of(alloc, lines, reads, sources, columns_of(asked))?;
     let written = write_left(alloc, asked, found, true)?;
     let mut aside = kept_text(alloc, asked, lines, pieces)?.into_bytes();
-    push_line(&mut aside, written.line.as_str())?;
+    push_lines(&mut aside, written.line.as_bytes())?;
     Ok(Made { written, aside })
 }

@@ -1,17 +1,16 @@
 // What is made of a JSON object, which is a document or a log.
 ghost use Rattle.std.specs.Prelude.{◌≡◌, ◌≤◌, ◌++◌, IfErr, IfOk, length};
 ghost use Rattle.std.specs.Prelude.{string_bytes};
-ghost use Rattle.input_forms.specs.Object.{has_files as key_files};
 ghost use Rattle.girzohal_run.specs.Logs.{log_columns as columns_of};
 ghost use Rattle.girzohal_run.specs.Made.{HasCause, IsNoObject, IsToldBehind};
 ghost use Rattle.girzohal_run.specs.Made.{MakesObject, Says, Writes};
-ghost use Rattle.girzohal_run.specs.Reads.{IsNoDocument, IsNoneKeyed, IsNonePart};
+ghost use Rattle.girzohal_run.specs.Reads.{IsNoDocument, IsNonePart};
 ghost use Rattle.girzohal_run.specs.Reads.{no_document as said_of_none, refusal_line};
 ghost use Rattle.girzohal_run.specs.Reads.{refusal_text as refusal_text_of};
-ghost use Rattle.girzohal_run.specs.Reads.{ReadsDocument, ReadsKeyed, ReadsPart, around as around_range};
+ghost use Rattle.girzohal_run.specs.Reads.{ReadsDocument, ReadsPart, around as around_range};
 
 use crate::fault::{Fault, no_form};
-use crate::filtering::{push_line, write_left};
+use crate::filtering::{push_lines, write_left};
 use crate::logs::write_log;
 use crate::making::{Made, Written};
 use documents::read_document;
@@ -54,7 +53,7 @@ pub(crate) fn make_object<S: Store>(
     match write_part(alloc, form, asked, before, part, store) {
         Ok(written) => {
             let mut aside = around(alloc, bytes, range)?;
-            push_line(&mut aside, written.line.as_str())?;
+            push_lines(&mut aside, written.line.as_bytes())?;
             Ok(Made { written, aside })
         }
         Err(fault) => Err(told_behind(alloc, without_mark(before), fault)),
@@ -116,30 +115,15 @@ fn write_part<S: Store>(
     ensures cause { IfErr result (HasCause (IsNonePart form asked.now.columns) part.now) }
 {
     match form {
-        ObjectForm::Keyed => write_keyed(alloc, asked, before, part, store),
+        ObjectForm::Keyed => {
+            if has_files(alloc, part)? {
+                write_document(alloc, asked, part)
+            } else {
+                write_log(alloc, asked, before, part, store)
+            }
+        }
         ObjectForm::AsDocument => write_document(alloc, asked, part),
         ObjectForm::AsLog => write_log(alloc, asked, before, part, store),
-    }
-}
-
-/// The output for a JSON object: a document if it has the key `files`, else a log.
-fn write_keyed<S: Store>(
-    alloc: Global,
-    asked: &Asked,
-    before: &[u8],
-    part: &[u8],
-    store: &S,
-) -> Result<Written, Fault>
-    ensures written { IfOk result (λ it. Writes
-        (ReadsKeyed (key_files part.now) (S.told store.now) (columns_of asked.now.columns) part.now)
-        asked.now (string_bytes it.text) (string_bytes it.line) it.reached) }
-    ensures cause { IfErr result (HasCause
-        (λ text. IsNoneKeyed (key_files text) asked.now.columns text) part.now) }
-{
-    if has_files(alloc, part)? {
-        write_document(alloc, asked, part)
-    } else {
-        write_log(alloc, asked, before, part, store)
     }
 }
 

@@ -1,7 +1,7 @@
 // The filters that options ask for.
 ghost use Rattle.std.specs.Prelude.{◌≡◌, IfOk, map, string_bytes};
-ghost use Rattle.girzohal_run.specs.Rules.{IsSelection, glob_of, refusal_text as refusal_said};
-ghost use Rattle.girzohal_run.specs.Rules.{AreRules, rule_of, words_of};
+ghost use Rattle.girzohal_run.specs.Rules.{AreRules, IsSelection, glob_of, rule_of};
+ghost use Rattle.girzohal_run.specs.Rules.{refusal_text as refusal_said};
 
 use crate::baseline::Baseline;
 use changed_rows::{Diff, Refusal, Root, Wanted};
@@ -97,28 +97,19 @@ pub fn refusal_text(alloc: Global, refusal: Refusal) -> Result<String, AllocErro
     ensures { IfOk result (λ text. string_bytes text ≡ refusal_said refusal) }
 {
     let row = refusal.row;
-    match refusal.wanted {
-        Wanted::MoreRows { old, new } => format!(in alloc;
-            "line {row}: wanted {old} more rows of the old file and {new} of the new one"
-        ),
-        other => {
-            let words = words(other);
-            format!(in alloc; "line {row}: wanted {words}")
-        }
-    }
-}
-
-/// What was wanted, in words.
-fn words(wanted: Wanted) -> &'static str
-    ensures { result.now ≡ words_of wanted }
-{
-    match wanted {
+    let words = match refusal.wanted {
         Wanted::PlainText => "a diff in UTF-8 without a byte order mark",
         Wanted::TwoFiles => "a diff of two files, not a combined one",
         Wanted::HunkHead => "@@ -ROW,COUNT +ROW,COUNT @@",
         Wanted::Names => "--- and +++ before a hunk",
-        Wanted::Rows | Wanted::MoreRows { .. } => "a hunk with rows",
+        Wanted::Rows => "a hunk with rows",
+        Wanted::MoreRows { old, new } => {
+            return format!(in alloc;
+                "line {row}: wanted {old} more rows of the old file and {new} of the new one"
+            );
+        }
         Wanted::Escape => "a name as git quotes it",
         Wanted::Quote => "the end of a quoted name",
-    }
+    };
+    format!(in alloc; "line {row}: wanted {words}")
 }

@@ -1,8 +1,7 @@
 // Several inputs, whose findings are written together.
-ghost use Rattle.std.specs.Prelude.{◌≡◌, ◌≤◌, IfErr, IfOk, OnOk, length, map, string_bytes};
+ghost use Rattle.std.specs.Prelude.{◌≡◌, ◌≤◌, IfErr, IfOk, length, map, string_bytes};
 ghost use Rattle.std.specs.List.{suffix_len};
 ghost use Rattle.found_reports.specs.Files.{files_of};
-ghost use Rattle.girzohal_run.specs.Filtering.{with_line};
 ghost use Rattle.girzohal_run.specs.Finds.{IsFound};
 ghost use Rattle.girzohal_run.specs.Made.{IsFree, Says};
 ghost use Rattle.girzohal_run.specs.Run.{device, reads_lines as lines_read, texts_of};
@@ -16,7 +15,7 @@ ghost use Rattle.girzohal_run.specs.Several.{reason_in as reason_behind};
 
 use crate::each::{Wanted, first_aside};
 use crate::fault::Fault;
-use crate::filtering::{push_break, push_line, write_left};
+use crate::filtering::{push_lines, write_left};
 use crate::finds::{Finds, find};
 use crate::making::Made;
 use crate::program::{fail, tell};
@@ -91,7 +90,7 @@ fn have_lines(from: InputForm, mut inputs: &[Input]) -> bool
 }
 
 /// Whether an input is read as lines.
-fn reads_lines(from: InputForm, bytes: &[u8]) -> bool
+pub(crate) fn reads_lines(from: InputForm, bytes: &[u8]) -> bool
     ensures { result ≡ lines_read from bytes.now }
 {
     match from {
@@ -256,7 +255,7 @@ pub(crate) fn write_found(
     let found = joined(alloc, finds)?;
     let written = write_left(alloc, asked, found, notes)?;
     let mut aside = asides(alloc, finds)?;
-    push_line(&mut aside, written.line.as_str())?;
+    push_lines(&mut aside, written.line.as_bytes())?;
     Ok(Made { written, aside })
 }
 
@@ -282,25 +281,14 @@ fn appended<'f>(alloc: Global, mut finds: &'f [Finds]) -> Result<FoundReports<'f
     Ok(found)
 }
 
-/// The rest of all inputs.
+/// The rest of all inputs, of each on lines of its own.
 fn asides(alloc: Global, mut finds: &[Finds]) -> Result<Vec<u8>, AllocError>
     ensures { IfOk result (λ text. text.items ≡ aside_in (map finds_parts finds.entry.now)) }
 {
     let mut text = Vec::new(alloc);
     while let [input, rest @ ..] = finds {
-        push_aside(&mut text, &input.aside)?;
+        push_lines(&mut text, &input.aside)?;
         finds = rest;
     }
     Ok(text)
-}
-
-/// Appends the rest of an input, on lines of its own.
-fn push_aside(text: &mut Vec<u8>, aside: &[u8]) -> Result<(), AllocError>
-    ensures { OnOk result (text.new.items ≡ with_line text.old.items aside.now) }
-{
-    if aside.is_empty() {
-        return Ok(());
-    }
-    push_break(text)?;
-    text.extend_from_slice(aside)
 }

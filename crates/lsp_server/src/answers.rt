@@ -1,5 +1,5 @@
 // Answers as JSON.
-ghost use Rattle.std.specs.Prelude.{◌≡◌, ◌++◌, IfOk, OnOk, Some, decimal, string_bytes};
+ghost use Rattle.std.specs.Prelude.{◌≡◌, IfOk, Some, string_bytes};
 ghost use Rattle.serde_json.specs.Data.{null};
 ghost use Rattle.serde_json.specs.Read.{read};
 ghost use Rattle.serde_json.specs.View.{view};
@@ -12,7 +12,7 @@ ghost use Rattle.lsp_server.specs.Answers.{refused_text as text_of_refused};
 ghost use Rattle.lsp_server.specs.Answers.{some_id as value_of_some_id};
 
 use crate::message::{Answer, Code, Id, Refused, Wanted};
-use client_text::{Fault, Refusal};
+use client_text::Fault;
 use itoa::Buffer;
 use serde_json::{Value, json};
 use std::alloc::{AllocError, Global};
@@ -144,20 +144,16 @@ fn refused_text(alloc: Global, refused: Refused) -> Result<String, AllocError>
         Refused::NotOpen => String::from_str(alloc, "didChange left out: no open document"),
         Refused::TooLong => String::from_str(alloc, "didOpen left out: the text is too long"),
         Refused::Malformed => String::from_str(alloc, "didChange left out: not of its form"),
-        Refused::Faulty(refusal) => faulty_text(alloc, refusal),
+        Refused::Faulty(refusal) => {
+            let mut text = String::from_str(alloc, "didChange left out: contentChanges[")?;
+            text.push_str(Buffer::new().format(refusal.change))?;
+            text.push_str("] ")?;
+            text.push_str(match refusal.fault {
+                Fault::Reversed => "ends before it starts",
+                Fault::TooLong => "makes the text too long",
+                Fault::OutOfMemory => "wants memory",
+            })?;
+            Ok(text)
+        }
     }
-}
-
-fn faulty_text(alloc: Global, refusal: Refusal) -> Result<String, AllocError>
-    ensures { IfOk result (λ text. string_bytes text ≡ text_of_refused (Refused.Faulty refusal)) }
-{
-    let mut text = String::from_str(alloc, "didChange left out: contentChanges[")?;
-    text.push_str(Buffer::new().format(refusal.change))?;
-    text.push_str("] ")?;
-    text.push_str(match refusal.fault {
-        Fault::Reversed => "ends before it starts",
-        Fault::TooLong => "makes the text too long",
-        Fault::OutOfMemory => "wants memory",
-    })?;
-    Ok(text)
 }

@@ -1,6 +1,6 @@
 // One byte of a frame's head.
 ghost use Rattle.std.specs.Prelude.{◌≡◌, None};
-ghost use Rattle.lsp_server.specs.Frame.{colon_step, digit_step, head_step, name_place, place_step};
+ghost use Rattle.lsp_server.specs.Frame.{digit_step, head_step, name_place, place_step};
 
 /// How many bytes a head may have, its empty line among them.
 pub const LONGEST_HEAD: usize = 4096;
@@ -96,7 +96,11 @@ fn step_at(place: Place, length: Option<u32>, count: usize, byte: u8) -> Step
             None => Step::Fault(Why::NoFrame),
         },
         Place::Line if byte != b'\n' && byte != b':' => on(place_of_name(0, byte), length, count),
-        Place::Name(matched) if byte == b':' => colon(matched, length, count),
+        Place::Name(matched) if byte == b':' && matched != 14 => on(Place::Value, length, count),
+        Place::Name(_) if byte == b':' => match length {
+            Some(_) => Step::Fault(Why::NoFrame),
+            None => on(Place::Spaces, length, count),
+        },
         Place::Name(matched) if byte != b'\n' && byte != b'\r' => {
             on(place_of_name(matched, byte), length, count)
         }
@@ -133,20 +137,6 @@ fn place_of_name(matched: usize, byte: u8) -> Place
         Place::Name(matched + 1)
     } else {
         Place::Other
-    }
-}
-
-/// The colon after a name.
-fn colon(matched: usize, length: Option<u32>, count: usize) -> Step
-    ensures { result ≡ colon_step matched length count }
-{
-    if matched != 14 {
-        on(Place::Value, length, count)
-    } else {
-        match length {
-            Some(_) => Step::Fault(Why::NoFrame),
-            None => on(Place::Spaces, length, count),
-        }
     }
 }
 

@@ -1,23 +1,16 @@
 // The label that a diagnostic is about, and its other labels.
 ghost use Rattle.std.specs.Prelude.{◌≡◌, ◌+◌, drop, take};
-ghost use Rattle.std.specs.List.{position};
 ghost use Rattle.std.specs.Option.{option_copied};
 ghost use Rattle.lsp_server.specs.Seen.{head_label as head_label_of, head_place as head_place_of};
 
 use oxc_span::LabeledSpan;
 
-/// The index of the first primary label.
-fn primary_place(labels: &[LabeledSpan]) -> Option<usize>
-    ensures { result ≡ position (λ label. label.primary) labels.now }
-{
-    labels.iter().position(|label| label.primary())
-}
-
-/// The index of the head label; 0 if no label is primary.
+/// The index of the head label: the first primary one; 0 if none is primary.
 fn head_place(labels: &[LabeledSpan]) -> usize
     ensures { result ≡ head_place_of labels.now }
 {
-    primary_place(labels).unwrap_or(0)
+    let primary = labels.iter().position(|label| label.primary());
+    primary.unwrap_or(0)
 }
 
 /// The label that a diagnostic is about: the first primary one, else the first; `None` without

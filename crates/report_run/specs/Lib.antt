@@ -2,6 +2,5 @@ pub mod Words
 pub mod Settled
 pub mod Code
 pub mod Ending
-pub mod Tasks
 pub mod Drawn
 pub mod Run

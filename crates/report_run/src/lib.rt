@@ -5,7 +5,7 @@
 //! order:
 //!
 //! - `words`: the command that the arguments state
-//! - `look`: what a command asks for: how reports are shown, or how many are generated
+//! - `look`: how reports are shown
 //! - `program`: the run itself: reads a document and shows its reports
 //! - `measuring`: instead of that, draws a generated document and says how large the drawing is
 //! - `ending`: how a run ended, and the line that says so

@@ -15,9 +15,10 @@ ghost use Rattle.report_run.specs.Run.{device, ending_of, reads};
 ghost use Rattle.report_run.specs.Words.{command_of};
 
 use crate::ending::{Ending, say};
-use crate::look::{Look, Task, asked, theme};
+use crate::look::{Look, theme};
 use crate::measuring::make;
 use crate::status::Status;
+use crate::words::{Command, read_words};
 use documents::{Document, Reading, Source, read_all, read_document};
 use oxc_handlers::GraphicalReportHandler;
 use oxc_protocol::Sink;
@@ -80,10 +81,25 @@ fn obey<I: Source, O: Sink>(alloc: Global, words: &[String], input: &mut I, out:
         → input.new ≡ input.old }
     ensures untouched { IsUntouched (status_of result) out.old out.new }
 {
-    match asked(words) {
-        None => Ending::Usage,
-        Some(Task::Make(count)) => make(alloc, count, out),
-        Some(Task::Draw(look)) => draw(alloc, look, input, out),
+    let Some(command) = read_words(words) else {
+        return Ending::Usage;
+    };
+    match command {
+        Command::Make { count } => make(alloc, count, out),
+        Command::Draw {
+            theme,
+            width,
+            tabs,
+            json,
+        } => {
+            let look = Look {
+                theme,
+                width,
+                tabs,
+                json,
+            };
+            draw(alloc, look, input, out)
+        }
     }
 }
 

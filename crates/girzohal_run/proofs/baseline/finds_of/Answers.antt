@@ -6,14 +6,14 @@ use Rattle.girzohal_run.specs.Baseline.{FindsItself}
 use Rattle.girzohal_run.specs.Finds.{FindsOld, IsFound}
 use Rattle.girzohal_run.proofs.baseline.finds_of.Goals as goal
 
-pub returns-then-is_lines : goal.returns-then-is_lines
-returns-then-is_lines g c =
+pub returns-then-reads_lines : goal.returns-then-reads_lines
+returns-then-reads_lines g c =
     let told = g.S.Store.told c.args.store.now in
     let asked = c.args.asked.now in
     let bytes = c.args.bytes.now in
     let found = c.in_ok-finds.finds.reports.found in
     let aside = c.in_ok-finds.finds.aside.items in
-    subst (λ (lines : Bool). FindsItself lines told asked bytes found aside) c.if-is_lines.ensures
+    subst (λ (lines : Bool). FindsItself lines told asked bytes found aside) c.if-reads_lines.ensures
     (subst (λ (entries : List Source). FindsOld told (λ (path : List ℕ). Some (held_in entries path)) asked bytes found aside) c.empty.ensures c.in_ok-finds.ensures.found)
 
 pub returns : goal.returns
@@ -23,5 +23,5 @@ returns g c =
     let bytes = c.args.bytes.now in
     let found = c.in_ok-finds-2.finds.reports.found in
     let aside = c.in_ok-finds-2.finds.aside.items in
-    subst (λ (lines : Bool). FindsItself lines told asked bytes found aside) c.if-is_lines.ensures
+    subst (λ (lines : Bool). FindsItself lines told asked bytes found aside) c.if-reads_lines.ensures
     (subst (λ (entries : List Source). IsFound (λ (path : List ℕ). Some (held_in entries path)) asked bytes found aside) c.empty.ensures c.in_ok-finds-2.ensures.found)

@@ -11,5 +11,5 @@ returns-clause-read g c =
       found = finds.reports.found;
       aside = finds.aside.items;
       finds = c.in_ok-finds.ensures;
-      entries_are = subst (λ (lines : Bool). entries ≡ entries_of front true lines finds.reports.found) c.is_lines.ensures c.in_ok-findings.ensures;
+      entries_are = subst (λ (lines : Bool). entries ≡ entries_of front true lines finds.reports.found) c.reads_lines-notes.ensures c.in_ok-findings.ensures;
     }

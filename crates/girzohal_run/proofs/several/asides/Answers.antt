@@ -14,5 +14,5 @@ loop-finds-preserved c =
     let rest = take (length finds - 1) (drop 1 finds) in
     let split = split_first finds input c.in-len1-up.len_at_least c.input-item.is in
     let left = map (λ (it : FindsParts). it.aside) (map finds_parts rest) in
-    ap (λ (text : List ℕ). fold with_line text left) (c.in_ok-push_aside.ensures ∙ ap (λ (aside : List ℕ). with_line c.loop-finds.text.items aside) c.deref.ensures.value)
+    ap (λ (text : List ℕ). fold with_line text left) (c.in_ok-push_lines.ensures ∙ ap (λ (aside : List ℕ). with_line c.loop-finds.text.items aside) c.deref.ensures.value)
     ∙ subst (λ (xs : List Finds). fold with_line c.loop-finds.text.items (map (λ (it : FindsParts). it.aside) (map finds_parts xs)) ≡ aside_in (map finds_parts c.args.finds.now)) split c.loop-finds.invariant
