@@ -32,6 +32,8 @@ use Rattle.line_reports.proofs.NamesLemmas.{names_decide, never_aside}
 use Rattle.girzohal_lsp.specs.Blocks.{AreBlocks, BeginsAlone, BlockParts, behind, block_parts, picked_in, stands_alone, stands_by}
 use Rattle.girzohal_lsp.specs.declared.block.Block.{Block}
 use Rattle.girzohal_lsp.specs.Found.{pick}
+use Rattle.std.proofs.lemmas.Bool.{not-true}
+use Rattle.line_reports.proofs.TogetherLemmas.{reports_together}
 
 -- ---- two parts, of which the second begins with no note
 
@@ -44,16 +46,12 @@ NoNote [] = Unit {0}
 NoNote (None ∷ ts) = Unit {0}
 NoNote (Some t ∷ ts) = belongs t ≡ false
 
-false_if : (b : Bool) → not b ≡ true → b ≡ false
-false_if true e = sym e
-false_if false e = refl
-
 no_note_by : (run : List (List ℕ)) (sort : Sort) (excerpt : Option ExcerptParts) (found : Option FindingParts) (rest : List (Option ToldParts)) → stands_by found ≡ true
     → NoNote (option_map (λ finding. retold (fresh finding sort (drop 1 run) excerpt)) found ∷ rest)
 no_note_by run sort excerpt None rest is = tt
 no_note_by run sort excerpt (Some finding) rest is =
     let t : ToldParts = fresh finding sort (drop 1 run) excerpt in
-    never_aside t (false_if (belongs t) is)
+    never_aside t (not-true (belongs t) is)
 
 no_note : (lines : List (List ℕ)) (reads : List ReadParts) → BeginsAlone reads → NoNote (tellings lines reads)
 unfolding told_of
@@ -73,11 +71,6 @@ joined_parts before [] us none = joined_start before us none
 joined_parts before (t ∷ ts) us none =
     ap (λ groups. ended before t ++ groups) (joined_parts (after before t) ts us none) ∙ sym (append_assoc (ended before t) (joined (after before t) ts) (joined None us))
 
-all_parts : (columns : Columns) (told : List ℕ → Held) (xs ys : List GroupParts) → all_reports columns told (xs ++ ys) ≡ all_reports columns told xs ++ all_reports columns told ys
-all_parts columns told [] ys = refl
-all_parts columns told (x ∷ xs) ys =
-    ap (λ reports. group_reports columns told x ++ reports) (all_parts columns told xs ys) ∙ sym (append_assoc (group_reports columns told x) (all_reports columns told xs) (all_reports columns told ys))
-
 reports_parts : (columns : Columns) (told : List ℕ → Held) (lines : List (List ℕ)) (xs ys : List ReadParts) → BeginsAlone ys
     → reports_in columns told lines (xs ++ ys) ≡ reports_in columns told lines xs ++ reports_in columns told (behind lines xs) ys
 unfolding reports_in
@@ -85,7 +78,7 @@ reports_parts columns told lines xs ys begins =
     let later = behind lines xs in
     ap (λ ts. all_reports columns told (joined None ts)) (tellings_parts lines xs ys)
     ∙ (ap (all_reports columns told) (joined_parts None (tellings lines xs) (tellings later ys) (no_note later ys begins))
-    ∙ all_parts columns told (joined None (tellings lines xs)) (joined None (tellings later ys)))
+    ∙ reports_together columns told (joined None (tellings lines xs)) (joined None (tellings later ys)))
 
 -- what is picked of the reports of all pieces is what is picked of those of each block
 pub blocks_picked : (path : List ℕ) (columns : Columns) (told : List ℕ → Held) (lines : List (List ℕ)) (reads : List ReadParts) (blocks : List BlockParts) → AreBlocks lines reads blocks
