@@ -19,6 +19,7 @@ use Rattle.escapes.specs.Cuts.{cut_at}
 use Rattle.escapes.proofs.CutLemmas.{cut_here}
 use Rattle.build_dirs.specs.declared.again.PrintedPiece.{PrintedPiece}
 use Rattle.build_dirs.specs.Again.{KeysAreExact, Piece, Seen, ended, is_clean, is_clean_line, key_lines, key_text, lines_of, lossy_piece, none_seen, piece_of, tagged, with_seen}
+use Rattle.base_lemmas.proofs.Choices.{cond_or}
 
 -- ---- lines with their ends
 
@@ -147,17 +148,13 @@ piece_pushed path lines old mid new mid_is new_is =
 
 -- ---- keys that were met
 
-or_is : (here was : Bool) → cond here true was ≡ (here || was)
-or_is true was = refl
-or_is false was = refl
-
 pub key_kept : (old new : BTreeSet (String Global)) (key : String Global) → Updates string_cmp old new key true
     → (let before : Seen = λ q. contains_text old q in let after : Seen = λ q. contains_text new q in after ≡ with_seen before (string_bytes key))
 unfolding with_seen
 key_kept old new key updates = λ i. λ q. at q i
   where
     at : (q : List ℕ) → contains_text new q ≡ (bytes_eq (string_bytes key) q || contains_text old q)
-    at q = btree_set_updates_text (string_bytes key) old new true updates q ∙ or_is (bytes_eq (string_bytes key) q) (contains_text old q)
+    at q = btree_set_updates_text (string_bytes key) old new true updates q ∙ cond_or (bytes_eq (string_bytes key) q) (contains_text old q)
 
 pub none_there : (keys : BTreeSet (String Global)) → keys.keys ≡ [] → (let there : Seen = λ q. contains_text keys q in there ≡ none_seen)
 none_there keys empty = λ i. λ q. at q i

@@ -9,37 +9,13 @@ use Rattle.std.proofs.lemmas.List.Sums.{prefix_len_stops}
 use Rattle.std.proofs.lemmas.Option.{cond_some, some_pair_parts}
 use Rattle.std.specs.Str.Parse.{digits_value}
 use Rattle.escapes.specs.Cuts.{behind, cut_at, is_digit, leads_well, looks_as_number, number_of, without_last}
-use Rattle.escapes.proofs.CutLemmas.{behind_front, cut_here, last_taken}
+use Rattle.escapes.proofs.CutLemmas.{behind_front, cut_here, last_taken, behind_only, last_only}
 use Rattle.build_dirs.specs.Changes.{HasNoClose, HasNoHead, HasNoOpen, HasNoPath, HasNoVerb, IsChange, IsClosed, IsHead, IsLevel, IsNoChange, IsOpened, IsPath, IsVerb, is_close, is_open, is_program, is_program_byte, verb}
 
 -- ---- what the parts of a text say of it
 
-pub begins_by : (front text rest : List ℕ) → behind front text ≡ Some rest → text ≡ front ++ rest
-unfolding behind
-begins_by [] text rest is = cc
-begins_by (p ∷ ps) [] rest is = cc
-begins_by (p ∷ ps) (x ∷ xs) rest is = go (x == p) refl is (λ later. begins_by ps xs rest later)
-  where
-    go : (same : Bool) → (x == p) ≡ same → (if same then behind ps xs else None) ≡ Some rest → (behind ps xs ≡ Some rest → xs ≡ ps ++ rest) → x ∷ xs ≡ p ∷ (ps ++ rest)
-    go true same found later = ap₂ (λ y ys. y ∷ ys) (eqb-true x p same) (later found)
-    go false other found later = cc
-
 pub begins : (front text rest : List ℕ) (found : Option (List ℕ)) → found ≡ behind front text → found ≡ Some rest → text ≡ front ++ rest
-begins front text rest found is some = begins_by front text rest (sym is ∙ some)
-
-ends_by : (byte : ℕ) (text front : List ℕ) → without_last byte text ≡ Some front → text ≡ front ++ byte ∷ []
-unfolding without_last
-ends_by byte [] front is = cc
-ends_by byte (x ∷ []) front is = go (x == byte) refl is
-  where
-    go : (same : Bool) → (x == byte) ≡ same → (if same then Some [] else None) ≡ Some front → x ∷ [] ≡ front ++ byte ∷ []
-    go true same found = (let e : front ≡ [] = cc in rw e (ap (λ b. b ∷ []) (eqb-true x byte same)))
-    go false other found = cc
-ends_by byte (x ∷ (y ∷ rest)) front is = go (without_last byte (y ∷ rest)) refl is (λ inner later. ends_by byte (y ∷ rest) inner later)
-  where
-    go : (found : Option (List ℕ)) → without_last byte (y ∷ rest) ≡ found → option_map (λ inner. x ∷ inner) found ≡ Some front → ((inner : List ℕ) → without_last byte (y ∷ rest) ≡ Some inner → y ∷ rest ≡ inner ++ byte ∷ []) → x ∷ (y ∷ rest) ≡ front ++ byte ∷ []
-    go None none some later = cc
-    go (Some inner) there some later = (let e : front ≡ x ∷ inner = cc in rw e (ap (λ (xs : List ℕ). x ∷ xs) (later inner there)))
+begins front text rest found is some = behind_only front text rest (sym is ∙ some)
 
 cut_by : (byte n : ℕ) (text front rest : List ℕ) (within : Bool) (value : Option (List ℕ × List ℕ)) → n ≡ position_or_len (λ b. b == byte) text → nat_lt n (length text) ≡ within → value ≡ Some (take n text, drop (n + 1) text)
     → (if within then value else None) ≡ Some (front, rest) → text ≡ front ++ byte ∷ rest
@@ -165,7 +141,7 @@ pub is_bracket_head : (head front rest digits : List ℕ) (level : ℕ) → cut_
 is_bracket_head head front rest digits level cut named last number = record {
   program_is = named;
   text = 0x5B ∷ rest;
-  level_is = inr (digits, (ap (λ (t : List ℕ). 0x5B ∷ t) (ends_by 0x5D rest digits last), number));
+  level_is = inr (digits, (ap (λ (t : List ℕ). 0x5B ∷ t) (last_only 0x5D rest digits last), number));
   whole = cuts 0x5B head front rest cut;
 }
 
@@ -203,7 +179,7 @@ no_open text a b c = λ rest is.
     ]
 
 pub is_opened : (q : ℕ) (text rest : List ℕ) → is_open q ≡ true → behind (q ∷ []) text ≡ Some rest → IsOpened text rest
-is_opened q text rest open_is is = (q, (open_is, begins_by (q ∷ []) text rest is))
+is_opened q text rest open_is is = (q, (open_is, behind_only (q ∷ []) text rest is))
 
 pub no_close : (text : List ℕ) → without_last 0x27 text ≡ None → without_last 0x22 text ≡ None → HasNoClose text
 no_close text a b = λ front is.
@@ -213,7 +189,7 @@ no_close text a b = λ front is.
     ]
 
 pub is_closed : (q : ℕ) (text front : List ℕ) → is_close q ≡ true → without_last q text ≡ Some front → IsClosed text front
-is_closed q text front close_is is = (q, (close_is, ends_by q text front is))
+is_closed q text front close_is is = (q, (close_is, last_only q text front is))
 
 pub no_path_open : (quoted : List ℕ) → HasNoOpen quoted → HasNoPath quoted
 no_path_open quoted none = λ path is. none (path ++ is.closing ∷ []) (is.opening, (is.opening_is, is.whole))

@@ -4,7 +4,8 @@ use Rattle.std.specs.Option.{is_some, option_and_then, option_or}
 use Rattle.std.proofs.lemmas.List.{append_assoc}
 use Rattle.escapes.specs.Cuts.{behind, cut_at, without_last}
 use Rattle.build_dirs.specs.Changes.{ChangeParts, HasNoClose, IsClosed, IsNoChange, change_by, change_of, closed, head_of, opened, path_in, some_text, verb, verb_of}
-use Rattle.build_dirs.proofs.ChangeLemmas.{begins_by, cuts, is_closed}
+use Rattle.build_dirs.proofs.ChangeLemmas.{cuts, is_closed}
+use Rattle.escapes.proofs.CutLemmas.{behind_only}
 
 -- nor has a text at its end one
 at_end : (front text : List ℕ) → HasNoClose (front ++ text) → HasNoClose text
@@ -26,7 +27,7 @@ no_closed text none = go (without_last 0x27 text) refl
     go (Some front) is = absurd (none front (is_closed 0x27 text front refl is))
 
 no_inner : (quote : ℕ) (quoted inner : List ℕ) → HasNoClose quoted → behind (quote ∷ []) quoted ≡ Some inner → option_and_then some_text (closed inner) ≡ None
-no_inner quote quoted inner none is = ap (option_and_then some_text) (no_closed inner (behind_end (quote ∷ []) quoted inner none (begins_by (quote ∷ []) quoted inner is)))
+no_inner quote quoted inner none is = ap (option_and_then some_text) (no_closed inner (behind_end (quote ∷ []) quoted inner none (behind_only (quote ∷ []) quoted inner is)))
 
 no_path : (quoted : List ℕ) → HasNoClose quoted → path_in quoted ≡ None
 unfolding path_in opened
@@ -49,7 +50,7 @@ unfolding verb_of
 after_verb says v none is = go (behind (verb true) says) refl is
   where
     rest_of : (opens : Bool) (rest : List ℕ) → behind (verb opens) says ≡ Some rest → ◌≡◌ {A = Option (Bool × List ℕ)} (Some (opens, rest)) (Some v) → HasNoClose v.1
-    rest_of opens rest there same = subst (λ (t : List ℕ). HasNoClose t) (ap (λ (o : Option (Bool × List ℕ)). (unwrap_or o v).1) same) (behind_end (verb opens) says rest none (begins_by (verb opens) says rest there))
+    rest_of opens rest there same = subst (λ (t : List ℕ). HasNoClose t) (ap (λ (o : Option (Bool × List ℕ)). (unwrap_or o v).1) same) (behind_end (verb opens) says rest none (behind_only (verb opens) says rest there))
 
     second : (o : Option (List ℕ)) → behind (verb false) says ≡ o → ◌≡◌ {A = Option (Bool × List ℕ)} (option_map (λ rest. (false, rest)) o) (Some v) → HasNoClose v.1
     second None there same = cc

@@ -9,30 +9,19 @@ use Rattle.std.proofs.lemmas.Bool.{false≢true}
 use Rattle.std.proofs.lemmas.Map.Text.{btree_map_updates_text}
 use Rattle.std.proofs.lemmas.Slice.Eq.{bytes_eq-Decides}
 use Rattle.changed_rows.specs.Files.{AreNumbers, number_from, number_of}
-
-number_step : (said here : Bool) (at last : ℕ) (later after : Option ℕ) → after ≡ option_or later (if here then Some last else None)
-    → (if said then Some at else after) ≡ option_or (if said then Some at else later) (if here then Some last else None)
-number_step true here at last later after is = refl
-number_step false here at last later after is = is
+use Rattle.base_lemmas.proofs.Choices.{place_later, place_new}
 
 -- one file more, after the others
 number_after : (at : ℕ) (files : List (List ℕ)) (file name : List ℕ)
     → number_from at (files ++ file ∷ []) name ≡ option_or (number_from at files name) (if bytes_eq file name then Some (at + length files) else None)
 number_after at [] file name = ap (λ n. if bytes_eq file name then Some n else None) (omega arith)
 number_after at (other ∷ rest) file name =
-    number_step (bytes_eq other name) (bytes_eq file name) at (at + length (other ∷ rest)) (number_from (at + 1) rest name) (number_from (at + 1) (rest ++ file ∷ []) name)
+    place_later (bytes_eq other name) (bytes_eq file name) at (at + length (other ∷ rest)) (number_from (at + 1) rest name) (number_from (at + 1) (rest ++ file ∷ []) name)
     (number_after (at + 1) rest file name ∙ ap (λ n. option_or (number_from (at + 1) rest name) (if bytes_eq file name then Some n else None)) (omega arith))
 
 number_last : (files : List (List ℕ)) (file name : List ℕ)
     → number_of (files ++ file ∷ []) name ≡ option_or (number_of files name) (if bytes_eq file name then Some (length files) else None)
 number_last files file name = number_after 0 files file name ∙ ap (λ n. option_or (number_of files name) (if bytes_eq file name then Some n else None)) (omega arith)
-
-number_new : (here : Bool) (last : ℕ) (number : Option ℕ) → (here ≡ true → is_some number ≡ false)
-    → cond here (Some last) number ≡ option_or number (if here then Some last else None)
-number_new true last None none = refl
-number_new true last (Some at) none = absurd (false≢true (sym (none refl)))
-number_new false last None none = refl
-number_new false last (Some at) none = refl
 
 -- the map goes on giving numbers when a new name gets the next one
 pub numbers_grow : (files : List (List ℕ)) (name : List ℕ) (old new : BTreeMap (String Global) ℕ) (key : String Global) (number : ℕ) → AreNumbers files old
@@ -45,7 +34,7 @@ numbers_grow files name old new key number are none updates same is = λ q.
     ∙ ap (λ o. cond (bytes_eq (string_bytes key) q) (Some number) o) (are q)
     ∙ ap (λ t. cond (bytes_eq t q) (Some number) (number_of files q)) same
     ∙ ap (λ n. cond (bytes_eq name q) (Some n) (number_of files q)) is
-    ∙ number_new (bytes_eq name q) (length files) (number_of files q) there
+    ∙ place_new (bytes_eq name q) (length files) (number_of files q) there
     ∙ sym (number_last files name q)
 
 -- the new name's number

@@ -161,7 +161,7 @@ fn ends_in_folder(at: &[&str]) -> bool
 }
 
 /// Drops the last part.
-#[tactic(auto, using(crate::proofs::NameLemmas::map_left))]
+#[tactic(auto, using(base_lemmas::proofs::Lists::texts_left))]
 fn leave(at: &mut Vec<&str>)
     ensures { map (λ part. part.now) at.new.items ≡ left (map (λ part. part.now) at.old.items) }
 {
@@ -169,7 +169,7 @@ fn leave(at: &mut Vec<&str>)
 }
 
 /// Appends a part.
-#[tactic(auto, using(crate::proofs::NameLemmas::map_added))]
+#[tactic(auto, using(base_lemmas::proofs::Lists::texts_added))]
 fn add<'a>(at: &mut Vec<&'a str>, part: &'a str) -> Result<(), AllocError>
     ensures { OnOk result (map (λ part. part.now) at.new.items
         ≡ map (λ part. part.now) at.old.items ++ part.entry.now ∷ []) }

@@ -12,6 +12,7 @@ use Rattle.serde_json.specs.View.{view, members_view}
 use Rattle.serde_json.specs.declared.value.Value.{Value}
 use Rattle.serde_json.proofs.Views.{view-lookup}
 use Rattle.documents.specs.Kinds.{Key, only_keys, without}
+use Rattle.base_lemmas.proofs.Choices.{is_some_map}
 
 abbrev Entry : Type 0
 Entry = String Global × Value
@@ -120,10 +121,6 @@ pub only_all : (keys : List Key) (ms : Members) → only_keys keys ms ≡ only_k
 only_all [] ms = refl
 only_all (key ∷ keys) ms = only_keys_without key keys ms ∙ only_all keys (without key.name ms)
 
-is_some-map : {A B : Type 0} (f : A → B) (found : Option A) → is_some (option_map f found) ≡ is_some found
-is_some-map f None = refl
-is_some-map f (Some x) = refl
-
 -- whether the map has the key
 pub has_key : (name : List ℕ) (es : List Entry) → is_some (lookup (at_name name) es) ≡ is_some (get_member name (members_view es))
-has_key name es = sym (is_some-map view (lookup (at_name name) es)) ∙ ap is_some (view-lookup name es)
+has_key name es = sym (is_some_map view (lookup (at_name name) es)) ∙ ap is_some (view-lookup name es)

@@ -14,6 +14,7 @@ use Rattle.serde_json.specs.declared.value.Value.{Value}
 use Rattle.documents.specs.Kinds.{Key, all_of, only_if, only_keys, pair_in}
 use Rattle.documents.specs.Document.{document_of, form_of, file, row_keys, label_by_rows, label_by_bytes}
 use Rattle.documents.proofs.KeyLemmas.{skips}
+use Rattle.base_lemmas.proofs.Choices.{none_there}
 pub use Rattle.base_lemmas.proofs.Choices.{option_or-none as either_kind}
 
 -- a list that isn't of two values
@@ -48,10 +49,6 @@ stranger keys name no_members apart there = absurd (true≢false (sym there))
 stranger keys name (member l v rest) apart there =
     stranger_here keys name l v rest (bytes_eq name l) refl apart there (λ found. stranger keys name rest apart found)
 
-not_there : {A : Type 0} (found : Option A) → is_some found ≡ false → found ≡ None
-not_there None none = refl
-not_there (Some x) none = absurd (true≢false none)
-
 if_never : {A : Type 0} (a : Bool) (meaning : A) → (if a && false then Some meaning else None) ≡ None
 if_never true meaning = refl
 if_never false meaning = refl
@@ -65,7 +62,7 @@ rows_refused ms there =
 -- without one, it isn't one by bytes
 pub bytes_refused : (ms : Members) → is_some (get_member (codes "bytes") ms) ≡ false → label_by_bytes (object ms) ≡ None
 unfolding label_by_bytes
-bytes_refused ms none = rw (not_there (get_member (codes "bytes") ms) none) refl
+bytes_refused ms none = rw (none_there (get_member (codes "bytes") ms) none) refl
 
 -- ---- files
 

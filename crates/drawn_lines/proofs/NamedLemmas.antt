@@ -11,7 +11,7 @@ use Rattle.found_reports.specs.Listed.{held_in, listed}
 use Rattle.found_reports.specs.declared.sources.Source.{Source}
 use Rattle.source_store.specs.Given.{AddsAll, MeetsTold}
 use Rattle.source_store.specs.declared.named.Spelling.TheVariants.{Path}
-use Rattle.source_store.proofs.GivenLemmas.{still_held, still_listed}
+use Rattle.source_store.proofs.GivenLemmas.{still_held, still_listed, all_still}
 use Rattle.build_dirs.specs.Changes.{change_of}
 use Rattle.build_dirs.specs.declared.dirs.BuildDirs.{BuildDirs}
 use Rattle.build_dirs.specs.Dirs.{DirsParts, dirs_parts, in_order, is_absolute, joined, no_dirs, place_of, taken, taken_by}
@@ -236,13 +236,6 @@ pub agrees_before : (before more now : List Source) (given : List ℕ → Held) 
 agrees_before before more now given is agrees =
     λ name here.
     subst (λ sources. listed sources name ≡ true → given name ≡ held_in sources name) is (agrees name) (still_listed before more name here) ∙ still_held before more name here
-
-all_still : (sources more : List Source) (names : List (List ℕ)) → All (λ name. listed sources name ≡ true) names → All (λ name. listed (sources ++ more) name ≡ true) names
-all_still sources more [] all = All-nil (λ name. listed (sources ++ more) name ≡ true)
-all_still sources more (name ∷ names) all =
-    All-cons (λ name. listed (sources ++ more) name ≡ true) name names
-    (still_listed sources more name (All-head (λ name. listed sources name ≡ true) name names all))
-    (all_still sources more names (All-tail (λ name. listed sources name ≡ true) name names all))
 
 pub adds_both : (told : List ℕ → Option Held) (first before now : List Source) (xs ys : List (List ℕ)) → AddsAll told Path first before xs → AddsAll told Path before now ys
     → AddsAll told Path first now (xs ++ ys)

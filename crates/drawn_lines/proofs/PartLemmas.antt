@@ -27,6 +27,7 @@ use Rattle.drawn_lines.specs.Seam.{BarePieces, all_open, opens, says_aside, span
 use Rattle.drawn_lines.proofs.LineLemmas.{take_within}
 use Rattle.drawn_lines.proofs.NameLemmas.{lines_on}
 use Rattle.drawn_lines.specs.Walk.{reports_placed}
+use Rattle.line_reports.proofs.TogetherLemmas.{reports_together}
 
 -- ---- pieces with their lines, and what is shown of these
 
@@ -116,17 +117,12 @@ joined_parts before [] ys is = joined_first before ys is
 joined_parts before (x ∷ xs) ys is =
     ap (λ gs. ended before x ++ gs) (joined_parts (after before x) xs ys is) ∙ sym (append_assoc (ended before x) (joined (after before x) xs) (joined None ys))
 
-all_append : (columns : Columns) (given : List ℕ → Held) (fore bs : List GroupParts) → all_reports columns given (fore ++ bs) ≡ all_reports columns given fore ++ all_reports columns given bs
-all_append columns given [] bs = refl
-all_append columns given (a ∷ fore) bs =
-    ap (λ fs. group_reports columns given a ++ fs) (all_append columns given fore bs) ∙ sym (append_assoc (group_reports columns given a) (all_reports columns given fore) (all_reports columns given bs))
-
 reports_append : (asked : Asked) (given : List ℕ → Held) (fore bs : List Parcel) → starts (tellings_by bs) ≡ true
     → reports asked given (fore ++ bs) ≡ reports asked given fore ++ reports asked given bs
 reports_append asked given fore bs is =
     ap (λ ts. all_reports (columns_of asked) given (joined None ts)) (map-append told_by fore bs)
     ∙ (ap (all_reports (columns_of asked) given) (joined_parts None (tellings_by fore) (tellings_by bs) is)
-    ∙ all_append (columns_of asked) given (joined None (tellings_by fore)) (joined None (tellings_by bs)))
+    ∙ reports_together (columns_of asked) given (joined None (tellings_by fore)) (joined None (tellings_by bs)))
 
 open_by : (run : List (List ℕ)) (sort : Sort) (excerpt : Option ExcerptParts) (found : Option FindingParts) (ts : List (Option ToldParts)) → not (says_aside found) ≡ true
     → starts (option_map (λ finding. retold (told_as finding sort (drop 1 run) excerpt)) found ∷ ts) ≡ true

@@ -8,7 +8,7 @@ use Rattle.tool_lines.specs.declared.lines.Sort.{Sort}
 use Rattle.tool_lines.specs.declared.lines.Sort.TheVariants.{Kept, Heading, Below, Announced, Inline, Spaced}
 use Rattle.tool_lines.specs.Lines.{ArePieces, BegunParts, FindingParts, PieceParts, announced, begun, begun_of, behind, below_at, head, inline, inline_sort, is_heading, is_kept, name_behind, piece, piece_of}
 use Rattle.fed_lines.specs.Feed.{ends_at, known_piece}
-use Rattle.fed_lines.proofs.FeedLemmas.{held_few, known_by_end, known_first, known_name, piece_some}
+use Rattle.fed_lines.proofs.FeedLemmas.{held_few, known_by_end, known_first, known_name, piece_some, never_kept}
 use Rattle.drawn_lines.specs.Seam.{BarePieces, EndsKnown, IsEnd, IsGap, IsPart, OpensAlways, all_open, closes, ends_closed, opens, span}
 use Rattle.drawn_lines.specs.declared.seam.Part.{Part}
 use Rattle.drawn_lines.proofs.SoughtLemmas.{closed_push}
@@ -99,10 +99,6 @@ behind_are shapes name lines [] back are = are
 behind_are shapes name lines (p ∷ front) back are =
     subst (λ ls. ArePieces shapes (name_after name lines (p ∷ front)) ls back) (drop-drop (span front) p.lines lines)
     (behind_are shapes (name_behind p.begun.sort name lines) (drop p.lines lines) front back are.1)
-
-never_kept : (apart : Bool) → is_kept (inline_sort apart) ≡ false
-never_kept true = refl
-never_kept false = refl
 
 kept_bare : (a : Option FindingParts) (h : Bool) (i : Option FindingParts) → is_kept (begun_of a h i).sort ≡ true → (begun_of a h i).finding ≡ None
 kept_bare (Some x) h i e = cc

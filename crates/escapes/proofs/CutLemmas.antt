@@ -31,7 +31,7 @@ unfolding behind
 behind_front [] rest = refl
 behind_front (p ∷ ps) rest = rw (eq-eqb p p refl) (behind_front ps rest)
 
-behind_only : (front text rest : List ℕ) → behind front text ≡ Some rest → text ≡ front ++ rest
+pub behind_only : (front text rest : List ℕ) → behind front text ≡ Some rest → text ≡ front ++ rest
 unfolding behind
 behind_only [] text rest e = ap (λ o. unwrap_or o text) e
 behind_only (p ∷ ps) [] rest e = cc
@@ -65,7 +65,7 @@ last_taken byte [] = rw (eq-eqb byte byte refl) refl
 last_taken byte (x ∷ []) = ap (option_map (λ front. x ∷ front)) (last_taken byte [])
 last_taken byte (x ∷ (y ∷ rest)) = ap (option_map (λ front. x ∷ front)) (last_taken byte (y ∷ rest))
 
-last_only : (byte : ℕ) (text front : List ℕ) → without_last byte text ≡ Some front → text ≡ front ++ byte ∷ []
+pub last_only : (byte : ℕ) (text front : List ℕ) → without_last byte text ≡ Some front → text ≡ front ++ byte ∷ []
 unfolding without_last
 last_only byte [] front e = cc
 last_only byte (x ∷ []) front e = go (x == byte) refl e

@@ -9,6 +9,7 @@ use Rattle.excerpt_lines.specs.Items.{Covers}
 use Rattle.excerpt_lines.specs.Lines.{HasItems}
 use Rattle.excerpt_blocks.specs.Below.{IsWithin, State, empty_state}
 use Rattle.excerpt_blocks.specs.Blocks.{Adds, LineAdds, LineRefused, Refuses}
+use Rattle.base_lemmas.proofs.Lists.{drop_here}
 
 -- items that cover a line are in it
 pub within_all : (line : List ℕ) (begin : ℕ) (hung : List ℕ) (at : ℕ) (items : List Item) → length line < 2 ^ 32 → Covers line begin hung at items → All (IsWithin line) items
@@ -48,9 +49,6 @@ pub all_len : (lines : List (Bor (List ℕ))) → length (map (λ line. line.now
 all_len [] = refl
 all_len (line ∷ lines) = ap suc (all_len lines)
 
-pub cut : {A : Type 0} (xs : List A) (k : ℕ) (x : A) → k < length xs → x ≡ get_or xs k x → drop k xs ≡ x ∷ drop (k + 1) xs
-cut xs k x within is = rw (add-one k) (drop-cons xs k x within ∙ ap (λ y. y ∷ drop (suc k) xs) (sym is))
-
 pub at_any : {A : Type 0} (xs : List A) (k : ℕ) (d e : A) → k < length xs → get_or xs k d ≡ get_or xs k e
 at_any [] k d e within = absurd (omega (arith, within))
 at_any (x ∷ xs) zero d e within = refl
@@ -63,8 +61,8 @@ pub goes_on : (first : ℕ) (lines : List (List ℕ)) (roles : List Role) (k : �
     → SoFar first lines roles (first + (k + 1)) (drop (k + 1) lines) (drop (k + 1) roles) next mid
 goes_on first lines roles k line role above next s mid within within_roles is role_is so adds =
     let number : first + (k + 1) ≡ first + k + 1 = omega arith in
-    let here = subst (λ (ls : List (List ℕ)). SoFar first lines roles (first + k) ls (drop k roles) above s) (cut lines k line within is) so in
-    let both = subst (λ (ks : List Role). SoFar first lines roles (first + k) (line ∷ drop (k + 1) lines) ks above s) (cut roles k role within_roles role_is) here in
+    let here = subst (λ (ls : List (List ℕ)). SoFar first lines roles (first + k) ls (drop k roles) above s) (drop_here lines k line within is) so in
+    let both = subst (λ (ks : List Role). SoFar first lines roles (first + k) (line ∷ drop (k + 1) lines) ks above s) (drop_here roles k role within_roles role_is) here in
     subst (λ (n : ℕ). SoFar first lines roles n (drop (k + 1) lines) (drop (k + 1) roles) next mid) (sym number)
     (more first lines roles (first + k) line (drop (k + 1) lines) role (drop (k + 1) roles) above next s mid both adds)
 
@@ -74,8 +72,8 @@ pub stops : (first : ℕ) (lines : List (List ℕ)) (roles : List Role) (k : ℕ
     → SoFar first lines roles (first + k) (drop k lines) (drop k roles) above s → LineRefused (first + k) line role above s
     → Refuses first lines roles [] empty_state
 stops first lines roles k line role above s within within_roles is role_is so why =
-    let here = subst (λ (ls : List (List ℕ)). SoFar first lines roles (first + k) ls (drop k roles) above s) (cut lines k line within is) so in
-    let both = subst (λ (ks : List Role). SoFar first lines roles (first + k) (line ∷ drop (k + 1) lines) ks above s) (cut roles k role within_roles role_is) here in
+    let here = subst (λ (ls : List (List ℕ)). SoFar first lines roles (first + k) ls (drop k roles) above s) (drop_here lines k line within is) so in
+    let both = subst (λ (ks : List Role). SoFar first lines roles (first + k) (line ∷ drop (k + 1) lines) ks above s) (drop_here roles k role within_roles role_is) here in
     both.refused (inl why)
 
 -- no line is left

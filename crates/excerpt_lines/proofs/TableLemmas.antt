@@ -67,7 +67,7 @@ unfolding leader_len
 no_equals text none =
     equals_by (starts_with nat_eq text (0x3D ∷ 0x20 ∷ [])) (starts_with nat_eq text (0x251C ∷ 0x20 ∷ [])) (starts_with nat_eq text (0x2570 ∷ 0x20 ∷ [])) none
 
-capital_by : (a b p q : Bool) → (a || b) ≡ false → (a && p || b && q) ≡ false
+pub capital_by : (a b p q : Bool) → (a || b) ≡ false → (a && p || b && q) ≡ false
 capital_by true b p q none = cc
 capital_by false true p q none = cc
 capital_by false false p q none = refl

@@ -12,14 +12,7 @@ use Rattle.excerpts.specs.Cuts.{IsOutline, after, part_in}
 use Rattle.excerpts.specs.declared.body.Block.{Block}
 use Rattle.excerpts.specs.declared.body.Excerpt.{Excerpt}
 use Rattle.excerpts.specs.Body.{AddsPart, AreOutlines, BlockRead, HasBlocks, IsBlock, IsPart, IsRefused, IsStopped, PartBlocks, PartRefused, Reads, Stops, block_of, is_block}
-
-pub now_at : (lines : List (Bor (List ℕ))) (k : ℕ) (d : Bor (List ℕ)) (e : List ℕ) → k < length lines → (get_or lines k d).now ≡ get_or (map (λ line. line.now) lines) k e
-now_at [] k d e within = absurd (omega (arith, within))
-now_at (line ∷ lines) zero d e within = refl
-now_at (line ∷ lines) (suc k) d e within = now_at lines k d e (omega (arith, within))
-
-cut : {A : Type 0} (xs : List A) (k : ℕ) (x : A) → k < length xs → x ≡ get_or xs k x → drop k xs ≡ x ∷ drop (k + 1) xs
-cut xs k x within is = rw (add-one k) (drop-cons xs k x within ∙ ap (λ y. y ∷ drop (suc k) xs) (sym is))
+use Rattle.base_lemmas.proofs.Lists.{drop_here}
 
 -- the outlines so far, which those of the rest complete
 pub record OutlinesSoFar (lines left : List (List ℕ)) (outlines : List Outline) : Type 0 where
@@ -31,7 +24,7 @@ outlines_begin lines = record { completes = λ rest h. h }
 pub outlines_go_on : (lines : List (List ℕ)) (k : ℕ) (line : List ℕ) (old new : List Outline) (outline : Outline) → k < length lines → line ≡ get_or lines k line → IsOutline line outline → new ≡ old ++ outline ∷ []
     → OutlinesSoFar lines (drop k lines) old → OutlinesSoFar lines (drop (k + 1) lines) new
 outlines_go_on lines k line old new outline within is so put done =
-    let here = subst (λ (ls : List (List ℕ)). OutlinesSoFar lines ls old) (cut lines k line within is) done in
+    let here = subst (λ (ls : List (List ℕ)). OutlinesSoFar lines ls old) (drop_here lines k line within is) done in
     record { completes = λ rest h. rw (put, append_assoc) (here.completes (outline ∷ rest) (so, h)) }
 
 pub outlines_end : (lines : List (List ℕ)) (k : ℕ) (outlines : List Outline) → length lines ≤ k → OutlinesSoFar lines (drop k lines) outlines → AreOutlines lines outlines
@@ -66,7 +59,7 @@ pub read_stops : (spot : Spot) (lines : List (List ℕ)) (outlines : List Outlin
     → ReadSoFar spot lines outlines number left left_outlines state parts blocks → 0 < length left → IsRefused spot state number left left_outlines → IsStopped spot lines outlines
 read_stops spot lines outlines number left left_outlines state parts blocks so some why = record { parts = parts ++ []; stops = so.stops [] (some, why) }
 
-drop_on : {A : Type 0} (m n : ℕ) (xs : List A) → drop (m + n) xs ≡ drop n (drop m xs)
+pub drop_on : {A : Type 0} (m n : ℕ) (xs : List A) → drop (m + n) xs ≡ drop n (drop m xs)
 drop_on zero n xs = rw (zero-add n) refl
 drop_on (suc m) n [] = drop-nil (suc m + n) ∙ sym (drop-nil n)
 drop_on (suc m) n (x ∷ xs) = rw (suc-add m n) (drop_on m n xs)

@@ -3,14 +3,10 @@ use Rattle.std.proofs.Common.{◌≡◌, ℕ, ◌<◌, ◌≤◌, ◌==◌, ◌|
 use Rattle.std.specs.List.{starts_with}
 use Rattle.std.specs.Prelude.{nat_eq, codes}
 use Rattle.excerpts.specs.Cuts.{is_alone}
-
-alone_by : (a b p q : Bool) → (a || b) ≡ false → (a && p || b && q) ≡ false
-alone_by true b p q none = cc
-alone_by false true p q none = cc
-alone_by false false p q none = refl
+use Rattle.excerpt_lines.proofs.TableLemmas.{capital_by}
 
 no_alone : (c : ℕ) (cs : List ℕ) → (0x66 == c || 0x49 == c) ≡ false → is_alone (c ∷ cs) ≡ false
-no_alone c cs none = alone_by (0x66 == c) (0x49 == c) (starts_with nat_eq cs (codes "ix-it:\"")) (starts_with nat_eq cs (codes "n file included from ")) none
+no_alone c cs none = capital_by (0x66 == c) (0x49 == c) (starts_with nat_eq cs (codes "ix-it:\"")) (starts_with nat_eq cs (codes "n file included from ")) none
 
 pub short_alone : (line : List ℕ) → length line < 1 → is_alone line ≡ false
 short_alone [] short = refl

@@ -43,7 +43,7 @@ inline_more (Some pl) line more some = refl
 inline_more None line more some =
     or_more (option_and_then (told false line) (place line)) (option_and_then (told more line) (place line)) (parted line) (place_more more line (place line)) some
 
-never_kept : (apart : Bool) → is_kept (inline_sort apart) ≡ false
+pub never_kept : (apart : Bool) → is_kept (inline_sort apart) ≡ false
 never_kept true = refl
 never_kept false = refl
 

@@ -47,7 +47,7 @@ none_length : (its : List FindingParts) → length (no_repeats its) ≡ length i
 none_length [] = refl
 none_length (it ∷ its) = omega (arith, none_length its)
 
-if_length : (unique : Bool) (its : List FindingParts) → length (repeats_if unique its) ≡ length its
+pub if_length : (unique : Bool) (its : List FindingParts) → length (repeats_if unique its) ≡ length its
 if_length true its = repeats_length none_seen its
 if_length false its = none_length its
 

@@ -1,6 +1,6 @@
 -- The tests of patterns are what they mean.
 use Rattle.std.proofs.Common.{◌≡◌, ◌⊎◌, inl, inr, ℕ, Bool, true, false, ◌&&◌, ◌||◌, List, ◌++◌, length, nat_lt, codes, reverse, refl}
-use Rattle.std.proofs.lemmas.Bool.{and_parts, false≢true}
+use Rattle.std.proofs.lemmas.Bool.{and_parts, false≢true, and_from, or_left, or_right}
 use Rattle.std.specs.Str.{chars}
 use Rattle.finding_filters.specs.Patterns.{GlobParts, IsRuled, IsTakenBy, IsText, rule_takes, takes_by, takes_scope, takes_whole}
 use Rattle.finding_filters.specs.Tokens.{end_of, takes_all, takes_one}
@@ -12,18 +12,6 @@ use Rattle.finding_filters.proofs.MeaningLemmas.{anywhere_from, anywhere_to, mea
 pub either : (a b : Bool) → (a || b) ≡ true → (a ≡ true) ⊎ (b ≡ true)
 either true b is = inl refl
 either false b is = inr is
-
-pub or_left : (a b : Bool) → a ≡ true → (a || b) ≡ true
-or_left true b is = refl
-or_left false b is = absurd (false≢true is)
-
-pub or_right : (a b : Bool) → b ≡ true → (a || b) ≡ true
-or_right true b is = refl
-or_right false b is = is
-
-both_true : (a b : Bool) → a ≡ true → b ≡ true → (a && b) ≡ true
-both_true true b left right = right
-both_true false b left right = absurd (false≢true left)
 
 pub taken_to : (glob : GlobParts) (back : List Token) (name : List ℕ) → takes_by glob back name ≡ true → IsTakenBy glob (reverse back) name
 taken_to glob back name is =
@@ -39,7 +27,7 @@ taken_from glob back name (inl is) =
     (means_from glob.ending back name is)
 taken_from glob back name (inr is) =
     or_right (takes_all (end_of glob.ending) back name) (glob.anywhere && takes_one Any (takes_one (Exactly 0x2F) (takes_all (end_of glob.ending) back)) name)
-    (both_true glob.anywhere (takes_one Any (takes_one (Exactly 0x2F) (takes_all (end_of glob.ending) back)) name) is.0 (anywhere_from glob.ending back name is.1))
+    (and_from glob.anywhere (takes_one Any (takes_one (Exactly 0x2F) (takes_all (end_of glob.ending) back)) name) is.0 (anywhere_from glob.ending back name is.1))
 
 text_to : (rule : List Token) (text : List ℕ) → takes_whole rule (chars text) ≡ true → IsText rule text
 text_to rule text is = means_to Nothing rule (chars text) is
@@ -87,4 +75,4 @@ pub ruled_from : (rule : List Token) (scope code : List ℕ) → IsRuled rule sc
 ruled_from rule scope code (inl is) = or_left (takes_whole rule (chars code)) (nat_lt 0 (length scope) && takes_scope rule scope code) (text_from rule code is)
 ruled_from rule scope code (inr is) =
     or_right (takes_whole rule (chars code)) (nat_lt 0 (length scope) && takes_scope rule scope code)
-    (both_true (nat_lt 0 (length scope)) (takes_scope rule scope code) is.0 (scope_from rule scope code is.1))
+    (and_from (nat_lt 0 (length scope)) (takes_scope rule scope code) is.0 (scope_from rule scope code is.1))

@@ -1,35 +1,14 @@
 -- What patterns mean.
 use Rattle.std.proofs.Common.{◌≡◌, ◌≢◌, ◌⊎◌, inl, inr, ℕ, Bool, true, false, ◌==◌, ◌&&◌, ◌||◌, not, List, [], ◌∷◌, ◌++◌, All, reverse, refl, sym, ap, ◌∙◌, arith}
 use mathlib.Core.List.{reverse_aux}
-use Rattle.std.proofs.lemmas.Bool.{and_parts, false≢true}
+use Rattle.std.proofs.lemmas.Bool.{and_parts, false≢true, and_from, eq-eqb, eqb-true, or_left, or_right}
 use Rattle.std.proofs.lemmas.Bool.Decides.{nat_tests}
 use Rattle.std.proofs.lemmas.List.Elements.{All-cons, All-head, All-nil, All-tail}
 use Rattle.finding_filters.specs.Tokens.{IsPiece, Takes, end_of, takes, takes_all, takes_one}
 use Rattle.finding_filters.specs.declared.tokens.Ending.{Ending}
 use Rattle.finding_filters.specs.declared.tokens.Token.{Token}
 use Rattle.finding_filters.specs.declared.tokens.Token.TheVariants.{Exactly, One, Each, Run, Any}
-
-either : (a b : Bool) → (a || b) ≡ true → (a ≡ true) ⊎ (b ≡ true)
-either true b is = inl refl
-either false b is = inr is
-
-or_left : (a b : Bool) → a ≡ true → (a || b) ≡ true
-or_left true b is = refl
-or_left false b is = absurd (false≢true is)
-
-or_right : (a b : Bool) → b ≡ true → (a || b) ≡ true
-or_right true b is = refl
-or_right false b is = is
-
-both_true : (a b : Bool) → a ≡ true → b ≡ true → (a && b) ≡ true
-both_true true b left right = right
-both_true false b left right = absurd (false≢true left)
-
-same_char : (c d : ℕ) → (c == d) ≡ true → c ≡ d
-same_char c d is = grind (arith, nat_tests)
-
-is_same : (c : ℕ) → (c == c) ≡ true
-is_same c = grind (arith, nat_tests)
+use Rattle.finding_filters.proofs.LawLemmas.{either}
 
 apart : (c : ℕ) → not (c == 0x2F) ≡ true → c ≢ 0x2F
 apart c is same = false≢true (sym (ap (λ d. not (d == 0x2F)) same) ∙ is)
@@ -38,7 +17,7 @@ is_apart : (c : ℕ) → c ≢ 0x2F → not (c == 0x2F) ≡ true
 is_apart c other = go (c == 0x2F) refl
   where
     go : (said : Bool) → (c == 0x2F) ≡ said → not said ≡ true
-    go true is = absurd (other (same_char c 0x2F is))
+    go true is = absurd (other (eqb-true c 0x2F is))
     go false is = refl
 
 abbrev Other : ℕ → Type 0
@@ -65,7 +44,7 @@ one_to : (token : Token) (test : List ℕ → Bool) (text : List ℕ) → takes_
 one_to (Exactly wanted) test [] is = absurd (false≢true is)
 one_to (Exactly wanted) test (c ∷ rest) is =
     let parts = and_parts (c == wanted) (test rest) is in
-    (c ∷ [], rest, refl, ap (λ d. d ∷ []) (same_char c wanted parts.0), parts.1)
+    (c ∷ [], rest, refl, ap (λ d. d ∷ []) (eqb-true c wanted parts.0), parts.1)
 one_to One test [] is = absurd (false≢true is)
 one_to One test (c ∷ rest) is = let parts = and_parts (not (c == 0x2F)) (test rest) is in (c ∷ [], rest, refl, (c, refl, apart c parts.0), parts.1)
 one_to Each test [] is = absurd (false≢true is)
@@ -87,7 +66,7 @@ run_from : (test : List ℕ → Bool) (piece rest : List ℕ) → All Other piec
 run_from test [] rest others is = run_none test rest is
 run_from test (c ∷ piece) rest others is =
     or_right (test (c ∷ (piece ++ rest))) (not (c == 0x2F) && takes_one Run test (piece ++ rest))
-    (both_true (not (c == 0x2F)) (takes_one Run test (piece ++ rest)) (is_apart c (All-head Other c piece others)) (run_from test piece rest (All-tail Other c piece others) is))
+    (and_from (not (c == 0x2F)) (takes_one Run test (piece ++ rest)) (is_apart c (All-head Other c piece others)) (run_from test piece rest (All-tail Other c piece others) is))
 
 any_from : (test : List ℕ → Bool) (piece rest : List ℕ) → test rest ≡ true → takes_one Any test (piece ++ rest) ≡ true
 any_from test [] rest is = any_none test rest is
@@ -95,8 +74,8 @@ any_from test (c ∷ piece) rest is = or_right (test (c ∷ (piece ++ rest))) (t
 
 one_from : (token : Token) (test : List ℕ → Bool) (piece rest : List ℕ) → IsPiece token piece → test rest ≡ true → takes_one token test (piece ++ rest) ≡ true
 one_from (Exactly wanted) test piece rest is holds =
-    ap (λ p. takes_one (Exactly wanted) test (p ++ rest)) is ∙ both_true (wanted == wanted) (test rest) (is_same wanted) holds
-one_from One test piece rest is holds = ap (λ p. takes_one One test (p ++ rest)) is.1 ∙ both_true (not (is.0 == 0x2F)) (test rest) (is_apart is.0 is.2) holds
+    ap (λ p. takes_one (Exactly wanted) test (p ++ rest)) is ∙ and_from (wanted == wanted) (test rest) (eq-eqb wanted wanted refl) holds
+one_from One test piece rest is holds = ap (λ p. takes_one One test (p ++ rest)) is.1 ∙ and_from (not (is.0 == 0x2F)) (test rest) (is_apart is.0 is.2) holds
 one_from Each test piece rest is holds = ap (λ p. takes_one Each test (p ++ rest)) is.1 ∙ holds
 one_from Run test piece rest is holds = run_from test piece rest is holds
 one_from Any test piece rest is holds = any_from test piece rest holds

@@ -12,7 +12,7 @@ abbrev weight : List ℕ → Option (List ℕ) → ℕ
 weight class None = 0
 weight class (Some other) = one_of other class
 
-weight_by : (left : Left) (class : Option (List ℕ)) (q : List ℕ) → counted_by left class q ≡ left q + weight q class
+pub weight_by : (left : Left) (class : Option (List ℕ)) (q : List ℕ) → counted_by left class q ≡ left q + weight q class
 unfolding more
 weight_by left None q = omega arith
 weight_by left (Some class) q = refl

@@ -28,9 +28,6 @@ total = then_total (back_total (on_total (λ (row : Ranked). row.count) nat_cmp_
 weak : IsStrictWeakOrder before
 weak = ranks_by total (λ (row : Ranked). row)
 
-clash : {A : Type 0} (b : Bool) → b ≡ true → b ≡ false → A
-clash b is isnt = absurd (true≢false (sym is ∙ isnt))
-
 abbrev as_number : Bool → ℕ
 as_number said = cond said 1 0
 
@@ -66,14 +63,14 @@ module _ (names : List (List ℕ)) where
       go false differ = refl
       go true alike =
           let same : z ≡ x = same_row z x left right ((bytes_eq-Decides z.name x.name).0 alike) in
-          clash (before z x) less (ap (λ w. before w x) same ∙ sym (ap (λ w. before x w) same) ∙ weak.one_way z x less)
+          absurd (true≢false (sym less ∙ (ap (λ w. before w x) same ∙ sym (ap (λ w. before x w) same) ∙ weak.one_way z x less)))
 
   still_less : (z x y : Ranked) → before z x ≡ true → before y x ≡ false → before z y ≡ true
   still_less z x y less up = go (before z y) refl
     where
       go : (said : Bool) → before z y ≡ said → said ≡ true
       go true is = refl
-      go false not_so = clash (before z x) less (weak.chain z y x not_so up)
+      go false not_so = absurd (true≢false (sym less ∙ weak.chain z y x not_so up))
 
   -- what is before the first of a list in order has no row there
   none_before : (z x : Ranked) (xs : List Ranked) → Counted z → All Counted (x ∷ xs) → IsSorted rank_order (x ∷ xs) → before z x ≡ true → count_by (is_named z.name) (x ∷ xs) ≡ 0

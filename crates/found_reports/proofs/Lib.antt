@@ -1,4 +1,5 @@
 pub mod KeptLemmas
 pub mod ListedLemmas
+pub mod StandLemmas
 pub mod FileLemmas
 pub mod OnceLemmas

@@ -12,6 +12,7 @@ use Rattle.found_reports.specs.Held.{lacks}
 use Rattle.found_reports.specs.Listed.{ArePlaces, first_in, held_by, held_in, listed, place_from}
 use Rattle.found_reports.specs.declared.sources.Lack.TheVariants.{Missing}
 use Rattle.found_reports.specs.declared.sources.Source.{Source}
+use Rattle.base_lemmas.proofs.Choices.{place_later, place_new}
 
 -- ---- looking up
 
@@ -68,16 +69,12 @@ places_before at entry rest old new key are updates same = λ name.
 -- ---- one entry more, behind the others
 
 -- what the place of a name is, whether the entry behind the others has the name or not
-place_step : (said here : Bool) (at last : ℕ) (later after : Option ℕ) → after ≡ option_or later (if here then Some last else None)
-    → (if said then Some at else after) ≡ option_or (if said then Some at else later) (if here then Some last else None)
-place_step true here at last later after is = refl
-place_step false here at last later after is = is
 
 place_behind : (at : ℕ) (entries : List Source) (entry : Source) (name : List ℕ)
     → place_from at (entries ++ entry ∷ []) name ≡ option_or (place_from at entries name) (if bytes_eq (string_bytes entry.name) name then Some (at + length entries) else None)
 place_behind at [] entry name = ap (λ n. if bytes_eq (string_bytes entry.name) name then Some n else None) (omega arith)
 place_behind at (other ∷ rest) entry name =
-    place_step (bytes_eq (string_bytes other.name) name) (bytes_eq (string_bytes entry.name) name) at (at + length (other ∷ rest)) (place_from (at + 1) rest name)
+    place_later (bytes_eq (string_bytes other.name) name) (bytes_eq (string_bytes entry.name) name) at (at + length (other ∷ rest)) (place_from (at + 1) rest name)
     (place_from (at + 1) (rest ++ entry ∷ []) name)
     (place_behind (at + 1) rest entry name
     ∙ ap (λ n. option_or (place_from (at + 1) rest name) (if bytes_eq (string_bytes entry.name) name then Some n else None)) (omega arith))
@@ -113,13 +110,6 @@ places_stay entries entry places are is = λ name.
     λ same. ap is_some (sym (are name) ∙ ap (get_by_text places) (sym ((bytes_eq-Decides (string_bytes entry.name) name).0 same))) ∙ is in
     are name ∙ behind_listed (place_from 0 entries name) (length entries) (bytes_eq (string_bytes entry.name) name) there ∙ sym (place_last entries entry name)
 
-behind_new : (here : Bool) (last : ℕ) (place : Option ℕ) → (here ≡ true → is_some place ≡ false)
-    → cond here (Some last) place ≡ option_or place (if here then Some last else None)
-behind_new true last None none = refl
-behind_new true last (Some at) none = absurd (false≢true (sym (none refl)))
-behind_new false last None none = refl
-behind_new false last (Some at) none = refl
-
 pub places_behind : (entries : List Source) (entry : Source) (old new : BTreeMap (String Global) ℕ) (key : String Global) → ArePlaces 0 entries old
     → is_some (get_by_text old (string_bytes entry.name)) ≡ false → Updates string_cmp old new key (Some (length entries)) → string_bytes key ≡ string_bytes entry.name
     → ArePlaces 0 (entries ++ entry ∷ []) new
@@ -129,5 +119,5 @@ places_behind entries entry old new key are none updates same = λ name.
     btree_map_updates_text (string_bytes key) old new (Some (length entries)) updates name
     ∙ ap (λ o. cond (bytes_eq (string_bytes key) name) (Some (length entries)) o) (are name)
     ∙ ap (λ t. cond (bytes_eq t name) (Some (length entries)) (place_from 0 entries name)) same
-    ∙ behind_new (bytes_eq (string_bytes entry.name) name) (length entries) (place_from 0 entries name) there
+    ∙ place_new (bytes_eq (string_bytes entry.name) name) (length entries) (place_from 0 entries name) there
     ∙ sym (place_last entries entry name)

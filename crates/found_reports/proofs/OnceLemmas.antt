@@ -67,7 +67,7 @@ at_more : (files more : List NamedHeld) (file : NamedHeld) (number : ℕ) → Is
 at_more files more file number is = record { within = omega (arith, length-append files more, is.within); is = get_or-append files more _ number is.within ∙ is.is }
 
 -- the number of a file that is added
-file_last : (files : List NamedHeld) (file : NamedHeld) → file_at (files ++ file ∷ []) (length files) ≡ file
+pub file_last : (files : List NamedHeld) (file : NamedHeld) → file_at (files ++ file ∷ []) (length files) ≡ file
 file_last [] file = refl
 file_last (x ∷ xs) file = file_last xs file
 

@@ -33,6 +33,8 @@ use Rattle.line_reports.proofs.NamesLemmas.{names_decide, never_aside}
 use Rattle.girzohal_lsp.specs.Blocks.{AreBlocks, BeginsAlone, BlockParts, behind, block_parts, picked_in, stands_alone, stands_by}
 use Rattle.girzohal_lsp.specs.declared.block.Block.{Block}
 use Rattle.girzohal_lsp.specs.Found.{pick}
+use Rattle.std.proofs.lemmas.Bool.{not-true}
+use Rattle.line_reports.proofs.TogetherLemmas.{reports_together}
 
 -- ---- two parts, of which the second begins with no note
 
@@ -70,11 +72,6 @@ joined_parts before [] us none = joined_start before us none
 joined_parts before (t ∷ ts) us none =
     ap (λ groups. ended before t ++ groups) (joined_parts (after before t) ts us none) ∙ sym (append_assoc (ended before t) (joined (after before t) ts) (joined None us))
 
-all_parts : (columns : Columns) (told : List ℕ → Held) (xs ys : List GroupParts) → all_reports columns told (xs ++ ys) ≡ all_reports columns told xs ++ all_reports columns told ys
-all_parts columns told [] ys = refl
-all_parts columns told (x ∷ xs) ys =
-    ap (λ reports. group_reports columns told x ++ reports) (all_parts columns told xs ys) ∙ sym (append_assoc (group_reports columns told x) (all_reports columns told xs) (all_reports columns told ys))
-
 reports_parts : (columns : Columns) (told : List ℕ → Held) (lines : List (List ℕ)) (xs ys : List ReadParts) → BeginsAlone ys
     → reports_in columns told lines (xs ++ ys) ≡ reports_in columns told lines xs ++ reports_in columns told (behind lines xs) ys
 unfolding reports_in
@@ -82,7 +79,7 @@ reports_parts columns told lines xs ys begins =
     let later = behind lines xs in
     ap (λ ts. all_reports columns told (joined None ts)) (tellings_parts lines xs ys)
     ∙ (ap (all_reports columns told) (joined_parts None (tellings lines xs) (tellings later ys) (no_note later ys begins))
-    ∙ all_parts columns told (joined None (tellings lines xs)) (joined None (tellings later ys)))
+    ∙ reports_together columns told (joined None (tellings lines xs)) (joined None (tellings later ys)))
 
 -- what is picked of the reports of all pieces is what is picked of those of each block
 pub blocks_picked : (path : List ℕ) (columns : Columns) (told : List ℕ → Held) (lines : List (List ℕ)) (reads : List ReadParts) (blocks : List BlockParts) → AreBlocks lines reads blocks

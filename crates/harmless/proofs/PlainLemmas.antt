@@ -2,7 +2,7 @@
 use Rattle.std.proofs.Common.{◌≡◌, ℕ, ◌<◌, ◌≤◌, Bool, true, false, not, ◌||◌, ◌&&◌, ◌==◌, List, [], ◌∷◌, map, All, refl, sym, ap, ap₂, ◌∙◌, subst, inl, inr, ◌⊎◌, arith}
 use Rattle.std.specs.List.{list_all, list_any}
 use Rattle.std.specs.Str.{IsAscii, IsUtf8, chars, encode_utf8_all}
-use Rattle.std.proofs.lemmas.Bool.{cases_lt, agree_below_at, and_parts, le-leb, lt-leb, ne_eqb}
+use Rattle.std.proofs.lemmas.Bool.{cases_lt, agree_below_at, and_parts, le-leb, lt-leb, ne_eqb, not-true}
 use Rattle.std.proofs.lemmas.Bool.Decides.{Decides-eqb}
 use Rattle.std.proofs.lemmas.List.Elements.{All-cons, All-nil}
 use Rattle.std.proofs.lemmas.Str.{chars-IsAscii, encodes-chars}
@@ -41,17 +41,13 @@ record Stays (kind : Kind) (b : ℕ) : Type 0 where
   no_return : (b == 0x0D) ≡ false
   no_escape : is_escape b ≡ false
 
-is_not : (b : Bool) → not b ≡ true → b ≡ false
-is_not true is = sym is
-is_not false is = refl
-
 byte_stays : (kind : Kind) (b : ℕ) → is_plain kind b ≡ true → Stays kind b
 byte_stays kind b is =
     let low = low_stays kind b (plain_ascii kind b is) in
     let so = rw is at low in
     let parts = and_parts (harmless_char kind b == b) (not (b == 0x0D) && not (is_escape b)) so in
     let none = and_parts (not (b == 0x0D)) (not (is_escape b)) parts.1 in
-    record { same = (Decides-eqb (harmless_char kind b) b).0 parts.0; no_return = is_not (b == 0x0D) none.0; no_escape = is_not (is_escape b) none.1 }
+    record { same = (Decides-eqb (harmless_char kind b) b).0 parts.0; no_return = not-true (b == 0x0D) none.0; no_escape = not-true (is_escape b) none.1 }
 
 -- ---- all bytes
 

@@ -187,13 +187,6 @@ abbrev second_of : List ℕ → Option (List ℕ × List ℕ) → List ℕ
 second_of other None = other
 second_of other (Some p) = p.1
 
-pub shorter : (byte : ℕ) (text front next : List ℕ) → Some (front, next) ≡ cut_at byte text → length next < length text
-unfolding cut_at
-shorter byte text front next is = go (cases_lt at (length text))
-  where
-    at : ℕ
-    at = position_or_len (λ b. b == byte) text
-
     go : (at < length text) ⊎ (length text ≤ at) → length next < length text
     go (inl low) =
         let back : next ≡ drop (at + 1) text = ap (second_of next) (is ∙ ap (cut_if at text) (lt-ltb at (length text) low)) in

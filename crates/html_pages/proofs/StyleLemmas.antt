@@ -2,7 +2,7 @@
 use Rattle.std.proofs.Common.{◌≡◌, ℕ, Bool, true, false, ◌==◌, not, if◌then◌else◌, List, [], ◌∷◌, ◌++◌, refl, ap, ◌∙◌, sym, append_assoc, append-nil}
 use Rattle.std.specs.Prelude.{codes}
 use Rattle.std.specs.List.{list_all}
-use Rattle.std.proofs.lemmas.Bool.{and_parts}
+use Rattle.std.proofs.lemmas.Bool.{and_parts, not-true}
 use Rattle.escapes.specs.Escape.{escaped, spell}
 use Rattle.oxc_handlers.specs.Colors.{IsPlain}
 use Rattle.oxc_handlers.specs.Theme.{escape, styled}
@@ -11,16 +11,12 @@ use Rattle.html_pages.specs.Escaped.{escaped_text, in_html}
 use Rattle.html_pages.specs.Laws.{HaveElements, of_class}
 use Rattle.html_pages.specs.Spans.{Inside, Outside, closing, opening, spans_from}
 
-not_true : (b : Bool) → not b ≡ true → b ≡ false
-not_true false is = refl
-not_true true is = cc
-
 run : (begun : Bool) (text rest : List ℕ) → IsPlain text → spans_from begun Outside (text ++ rest) ≡ escaped_text text ++ spans_from begun Outside rest
 unfolding spans_from escaped
 run begun [] rest plain = refl
 run begun (x ∷ xs) rest plain =
     let parts = and_parts (not (x == 0x1B)) (list_all (λ b. not (b == 0x1B)) xs) plain in
-    ap (λ b. if b then spans_from begun (Inside []) (xs ++ rest) else spell in_html x ++ spans_from begun Outside (xs ++ rest)) (not_true (x == 0x1B) parts.0)
+    ap (λ b. if b then spans_from begun (Inside []) (xs ++ rest) else spell in_html x ++ spans_from begun Outside (xs ++ rest)) (not-true (x == 0x1B) parts.0)
     ∙ ap (λ l. spell in_html x ++ l) (run begun xs rest parts.1) ∙ sym (append_assoc (spell in_html x) (escaped_text xs) (spans_from begun Outside rest))
 
 -- behind the tag that begins an element

@@ -34,7 +34,7 @@ fn marked(alloc: Global, drawing: &str) -> Result<String, AllocError>
 }
 
 /// Appends a drawing.
-#[tactic(auto, using(crate::proofs::SpanLemmas::shorter))]
+#[tactic(auto, using(ci_formats::proofs::PercentLemmas::cut_shorter))]
 pub(crate) fn push_drawing(out: &mut String, drawing: &str) -> Result<(), AllocError>
     ensures { OnOk result (string_bytes out.new ≡ string_bytes out.old ++ spans_text drawing.now) }
 {

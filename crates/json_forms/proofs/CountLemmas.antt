@@ -14,6 +14,7 @@ use Rattle.json_forms.specs.Guard.{all_hold, any_holds}
 use Rattle.json_forms.specs.Finding.{Outcome, left, aside, null_at, found, refused, told, read, element, arrived, outcome_of, fault_of, message_at, finding_of, finding_view}
 use Rattle.json_forms.specs.Read.{aside_in, aside_view, elements_in, elements_of, fails, fails_at, first_refusal, found_in, left_in, left_of, nothing_read, outcomes_in, outcomes_of, reading_view, refusal_in, taken}
 use Rattle.json_forms.proofs.ReadLemmas.{refusal_append}
+use Rattle.base_lemmas.proofs.Choices.{neither}
 
 -- whether an outcome is a finding or is reported
 abbrev counted : Outcome → ℕ
@@ -57,10 +58,6 @@ filter_counted : (test : Reached → Bool) (reached : Reached) (rest : List Reac
 filter_counted test reached rest =
     elim (test reached) as (λ b. length (if b then reached ∷ filter test rest else filter test rest) ≡ (if b then 1 else 0) + length (filter test rest)) [ true ↦ omega arith | false ↦ omega arith ]
 
-none_of : {X : Type 0} (a b : Option X) → option_or a b ≡ None → (a ≡ None) × (b ≡ None)
-none_of None b h = (refl, h)
-none_of (Some x) b h = cc
-
 summed : (a b c d e f n : ℕ) (w : ℕ) → a ≡ c + d → b ≡ w + e → c + w ≡ 1 → d + e ≡ n → a + b ≡ 1 + n
 summed a b c d e f n w h1 h2 h3 h4 = omega arith
 
@@ -68,7 +65,7 @@ in_list : (list : code_list.List) (all : List Reached) → first_refusal (map (o
     → length (filter_map found_in (map (outcome_of list) all)) + length (filter_map aside_in (map (outcome_of list) all)) + length (filter (fails list) all) ≡ length all
 in_list list [] h = refl
 in_list list (reached ∷ rest) h =
-    let parts = none_of (refusal_in (outcome_of list reached)) (first_refusal (map (outcome_of list) rest)) h in
+    let parts = neither (refusal_in (outcome_of list reached)) (first_refusal (map (outcome_of list) rest)) h in
     let counts = cons_counted (outcome_of list reached) (map (outcome_of list) rest) in
     let fails_here = filter_counted (fails list) reached rest in
     let one = outcome_counted list reached parts.0 in
@@ -76,7 +73,7 @@ in_list list (reached ∷ rest) h =
     omega (arith, counts, fails_here, one, more)
 
 none_both : (a b : List Outcome) → first_refusal (a ++ b) ≡ None → (first_refusal a ≡ None) × (first_refusal b ≡ None)
-none_both a b h = none_of (first_refusal a) (first_refusal b) (sym (refusal_append a b) ∙ h)
+none_both a b h = neither (first_refusal a) (first_refusal b) (sym (refusal_append a b) ∙ h)
 
 in_lists : (lists : List code_list.List) (value : Json) → first_refusal (outcomes_of lists value) ≡ None
     → length (filter_map found_in (outcomes_of lists value)) + length (filter_map aside_in (outcomes_of lists value)) + length (left_of lists value) ≡ length (elements_of lists value)

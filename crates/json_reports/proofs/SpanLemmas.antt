@@ -37,10 +37,6 @@ label_more (holds bytes) (x ∷ xs) text primary range stand stands =
     All-cons (StandsIn bytes) x (xs ++ label_of text primary range ∷ []) (All-head (StandsIn bytes) x xs stand) (label_more (holds bytes) xs text primary range (All-tail (StandsIn bytes) x xs stand) stands)
 label_more (lacks why) labels text primary range stand stands = absurd stands
 
-pub no_labels : (held : Held) → LabelsStand held []
-no_labels (holds bytes) = All-nil (StandsIn bytes)
-no_labels (lacks why) = refl
-
 pub ruleset label_rules = (label_more, label_fits)
 
 pub labels_stand : (held : Held) (d : OxcParts) (it : Finding) (labels : List Label) → d ≡ diagnostic_of it labels → LabelsStand held labels → LabelsStand held d.labels

@@ -250,7 +250,7 @@ impl<'s> Gathered<'s> {
     }
 
     /// The labels of a finding that has this span in this file.
-    #[tactic(auto, using(crate::proofs::SpanLemmas::no_labels))]
+    #[tactic(auto, using(found_reports::proofs::StandLemmas::none_stand))]
     fn labels(
         &self,
         alloc: Global,

@@ -5,6 +5,7 @@ use Rattle.std.proofs.Math.Seq.{drop-nil}
 use Rattle.std.specs.Option.{option_copied}
 use Rattle.excerpts.specs.declared.body.Excerpt.{Excerpt}
 use Rattle.line_reports.specs.Pieces.{AreRead, IsPieceRead, ReadParts, excerpt_parts}
+use Rattle.excerpts.proofs.BodyLemmas.{drop_on}
 
 -- an excerpt that is lent
 pub lent_excerpt : (lent : Option (Bor Excerpt)) → option_map (λ it. excerpt_parts it.now) lent ≡ option_map excerpt_parts (option_copied lent)
@@ -34,11 +35,6 @@ read_ends lines left read so = subst (AreRead lines) (append-nil read) (so.compl
 abbrev pub lines_in : List ReadParts → ℕ
 lines_in [] = 0
 lines_in (read ∷ rest) = read.piece.lines + lines_in rest
-
-pub drop_on : {A : Type 0} (m n : ℕ) (xs : List A) → drop (m + n) xs ≡ drop n (drop m xs)
-drop_on zero n xs = rw (zero-add n) refl
-drop_on (suc m) n [] = drop-nil (suc m + n) ∙ sym (drop-nil n)
-drop_on (suc m) n (x ∷ xs) = rw (suc-add m n) (drop_on m n xs)
 
 -- pieces that are read one after another
 pub are_read_append : (lines : List (List ℕ)) (front rest : List ReadParts) → AreRead lines front → AreRead (drop (lines_in front) lines) rest → AreRead lines (front ++ rest)

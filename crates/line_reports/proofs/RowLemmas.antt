@@ -11,7 +11,6 @@ use Rattle.oxc_windows.specs.Breaks.{break_at, breaks_before, breaks_of}
 use Rattle.oxc_windows.proofs.ByteRowsLemmas.{number_cases}
 use Rattle.oxc_windows.proofs.RowsLemmas.{no_break, row_start_after}
 use Rattle.source_location.specs.Locations.{begins_with_mark, counted_from}
-use Rattle.source_location.proofs.BreaksLemmas.{within_nonzero}
 use Rattle.source_location.proofs.LocationsLemmas.{counted_from_boundary, counted_from_first, counted_from_later, counted_from_mark}
 use Rattle.sarif_spans.specs.Rows.{IsRowOf, break_len, mark, mark_len, row_at, rows_from, rows_in}
 use Rattle.sarif_spans.specs.declared.rows.Row.{Row}
@@ -22,6 +21,7 @@ use Rattle.oxc_windows.proofs.BreaksLemmas.{breaks_found, breaks_valid}
 use Rattle.source_location.specs.Index.{IndexView, index_of}
 use Rattle.line_reports.specs.Rows.{break_start, past_end, row_end}
 use Rattle.line_reports.specs.Span.{breaks}
+use Rattle.oxc_windows.specs.Valid.{within_nonzero}
 
 -- rows that end where breaks start
 abbrev rows_by : ℕ → List LineBreak → ℕ → List Row

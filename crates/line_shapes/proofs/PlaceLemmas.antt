@@ -8,7 +8,7 @@ use Rattle.std.proofs.lemmas.Grind.{common_steps}
 use Rattle.memchr.specs.Find.{IsFirstByte, is_byte3}
 use Rattle.line_shapes.specs.declared.part.Part.{Part}
 use Rattle.line_shapes.specs.declared.part.Part.TheVariants.{Byte, Decimal, Blanks}
-use Rattle.std.proofs.lemmas.Bool.{and_from, and_parts, and_right, or_parts}
+use Rattle.std.proofs.lemmas.Bool.{and_from, and_parts, and_right, or_parts, eq-eqb, ltb-true}
 use Rattle.std.proofs.lemmas.Bool.Decides.{nat_tests}
 use Rattle.base_lemmas.proofs.Choices.{if_same, option_or-none}
 pub use Rattle.base_lemmas.proofs.Lists.{slice_range-rest as rest_is}
@@ -213,7 +213,7 @@ no_test true false c x so = refl
 no_test false b c x so = refl
 
 -- a text that doesn't begin with an angle has no name in angles
-no_angle : (text : List ℕ) → is_angle text ≡ false → angle_len text ≡ 0
+pub no_angle : (text : List ℕ) → is_angle text ≡ false → angle_len text ≡ 0
 no_angle [] other = refl
 no_angle (x ∷ xs) other = ap (λ v. if v then angle_behind (prefix_len (is_in Angled) xs) xs else 0) other
 
@@ -221,7 +221,7 @@ or_left : (a b : Bool) → a ≡ false → (a || b) ≡ b
 or_left false b so = refl
 or_left true b so = cc
 
-no_length : (end : ℕ) → (nat_le 1 end && (0 == end)) ≡ false
+pub no_length : (end : ℕ) → (nat_le 1 end && (0 == end)) ≡ false
 no_length zero = refl
 no_length (suc n) = and_right (nat_le 1 (suc n)) (0 == suc n) (grind (arith, nat_tests))
 
@@ -317,21 +317,15 @@ other_end n k whole out low high =
 different : (n k : ℕ) → n < k ⊎ k < n → (n == k) ≡ false
 different n k apart = grind (arith, nat_tests)
 
-same_number : (n : ℕ) → (n == n) ≡ true
-same_number n = grind (arith, nat_tests)
-
 le_of : (n : ℕ) → nat_le 1 n ≡ true → 1 ≤ n
 le_of n so = grind (arith, nat_tests)
-
-lt_of : (n whole : ℕ) → nat_lt n whole ≡ true → n < whole
-lt_of n whole so = grind (arith, nat_tests)
 
 one_angle : (kind : NameKind) (s : Seen) (n : ℕ) → is_angle s.rest ≡ true → n ≡ angle_len s.rest → 1 ≤ n → n < length s.rest
     → first_some (placed_at kind s) (range_with_len 1 (length s.rest - 1)) ≡ option_map (named s n) (fits_behind s n)
 one_angle kind s n is same low high =
     up_to (placed_at kind s) 1 n (length s.rest) low high (λ k above below. no_angle_at kind s k is above (subst (λ m. (m == k) ≡ false) same (different n k (inr below))))
     ∙ (ap (option_or (placed_at kind s n)) (all_past (placed_at kind s) (n + 1) (length s.rest) (λ k above below. no_angle_at kind s k is (omega arith) (subst (λ m. (m == k) ≡ false) same (different n k (inl (omega arith))))))
-    ∙ (option_or-none (placed_at kind s n) ∙ angle_here kind s n is low (subst (λ m. (m == n) ≡ true) same (same_number n))))
+    ∙ (option_or-none (placed_at kind s n) ∙ angle_here kind s n is low (subst (λ m. (m == n) ≡ true) same (eq-eqb n n refl))))
 
 pub angled_lead : (kind : NameKind) (s : Seen) → is_angle s.rest ≡ true → in_lead kind s ≡ in_angles s
 unfolding in_lead in_angles
@@ -341,6 +335,6 @@ angled_lead kind s is =
     → first_some (placed_at kind s) (range_with_len 1 (length s.rest - 1)) ≡ (if v then option_map (named s (angle_len s.rest)) (fits_behind s (angle_len s.rest)) else None)) [
       | true ↦ (λ so.
           let parts : (nat_le 1 (angle_len s.rest) ≡ true) × (nat_lt (angle_len s.rest) (length s.rest) ≡ true) = and_parts (nat_le 1 (angle_len s.rest)) (nat_lt (angle_len s.rest) (length s.rest)) so in
-          one_angle kind s (angle_len s.rest) is refl (le_of (angle_len s.rest) parts.0) (lt_of (angle_len s.rest) (length s.rest) parts.1))
+          one_angle kind s (angle_len s.rest) is refl (le_of (angle_len s.rest) parts.0) (ltb-true (angle_len s.rest) (length s.rest) parts.1))
       | false ↦ (λ out. all_past (placed_at kind s) 1 (length s.rest) (λ k low high. no_angle_at kind s k is low (other_end (angle_len s.rest) k (length s.rest) out low high)))
     ] refl

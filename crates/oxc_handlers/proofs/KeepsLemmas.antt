@@ -7,10 +7,9 @@ use Rattle.oxc_handlers.specs.Keeping.{KeepsAtError, KeepsPart, KeepsUntil}
 use Rattle.oxc_handlers.specs.declared.view.RenderError.{RenderError}
 use Rattle.oxc_handlers.specs.declared.view.RenderError.TheVariants.{LabelOutside, NotUtf8, SinkFault, OutOfMemory}
 use Rattle.oxc_handlers.specs.Reports.{text_of}
+use Rattle.base_lemmas.proofs.Lists.{drop_here}
 
 -- the item at a place and those behind it
-front : {B : Type 0} (xs : List B) (i : ℕ) (x : B) → i < length xs → x ≡ get_or xs i x → drop i xs ≡ x ∷ drop (i + 1) xs
-front {B} xs i x lt is = rw (add-one, drop-cons xs i x) (ap (λ (y : B). y ∷ drop (suc i) xs) (sym is))
 
 pub if_err : {T E : Type 0} (P : E → Type 0) → ((error : E) → P error) → (r : Result T E) → IfErr r P
 if_err P p (Ok value) = tt
@@ -33,11 +32,11 @@ module _ {K B : Type 0} (R : K → Parts → List ℕ → Bool → K → Type 0)
   -- a text was kept, and the run goes on
   pub goes_on : (xs : List B) (i n : ℕ) (x : B) (k h last : K) → i < length xs → x ≡ get_or xs i x → R k (f x) (text_of handler (f x)) true h → KeepsUntil R handler h (map f (drop (i + 1) xs)) n last
       → KeepsUntil R handler k (map f (drop i xs)) (1 + n) last
-  goes_on xs i n x k h last lt is r run = let P : List B → Type 0 = λ ys. KeepsUntil R handler k (map f ys) (1 + n) last in subst P (sym (front xs i x lt is)) (true, h, n, r, omega arith, run)
+  goes_on xs i n x k h last lt is r run = let P : List B → Type 0 = λ ys. KeepsUntil R handler k (map f ys) (1 + n) last in subst P (sym (drop_here xs i x lt is)) (true, h, n, r, omega arith, run)
 
   -- one was not, and the run ends
   pub stops_here : (xs : List B) (i : ℕ) (x : B) (k h : K) → i < length xs → x ≡ get_or xs i x → R k (f x) (text_of handler (f x)) false h → KeepsUntil R handler k (map f (drop i xs)) 1 h
-  stops_here xs i x k h lt is r = let P : List B → Type 0 = λ ys. KeepsUntil R handler k (map f ys) 1 h in subst P (sym (front xs i x lt is)) (false, h, 0, r, refl, (refl, refl))
+  stops_here xs i x k h lt is r = let P : List B → Type 0 = λ ys. KeepsUntil R handler k (map f ys) 1 h in subst P (sym (drop_here xs i x lt is)) (false, h, 0, r, refl, (refl, refl))
 
   -- none is left
   pub ends_here : (xs : List B) (i : ℕ) (k : K) → length xs ≤ i → KeepsUntil R handler k (map f (drop i xs)) 0 k
@@ -49,4 +48,4 @@ module _ {K B : Type 0} (R : K → Parts → List ℕ → Bool → K → Type 0)
   -- a text was kept, and a first part goes on
   pub part_on : (xs : List B) (i : ℕ) (x : B) (k h last : K) → i < length xs → x ≡ get_or xs i x → R k (f x) (text_of handler (f x)) true h → KeepsPart R handler h (map f (drop (i + 1) xs)) last
       → KeepsPart R handler k (map f (drop i xs)) last
-  part_on xs i x k h last lt is r run = let P : List B → Type 0 = λ ys. KeepsPart R handler k (map f ys) last in subst P (sym (front xs i x lt is)) (inr (h, r, run))
+  part_on xs i x k h last lt is r run = let P : List B → Type 0 = λ ys. KeepsPart R handler k (map f ys) last in subst P (sym (drop_here xs i x lt is)) (inr (h, r, run))

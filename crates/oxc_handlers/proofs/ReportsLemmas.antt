@@ -61,9 +61,6 @@ refused_at list place parts SinkFault there before is = is
 refused_at list place parts OutOfMemory there before is = is
 
 -- two lists of views that are alike at each place
-pub alike_at : {A B C : Type 0} (f : A → C) (h : B → C) (xs : List A) (ys : List B) (i : ℕ) (x : A) (y : B) → map f xs ≡ map h ys → i < length xs → i < length ys → x ≡ get_or xs i x → y ≡ get_or ys i y → f x ≡ h y
-alike_at f h xs ys i x y same in_xs in_ys is_x is_y =
-    ap f is_x ∙ sym (get_or_map f xs i x (f x) in_xs) ∙ ap (λ l. get_or l i (f x)) same ∙ get_or_map h ys i y (f x) in_ys ∙ ap h (sym is_y)
 
 -- one item more
 codes_step : {A B C : Type 0} (f : A → C) (h : B → C) (xs : List A) (ys : List B) (i : ℕ) (x : A) (y : B) → f x ≡ h y → i < length ys → y ≡ get_or ys i y

@@ -95,7 +95,7 @@ breaks_apart bytes (suc n) =
     subst (λ m. AllPairs Apart (breaks_before bytes m)) one_more (breaks_apart_more bytes n (break_at bytes n) refl (breaks_apart bytes n))
 
 -- a byte that is not 0 stands within the text
-within_nonzero : (xs : List ℕ) (i : ℕ) → 0 < get_or xs i 0 → i < length xs
+pub within_nonzero : (xs : List ℕ) (i : ℕ) → 0 < get_or xs i 0 → i < length xs
 within_nonzero xs i h = ⊎_elim (λ lt. lt) (λ ge. absurd (omega (arith, get_or_past xs i 0 ge))) (cases_lt i (length xs))
 
 -- the last byte of a break is within the text

@@ -21,6 +21,7 @@ use Rattle.report_reader.proofs.BytesLemmas.{both, both_first, both_last}
 use Rattle.report_reader.proofs.ColumnsLemmas.{column_le}
 use Rattle.report_reader.proofs.PlacedLaw.{AreMarksRead, marks_read}
 use Rattle.report_reader.proofs.RowWords.{IsReadableRow, AreReadableRows, AreSized, AreRowsFrom}
+use Rattle.std.proofs.lemmas.Bool.{eqb-true}
 
 -- labels by their places
 
@@ -42,12 +43,9 @@ like_itself l =
     let end : (l.span.end == l.span.end) ≡ true = grind (arith, nat_tests) in
     both _ _ text (both _ _ start end)
 
-equal_numbers : (a b : ℕ) → (a == b) ≡ true → a ≡ b
-equal_numbers a b is = grind (arith, nat_tests)
-
 like_start : (a b : Ordered) → is_like a b ≡ true → a.span.start ≡ b.span.start
 like_start a b is =
-    equal_numbers a.span.start b.span.start (both_first (a.span.start == b.span.start) (a.span.end == b.span.end) (both_last (text_eq a.text b.text) ((a.span.start == b.span.start) && (a.span.end == b.span.end)) is))
+    eqb-true a.span.start b.span.start (both_first (a.span.start == b.span.start) (a.span.end == b.span.end) (both_last (text_eq a.text b.text) ((a.span.start == b.span.start) && (a.span.end == b.span.end)) is))
 
 -- the cells of a label
 

@@ -36,6 +36,7 @@ use Rattle.std.proofs.lemmas.List.{append-nil, length-map, map-append, map_push,
 use Rattle.found_reports.specs.Kept.{file_view, report_view}
 use Rattle.found_reports.specs.declared.reports.FoundFile.{FoundFile}
 use Rattle.found_reports.specs.declared.reports.FoundReport.{FoundReport}
+use Rattle.render_files.proofs.ShownLemmas.{plan_without_url}
 
 pub text_there : (raw : Bool) (entries : List Source) (place : ℕ) (text : List ℕ) → Some text ≡ slice_get (map (shown_by raw) entries) place
     → text ≡ text_of (map (text_by raw) entries) place
@@ -56,10 +57,6 @@ held_shown raw entries held place text at is =
     ∙ ap (λ o. option_map (λ held. shown_source raw (held_text held)) o) at.held_is)
 
 -- ---- what a view shows
-
-plan_without_url : (tab : ℕ) (parts : Parts) → plan_of tab (record parts { url = None }) ≡ plan_of tab parts
-unfolding plan_of title_of severity_in name_in snippets_in
-plan_without_url tab parts = refl
 
 view_is : (raw : Bool) (it : Found) (shown : OxcParts) (name text : List ℕ) → shown ≡ shown_diagnostic raw it → name ≡ shown_text raw Name it.name
     → text ≡ shown_source raw (held_text it.held) → parts_with shown (Some (record { bytes = text; name = Some name })) ≡ shown_view raw it

@@ -19,6 +19,7 @@ use Rattle.sarif.specs.Seen.{borrowed}
 use Rattle.sarif.specs.declared.findings.Spot as code_spot
 use Rattle.sarif.specs.declared.known.Known.{Known}
 use Rattle.sarif.specs.declared.known.Placed as code
+use Rattle.found_reports.proofs.OnceLemmas.{file_last}
 
 -- what holds of all holds of one of them
 pub of_one : {X : Type 0} (P : X → Type 0) (xs : List X) (x : X) → All P xs → Contains xs x → P x
@@ -105,9 +106,6 @@ seated_told told reading (x ∷ xs) zero place all at =
 seated_told told reading (x ∷ xs) (suc k) place all at = seated_told told reading xs k place (All-tail (IsTold told reading) x xs all) at
 
 -- the number of a file that is added
-pub file_last : (files : List NamedHeld) (file : NamedHeld) → file_at (files ++ file ∷ []) (length files) ≡ file
-file_last [] file = refl
-file_last (x ∷ xs) file = file_last xs file
 
 -- a file with its rows, at the number behind those before
 pub filed_last : (reading : Reading) (files : List NamedHeld) (it : Known) → it.rows.items ≡ rows_in reading.breaks (held_text (held_of it.text)) → All (IsRowOf (held_text (held_of it.text))) it.rows.items → IsShortHeld (held_of it.text) → it.file ≡ length files

@@ -11,6 +11,7 @@ use Rattle.found_reports.specs.Kept.{IsShortHeld}
 use Rattle.sarif_spans.specs.Span.{IsSpanOf}
 use Rattle.sarif.specs.Labels.{and_label, label_at, tells_nothing}
 use Rattle.sarif.specs.Views.{HoldsText}
+use Rattle.found_reports.proofs.StandLemmas.{none_stand}
 
 -- a span's end is where its label ends
 end_of : (primary : Bool) (message : Option (List ℕ)) (span : Range ℕ) → span.start ≤ span.end → span.end ≡ label_end (label_at primary message span)
@@ -44,9 +45,6 @@ pub labels_stand : (files : List NamedHeld) (number : ℕ) (file : NamedHeld) (l
 labels_stand files number file labels same there all = rw same (in_held file.held labels there all)
 
 -- no labels stand everywhere
-pub none_stand : (held : Held) → LabelsStand held []
-none_stand (holds text) = All-nil (StandsIn text)
-none_stand (lacks why) = refl
 
 pub ruleset label_rules = (label_stands, span_small, labels_stand, one_stands, none_stand)
 

@@ -11,8 +11,10 @@ use Rattle.sarif.specs.Reading.{Reading}
 use Rattle.sarif.specs.Views.{placed_view, seated}
 use Rattle.sarif.specs.declared.known.Known.{Known}
 use Rattle.sarif.specs.declared.known.Placed as code
-use Rattle.sarif.proofs.KnownLemmas.{file_last, filed_more, filed_one}
-use Rattle.sarif.proofs.LabelLemmas.{label_stands, labels_stand, none_stand, one_stands, span_small}
+use Rattle.sarif.proofs.KnownLemmas.{filed_more, filed_one}
+use Rattle.sarif.proofs.LabelLemmas.{label_stands, labels_stand, one_stands, span_small}
+use Rattle.found_reports.proofs.OnceLemmas.{file_last}
+use Rattle.found_reports.proofs.StandLemmas.{none_stand}
 
 -- the first of so many of a list, and the others
 pub first_of_those : {A : Type 0} (xs : List A) (d : A) (at count : ℕ) → at < count → count ≤ length xs → take (count - at) (drop at xs) ≡ get_or xs at d ∷ take (count - (at + 1)) (drop (at + 1) xs)

@@ -17,6 +17,7 @@ use Rattle.oxc_span.specs.Label.{Label}
 use Rattle.found_reports.specs.Fixes.{ChangeParts}
 use Rattle.found_reports.specs.declared.places.GivenPlace.{GivenPlace}
 use Rattle.sarif_writing.specs.Written.{file_value, map_beside, map_between, placed_value, primary_place, run_of, run_with, some_array, tool_value}
+use Rattle.base_lemmas.proofs.Lists.{value_at}
 
 pub some_values : (its : List Value) → length its ≢ 0 → Some (array (items_of (map view its))) ≡ some_array (map view its)
 some_values [] some = absurd (some refl)
@@ -31,11 +32,6 @@ map_remove f [] zero = refl
 map_remove f [] (suc at) = refl
 map_remove f (x ∷ xs) zero = refl
 map_remove f (x ∷ xs) (suc at) = ap (λ rest. f x ∷ rest) (map_remove f xs at)
-
-pub got : {A B : Type 0} (f : A → B) (xs : List A) (at : ℕ) (x : A) → at < length xs → x ≡ get_or xs at x → Some (f x) ≡ slice_get (map f xs) at
-got f [] at x within is = absurd (omega arith)
-got f (y ∷ xs) zero x within is = ap (λ it. Some (f it)) is
-got f (y ∷ xs) (suc at) x within is = got f xs at x (omega arith) is
 
 pub not_got : {A B : Type 0} (f : A → B) (xs : List A) (at : ℕ) → length xs ≤ at → None ≡ slice_get (map f xs) at
 not_got f [] at past = refl
@@ -107,6 +103,6 @@ run_is tool files unread its places fixes artifacts results rules driver run is 
 pub array_is : (values : Vec Value Global) (ds : List Data) → map view values.items ≡ ds → view (Array values) ≡ array (items_of ds)
 array_is values ds are = view-Array values ∙ ap (λ l. array (items_of l)) are
 
-pub ruleset one_taken = (map_remove, got, not_got, all_left)
+pub ruleset one_taken = (map_remove, value_at, not_got, all_left)
 
 pub ruleset head_found = (head_here, head_on, head_none)

@@ -15,13 +15,14 @@ use Rattle.render_files.specs.declared.places.FileReport.{FileReport}
 use Rattle.render_files.specs.Given.{GivenLabel, GivenReport, given_report}
 use Rattle.render_files.specs.Refusal.{boundary_at, start_in, end_in, first_at, outside, reversed, start_offset, end_offset, refusal_in, refusal_of}
 use Rattle.render_files.specs.Shown.{placed, placed_labels}
-use Rattle.render_files.proofs.ByBytes.{start_is, end_is, both, neither, known}
+use Rattle.render_files.proofs.ByBytes.{start_is, end_is, both, known}
 use Rattle.render_files.proofs.Standing.{in_order, there}
 use Rattle.render_files.proofs.ListedLemmas.{same_at}
 use Rattle.std.specs.Prelude.{Vec}
 use Rattle.std.specs.declared.alloc.Global.{Global}
 use Rattle.source_location.specs.Index.{IndexView, index_of}
 use Rattle.sarif_writing.specs.Written.{Stands, StandsInFile, index_in}
+use Rattle.base_lemmas.proofs.Choices.{neither}
 
 -- a number that has itself as offset is a boundary
 boundary_of : (text : List ℕ) (o : ℕ) → boundary_at text o ≡ Some o → IsCharBoundary text o

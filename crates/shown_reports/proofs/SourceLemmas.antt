@@ -12,20 +12,12 @@ use Rattle.found_reports.specs.declared.reports.FoundFile.{FoundFile}
 use Rattle.found_reports.specs.declared.sources.Source.{Source}
 use Rattle.shown_reports.specs.Shown.{shown_source}
 use Rattle.shown_reports.specs.Standing.{KeepsHeld}
-
--- two lists that are the same by two views, at one place
-pub at_both : {A B C : Type 0} (f : A → C) (g : B → C) (xs : List A) (ys : List B) (k : ℕ) (x : A) (y : B) → map f xs ≡ map g ys → k < length xs → k < length ys
-    → x ≡ get_or xs k x → y ≡ get_or ys k y → f x ≡ g y
-at_both f g xs ys k x y same low few is are =
-    ap f is ∙ sym (get_or-map f xs k x (f x) low) ∙ ap (λ zs. get_or zs k (f x)) same ∙ get_or-map g ys k y (f x) few ∙ ap g (sym are)
-
-pub slice_at : {A B : Type 0} (f : A → B) (xs : List A) (k : ℕ) (x : A) → k < length xs → x ≡ get_or xs k x → Some (f x) ≡ slice_get (map f xs) k
-slice_at f xs k x low is = sym (slice_get-map f xs k ∙ ap (option_map f) (slice_get_read xs (length xs) k x refl low is))
+use Rattle.base_lemmas.proofs.Lists.{value_at}
 
 -- what is held of the entry at a place
 pub held_at : (entries : List Source) (held : Held) (place : ℕ) (entry : Source) → place < length entries → slice_get (map held_by entries) place ≡ Some held
     → entry ≡ get_or entries place entry → held_by entry ≡ held
-held_at entries held place entry within there is = same_Some (held_by entry) held (slice_at held_by entries place entry within is ∙ there)
+held_at entries held place entry within there is = same_Some (held_by entry) held (value_at held_by entries place entry within is ∙ there)
 
 -- what is shown is as long as the text
 pub shown_fits : (raw : Bool) (held : Held) (text shown : List ℕ) → text ≡ held_text held → Fits text → KeepsHeld raw held → shown ≡ shown_source raw (held_text held) → Fits shown

@@ -6,5 +6,3 @@ pub use Rattle.oxc_windows.specs.Breaks.{breaks_before}
 pub use Rattle.oxc_windows.proofs.BreaksLemmas.{StartsBefore, break_ends_ascii, breaks_before_found, breaks_before_more, breaks_before_none, breaks_before_start, breaks_found, breaks_start, breaks_valid, few_breaks, rising_ends}
 
 -- a byte that is not 0 stands within the text
-pub within_nonzero : (xs : List ℕ) (i : ℕ) → 0 < get_or xs i 0 → i < length xs
-within_nonzero xs i h = ⊎_elim (λ lt. lt) (λ ge. absurd (omega (arith, get_or_past xs i 0 ge))) (cases_lt i (length xs))

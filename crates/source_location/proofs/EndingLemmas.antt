@@ -15,9 +15,9 @@ use Rattle.source_location.specs.Lines.{lines_of, ending_length, IsLastLine}
 use Rattle.source_location.proofs.CutLemmas.{HasNone, PartsNone, breaks_of-none, breaks_of-first, breaks_of-append, breaks_of-ending, length-ending}
 use Rattle.source_location.proofs.NewlinesLemmas.{test_lf, test_which, passed_over}
 use Rattle.source_location.proofs.LinesLemmas.{EndsWhole, IsOneLine, row_start_seam, lines_of-last}
-use Rattle.source_location.proofs.BreaksLemmas.{within_nonzero}
 use Rattle.oxc_windows.specs.Breaks.{breaks_before, breaks_of}
 use Rattle.oxc_windows.specs.Rows.{row_start}
+use Rattle.oxc_windows.specs.Valid.{within_nonzero}
 
 -- how long the ending is, by the last two bytes
 length_crlf : (text : List ℕ) → get_or text (length text - 1) 0 ≡ 10 → get_or text (length text - 2) 0 ≡ 13 → ending_length text ≡ 2

@@ -15,11 +15,12 @@ use Rattle.source_location.specs.Rows.{line_starts}
 use Rattle.source_location.specs.Characters.{is_char_start}
 use Rattle.source_location.specs.Index.{IndexView, IsIndex, index_of, is_ascii}
 use Rattle.source_location.proofs.Counting.{count_by_cut}
-use Rattle.source_location.proofs.BreaksLemmas.{breaks_valid, few_breaks, within_nonzero}
+use Rattle.source_location.proofs.BreaksLemmas.{breaks_valid, few_breaks}
 use Rattle.oxc_windows.proofs.StartsLemmas.{count_ends}
 use Rattle.bytecount.specs.Counts.{begins_char, char_count}
 use Rattle.source_location.proofs.CharactersLemmas.{begins_alike}
 use Rattle.oxc_windows.specs.Rows.{row_of, row_start}
+use Rattle.oxc_windows.specs.Valid.{within_nonzero}
 
 zero_le : (o : ℕ) → leb 0 o ≡ true
 zero_le o = grind (arith, nat_tests)

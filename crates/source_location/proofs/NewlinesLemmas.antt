@@ -12,9 +12,9 @@ use Rattle.source_location.specs.declared.newlines.LineEnding.TheVariants.{Lf, C
 use Rattle.source_location.specs.Breaks.{LineBreak, breaks_of}
 use Rattle.source_location.specs.Index.{is_ascii}
 use Rattle.source_location.specs.Newlines.{ending_bytes, ending_with, IsFirstBreak}
-use Rattle.source_location.proofs.BreaksLemmas.{within_nonzero}
 use Rattle.source_location.proofs.IndexLemmas.{is_ascii-append, starts_behind}
 use Rattle.source_location.proofs.CutLemmas.{HasNone, PartsNone, length-ending, breaks_of-none, breaks_of-first}
+use Rattle.oxc_windows.specs.Valid.{within_nonzero}
 
 -- no break before it and no CRLF parted: the line ending is the first break
 pub first_break_is : (text front rest : List ℕ) (ending : LineEnding) (at : ℕ) → text ≡ front ++ (ending_bytes ending ++ rest) → length front ≡ at → HasNone front

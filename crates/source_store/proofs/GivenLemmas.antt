@@ -92,7 +92,7 @@ still_listed (source ∷ rest) more name is = or_later (bytes_eq (source_name so
     or_later true b c is later = refl
     or_later false b c is later = later is
 
-all_still : (sources more : List Source) (names : List (List ℕ)) → All (λ name. listed sources name ≡ true) names
+pub all_still : (sources more : List Source) (names : List (List ℕ)) → All (λ name. listed sources name ≡ true) names
     → All (λ name. listed (sources ++ more) name ≡ true) names
 all_still sources more [] all = All-nil (λ name. listed (sources ++ more) name ≡ true)
 all_still sources more (name ∷ names) all =

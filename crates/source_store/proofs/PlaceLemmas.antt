@@ -9,17 +9,6 @@ use Rattle.std.proofs.lemmas.List.Elements.{All-nil, All-cons, All-head, All-tai
 use Rattle.std.specs.declared.alloc.Global.{Global}
 use Rattle.source_store.specs.Place.{text_bytes, left, stays, goes_up, entered, walked_by, walked, parts_of, is_absolute, resolved, begins_with, path_of, is_line, located, IsPlain, IsBelow}
 
-map_take : (n : ℕ) (xs : List (Bor (List ℕ))) → map (λ x. x.now) (take n xs) ≡ take n (map (λ x. x.now) xs)
-map_take zero xs = refl
-map_take (suc n) [] = refl
-map_take (suc n) (x ∷ xs) = ap (λ l. x.now ∷ l) (map_take n xs)
-
-pub map_left : (xs : List (Bor (List ℕ))) → map (λ x. x.now) (take (length xs - 1) xs) ≡ left (map (λ x. x.now) xs)
-map_left xs = map_take (length xs - 1) xs ∙ ap (λ n. take (n - 1) (map (λ x. x.now) xs)) (sym (length-map xs (λ x. x.now)))
-
-pub map_added : (xs : List (Bor (List ℕ))) (x : Bor (List ℕ)) → map (λ y. y.now) (xs ++ x ∷ []) ≡ map (λ y. y.now) xs ++ x.now ∷ []
-map_added xs x = map-append (λ y. y.now) xs (x ∷ [])
-
 -- ---- a path below the root leads down from it
 
 abbrev is_slash : ℕ → Bool

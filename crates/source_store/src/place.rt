@@ -91,7 +91,7 @@ fn cut<'a>(alloc: Global, path: &'a str) -> Result<Vec<&'a str>, AllocError>
 }
 
 /// Goes from a folder on by one part of a path.
-#[tactic(auto, unfolding(crate::specs::Place::entered), using(crate::proofs::PlaceLemmas::map_left, crate::proofs::PlaceLemmas::map_added))]
+#[tactic(auto, unfolding(crate::specs::Place::entered), using(base_lemmas::proofs::Lists::texts_left, base_lemmas::proofs::Lists::texts_added))]
 fn enter<'a>(at: &mut Vec<&'a str>, part: &'a str) -> Result<(), AllocError>
     ensures { OnOk result (map (λ part. part.now) at.new.items
         ≡ entered (map (λ part. part.now) at.old.items) part.entry.now) }

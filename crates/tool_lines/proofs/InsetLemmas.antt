@@ -2,7 +2,7 @@
 use Rattle.std.proofs.Common.{◌≡◌, ℕ, zero, suc, ◌-◌, ◌<◌, ◌≤◌, ◌==◌, ◌&&◌, ◌||◌, not, nat_le, nat_lt, if◌then◌else◌, List, [], ◌∷◌, length, take, drop, get_or, Option, Some, None, Bool, true, false, true≢false, refl, sym, ap, subst, ◌∙◌, arith, eqb-true}
 use Rattle.std.specs.List.{slice_index, prefix_len, list_all, position, range_with_len}
 use Rattle.std.specs.Option.{option_and_then, option_map, option_or, unwrap_or}
-use Rattle.std.proofs.lemmas.Bool.{and_parts, and_right, or_from, or_left, or_right, not-true}
+use Rattle.std.proofs.lemmas.Bool.{and_parts, and_right, or_from, or_left, or_right, not-true, lt-ltb, ltb-true}
 use Rattle.std.proofs.lemmas.Bool.Decides.{nat_tests}
 use Rattle.std.proofs.lemmas.List.FromFn.{length-range_with_len, get_or-range_with_len}
 use Rattle.std.proofs.lemmas.List.Sums.{prefix_len_passes, prefix_len_stops}
@@ -21,15 +21,10 @@ use Rattle.line_shapes.proofs.PartLemmas.{not_begun}
 use Rattle.line_shapes.proofs.PlaceLemmas.{all_past, no_place}
 use Rattle.tool_lines.specs.Marks.{begins_blank, is_inner, is_inset, names_nothing, unled}
 use Rattle.tool_lines.specs.Lines.{first_place, places}
-
-lt_of : (n m : ℕ) → nat_lt n m ≡ true → n < m
-lt_of n m is = grind (arith, nat_tests)
+use Rattle.line_shapes.proofs.PlaceLemmas.{no_angle, no_length as no_end}
 
 le_of : (n m : ℕ) → nat_lt n m ≡ false → m ≤ n
 le_of n m is = grind (arith, nat_tests)
-
-below : (n m : ℕ) → n < m → nat_lt n m ≡ true
-below n m is = grind (arith, nat_tests)
 
 not_below : (k fault at : ℕ) → fault ≤ at → at < k → nat_le k fault ≡ false
 not_below k fault at low high = grind (arith, nat_tests)
@@ -39,16 +34,8 @@ behind_of n k low apart = grind (arith, nat_tests)
 
 -- ---- no name begins with a blank
 
-no_end : (end : ℕ) → (nat_le 1 end && (0 == end)) ≡ false
-no_end zero = refl
-no_end (suc end) = and_right (nat_le 1 (suc end)) (0 == suc end) (grind (arith, nat_tests))
-
 no_length : (end n : ℕ) → n ≡ 0 → (nat_le 1 end && (n == end)) ≡ false
 no_length end n is = subst (λ m. (nat_le 1 end && (m == end)) ≡ false) (sym is) (no_end end)
-
-no_angle : (text : List ℕ) → is_angle text ≡ false → angle_len text ≡ 0
-no_angle [] other = refl
-no_angle (x ∷ xs) other = ap (λ v. if v then angle_behind (prefix_len (is_in Angled) xs) xs else 0) other
 
 blank_not : (p : ℕ → Bool) (x : ℕ) → p 0x20 ≡ false → p 0x09 ≡ false → is_in Blank x ≡ true → p x ≡ false
 blank_not p x space tab is =
@@ -99,7 +86,7 @@ first_low : (p : ℕ → Bool) (whole at : ℕ) → at < whole → p at ≡ true
 first_low p whole at within is =
     elim (nat_lt at (prefix_len (λ x. not (p x)) (range_with_len 0 whole))) as (λ v. nat_lt at (prefix_len (λ x. not (p x)) (range_with_len 0 whole)) ≡ v → v ≡ false) [
       | true ↦ (λ low.
-          let passed : not (p (get_or (range_with_len 0 whole) at 0)) ≡ true = prefix_len_passes (λ x. not (p x)) (range_with_len 0 whole) at 0 (lt_of at (prefix_len (λ x. not (p x)) (range_with_len 0 whole)) low) in
+          let passed : not (p (get_or (range_with_len 0 whole) at 0)) ≡ true = prefix_len_passes (λ x. not (p x)) (range_with_len 0 whole) at 0 (ltb-true at (prefix_len (λ x. not (p x)) (range_with_len 0 whole)) low) in
           let there : get_or (range_with_len 0 whole) at 0 ≡ at = get_or-range_with_len 0 whole at 0 within ∙ omega arith in
           let none : p at ≡ false = not-true (p at) (subst (λ k. not (p k) ≡ true) there passed) in
           sym is ∙ none)
@@ -111,7 +98,7 @@ first_position p whole at other within is =
     let first : ℕ = prefix_len (λ x. not (p x)) (range_with_len 0 whole) in
     let low : first ≤ at = le_of at first (first_low p whole at within is) in
     let all : length (range_with_len 0 whole) ≡ whole = length-range_with_len 0 whole in
-    subst (λ v. unwrap_or (if v then Some first else None) other ≤ at) (sym (below first (length (range_with_len 0 whole)) (omega arith))) low
+    subst (λ v. unwrap_or (if v then Some first else None) other ≤ at) (sym (lt-ltb first (length (range_with_len 0 whole)) (omega arith))) low
 
 word_ends : (text : List ℕ) (at k : ℕ) → at < length text → is_in Blank (slice_index text at) ≡ true → at < k → nat_le k (first_fault OneWord text) ≡ false
 unfolding first_fault
@@ -152,7 +139,7 @@ word_at s k is within =
     let parts : (not (is_angle s.rest) ≡ true) × (not (is_mark (slice_index s.rest n)) ≡ true) = and_parts (not (is_angle s.rest)) (not (is_mark (slice_index s.rest n))) is in
     let unmarked : is_mark (slice_index s.rest n) ≡ false = not-true (is_mark (slice_index s.rest n)) parts.1 in
     elim (nat_lt k n) as (λ v. nat_lt k n ≡ v → placed_at OneWord s k ≡ None) [
-      | true ↦ (λ low. in_word s k (lt_of k n low))
+      | true ↦ (λ low. in_word s k (ltb-true k n low))
       | false ↦ (λ low. elim (n == k) as (λ v. (n == k) ≡ v → placed_at OneWord s k ≡ None) [
         | true ↦ (λ same. at_word_end s n k same unmarked)
         | false ↦ (λ apart. past_word s n k refl (not-true (is_angle s.rest) parts.0) unmarked (behind_of n k low apart) within)

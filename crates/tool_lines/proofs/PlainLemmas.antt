@@ -25,17 +25,14 @@ use Rattle.tool_lines.proofs.InsetLemmas.{inset_first, inset_place}
 use Rattle.tool_lines.specs.declared.lines.Sort.TheVariants.{Kept}
 use Rattle.tool_lines.specs.Marks.{begins_blank, first_ink, is_inset, may_lead, may_place, may_point, unled}
 use Rattle.tool_lines.specs.Lines.{BegunParts, FindingParts, announced, arrows, first_arrow, first_place, parted, places, announced_by, arrow, begun, begun_of, below, inline, is_heading, is_placing, is_plain, other_arrow, text_below, told, uncoloned, whole_among}
-
-not_some : {A : Type 0} (o : Option A) → is_some o ≡ false → o ≡ None
-not_some None e = refl
-not_some (Some x) e = cc
+use Rattle.base_lemmas.proofs.Choices.{none_there}
 
 -- a line without the location of the line before it is no arrow
 no_arrow : (next : List ℕ) → is_placing (Some next) ≡ false → arrow next ≡ None
 no_arrow next e =
     let parts : ((may_begin ARROW (uncoloned next) || may_begin UNDER next) ≡ false) × (is_some (other_arrow next) ≡ false) = or_parts (may_begin ARROW (uncoloned next) || may_begin UNDER next) (is_some (other_arrow next)) e in
     let plain : own Any ARROW ARROW_PLACE (uncoloned next) ≡ None = ap (option_and_then (first_named Any ARROW_PLACE)) (not_begun ARROW (before (uncoloned next)) (or_parts (may_begin ARROW (uncoloned next)) (may_begin UNDER next) parts.0).0) in
-    ap (λ o. option_or o (other_arrow next)) plain ∙ not_some (other_arrow next) parts.1
+    ap (λ o. option_or o (other_arrow next)) plain ∙ none_there (other_arrow next) parts.1
 
 pub not_announced : (line : List ℕ) (next : Option (List ℕ)) → is_placing next ≡ false → announced line next ≡ None
 unfolding announced_by

@@ -19,20 +19,9 @@ use Rattle.finding_laws.specs.Baselines.Findings.{AreSameRows, IsOwn, SayTheSame
 use Rattle.finding_laws.proofs.BaselineLemmas.Longer.{longer_known}
 use Rattle.finding_laws.proofs.BaselineLemmas.Own.{own_known}
 use Rattle.finding_laws.proofs.BaselineLemmas.Row.{row_tells}
+use Rattle.filtered_findings.proofs.KnownLemmas.{if_length}
 
 -- ---- lengths
-
-repeats_length : (seen : Seen) (its : List FindingParts) → length (repeats_from seen its) ≡ length its
-repeats_length seen [] = refl
-repeats_length seen (it ∷ its) = omega (arith, repeats_length (with_seen seen (exact_text it)) its)
-
-none_length : (its : List FindingParts) → length (no_repeats its) ≡ length its
-none_length [] = refl
-none_length (it ∷ its) = omega (arith, none_length its)
-
-pub if_length : (unique : Bool) (its : List FindingParts) → length (repeats_if unique its) ≡ length its
-if_length true its = repeats_length none_seen its
-if_length false its = none_length its
 
 -- ---- kinds
 

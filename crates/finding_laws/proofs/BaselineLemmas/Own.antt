@@ -10,6 +10,7 @@ use Rattle.finding_laws.specs.Baselines.Findings.{AreSameRows}
 use Rattle.finding_filters.specs.declared.baseline.Round.{Round}
 use Rattle.finding_filters.specs.declared.baseline.Round.TheVariants.{SameRow, NoRow, Rest}
 use Rattle.finding_laws.proofs.BaselineLemmas.Greedy.{Weight, asking, away_is, by_class, if_open, of_kind, open_by, turned_is, turns, turns_length, turns_less, turns_open, turns_stay, weight}
+use Rattle.finding_filters.proofs.OrderLemmas.{weight_by}
 
 -- ---- lists of classes: where one has no more of any class than another, it has no more weight
 
@@ -98,15 +99,10 @@ abbrev pub sum_of : Weight → List ItemParts → ℕ
 sum_of w [] = 0
 sum_of w (entry ∷ entries) = w entry + sum_of w entries
 
-counted_one : (left : Left) (class : Option (List ℕ)) (q : List ℕ) → counted_by left class q ≡ left q + weight q class
-unfolding more
-counted_one left None q = omega arith
-counted_one left (Some class) q = refl
-
 counted_sum : (round : Round) (left : Left) (entries : List ItemParts) (q : List ℕ) → counted left (map (offers round) entries) q ≡ left q + sum_of (offer round q) entries
 counted_sum round left [] q = omega arith
 counted_sum round left (entry ∷ entries) q =
-    counted_sum round (counted_by left (offers round entry)) entries q ∙ omega (arith, counted_one left (offers round entry) q)
+    counted_sum round (counted_by left (offers round entry)) entries q ∙ omega (arith, weight_by left (offers round entry) q)
 
 pub entries_sum : (round : Round) (entries : List ItemParts) (q : List ℕ) → entries_in round entries q ≡ sum_of (offer round q) entries
 entries_sum round entries q = counted_sum round none_left entries q ∙ omega arith

@@ -2,8 +2,9 @@
 use Rattle.std.proofs.Common.{◌<◌, ◌≤◌, List, ap, subst, sym, ◌∙◌, arith, length, map}
 use Rattle.std.proofs.lemmas.List.{length-map, length_push}
 use Rattle.excerpts.specs.declared.cuts.Outline.{Outline}
-use Rattle.excerpts.proofs.BodyLemmas.{OutlinesSoFar, now_at, outlines_begin, outlines_end, outlines_go_on}
+use Rattle.excerpts.proofs.BodyLemmas.{OutlinesSoFar, outlines_begin, outlines_end, outlines_go_on}
 use Rattle.excerpts.proofs.body.outlines_of.Goals as goal
+use Rattle.excerpt_blocks.proofs.BlockLemmas.{now_at}
 
 pub loop-line-init : goal.loop-line-init
 loop-line-init c =

@@ -2,13 +2,14 @@ use Rattle.std.proofs.Common.{◌≡◌, ◌+◌, ◌∙◌, arith, get_or, refl
 use Rattle.oxc_span.specs.Views.{text_bytes}
 use Rattle.oxc_handlers.specs.Reports.{text_of}
 use Rattle.oxc_handlers.proofs.KeepsLemmas.{ends_here, goes_on, part_here, part_on, stops_here}
-use Rattle.oxc_handlers.proofs.ReportsLemmas.{alike_at, same_length, text_of_view}
+use Rattle.oxc_handlers.proofs.ReportsLemmas.{same_length, text_of_view}
 use Rattle.oxc_handlers.proofs.handler.GraphicalReportHandler.hand_on.Goals as goal
+use Rattle.base_lemmas.proofs.Lists.{at_both}
 
 pub view_of_box-view-requires : goal.view_of_box-view-requires
 view_of_box-view-requires g c =
     let len = same_length text_bytes (λ b. ((goal.Diagnostic-dyn g (b.vtable, b.value)).parts b.value).code) c.args.codes.now c.args.diagnostics.now c.requires.codes in
-    alike_at text_bytes (λ b. ((goal.Diagnostic-dyn g (b.vtable, b.value)).parts b.value).code) c.args.codes.now c.args.diagnostics.now c.loop-diagnostic.diagnostic-index c.index-codes-count.result c.diagnostic-item.result c.requires.codes
+    at_both text_bytes (λ b. ((goal.Diagnostic-dyn g (b.vtable, b.value)).parts b.value).code) c.args.codes.now c.args.diagnostics.now c.loop-diagnostic.diagnostic-index c.index-codes-count.result c.diagnostic-item.result c.requires.codes
     (omega (arith, len, c.loop-diagnostic-test.true)) c.loop-diagnostic-test.true
     (subst (λ i. c.index-codes-count.result ≡ get_or c.args.codes.now i c.index-codes-count.result) c.loop-diagnostic.invariant.0 c.index-codes-count.is) c.diagnostic-item.is
 

@@ -2,13 +2,14 @@ use Rattle.std.proofs.Common.{◌≡◌, ◌++◌, ◌∙◌, ap, arith, get_or,
 use Rattle.oxc_span.specs.Views.{text_bytes}
 use Rattle.oxc_handlers.specs.Refusals.{IsFaultless, error_at}
 use Rattle.oxc_handlers.specs.Reports.{IsListRefusal, text_of}
-use Rattle.oxc_handlers.proofs.ReportsLemmas.{alike_at, before_all, before_more, faultless_of_view, got_map, items_more, refusal_of_view, refused_at, same_length, text_of_view}
+use Rattle.oxc_handlers.proofs.ReportsLemmas.{before_all, before_more, faultless_of_view, got_map, items_more, refusal_of_view, refused_at, same_length, text_of_view}
 use Rattle.oxc_handlers.proofs.handler.GraphicalReportHandler.write_texts.Goals as goal
+use Rattle.base_lemmas.proofs.Lists.{at_both}
 
 pub view_of_box-view-requires : goal.view_of_box-view-requires
 view_of_box-view-requires g c =
     let len = same_length text_bytes (λ b. ((goal.Diagnostic-dyn g (b.vtable, b.value)).parts b.value).code) c.args.codes.now c.args.diagnostics.now c.requires in
-    alike_at text_bytes (λ b. ((goal.Diagnostic-dyn g (b.vtable, b.value)).parts b.value).code) c.args.codes.now c.args.diagnostics.now c.loop-diagnostic.diagnostic-index c.index-codes-report.result c.diagnostic-item.result c.requires
+    at_both text_bytes (λ b. ((goal.Diagnostic-dyn g (b.vtable, b.value)).parts b.value).code) c.args.codes.now c.args.diagnostics.now c.loop-diagnostic.diagnostic-index c.index-codes-report.result c.diagnostic-item.result c.requires
     (omega (arith, len, c.loop-diagnostic-test.true)) c.loop-diagnostic-test.true
     (subst (λ i. c.index-codes-report.result ≡ get_or c.args.codes.now i c.index-codes-report.result) c.loop-diagnostic.invariant.report c.index-codes-report.is) c.diagnostic-item.is
 

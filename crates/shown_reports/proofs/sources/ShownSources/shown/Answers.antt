@@ -7,8 +7,9 @@ use Rattle.indexed_sources.specs.Indexed.{text_held}
 use Rattle.shown_reports.specs.Sources.{changed_by, shown_by}
 use Rattle.shown_reports.specs.Standing.{KeepsHeld}
 use Rattle.shown_reports.proofs.RowAtLemmas.{held_there, rows_shown}
-use Rattle.shown_reports.proofs.SourceLemmas.{at_both, held_at, slice_at}
+use Rattle.shown_reports.proofs.SourceLemmas.{held_at}
 use Rattle.shown_reports.proofs.sources.ShownSources.shown.Goals as goal
+use Rattle.base_lemmas.proofs.Lists.{at_both, value_at}
 
 pub shown_of-text-requires : goal.shown_of-text-requires
 shown_of-text-requires c =
@@ -26,7 +27,7 @@ returns-clause-shown c =
     let entries = c.args.self.now.entries.items in
     let are : c.entries.result.now ≡ entries = c.entries.ensures ∙ ap (λ it. it.entries.items) c.self.view_is in
     ap Some c.shown_of-text.ensures.shown
-    ∙ slice_at (shown_by c.args.raw) entries c.args.place c.index-entries-place.result c.requires
+    ∙ value_at (shown_by c.args.raw) entries c.args.place c.index-entries-place.result c.requires
     (subst (λ xs. c.index-entries-place.result ≡ get_or xs c.args.place c.index-entries-place.result) are c.index-entries-place.is)
 
 pub returns-clause-keeps : goal.returns-clause-keeps
