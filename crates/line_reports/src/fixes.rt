@@ -70,8 +70,7 @@ impl<'a> Told<'a> {
             return Ok(Vec::new(alloc));
         };
         let parts = excerpt.parts.as_slice();
-        let suggests = parts.iter().any(|part| is_suggestion(part.kind));
-        if !suggests {
+        if !any_suggestion(parts) {
             return Ok(Vec::new(alloc));
         }
         let own = String::from_utf8_lossy(alloc, self.finding.place.name)?;
@@ -89,6 +88,13 @@ impl<'a> Told<'a> {
 }
 
 // ---- The suggestions of the finding's file
+
+/// Whether one of these parts is a suggestion.
+fn any_suggestion(parts: &[Part]) -> bool
+    ensures { result ≡ list_any suggests parts.now }
+{
+    parts.iter().any(|part| is_suggestion(part.kind))
+}
 
 fn is_suggestion(kind: PartKind) -> bool
     ensures { result ≡ is_suggestion_kind kind }
