@@ -15,7 +15,7 @@ ghost use Rattle.line_reports.specs.Fixes.{is_suggestion as is_suggestion_kind, 
 ghost use Rattle.line_reports.specs.Fixes.{marks_at as marks_there};
 ghost use Rattle.line_reports.specs.Fixes.{rows_text as text_of_rows, sign_of as sign_meant};
 ghost use Rattle.line_reports.specs.Fixes.{source_row as row_of_source, suggested_at as row_suggested};
-ghost use Rattle.line_reports.specs.Fixes.{suggested_from, suggested_parts, suggested_rows};
+ghost use Rattle.line_reports.specs.Fixes.{suggested_from, suggested_parts, suggested_rows, suggests};
 ghost use Rattle.line_reports.specs.Pieces.{line_chars};
 ghost use Rattle.line_reports.specs.Told.{told_parts};
 
