@@ -7,6 +7,7 @@ ghost use Rattle.line_shapes.specs.Place.{place as place_there, placed as placed
 ghost use Rattle.line_shapes.specs.Shape.{shape_parts};
 ghost use Rattle.tool_lines.specs.Lines.{ArePieces, lines_behind, lines_left, lines_of as lines_in};
 ghost use Rattle.tool_lines.specs.Lines.{announced as announced_there};
+ghost use Rattle.tool_lines.specs.Lines.{announced_by as announced_pair};
 ghost use Rattle.tool_lines.specs.Lines.{announced_len as announced_length, arrow as arrow_in};
 ghost use Rattle.tool_lines.specs.Lines.{begins_note as note_begins, other_arrow as other_arrow_in};
 ghost use Rattle.tool_lines.specs.Lines.{parted as parted_there, behind as behind_there};
@@ -394,12 +395,21 @@ fn begun_at<'a>(shapes: &[Shape<'_>], line: &'a [u8], next: Option<&'a [u8]>) ->
 }
 
 /// The finding of a line whose location is on the next one.
-#[tactic(auto, unfolding(crate::specs::Lines::announced_by))]
 pub fn announced<'a>(line: &'a [u8], next: Option<&'a [u8]>) -> Option<Finding<'a>>
     ensures { option_map finding_parts result ≡ announced_there line.entry.now
         (option_copied next.entry) }
 {
-    let next = next?;
+    match next {
+        Some(next) => announced_by(line, next),
+        None => None,
+    }
+}
+
+/// The same for two lines.
+#[tactic(auto, unfolding(crate::specs::Lines::announced_by))]
+fn announced_by<'a>(line: &'a [u8], next: &'a [u8]) -> Option<Finding<'a>>
+    ensures { option_map finding_parts result ≡ announced_pair line.entry.now next.entry.now }
+{
     let place = arrow(next)?;
     let found = whole_among(&ANNOUNCED, Found::before(line))?;
     Some(Finding {
