@@ -3,6 +3,7 @@
 ghost use Rattle.std.specs.Prelude.{◌≡◌, ℕ, List, Option, None, false, IfOk, OnOk, OnErr, map};
 ghost use Rattle.std.specs.Prelude.{string_bytes};
 ghost use Rattle.std.specs.Fn.{CalledAt};
+ghost use Rattle.std.specs.Option.{option_copied};
 ghost use Rattle.oxc_span.specs.Views.{text_bytes};
 ghost use Rattle.oxc_protocol.specs.Source.{source_name};
 ghost use Rattle.oxc_protocol.specs.SourceViews.{ref_views};
@@ -158,9 +159,9 @@ pub trait DiagnosticReporter {
             self.old keep.old (map parts errors.items) keep.new) }
     {
         for error in errors {
-            let name = name_of(alloc, error.source_code())?;
+            let name = source_name(alloc, &error)?;
             if let Some(text) = self.render_error(alloc, error)? {
-                let wanted = keep(name.as_deref(), text.as_str());
+                let wanted = keep(lent(&name), text.as_str());
                 if !wanted {
                     return Ok(());
                 }
@@ -168,6 +169,13 @@ pub trait DiagnosticReporter {
         }
         Ok(())
     }
+}
+
+/// A copy of the name of a diagnostic's source.
+fn source_name(alloc: Global, error: &Error) -> Result<Option<String>, AllocError>
+    ensures { IfOk result (λ name. text_bytes name ≡ source_name (parts error.now).source) }
+{
+    name_of(alloc, error.source_code())
 }
 
 /// A copy of a source's name.
@@ -181,6 +189,13 @@ fn name_of(alloc: Global, source: Option<SourceRef<'_>>) -> Result<Option<String
         Some(name) => Ok(Some(String::from_str(alloc, name)?)),
         None => Ok(None),
     }
+}
+
+/// The name, borrowed, if there is one.
+fn lent(name: &Option<String>) -> Option<&str>
+    ensures { option_copied result ≡ text_bytes name.now }
+{
+    name.as_deref()
 }
 
 /// The numbers of warnings and errors, and whether there were more warnings than allowed. The
