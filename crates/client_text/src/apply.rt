@@ -1,8 +1,6 @@
 // Applying one change.
-ghost use Rattle.std.specs.Prelude.{◌≡◌, ◌+◌, ◌*◌, ◌-◌, ◌≤◌, ◌↔◌, IsTrue, length, string_bytes, OnOk};
+ghost use Rattle.std.specs.Prelude.{◌≡◌, ◌+◌, ◌*◌, ◌-◌, ◌≤◌, length, string_bytes, OnOk};
 ghost use Rattle.std.specs.Prelude.{IfErr, OnErr};
-ghost use Rattle.std.specs.List.{replace_range};
-ghost use Rattle.std.specs.Str.{IsCharBoundary};
 ghost use Rattle.source_location.specs.Index.{Fits};
 ghost use Rattle.text_places.specs.Pages.{most_bytes};
 ghost use Rattle.client_text.specs.Changes.{Changes, IsFault, IsReplaced, IsFaultOf};
@@ -14,20 +12,10 @@ use source_location::fits;
 use std::alloc::Global;
 use std::sync::ledger::Ledger;
 use text_places::{Encoding, Place, TextPlaces};
-use text_size::{TextRange, TextSize};
-
-/// Whether a text would fit after a change.
-#[tactic(auto, using(crate::proofs::ChangeLemmas::length_after))]
-fn fits_after(places: &TextPlaces, start: TextSize, end: TextSize, insert: &str) -> bool
-    requires ordered { start ≤ end }
-    requires within { end ≤ length places.now }
-    ensures { IsTrue result ↔ Fits (replace_range places.now start end insert.now) }
-{
-    let kept = places.len().to_u32() as u64 - (end.to_u32() - start.to_u32()) as u64;
-    insert.len() < u32::MAX as usize && kept + (insert.len() as u64) < u32::MAX as u64
-}
+use text_size::TextRange;
 
 /// Replaces the part of a text between two positions.
+#[tactic(auto, using(crate::proofs::ChangeLemmas::length_after))]
 fn replace_part<L: Ledger>(
     alloc: Global,
     places: &mut TextPlaces,
@@ -47,7 +35,8 @@ fn replace_part<L: Ledger>(
     if end < start {
         return Err(Fault::Reversed);
     }
-    if !fits_after(places, start, end, insert) {
+    let kept = places.len().to_u32() as u64 - (end.to_u32() - start.to_u32()) as u64;
+    if insert.len() >= u32::MAX as usize || kept + insert.len() as u64 >= u32::MAX as u64 {
         return Err(Fault::TooLong);
     }
     match places.replace_counted(alloc, TextRange::new(start, end), insert, steps) {

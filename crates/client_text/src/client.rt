@@ -1,7 +1,6 @@
 // A document as a client edits it.
-ghost use Rattle.std.specs.Prelude.{[], ◌∷◌, ◌≡◌, ◌+◌, ◌≤◌, ◌<◌, ℕ, List, length, drop};
+ghost use Rattle.std.specs.Prelude.{◌≡◌, ◌+◌, ◌≤◌, ◌<◌, length};
 ghost use Rattle.std.specs.Prelude.{string_bytes, OnOk, IfOk, IfErr, OnErr};
-ghost use Rattle.std.specs.Str.{IsCharBoundary};
 ghost use Rattle.source_location.specs.Index.{Fits};
 ghost use Rattle.std.specs.List.{concat};
 ghost use Rattle.client_text.specs.Changes.{AllChange, IsRefusal, most_looked};
@@ -74,26 +73,8 @@ fn copied<L: Ledger>(
     Ok(copy)
 }
 
-/// Makes the only change of a list.
-fn apply_one<L: Ledger>(
-    alloc: Global,
-    places: &mut TextPlaces,
-    encoding: Encoding,
-    change: &Change,
-    steps: &mut Steps<L>,
-) -> Result<(), Refusal>
-    ensures done { OnOk result (AllChange encoding places.old (change.now ∷ []) places.new) }
-    ensures cause { IfErr result (IsRefusal encoding places.old (change.now ∷ [])) }
-    ensures unchanged { OnErr result (places.new ≡ places.old) }
-    ensures ticks { steps.new ≤ steps.old + most_looked (change.now ∷ []) }
-{
-    match apply(alloc, places, encoding, change, steps) {
-        Ok(()) => Ok(()),
-        Err(fault) => Err(Refusal { change: 0, fault }),
-    }
-}
-
-/// Makes all changes of a list, or none: a single one in place, more on a copy.
+/// Makes all changes of a list, or none: a single one in place, more on a copy, which replaces the
+/// text once all are made.
 fn change_places<L: Ledger>(
     alloc: Global,
     places: &mut TextPlaces,
@@ -109,34 +90,22 @@ fn change_places<L: Ledger>(
 {
     match changes {
         [] => Ok(()),
-        [change] => apply_one(alloc, places, encoding, change, steps),
-        _ => change_copy(alloc, places, encoding, changes, steps),
+        [change] => match apply(alloc, places, encoding, change, steps) {
+            Ok(()) => Ok(()),
+            Err(fault) => Err(Refusal { change: 0, fault }),
+        },
+        _ => {
+            let Ok(mut copy) = copied(alloc, places, steps) else {
+                return Err(Refusal {
+                    change: 0,
+                    fault: Fault::OutOfMemory,
+                });
+            };
+            apply_all(alloc, &mut copy, encoding, changes, steps)?;
+            *places = copy;
+            Ok(())
+        }
     }
-}
-
-/// Makes changes on a copy, which replaces the text once all are made.
-fn change_copy<L: Ledger>(
-    alloc: Global,
-    places: &mut TextPlaces,
-    encoding: Encoding,
-    changes: &[Change],
-    steps: &mut Steps<L>,
-) -> Result<(), Refusal>
-    requires { 0 < length changes.now }
-    ensures done { OnOk result (AllChange encoding places.old changes.now places.new) }
-    ensures cause { IfErr result (IsRefusal encoding places.old changes.now) }
-    ensures unchanged { OnErr result (places.new ≡ places.old) }
-    ensures ticks { steps.new ≤ steps.old + length places.old + most_looked changes.now }
-{
-    let Ok(mut copy) = copied(alloc, places, steps) else {
-        return Err(Refusal {
-            change: 0,
-            fault: Fault::OutOfMemory,
-        });
-    };
-    apply_all(alloc, &mut copy, encoding, changes, steps)?;
-    *places = copy;
-    Ok(())
 }
 
 /// Makes the changes of a notification with a counter of its own.
