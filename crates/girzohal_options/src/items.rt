@@ -1,7 +1,7 @@
 //! What arguments say: an option takes the next argument as its value.
 ghost use Rattle.std.specs.Prelude.{◌≡◌, ◌∷◌, ◌≤◌, ◌++◌, IfOk, OnOk, length, map, string_bytes};
 ghost use Rattle.escapes.specs.Cuts.{cut_at};
-ghost use Rattle.girzohal_options.specs.Said.{file as file_said, is_file as is_no_option};
+ghost use Rattle.girzohal_options.specs.Said.{file as file_said};
 ghost use Rattle.girzohal_options.specs.Said.{kind_of as kind_meant};
 ghost use Rattle.girzohal_options.specs.Said.{parted as said_parted};
 ghost use Rattle.girzohal_options.specs.Said.{said, said_behind, said_by};
@@ -69,7 +69,8 @@ fn read_item<'w>(program: Program, word: &'w str, rest: &'w [String]) -> (Item<'
         ≡ said result.0 ∷ said_by program (map string_bytes result.1.now) }
     ensures fewer { length result.1.now ≤ length rest.entry.now }
 {
-    if is_file(word) {
+    // A hyphen alone is a file: standard input.
+    if !matches!(word.as_bytes(), [b'-', _, ..]) {
         return (Item::File(word), rest);
     }
     if is_flag(program, word) {
@@ -95,15 +96,5 @@ fn parted(program: Program, word: &str) -> Item<'_>
         Some(setting) => Item::Given(setting, value),
         None if is_flag(program, name) => Item::Valued(name, value),
         None => Item::Unknown(name),
-    }
-}
-
-/// Whether an argument doesn't begin with a hyphen, or is just a hyphen.
-fn is_file(word: &str) -> bool
-    ensures { result ≡ is_no_option word.now }
-{
-    match word.as_bytes() {
-        [first, _next, ..] => *first != b'-',
-        _ => true,
     }
 }

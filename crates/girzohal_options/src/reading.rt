@@ -6,7 +6,6 @@ ghost use Rattle.girzohal_options.specs.Given.{form_with, shapes_in};
 ghost use Rattle.girzohal_options.specs.Lists.{files_in as files_said, output_parts};
 ghost use Rattle.girzohal_options.specs.Lists.{outputs_in as outputs_said, texts_under};
 ghost use Rattle.girzohal_options.specs.Reads.{Asks, Reads, asks_help as help_asked};
-ghost use Rattle.girzohal_options.specs.Reads.{asks_quiet as quiet_asked};
 ghost use Rattle.girzohal_options.specs.Reads.{asks_version as version_asked};
 ghost use Rattle.girzohal_options.specs.Reads.{has_flag as has_flag_of, prints_with as prints_so};
 ghost use Rattle.girzohal_options.specs.Reads.{theme_with};
@@ -127,6 +126,9 @@ fn asked(
     ensures { IfOk result (Asks program (map said items.now)) }
 {
     let given = taken.given;
+    let quiet = has_flag(items, "--no-summary")
+        || has_flag(items, "--quiet")
+        || has_flag(items, "-q");
     let lists = lists_in(alloc, items)?;
     let texts = texts_of(alloc, program, &taken)?;
     Ok(Asked {
@@ -147,7 +149,7 @@ fn asked(
         only_findings: has_flag(items, "--only-findings"),
         fail_on: given.fail_on.unwrap_or(Level::Error),
         most: given.max_findings,
-        quiet: is_quiet(items),
+        quiet,
         raw: has_flag(items, "--raw"),
         changed: texts.changed,
         filter_mode: given.filter_mode.unwrap_or(FilterMode::Added),
@@ -248,13 +250,6 @@ fn prints_with(given: bool, outputs: &[Output]) -> bool
         [] => true,
         [_, ..] => given,
     }
-}
-
-/// Whether the line with the numbers of reports is left out.
-fn is_quiet(items: &[Item<'_>]) -> bool
-    ensures { result ≡ quiet_asked (map said items.now) }
-{
-    has_flag(items, "--no-summary") || has_flag(items, "--quiet") || has_flag(items, "-q")
 }
 
 /// A copy of a text.
