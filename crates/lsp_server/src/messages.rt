@@ -1,5 +1,5 @@
 // The messages of diagnostics for a client.
-ghost use Rattle.std.specs.Prelude.{◌≡◌, ◌++◌, All, IfOk, OnOk, decimal, string_bytes};
+ghost use Rattle.std.specs.Prelude.{◌≡◌, ◌++◌, All, IfOk, OnOk, string_bytes};
 ghost use Rattle.std.specs.Option.{option_copied};
 ghost use Rattle.oxc_protocol.specs.Views.{inner_parts};
 ghost use Rattle.found_reports.specs.Found.{StandsIn};
@@ -91,15 +91,9 @@ fn push_line(
 {
     let place = client_place(file, label.offset());
     out.push_str("\n")?;
-    push_number(out, u64::from(place.line) + 1)?;
+    out.push_str(Buffer::new().format(u64::from(place.line) + 1))?;
     out.push_str(":")?;
-    push_number(out, u64::from(place.unit) + 1)?;
+    out.push_str(Buffer::new().format(u64::from(place.unit) + 1))?;
     out.push_str(": ")?;
     out.push_str(said(label, message))
-}
-
-fn push_number(out: &mut String, number: u64) -> Result<(), AllocError>
-    ensures { OnOk result (string_bytes out.new ≡ string_bytes out.old ++ decimal number) }
-{
-    out.push_str(Buffer::new().format(number))
 }

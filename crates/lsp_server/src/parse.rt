@@ -6,7 +6,7 @@ ghost use Rattle.lsp_server.specs.Bodies.{IsReadAs};
 ghost use Rattle.lsp_server.specs.Meant.{asked_by, change_in, change_said, changed_in, changes_in};
 ghost use Rattle.lsp_server.specs.Meant.{changes_under, closed_by, count_under, encoding_in};
 ghost use Rattle.lsp_server.specs.Meant.{event_in, event_of, first_known as first_known_in};
-ghost use Rattle.lsp_server.specs.Meant.{first_under, method_of as method_named, name_in, name_of};
+ghost use Rattle.lsp_server.specs.Meant.{first_under};
 ghost use Rattle.lsp_server.specs.Meant.{opened_in, part_in, place_in, range_in, said_by, said_in};
 ghost use Rattle.lsp_server.specs.Meant.{small_version as small, tells, text_under};
 ghost use Rattle.lsp_server.specs.Meant.{under, version_under, wanted_of};
@@ -41,7 +41,7 @@ pub fn message_in(alloc: Global, body: &[u8]) -> Result<Message, AllocError>
 }
 
 /// The message that a value means.
-#[tactic(auto, unfolding(crate::specs::Meant::said_in))]
+#[tactic(auto, unfolding(crate::specs::Meant::said_in, crate::specs::Meant::method_of))]
 fn message_of(alloc: Global, value: &Value) -> Result<Message, AllocError>
     ensures { IfOk result (λ message. said_by message ≡ Some (said_in (view value.now))) }
 {
@@ -54,36 +54,21 @@ fn message_of(alloc: Global, value: &Value) -> Result<Message, AllocError>
             let notice = notice_of(alloc, method, params)?;
             Ok(Message::Notification(notice))
         }
-        Some(id) => match id_of(alloc, id)? {
-            Some(id) => Ok(Message::Request(id, method_of(method, params))),
-            None => Ok(Message::Notification(Notice::Unknown)),
-        },
-    }
-}
-
-/// The id of a request; `None` if it is neither an integer nor a string.
-fn id_of(alloc: Global, value: &Value) -> Result<Option<Id>, AllocError>
-    ensures { IfOk result (λ id. option_map name_of id ≡ name_in (view value.now)) }
-{
-    if let Some(number) = value.as_i64() {
-        return Ok(Some(Id::Number(number)));
-    }
-    let Some(text) = value.as_str() else {
-        return Ok(None);
-    };
-    let text = String::from_str(alloc, text)?;
-    Ok(Some(Id::Text(text)))
-}
-
-/// The method of a request.
-#[tactic(auto, unfolding(crate::specs::Meant::method_of))]
-fn method_of(method: &str, params: Option<&Value>) -> Method
-    ensures { result ≡ method_named method.now (option_map view (option_copied params.entry)) }
-{
-    match method {
-        "initialize" => Method::Initialize(wanted_in(member(params, "capabilities"))),
-        "shutdown" => Method::Shutdown,
-        _ => Method::Unknown,
+        Some(id) => {
+            let id = if let Some(number) = id.as_i64() {
+                Id::Number(number)
+            } else if let Some(text) = id.as_str() {
+                Id::Text(String::from_str(alloc, text)?)
+            } else {
+                return Ok(Message::Notification(Notice::Unknown));
+            };
+            let method = match method {
+                "initialize" => Method::Initialize(wanted_in(member(params, "capabilities"))),
+                "shutdown" => Method::Shutdown,
+                _ => Method::Unknown,
+            };
+            Ok(Message::Request(id, method))
+        }
     }
 }
 

@@ -11,7 +11,7 @@ ghost use Rattle.lsp_server.specs.Diagnostics.{head_range as head_range_of, more
 ghost use Rattle.lsp_server.specs.Diagnostics.{first_members as first_members_of};
 ghost use Rattle.lsp_server.specs.Diagnostics.{published_value, put_some, related_value as related_of};
 ghost use Rattle.lsp_server.specs.Diagnostics.{related_values as related_values_of};
-ghost use Rattle.lsp_server.specs.Diagnostics.{some_link, some_version, text_value};
+ghost use Rattle.lsp_server.specs.Diagnostics.{some_link, text_value};
 ghost use Rattle.lsp_server.specs.Files.{seen};
 ghost use Rattle.lsp_server.specs.Seen.{StandIn, others as others_of};
 
@@ -75,7 +75,7 @@ pub fn all_stand(text: &str, diagnostics: &[OxcDiagnostic]) -> bool
         .all(|diagnostic| stand_in(&Ok(text), diagnostic.labels()))
 }
 
-#[tactic(auto, unfolding(crate::specs::Diagnostics::published_value))]
+#[tactic(auto, unfolding(crate::specs::Diagnostics::published_value, crate::specs::Diagnostics::some_version))]
 fn published_members(
     alloc: Global,
     file: &OpenFile<'_>,
@@ -90,24 +90,10 @@ fn published_members(
     let mut members = Map::new(alloc);
     put(&mut members, alloc, "diagnostics", listed)?;
     put(&mut members, alloc, "uri", Value::String(uri))?;
-    put_version(alloc, &mut members, file.version)?;
-    Ok(Value::Object(members))
-}
-
-/// Adds the version, if the client gets it.
-#[tactic(auto, unfolding(crate::specs::Diagnostics::some_version))]
-fn put_version(
-    alloc: Global,
-    members: &mut Map<String, Value>,
-    version: Option<i32>,
-) -> Result<(), AllocError>
-    ensures { OnOk result (members_view members.new.entries
-        ≡ put_some (codes "version") (some_version version) (members_view members.old.entries)) }
-{
-    match version {
-        None => Ok(()),
-        Some(version) => put(members, alloc, "version", Value::from(version)),
+    if let Some(version) = file.version {
+        put(&mut members, alloc, "version", Value::from(version))?;
     }
+    Ok(Value::Object(members))
 }
 
 fn diagnostics_value(
