@@ -58,14 +58,7 @@ pub(crate) fn say<E: Sink>(err: &mut E, ending: Ending)
     ensures { IsTold (E.received err.old) (E.received err.new) (E.faults err.old)
         (E.faults err.new) (line_of ending) }
 {
-    let line = line(ending);
-    let _said = write_all(err, line.as_str().as_bytes());
-}
-
-fn line(ending: Ending) -> Line
-    ensures { result.bytes ≡ line_of ending }
-{
-    match ending {
+    let line = match ending {
         Ending::Done => Line::new(),
         Ending::Refused(why) => refusal_line(why),
         Ending::Usage => plain_line("bad arguments"),
@@ -74,7 +67,8 @@ fn line(ending: Ending) -> Line
         Ending::SinkFault => plain_line("output failed"),
         Ending::OutOfMemory => plain_line("out of memory"),
         Ending::InputTooLong => plain_line("input too long"),
-    }
+    };
+    let _said = write_all(err, line.as_str().as_bytes());
 }
 
 fn refusal_line(why: ReportError) -> Line

@@ -1,10 +1,9 @@
 // The drawing of a generated document, and how large it is.
-ghost use Rattle.std.specs.Prelude.{◌≡◌, ◌≤◌, false};
+ghost use Rattle.std.specs.Prelude.{◌≡◌, ◌≤◌};
 ghost use Rattle.std.specs.Prelude.{IfOk, OnOk, Some, string_bytes};
 ghost use Rattle.documents.specs.Document.{document_of};
 ghost use Rattle.documents.specs.Generated.{document_made, generated};
-ghost use Rattle.report_run.specs.declared.words.ThemeName.TheVariants.{Plain};
-ghost use Rattle.report_run.specs.Drawn.{measured, shown};
+ghost use Rattle.report_run.specs.Drawn.{measured};
 ghost use Rattle.report_run.specs.Ending.{status_of};
 ghost use Rattle.report_run.specs.Run.{IsUntouched, Measures, device};
 
@@ -30,35 +29,26 @@ pub(crate) fn make<O: Sink>(alloc: Global, count: u32, out: &mut O) -> Ending
     }
 }
 
-// The line that says how large the drawing of the generated document is.
+// The line that says how large the drawing of the generated document is, in the plain theme.
 #[tactic(auto, unfolding(crate::specs::Drawn::measured))]
 fn made_line(alloc: Global, count: u32) -> Result<String, AllocError>
     requires { count ≤ 5000 }
     ensures made { OnOk result (document_of (generated count) ≡ Some (document_made count)) }
     ensures line { IfOk result (λ line. string_bytes line ≡ measured count (document_made count)) }
 {
-    let text = made_text(alloc, count)?;
-    let length = text.len();
-    let lines = bytecount::count(text.as_bytes(), b'\n');
-    let line = format!(in alloc; "{count} reports, {length} bytes, {lines} lines\n")?;
-    Ok(line)
-}
-
-// The drawing of the generated document, in the plain theme. Its reports have no errors.
-fn made_text(alloc: Global, count: u32) -> Result<String, AllocError>
-    requires { count ≤ 5000 }
-    ensures made { OnOk result (document_of (generated count) ≡ Some (document_made count)) }
-    ensures text { IfOk result (λ text. string_bytes text
-        ≡ shown Plain 80 4 false (document_made count)) }
-{
+    // The document that is generated can be read, and its reports have no errors.
     let bytes = generate(alloc, count)?;
     let Some(document) = read_document(alloc, &bytes)? else {
         unreachable!()
     };
     let handler = GraphicalReportHandler::new_themed(GraphicalTheme::none()).with_width(80);
-    match files_text(alloc, &handler, &document.files, &document.reports) {
-        Ok(text) => Ok(text),
-        Err(ReportError::OutOfMemory) => Err(AllocError),
+    let text = match files_text(alloc, &handler, &document.files, &document.reports) {
+        Ok(text) => text,
+        Err(ReportError::OutOfMemory) => return Err(AllocError),
         Err(_) => unreachable!(),
-    }
+    };
+    let length = text.len();
+    let lines = bytecount::count(text.as_bytes(), b'\n');
+    let line = format!(in alloc; "{count} reports, {length} bytes, {lines} lines\n")?;
+    Ok(line)
 }

@@ -1,9 +1,8 @@
 // The arguments of the command line.
 ghost use Rattle.std.specs.Prelude.{◌≡◌, ◌<◌, ◌≤◌, IfSome, length, map, option_and_then};
 ghost use Rattle.std.specs.Prelude.{string_bytes};
-ghost use Rattle.std.specs.List.{list_all};
 ghost use Rattle.report_run.specs.Words.{begins_well as may_begin, command_of, drawing_with, IsFew};
-ghost use Rattle.report_run.specs.Words.{is_digit as is_code_of_digit, made_by as count_made_by};
+ghost use Rattle.report_run.specs.Words.{made_by as count_made_by};
 ghost use Rattle.report_run.specs.Words.{number as number_of, number_in as number_between};
 ghost use Rattle.report_run.specs.Words.{setting_of as setting_named, settings};
 ghost use Rattle.report_run.specs.Settled.{begun_with, settled, with_setting};
@@ -198,17 +197,12 @@ fn number(word: &str) -> Option<u32>
     ensures { result ≡ number_of word.now }
 {
     let bytes = word.as_bytes();
-    if are_digits(bytes) && begins_well(bytes) && bytes.len() <= 9 {
+    let digits = bytes.iter().all(|byte| b'0' <= *byte && *byte <= b'9');
+    if digits && begins_well(bytes) && bytes.len() <= 9 {
         word.parse::<u32>().ok()
     } else {
         None
     }
-}
-
-fn are_digits(bytes: &[u8]) -> bool
-    ensures { result ≡ list_all is_code_of_digit bytes.now }
-{
-    bytes.iter().all(|byte| b'0' <= *byte && *byte <= b'9')
 }
 
 // Whether there is no leading zero: the first of several digits isn't 0.
