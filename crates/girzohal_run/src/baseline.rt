@@ -1,6 +1,6 @@
 // The findings of a baseline.
-ghost use Rattle.std.specs.Prelude.{◌≡◌, IfOk, None, map, string_bytes, true};
-ghost use Rattle.report_filters.specs.Entries.{entries_of as entries_are, entry_parts};
+ghost use Rattle.std.specs.Prelude.{◌≡◌, IfOk, None, map, string_bytes};
+ghost use Rattle.report_filters.specs.Entries.{entry_parts};
 ghost use Rattle.girzohal_run.specs.Baseline.{FindsItself, IsBaseline, SaysScopes};
 ghost use Rattle.girzohal_run.specs.Baseline.{is_lines as is_lines_input};
 
@@ -49,8 +49,11 @@ pub fn read_baseline<S: Store>(
     asked.from = InputForm::Auto;
     let finds = finds_of(alloc, asked, bytes, store);
     asked.from = from;
+    let finds = finds?;
+    let mut found = FoundReports::new(alloc);
+    finds.reports.append_to(alloc, &mut found)?;
     let notes = reads_lines(InputForm::Auto, bytes);
-    let findings = entries_in(alloc, root, notes, &finds?)?;
+    let findings = entries_of(alloc, root, &found, notes, true)?;
     let says_scopes = says_scopes(alloc, bytes)?;
     Ok(Baseline {
         findings,
@@ -72,21 +75,6 @@ fn finds_of<S: Store>(alloc: Global, asked: &Asked, bytes: &[u8], store: &S) -> 
     }
     let finds = find(alloc, asked, bytes, &none)?;
     Ok(finds)
-}
-
-/// The findings of reports.
-fn entries_in(
-    alloc: Global,
-    root: &Root,
-    notes: bool,
-    finds: &Finds,
-) -> Result<Vec<Entry>, AllocError>
-    ensures { IfOk result (λ entries. map entry_parts entries.items
-        ≡ entries_are (string_bytes root.now.front) true notes finds.now.reports.found) }
-{
-    let mut found = FoundReports::new(alloc);
-    finds.reports.append_to(alloc, &mut found)?;
-    entries_of(alloc, root, &found, notes, true)
 }
 
 /// Whether an input says scopes: only a document does.

@@ -1,6 +1,6 @@
 // Several outputs of one input.
 ghost use Rattle.std.specs.Prelude.{◌≡◌, IfErr, IfOk, map};
-ghost use Rattle.girzohal_run.specs.Each.{AreMade, EachMeans, Judges, first_aside};
+ghost use Rattle.girzohal_run.specs.Each.{AreMade, EachMeans, first_aside};
 ghost use Rattle.girzohal_run.specs.Made.{HasCause, IsOfNoForm};
 ghost use Rattle.girzohal_run.specs.Run.{device, texts_of};
 
@@ -44,27 +44,17 @@ pub fn run_each<I: Source, S: Store, E: Sink>(
         (device I.left I.faults input.old input.new) (S.told store.now)
         (device E.received E.faults err.old err.new) }
 {
-    match read_all(alloc, input, LIMIT) {
-        Reading::Whole(bytes) => judge(alloc, asked, wanted, &bytes, store, err),
-        Reading::TooLong => Err(fail(err, "girzohal: input too long\n", Status::InputTooLong)),
-        Reading::Fault => Err(fail(err, "girzohal: input failed\n", Status::ReadFault)),
-        Reading::OutOfMemory => Err(fail(err, "girzohal: out of memory\n", Status::OutOfMemory)),
-    }
-}
-
-/// The same of bytes that were read.
-fn judge<S: Store, E: Sink>(
-    alloc: Global,
-    asked: &mut Asked,
-    wanted: &[Wanted],
-    bytes: &[u8],
-    store: &S,
-    err: &mut E,
-) -> Result<Vec<Made>, Status>
-    ensures { Judges result asked.old wanted.now bytes.now (S.told store.now)
-        (device E.received E.faults err.old err.new) }
-{
-    match make_each(alloc, asked, wanted, bytes, store) {
+    let bytes = match read_all(alloc, input, LIMIT) {
+        Reading::Whole(bytes) => bytes,
+        Reading::TooLong => {
+            return Err(fail(err, "girzohal: input too long\n", Status::InputTooLong));
+        }
+        Reading::Fault => return Err(fail(err, "girzohal: input failed\n", Status::ReadFault)),
+        Reading::OutOfMemory => {
+            return Err(fail(err, "girzohal: out of memory\n", Status::OutOfMemory));
+        }
+    };
+    match make_each(alloc, asked, wanted, &bytes, store) {
         Ok(made) => {
             tell(err, first_aside(&made));
             Ok(made)

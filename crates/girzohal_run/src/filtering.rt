@@ -1,6 +1,6 @@
 // What is written of the reports that filters leave.
 ghost use Rattle.std.specs.Prelude.{◌≡◌, IfErr, IfOk, OnOk, string_bytes};
-ghost use Rattle.girzohal_run.specs.Filtering.{IsLeftBy, IsWritten, with_line};
+ghost use Rattle.girzohal_run.specs.Filtering.{IsWritten, with_line};
 ghost use Rattle.girzohal_run.specs.Made.{IsFree};
 
 use crate::fault::Fault;
@@ -24,7 +24,13 @@ pub(crate) fn write_left(
         (string_bytes it.text) (string_bytes it.line) it.reached) }
     ensures cause { IfErr result IsFree }
 {
-    let Left { found, line } = left_of(alloc, asked, found, notes)?;
+    let Left { found, line } = match &asked.rules {
+        Some(rules) => filtered(alloc, rules, found, notes)?,
+        None => Left {
+            found,
+            line: String::new(alloc),
+        },
+    };
     let reached = one_reaches(asked.fail_on, &found);
     let text = text_of(alloc, asked, &found)?;
     Ok(Written {
@@ -32,25 +38,6 @@ pub(crate) fn write_left(
         line,
         reached,
     })
-}
-
-/// The reports that filters leave, and the line about them.
-fn left_of<'s>(
-    alloc: Global,
-    asked: &Asked,
-    found: FoundReports<'s>,
-    notes: bool,
-) -> Result<Left<'s>, AllocError>
-    ensures { IfOk result (λ it. IsLeftBy asked.now.rules notes found.entry it.found
-        (string_bytes it.line)) }
-{
-    match &asked.rules {
-        Some(rules) => Ok(filtered(alloc, rules, found, notes)?),
-        None => Ok(Left {
-            found,
-            line: String::new(alloc),
-        }),
-    }
 }
 
 /// Appends lines of their own, if there are any: an LF comes before them, unless the text is empty

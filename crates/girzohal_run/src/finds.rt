@@ -1,12 +1,9 @@
 // What an input has: its findings, and the rest.
 ghost use Rattle.std.specs.Prelude.{IfErr, IfOk, map};
-ghost use Rattle.found_reports.specs.Listed.{held_in};
 ghost use Rattle.tool_lines.specs.Lines.{piece_parts};
-ghost use Rattle.line_reports.specs.Pieces.{read_parts};
-ghost use Rattle.girzohal_run.specs.Finds.{FindsBraced, FindsLines, FindsNamed, FindsObject};
-ghost use Rattle.girzohal_run.specs.Finds.{FindsOld, FindsPieces, IsFound};
+ghost use Rattle.girzohal_run.specs.Finds.{FindsLines, FindsNamed, FindsObject, FindsOld, IsFound};
 ghost use Rattle.girzohal_run.specs.Logs.{IsNoLog, ReadsLog, log_columns as columns_meant};
-ghost use Rattle.girzohal_run.specs.Made.{HasCause, IsFree, IsNoObject, IsNoneBraced, IsOfNoForm};
+ghost use Rattle.girzohal_run.specs.Made.{HasCause, IsFree, IsNoObject, IsOfNoForm};
 ghost use Rattle.girzohal_run.specs.Reads.{IsNoDocument, IsNonePart, ReadsDocument, ReadsPart};
 
 use crate::fault::{Fault, no_form};
@@ -20,10 +17,9 @@ use crate::xml::find_xml;
 use documents::read_document;
 use drawn_lines::{are_kept, columns_of, kept_text, renamed, shapes_of};
 use girzohal_options::{Asked, InputForm};
-use indexed_sources::IndexedSources;
 use input_forms::{Begun, begins_as, has_files, json_part, without_mark};
 use json_inputs::is_report_object;
-use line_reports::{ReadPiece, names_of, read_pieces, reports_of};
+use line_reports::{names_of, read_pieces, reports_of};
 use render_files::ReportError;
 use shown_reports::{ShownSources, document_reports};
 use source_store::{Spelling, Store, gather, gather_more};
@@ -53,7 +49,15 @@ pub(crate) fn find<S: Store>(
 {
     match asked.from {
         InputForm::Auto => match begins_as(bytes) {
-            Begun::Object => find_braced(alloc, asked, bytes, store),
+            // A log or a document, or other values.
+            Begun::Object => {
+                let range = json_part(bytes);
+                if is_report_object(alloc, &bytes[range.start..range.end])? {
+                    find_object(alloc, object_form(asked.columns), asked, bytes, store)
+                } else {
+                    find_values(alloc, asked, bytes, store)
+                }
+            }
             Begun::OtherJson => find_values(alloc, asked, bytes, store),
             Begun::Xml => find_xml(alloc, asked, bytes, store),
             Begun::Lines => find_lines(alloc, asked, bytes, store),
@@ -67,26 +71,6 @@ pub(crate) fn find<S: Store>(
             }
         },
         InputForm::Lines => find_lines(alloc, asked, bytes, store),
-    }
-}
-
-/// What an input has that begins with a JSON object: a log or a document, or other values.
-fn find_braced<S: Store>(
-    alloc: Global,
-    asked: &Asked,
-    bytes: &[u8],
-    store: &S,
-) -> Result<Finds, Fault>
-    ensures found { IfOk result (λ it. FindsBraced (S.told store.now) asked.now bytes.now
-        it.reports.found it.aside.items) }
-    ensures cause { IfErr result (HasCause (IsNoneBraced asked.now.columns
-        asked.now.json_shapes.items asked.now.tool) bytes.now) }
-{
-    let range = json_part(bytes);
-    if is_report_object(alloc, &bytes[range.start..range.end])? {
-        find_object(alloc, object_form(asked.columns), asked, bytes, store)
-    } else {
-        find_values(alloc, asked, bytes, store)
     }
 }
 
@@ -158,24 +142,7 @@ fn find_named<S: Store>(
     let reads = read_pieces(alloc, lines, pieces)?;
     let names = names_of(alloc, lines, &reads)?;
     gather_more(alloc, store, Spelling::Path, &mut sources, &names)?;
-    find_pieces(alloc, asked, lines, pieces, &reads, sources.indexed())
-}
-
-/// What the blocks of lines have, with these sources.
-fn find_pieces(
-    alloc: Global,
-    asked: &Asked,
-    lines: &[&[u8]],
-    pieces: &[Piece<'_>],
-    reads: &[ReadPiece<'_>],
-    sources: &IndexedSources,
-) -> Result<Finds, Fault>
-    ensures found { IfOk result (λ it. FindsPieces asked.now (held_in sources.now.entries.items)
-        (map (λ line. line.now) lines.now) (map piece_parts pieces.now)
-        (map read_parts reads.now) it.reports.found it.aside.items) }
-    ensures cause { IfErr result IsFree }
-{
-    let found = reports_of(alloc, lines, reads, sources, columns_of(asked))?;
+    let found = reports_of(alloc, lines, &reads, sources.indexed(), columns_of(asked))?;
     let reports = OwnedReports::new(alloc, found)?;
     let aside = kept_text(alloc, asked, lines, pieces)?.into_bytes();
     Ok(Finds { reports, aside })

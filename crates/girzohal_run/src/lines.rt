@@ -1,13 +1,11 @@
 // What is made of lines that a tool prints for people.
 ghost use Rattle.std.specs.Prelude.{◌≡◌, IfErr, IfOk, length, map, string_bytes};
-ghost use Rattle.found_reports.specs.Listed.{held_in};
 ghost use Rattle.tool_lines.specs.Lines.{piece_parts};
-ghost use Rattle.line_reports.specs.Pieces.{read_parts};
 ghost use Rattle.drawn_lines.specs.Coming.{IsDrawn};
 ghost use Rattle.drawn_lines.specs.Named.{name_texts, renamed_by};
 ghost use Rattle.drawn_lines.specs.Text.{lines_in_text};
 ghost use Rattle.girzohal_run.specs.Lines.{AreSought, ListsLines, ListsNamed};
-ghost use Rattle.girzohal_run.specs.Lines.{MakesLines, WritesPieces};
+ghost use Rattle.girzohal_run.specs.Lines.{MakesLines};
 ghost use Rattle.girzohal_run.specs.Lines.{is_drawing as is_drawn};
 ghost use Rattle.girzohal_run.specs.Lines.{may_come as may_come_so};
 ghost use Rattle.girzohal_run.specs.Made.{IsFree};
@@ -21,9 +19,8 @@ use drawn_lines::{
     shapes_of,
 };
 use girzohal_options::{Asked, OutputForm};
-use indexed_sources::IndexedSources;
 use input_forms::without_mark;
-use line_reports::{ReadPiece, names_of, read_pieces, reports_of};
+use line_reports::{names_of, read_pieces, reports_of};
 use line_shapes::bytes::before_last;
 use shown_reports::ShownSources;
 use source_store::{Spelling, Store, gather_more};
@@ -153,7 +150,11 @@ fn list_named<S: Store>(
     let reads = read_pieces(alloc, lines, pieces)?;
     let names = names_of(alloc, lines, &reads)?;
     gather_more(alloc, store, Spelling::Path, &mut sources, &names)?;
-    write_pieces(alloc, asked, lines, pieces, &reads, sources.indexed())
+    let found = reports_of(alloc, lines, &reads, sources.indexed(), columns_of(asked))?;
+    let written = write_left(alloc, asked, found, true)?;
+    let mut aside = kept_text(alloc, asked, lines, pieces)?.into_bytes();
+    push_lines(&mut aside, written.line.as_bytes())?;
+    Ok(Made { written, aside })
 }
 
 /// The names of the findings of all blocks from the root, as [`names_between`] gives them.
@@ -191,25 +192,4 @@ pub(crate) fn text_lines<'a>(alloc: Global, text: &'a [u8]) -> Result<Vec<&'a [u
         Some(front) => lines_of(alloc, front),
         None => lines_of(alloc, text),
     }
-}
-
-/// What is made of the blocks of lines, with these sources.
-fn write_pieces(
-    alloc: Global,
-    asked: &Asked,
-    lines: &[&[u8]],
-    pieces: &[Piece<'_>],
-    reads: &[ReadPiece<'_>],
-    sources: &IndexedSources,
-) -> Result<Made, Fault>
-    ensures made { IfOk result (λ it. WritesPieces asked.now (held_in sources.now.entries.items)
-        (map (λ line. line.now) lines.now) (map piece_parts pieces.now)
-        (map read_parts reads.now) (string_bytes it.written.text) it.aside.items it.written.reached) }
-    ensures cause { IfErr result IsFree }
-{
-    let found = reports_of(alloc, lines, reads, sources, columns_of(asked))?;
-    let written = write_left(alloc, asked, found, true)?;
-    let mut aside = kept_text(alloc, asked, lines, pieces)?.into_bytes();
-    push_lines(&mut aside, written.line.as_bytes())?;
-    Ok(Made { written, aside })
 }

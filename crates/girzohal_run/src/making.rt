@@ -1,6 +1,6 @@
 // What is made of an input: its text, and whether a report is at or above the level.
 ghost use Rattle.std.specs.Prelude.{◌≡◌, IfErr, IfOk, string_bytes};
-ghost use Rattle.girzohal_run.specs.Made.{HasCause, IsMade, IsNoneBraced, IsOfNoForm, MakesBraced};
+ghost use Rattle.girzohal_run.specs.Made.{HasCause, IsMade, IsOfNoForm};
 ghost use Rattle.girzohal_run.specs.Made.{object_form as form_of_object};
 
 use crate::fault::Fault;
@@ -66,7 +66,15 @@ pub(crate) fn make<S: Store>(
 {
     match asked.from {
         InputForm::Auto => match begins_as(bytes) {
-            Begun::Object => make_braced(alloc, asked, bytes, store),
+            // A log or a document, or other values.
+            Begun::Object => {
+                let range = json_part(bytes);
+                if is_report_object(alloc, &bytes[range.start..range.end])? {
+                    make_object(alloc, object_form(asked.columns), asked, bytes, store)
+                } else {
+                    make_values(alloc, asked, bytes, store)
+                }
+            }
             Begun::OtherJson => make_values(alloc, asked, bytes, store),
             Begun::Xml => make_xml(alloc, asked, bytes, store),
             Begun::Lines => make_lines(alloc, asked, bytes, store),
@@ -80,26 +88,6 @@ pub(crate) fn make<S: Store>(
             }
         },
         InputForm::Lines => make_lines(alloc, asked, bytes, store),
-    }
-}
-
-/// What is made of an input that begins with a JSON object: a log or a document, or other values.
-fn make_braced<S: Store>(
-    alloc: Global,
-    asked: &Asked,
-    bytes: &[u8],
-    store: &S,
-) -> Result<Made, Fault>
-    ensures made { IfOk result (λ it. MakesBraced (S.told store.now) asked.now bytes.now
-        (string_bytes it.written.text) it.aside.items it.written.reached) }
-    ensures cause { IfErr result (HasCause (IsNoneBraced asked.now.columns
-        asked.now.json_shapes.items asked.now.tool) bytes.now) }
-{
-    let range = json_part(bytes);
-    if is_report_object(alloc, &bytes[range.start..range.end])? {
-        make_object(alloc, object_form(asked.columns), asked, bytes, store)
-    } else {
-        make_values(alloc, asked, bytes, store)
     }
 }
 

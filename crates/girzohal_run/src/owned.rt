@@ -1,11 +1,9 @@
 // Reports that own the texts of their files.
 ghost use Rattle.std.specs.Prelude.{◌≡◌, ◌<◌, ◌^◌, ◌++◌, ◌∷◌, [], All, IfOk, OnOk, drop, length, map};
-ghost use Rattle.oxc_protocol.specs.Source.{Fits};
-ghost use Rattle.found_reports.specs.Held.{held_of};
 ghost use Rattle.found_reports.specs.Kept.{IsShort, Stands, file_view, report_view};
-ghost use Rattle.girzohal_run.specs.Owned.{held_by, source_view};
+ghost use Rattle.girzohal_run.specs.Owned.{source_view};
 
-use found_reports::{FoundFile, FoundReport, FoundReports, Lack, Source, copied_fixes};
+use found_reports::{FoundFile, FoundReport, FoundReports, Source, copied_fixes};
 use std::alloc::{AllocError, Global};
 use std::marker::Model;
 
@@ -64,22 +62,15 @@ fn copied(alloc: Global, mut files: &[FoundFile<'_>]) -> Result<Vec<Source>, All
 {
     let mut copies = Vec::new(alloc);
     while let [file, rest @ ..] = files {
-        copies.push(copy_of(alloc, file)?)?;
+        let name = String::from_str(alloc, file.name.as_str())?;
+        let text = match &file.source {
+            Ok(text) => Ok(String::from_str(alloc, text)?),
+            Err(why) => Err(*why),
+        };
+        copies.push(Source { name, text })?;
         files = rest;
     }
     Ok(copies)
-}
-
-/// A file with a copy of its text.
-fn copy_of(alloc: Global, file: &FoundFile<'_>) -> Result<Source, AllocError>
-    ensures { IfOk result (λ it. source_view it ≡ file_view file.now) }
-{
-    let name = String::from_str(alloc, file.name.as_str())?;
-    let text = match &file.source {
-        Ok(text) => Ok(String::from_str(alloc, text)?),
-        Err(why) => Err(*why),
-    };
-    Ok(Source { name, text })
 }
 
 /// Appends files.
@@ -112,20 +103,12 @@ fn append_file<'o>(
     ensures found { found.new.found ≡ found.old.found }
 {
     let name = String::from_str(alloc, file.name.as_str())?;
-    let _number = found.add_file(name, text_in(file))?;
-    Ok(())
-}
-
-/// The text of a file, or why it has none.
-fn text_in(file: &Source) -> Result<&str, Lack>
-    requires { IsShort (source_view file.now) }
-    ensures held { held_of result ≡ held_by file.entry.now.text }
-    ensures short { IfOk result (λ text. Fits text.now) }
-{
-    match &file.text {
+    let text = match &file.text {
         Ok(text) => Ok(text.as_str()),
         Err(why) => Err(*why),
-    }
+    };
+    let _number = found.add_file(name, text)?;
+    Ok(())
 }
 
 /// Appends reports, whose files are numbered from the file `first` on.

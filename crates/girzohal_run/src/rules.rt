@@ -1,7 +1,6 @@
 // The filters that options ask for.
 ghost use Rattle.std.specs.Prelude.{◌≡◌, IfOk, map, string_bytes};
-ghost use Rattle.girzohal_run.specs.Rules.{AreRules, IsSelection, glob_of, rule_of};
-ghost use Rattle.girzohal_run.specs.Rules.{refusal_text as refusal_said};
+ghost use Rattle.girzohal_run.specs.Rules.{AreRules, glob_of, refusal_text as refusal_said, rule_of};
 
 use crate::baseline::Baseline;
 use changed_rows::{Diff, Refusal, Root, Wanted};
@@ -26,7 +25,13 @@ pub fn rules_of(
 ) -> Result<Rules, AllocError>
     ensures { IfOk result (AreRules asked.now root diff baseline) }
 {
-    let selection = selection_of(alloc, asked)?;
+    let selection = Selection {
+        include: globs_of(alloc, &asked.include)?,
+        exclude: globs_of(alloc, &asked.exclude)?,
+        select: rules_in(alloc, &asked.select)?,
+        ignore: rules_in(alloc, &asked.ignore)?,
+        least: asked.severity,
+    };
     let changed = match diff {
         Some(diff) => Some(Changed {
             diff,
@@ -48,19 +53,6 @@ pub fn rules_of(
         },
         root,
         baseline,
-    })
-}
-
-/// Which findings were asked for.
-fn selection_of(alloc: Global, asked: &Asked) -> Result<Selection, AllocError>
-    ensures { IfOk result (IsSelection asked.now) }
-{
-    Ok(Selection {
-        include: globs_of(alloc, &asked.include)?,
-        exclude: globs_of(alloc, &asked.exclude)?,
-        select: rules_in(alloc, &asked.select)?,
-        ignore: rules_in(alloc, &asked.ignore)?,
-        least: asked.severity,
     })
 }
 

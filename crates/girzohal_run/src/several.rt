@@ -1,6 +1,5 @@
 // Several inputs, whose findings are written together.
 ghost use Rattle.std.specs.Prelude.{◌≡◌, ◌≤◌, IfErr, IfOk, length, map, string_bytes};
-ghost use Rattle.std.specs.List.{suffix_len};
 ghost use Rattle.found_reports.specs.Files.{files_of};
 ghost use Rattle.girzohal_run.specs.Finds.{IsFound};
 ghost use Rattle.girzohal_run.specs.Made.{IsFree, Says};
@@ -10,7 +9,7 @@ ghost use Rattle.girzohal_run.specs.Several.{IsNamed, IsRefused, WritesAll};
 ghost use Rattle.girzohal_run.specs.Joined.{WritesFound, aside_in};
 ghost use Rattle.girzohal_run.specs.Joined.{finds_parts, found_in};
 ghost use Rattle.girzohal_run.specs.Several.{have_lines as lines_among, named_reason};
-ghost use Rattle.girzohal_run.specs.Several.{is_inner as is_inner_byte, reason_at as reason_begins};
+ghost use Rattle.girzohal_run.specs.Several.{reason_at as reason_begins};
 ghost use Rattle.girzohal_run.specs.Several.{reason_in as reason_behind};
 
 use crate::each::{Wanted, first_aside};
@@ -184,15 +183,8 @@ fn reason_at(said: &[u8]) -> usize
     ensures within { result ≤ length said.now }
 {
     let text = &said[..said.len().saturating_sub(1)];
-    text.len() - inner_last(text)
-}
-
-/// How many bytes come after the last LF.
-fn inner_last(text: &[u8]) -> usize
-    ensures value { result ≡ suffix_len is_inner_byte text.now }
-    ensures within { result ≤ length text.now }
-{
-    text.iter().rev().take_while(|it| **it != b'\n').count()
+    let last = text.iter().rev().take_while(|it| **it != b'\n').count();
+    text.len() - last
 }
 
 /// Makes each output of what the inputs have. With `notes`, advice without a code after a finding
@@ -261,24 +253,16 @@ pub(crate) fn write_found(
 
 /// The findings of all inputs, on the files that they are on: each once, in the order of their
 /// first findings.
-fn joined<'f>(alloc: Global, finds: &'f [Finds]) -> Result<FoundReports<'f>, AllocError>
+fn joined<'f>(alloc: Global, mut finds: &'f [Finds]) -> Result<FoundReports<'f>, AllocError>
     ensures found { IfOk result (λ it. it.found ≡ found_in (map finds_parts finds.entry.now)) }
     ensures files { IfOk result (λ it. it.files ≡ files_of it.found) }
-{
-    let found = appended(alloc, finds)?;
-    each_file_once(alloc, found)
-}
-
-/// The findings of all inputs, each on the files of its input.
-fn appended<'f>(alloc: Global, mut finds: &'f [Finds]) -> Result<FoundReports<'f>, AllocError>
-    ensures { IfOk result (λ it. it.found ≡ found_in (map finds_parts finds.entry.now)) }
 {
     let mut found = FoundReports::new(alloc);
     while let [first, rest @ ..] = finds {
         first.reports.append_to(alloc, &mut found)?;
         finds = rest;
     }
-    Ok(found)
+    each_file_once(alloc, found)
 }
 
 /// The rest of all inputs, of each on lines of its own.

@@ -1,7 +1,5 @@
 // What is made of the XML that a tool writes.
-ghost use Rattle.std.specs.Prelude.{◌≡◌, ◌∷◌, [], IfErr, IfOk, map, string_bytes};
-ghost use Rattle.json.specs.Value.{value_view};
-ghost use Rattle.xml_values.specs.Views.{document_view};
+ghost use Rattle.std.specs.Prelude.{IfErr, IfOk, string_bytes};
 ghost use Rattle.girzohal_run.specs.Made.{HasCause};
 ghost use Rattle.girzohal_run.specs.Xml.{FindsXml, IsNoXmlInput, MakesXml};
 
@@ -11,11 +9,9 @@ use crate::making::Made;
 use crate::several::write_found;
 use crate::values::{forms_of, say_values};
 use girzohal_options::Asked;
-use json::Value;
 use json_inputs::{document_of, own_text};
 use source_store::Store;
-use std::alloc::{AllocError, Global};
-use xml_values::Document;
+use std::alloc::Global;
 
 /// What is made of the XML that a tool writes.
 pub(crate) fn make_xml<S: Store>(
@@ -47,18 +43,9 @@ pub(crate) fn find_xml<S: Store>(
         (HasCause (IsNoXmlInput asked.now.json_shapes.items asked.now.tool) bytes.now) }
 {
     let document = document_of(alloc, bytes)?;
-    let values = values_in(alloc, &document)?;
+    let mut values = Vec::new(alloc);
+    values.push(document.value(alloc)?)?;
     let own = own_text(alloc, &asked.json_shapes)?;
     let forms = forms_of(alloc, own.as_str(), asked)?;
     say_values(alloc, asked, forms.lent(), &[], &values, &[], store)
-}
-
-/// The values of an input that is this document: one.
-fn values_in<'v>(alloc: Global, document: &'v Document<'_>) -> Result<Vec<Value<'v>>, AllocError>
-    ensures { IfOk result (λ values. map value_view values.items
-        ≡ document_view document.entry.now ∷ []) }
-{
-    let mut values = Vec::new(alloc);
-    values.push(document.value(alloc)?)?;
-    Ok(values)
 }

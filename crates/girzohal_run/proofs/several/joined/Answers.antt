@@ -3,7 +3,7 @@ use Rattle.std.proofs.Common.{◌≡◌, ◌-◌, ◌++◌, List, drop, take, le
 use Rattle.girzohal_run.specs.Joined.{FindsParts, finds_parts, found_in}
 use Rattle.girzohal_run.specs.declared.finds.Finds.{Finds}
 use Rattle.girzohal_run.proofs.ListedLemmas.{first_joined, split_first}
-use Rattle.girzohal_run.proofs.several.appended.Goals as goal
+use Rattle.girzohal_run.proofs.several.joined.Goals as goal
 
 pub loop-finds-preserved : goal.loop-finds-preserved
 loop-finds-preserved c =
