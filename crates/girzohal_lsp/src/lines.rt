@@ -1,6 +1,5 @@
 // A tool's lines, read and cut into blocks once for all documents.
 ghost use Rattle.std.specs.Prelude.{◌≡◌, ◌<◌, ◌≤◌, IfOk, drop, length, map, string_bytes};
-ghost use Rattle.std.specs.Prelude.{take};
 ghost use Rattle.std.specs.List.{filter_map};
 ghost use Rattle.line_reports.specs.Pieces.{read_parts};
 ghost use Rattle.source_store.specs.Named.{path_in as path_meant};
@@ -45,29 +44,13 @@ pub(crate) fn blocks_of<'l>(
     let mut rest = reads;
     while !rest.is_empty() {
         let count = together(rest);
-        let front = first_reads(rest, count);
+        let (front, others) = rest.split_at(count);
         let block = block_of(alloc, left, front)?;
         blocks.push(block)?;
         left = lines_behind(left, front);
-        rest = other_reads(rest, count);
+        rest = others;
     }
     Ok(blocks)
-}
-
-/// The first `count` pieces.
-fn first_reads<'r, 'a>(reads: &'r [ReadPiece<'a>], count: usize) -> &'r [ReadPiece<'a>]
-    requires { count ≤ length reads.now }
-    ensures { result.now ≡ take count reads.now }
-{
-    reads.split_at(count).0
-}
-
-/// The pieces after the first `count`.
-fn other_reads<'r, 'a>(reads: &'r [ReadPiece<'a>], count: usize) -> &'r [ReadPiece<'a>]
-    requires { count ≤ length reads.now }
-    ensures { result.now ≡ drop count reads.now }
-{
-    reads.split_at(count).1
 }
 
 /// A block of these pieces.
@@ -141,15 +124,8 @@ fn lines_behind<'l>(lines: &'l [&'l [u8]], reads: &[ReadPiece<'_>]) -> &'l [&'l 
     let mut left = lines;
     let mut rest = reads;
     while let [read, more @ ..] = rest {
-        left = lines_after(left, read.piece.lines);
+        left = left.split_at(read.piece.lines.min(left.len())).1;
         rest = more;
     }
     left
-}
-
-/// The lines after the first `count`, or none.
-fn lines_after<'l>(lines: &'l [&'l [u8]], count: usize) -> &'l [&'l [u8]]
-    ensures { map (λ line. line.now) result.now ≡ drop count (map (λ line. line.now) lines.now) }
-{
-    lines.split_at(count.min(lines.len())).1
 }

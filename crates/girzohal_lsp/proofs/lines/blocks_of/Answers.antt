@@ -15,15 +15,15 @@ loop-left-preserved c =
     let later : List (List ℕ) = map (λ line. line.now) c.lines_behind-left.result.now in
     let count = c.together-count.result in
     let rest = c.loop-left.rest.now in
-    let front = c.first_reads-front.result.now in
-    let others = c.other_reads-rest.result.now in
+    let front = c.split_at.result.0.now in
+    let others = c.split_at.result.1.now in
     let blocks = c.loop-left.blocks.items in
     let block = c.in_ok-block.block in
     let same = sym c.in_ok-block.ensures.reads in
     subst (CutSoFar lines all later (map read_parts others)) (sym (ap (map block_parts) c.in_ok-push.ensures.items ∙ map-append block_parts blocks (block ∷ [])))
     (one_cut lines left later all (map read_parts rest) (map read_parts others) (map block_parts blocks) (block_parts block)
-    (cut_parts count rest front others c.first_reads-front.ensures c.other_reads-rest.ensures ∙ ap (λ (reads : List ReadPiece). map read_parts reads ++ map read_parts others) same)
-    (others_begin count rest others c.other_reads-rest.ensures c.together-count.ensures.others)
+    (cut_parts count rest front others c.split_at.ensures.front c.split_at.ensures.back ∙ ap (λ (reads : List ReadPiece). map read_parts reads ++ map read_parts others) same)
+    (others_begin count rest others c.split_at.ensures.back c.together-count.ensures.others)
     (ap (map (λ line. line.now)) c.in_ok-block.ensures.lines)
     (c.lines_behind-left.ensures ∙ ap (λ (reads : List ReadPiece). behind left (map read_parts reads)) same)
     c.loop-left.invariant)
